@@ -1,0 +1,7 @@
+pub mod Mask
+pub mod Faults
+pub mod Reading
+pub mod Bytes
+pub mod Lines
+pub mod Counted
+pub mod Memory

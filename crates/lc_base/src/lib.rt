@@ -1,0 +1,26 @@
+//! What every crate of the workspace stands on.
+#![tactic(auto)]
+
+mod category;
+mod fault;
+mod lines;
+mod list;
+mod memory;
+mod place;
+mod reason;
+mod standard;
+mod stream;
+#[cfg(test)]
+mod tests;
+mod whole;
+
+pub use category::{Category, Mask};
+pub use fault::TextFault;
+pub use lines::{after, next_line};
+pub use list::{ByteText, List};
+pub use memory::{MemSink, MemSource};
+pub use place::Place;
+pub use reason::{Class, Limit, LinePart, Reason};
+pub use standard::{StdSink, StdSource};
+pub use stream::{Failed, Sink, Source};
+pub use whole::{ReadRefusal, read_all, write_all};

@@ -1,0 +1,117 @@
+-- The definitions on small inputs.
+use Rattle.std.proofs.Common.{◌≡◌, ℕ, List, [], ◌∷◌, ◌++◌, None, Some, refl, lit<}
+use Rattle.std.specs.Prelude.{codes}
+use Rattle.std.specs.Fmt.{decimal}
+use Rattle.std.proofs.lemmas.Fmt.{decimal_digit}
+use Rattle.lc_base.specs.declared.reason.Reason.TheVariants as reasons
+use Rattle.lc_base.specs.declared.reason.Limit.TheVariants as limits
+use Rattle.lc_base.specs.declared.reason.Class.TheVariants as classes
+use Rattle.locale_reader.specs.NumericSection.{numeric_texts}
+use Rattle.locale_cli.specs.declared.answer.Status.TheVariants.{Done, Refused}
+use Rattle.locale_cli.specs.declared.answer.Answer.{Answer}
+use Rattle.locale_cli.specs.declared.words.Mode.TheVariants.{Serial}
+use Rattle.locale_cli.specs.Accepted.{bundle_reading}
+use Rattle.locale_cli.specs.Answer.{answer_of}
+use Rattle.locale_cli.specs.Bundle.{parts_of}
+use Rattle.locale_cli.specs.Output.{quoted}
+use Rattle.locale_cli.specs.Plan.{plan_of}
+use Rattle.locale_cli.specs.Refusal.{refusal_line}
+use Rattle.locale_cli.specs.Words.{mode_of}
+
+digit0 : decimal 0 ≡ codes "0"
+digit0 = decimal_digit 0 (lit< tt)
+
+digit1 : decimal 1 ≡ codes "1"
+digit1 = decimal_digit 1 (lit< tt)
+
+digit2 : decimal 2 ≡ codes "2"
+digit2 = decimal_digit 2 (lit< tt)
+
+digit3 : decimal 3 ≡ codes "3"
+digit3 = decimal_digit 3 (lit< tt)
+
+digit4 : decimal 4 ≡ codes "4"
+digit4 = decimal_digit 4 (lit< tt)
+
+digit5 : decimal 5 ≡ codes "5"
+digit5 = decimal_digit 5 (lit< tt)
+
+ruleset digits = (digit0, digit1, digit2, digit3, digit4, digit5)
+
+abbrev source : List ℕ
+source = codes ".locale a UTF-8\nLC_NUMERIC\ndecimal_point \",\"\nthousands_sep \".\"\nEND LC_NUMERIC\n.end\n.thread A\n"
+
+abbrev answer : Answer → List ℕ → Type 0
+answer a text = (a.status ≡ Done) × (a.text ≡ text)
+
+abbrev not_built : Answer → Type 0
+not_built a = (a.status ≡ Refused) × (a.text ≡ codes "refused: 1:1 NotBuilt\n")
+
+set_then_read : answer (answer_of (source ++ codes "info RADIXCHAR\nsetlocale LC_NUMERIC a\ninfo RADIXCHAR\ninfo THOUSEP\n")) (codes "1 A 1 - g0 text \".\"\n1 A 2 0 g1 name a\n1 A 3 - g1 text \",\"\n1 A 4 - g1 text \".\"\n2 A 5 1 - ended\n")
+unfolding bundle_reading parts_of numeric_texts plan_of
+set_then_read = (refl, simp digits)
+
+two_items : answer (answer_of (source ++ codes "info RADIXCHAR\ninfo THOUSEP\n")) (codes "1 A 1 - g0 text \".\"\n1 A 2 - g0 text \"\"\n2 A 3 0 - ended\n")
+unfolding bundle_reading parts_of numeric_texts plan_of
+two_items = (refl, simp digits)
+
+-- no command, and the last newline is lacking
+no_command : answer (answer_of (codes ".locale a UTF-8\nLC_NUMERIC\ndecimal_point \",\"\nthousands_sep \"\"\nEND LC_NUMERIC\n.end\n.thread A")) (codes "2 A 1 0 - ended\n")
+unfolding bundle_reading parts_of numeric_texts plan_of
+no_command = (refl, simp digits)
+
+set_twice : answer (answer_of (source ++ codes "setlocale LC_NUMERIC a\nsetlocale LC_NUMERIC a\ninfo THOUSEP")) (codes "1 A 1 0 g1 name a\n1 A 2 1 g2 name a\n1 A 3 - g2 text \".\"\n2 A 4 2 - ended\n")
+unfolding bundle_reading parts_of numeric_texts plan_of
+set_twice = (refl, simp digits)
+
+not_yet_built : not_built (answer_of [])
+unfolding bundle_reading parts_of numeric_texts plan_of
+not_yet_built = (refl, simp digits)
+
+two_spaces : not_built (answer_of (source ++ codes "info  RADIXCHAR\n"))
+unfolding bundle_reading parts_of numeric_texts plan_of
+two_spaces = (refl, simp digits)
+
+a_comment : not_built (answer_of (source ++ codes "# a comment\n"))
+unfolding bundle_reading parts_of numeric_texts plan_of
+a_comment = (refl, simp digits)
+
+another_locale : not_built (answer_of (source ++ codes "setlocale LC_NUMERIC b\n"))
+unfolding bundle_reading parts_of numeric_texts plan_of
+another_locale = (refl, simp digits)
+
+wrong_name : not_built (answer_of (codes ".locale POSIX UTF-8\nLC_NUMERIC\ndecimal_point \",\"\nthousands_sep \"\"\nEND LC_NUMERIC\n.end\n.thread A\n"))
+unfolding bundle_reading parts_of numeric_texts plan_of
+wrong_name = (refl, simp digits)
+
+wrong_thread : not_built (answer_of (codes ".locale a UTF-8\nLC_NUMERIC\ndecimal_point \",\"\nthousands_sep \"\"\nEND LC_NUMERIC\n.end\n.thread GLOBAL\n"))
+unfolding bundle_reading parts_of numeric_texts plan_of
+wrong_thread = (refl, simp digits)
+
+empty_radix : not_built (answer_of (codes ".locale a UTF-8\nLC_NUMERIC\ndecimal_point \"\"\nthousands_sep \"\"\nEND LC_NUMERIC\n.end\n.thread A\n"))
+unfolding bundle_reading parts_of numeric_texts plan_of
+empty_radix = (refl, simp digits)
+
+quote_inside : not_built (answer_of (codes ".locale a UTF-8\nLC_NUMERIC\ndecimal_point \"a\"b\"\nthousands_sep \"\"\nEND LC_NUMERIC\n.end\n.thread A\n"))
+unfolding bundle_reading parts_of numeric_texts plan_of
+quote_inside = (refl, simp digits)
+
+-- ---- texts and lines
+
+quoted_text : quoted (97 ∷ 34 ∷ 92 ∷ 10 ∷ 127 ∷ 200 ∷ []) ≡ codes "\"a\\\"\\\\\\x0a\\x7f" ++ 200 ∷ 34 ∷ []
+quoted_text = refl
+
+excluded_line : refusal_line (record { line = 2; column = 1 }) (reasons.Excluded classes.Alpha classes.Punct 5) ≡ codes "refused: 2:1 Excluded alpha punct 5\n"
+excluded_line = simp digits
+
+limit_line : refusal_line (record { line = 2; column = 4 }) (reasons.OverLimit limits.Text) ≡ codes "refused: 2:4 OverLimit string\n"
+limit_line = simp digits
+
+no_words : mode_of [] ≡ None
+no_words = refl
+
+serial_word : mode_of (codes "serial" ∷ []) ≡ Some Serial
+serial_word = refl
+
+a_word_more : mode_of (codes "serial" ∷ codes "rows=0" ∷ []) ≡ None
+a_word_more = refl

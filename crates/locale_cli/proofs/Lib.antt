@@ -1,0 +1,4 @@
+pub mod Scripts
+pub mod Blocks
+pub mod SerialLines
+pub mod Examples

@@ -1,0 +1,8 @@
+use Rattle.lc_base.specs.Lines.{lines_of}
+use Rattle.locale_cli.specs.Bundle.{script_of}
+use Rattle.locale_cli.proofs.Scripts.{goes_on}
+use Rattle.locale_cli.proofs.bundle.commands.Goals as goal
+
+pub loop-line-preserved : goal.loop-line-preserved
+loop-line-preserved c =
+    rw c.in_ok-push.ensures.items (goes_on c.loop-line.commands.items c.args.name.now c.in-Some.line.now (lines_of c.loop-line.rest.now) (lines_of c.in-Some.following.now) c.in-Some-command_of.command (script_of c.args.name.now (lines_of c.args.script.now)) c.in-Some.ensures.line.lines c.in-Some-command_of.ensures c.loop-line.invariant)

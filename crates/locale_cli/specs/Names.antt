@@ -1,0 +1,25 @@
+-- Names of locales and threads (our own rules).
+use Rattle.std.specs.Prelude.{ℕ, ◌==◌, nat_lt, nat_le, Bool, not, ◌&&◌, ◌||◌, List, length, slice_index, codes}
+use Rattle.std.specs.List.{list_all}
+use Rattle.std.specs.Str.{bytes_eq}
+
+abbrev pub is_letter : ℕ → Bool
+is_letter c = (nat_le 65 c && nat_le c 90) || (nat_le 97 c && nat_le c 122)
+
+abbrev pub is_digit : ℕ → Bool
+is_digit c = nat_le 48 c && nat_le c 57
+
+abbrev pub is_letter_or_digit : ℕ → Bool
+is_letter_or_digit c = is_letter c || is_digit c
+
+-- a letter, a digit, `_`, `.`, `-` or `@`
+abbrev pub is_name_byte : ℕ → Bool
+is_name_byte c = is_letter_or_digit c || (c == 95) || (c == 46) || (c == 45) || (c == 64)
+
+-- 1 to 64 bytes of a name, and neither `C` nor `POSIX`
+abbrev pub is_locale_name : List ℕ → Bool
+is_locale_name name = nat_lt 0 (length name) && nat_le (length name) 64 && list_all is_name_byte name && not (bytes_eq name (codes "C")) && not (bytes_eq name (codes "POSIX"))
+
+-- a letter and up to 15 letters and digits, and not `GLOBAL`
+abbrev pub is_thread_name : List ℕ → Bool
+is_thread_name name = nat_lt 0 (length name) && nat_le (length name) 16 && is_letter (slice_index name 0) && list_all is_letter_or_digit name && not (bytes_eq name (codes "GLOBAL"))

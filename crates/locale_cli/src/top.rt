@@ -1,0 +1,84 @@
+//! The program as a function of words, a source and a sink.
+
+ghost use Rattle.std.specs.Prelude.{◌≡◌, ◌+◌, ◌↔◌, ◌⊎◌, IsSome, IfSome, None};
+ghost use Rattle.std.specs.Io.KnownBytes.{Appends};
+ghost use Rattle.lc_base.specs.Faults.{Rose};
+ghost use Rattle.lc_base.specs.Bytes.{CameAtMost, AddsPrefix};
+ghost use Rattle.locale_cli.specs.Words.{mode_of};
+ghost use Rattle.locale_cli.specs.Run.{Told, Ran};
+ghost use Rattle.locale_cli.specs.Status.{input_limit, usage_line, IsDone, IsRefused, IsTooLarge, IsCutShort, due_status, IsDue, StayedSound};
+
+use crate::answer::{Status, answer_to};
+use crate::words::{Mode, mode_of};
+use lc_base::{ByteText, ReadRefusal, Sink, Source, read_all, write_all};
+use std::alloc::Global;
+
+/// The most bytes of an input.
+const INPUT_LIMIT: usize = 16_777_216;
+
+/// Reads the whole source, runs it as the words say, and writes the whole answer to the sink.
+pub fn top<S: Source, K: Sink>(
+    alloc: Global,
+    words: &[ByteText],
+    source: &mut S,
+    sink: &mut K,
+) -> Status
+    // Wrong words are refused, or that could not be written, and the source is as it was.
+    ensures usage { mode_of words.now ≡ None → (result ≡ Status.Usage) ⊎ (result ≡ Status.WriteFault) }
+    ensures usage_only { result ≡ Status.Usage → (mode_of words.now ≡ None) × Appends (K.written sink.old) (K.written sink.new) usage_line }
+    ensures unread { mode_of words.now ≡ None → source.new ≡ source.old }
+
+    ensures done { result ≡ Status.Done → IsDone (S.left source.old) (S.left source.new) (K.written sink.old) (K.written sink.new) }
+    ensures refused { result ≡ Status.Refused → IsRefused (S.left source.old) (S.left source.new) (K.written sink.old) (K.written sink.new) }
+    ensures too_large { result ≡ Status.TooLarge → IsTooLarge (S.left source.old) (S.left source.new) (K.written sink.old) (K.written sink.new) }
+
+    // A fault comes only where its count rose.
+    ensures read_fault { result ≡ Status.ReadFault → Rose (S.faults source.old) (S.faults source.new) }
+    ensures read_short { result ≡ Status.ReadFault → CameAtMost (S.left source.old) (S.left source.new) input_limit }
+    ensures write_fault { result ≡ Status.WriteFault → Rose (K.faults sink.old) (K.faults sink.new) }
+    ensures cut_short { result ≡ Status.WriteFault → IsSome (mode_of words.now) → IsCutShort (S.left source.old) (S.left source.new) (K.written sink.old) (K.written sink.new) }
+    ensures usage_cut { result ≡ Status.WriteFault → mode_of words.now ≡ None → AddsPrefix (K.written sink.old) (K.written sink.new) usage_line }
+    ensures unwritten { (result ≡ Status.ReadFault) ⊎ (result ≡ Status.Memory) → sink.new ≡ sink.old }
+
+    // For right words the bytes of the source determine the status, unless it is a fault or memory is wanting.
+    ensures due { IsSome (mode_of words.now) → IfSome (S.left source.old) (λ input. IsDue result (due_status input)) }
+    ensures complete { IsSome (mode_of words.now) → StayedSound (S.faults source.old) (S.faults source.new) → StayedSound (K.faults sink.old) (K.faults sink.new)
+        → IfSome (S.left source.old) (λ input. (result ≡ due_status input) ⊎ (result ≡ Status.Memory)) }
+{
+    match mode_of(words) {
+        None => tell(sink, Status::Usage, b"refused: usage\n"),
+        Some(Mode::Serial) => run(alloc, source, sink),
+    }
+}
+
+/// Reads the whole source, and writes the answer to it.
+fn run<S: Source, K: Sink>(alloc: Global, source: &mut S, sink: &mut K) -> Status
+    ensures { Ran
+        (record { left = S.left source.old; left' = S.left source.new; faults = S.faults source.old; faults' = S.faults source.new })
+        (record { written = K.written sink.old; written' = K.written sink.new; faults = K.faults sink.old; faults' = K.faults sink.new })
+        (sink.new ≡ sink.old) result }
+{
+    let text = match read_all(alloc, source, INPUT_LIMIT) {
+        Ok(text) => text,
+        Err(ReadRefusal::TooLarge) => {
+            return tell(sink, Status::TooLarge, b"refused: too large\n");
+        }
+        Err(ReadRefusal::ReadFault) => return Status::ReadFault,
+        Err(ReadRefusal::Memory) => return Status::Memory,
+    };
+    match answer_to(alloc, text.as_bytes()) {
+        Ok(answer) => tell(sink, answer.status, answer.text.as_bytes()),
+        Err(_) => Status::Memory,
+    }
+}
+
+/// Writes a text and gives the status that goes with it.
+fn tell<K: Sink>(sink: &mut K, status: Status, text: &[u8]) -> Status
+    ensures { Told status text.now result
+        (record { written = K.written sink.old; written' = K.written sink.new; faults = K.faults sink.old; faults' = K.faults sink.new }) }
+{
+    match write_all(sink, text) {
+        Ok(()) => status,
+        Err(_) => Status::WriteFault,
+    }
+}

@@ -1,0 +1,4 @@
+pub use Rattle.lc_base.specs.Reading
+pub mod Keywords
+pub mod NumericValues
+pub mod Numeric
