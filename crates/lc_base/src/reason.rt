@@ -65,7 +65,7 @@ pub enum Reason {
     WrongCount,
     /// An era's segment is not formed as one.
     BadEra,
-    /// A `%` at this byte of the decoded text begins no conversion.
+    /// A `%` at this byte of the decoded text, counted from 0, begins no conversion.
     BadFormat(u32),
     /// A format has a conversion of its own rank or above.
     FormatRank,

@@ -13,7 +13,7 @@ pub trait Source {
     /// The bytes still to come, where the source tells them.
     ghost left: { Self → Option (List ℕ) };
 
-    /// How many reads failed, up to 2^64 - 1.
+    /// A count of faults, up to 2^64 - 1: it rises where a read fails, and never falls.
     ghost faults: { Self → ℕ };
 
     /// Moves the next bytes to the front of `buf` and gives their number, 0 at the end or with no
@@ -30,7 +30,7 @@ pub trait Sink {
     /// The bytes that were written, where the sink tells them.
     ghost written: { Self → Option (List ℕ) };
 
-    /// How many writes failed, up to 2^64 - 1.
+    /// A count of faults, up to 2^64 - 1: it rises where a write fails, and never falls.
     ghost faults: { Self → ℕ };
 
     /// Takes bytes from the front of `piece` and gives their number, at least 1 of a piece that is

@@ -36,7 +36,19 @@ digit4 = decimal_digit 4 (lit< tt)
 digit5 : decimal 5 ≡ codes "5"
 digit5 = decimal_digit 5 (lit< tt)
 
-ruleset digits = (digit0, digit1, digit2, digit3, digit4, digit5)
+digit6 : decimal 6 ≡ codes "6"
+digit6 = decimal_digit 6 (lit< tt)
+
+digit7 : decimal 7 ≡ codes "7"
+digit7 = decimal_digit 7 (lit< tt)
+
+digit8 : decimal 8 ≡ codes "8"
+digit8 = decimal_digit 8 (lit< tt)
+
+digit9 : decimal 9 ≡ codes "9"
+digit9 = decimal_digit 9 (lit< tt)
+
+ruleset digits = (digit0, digit1, digit2, digit3, digit4, digit5, digit6, digit7, digit8, digit9)
 
 abbrev source : List ℕ
 source = codes ".locale a UTF-8\nLC_NUMERIC\ndecimal_point \",\"\nthousands_sep \".\"\nEND LC_NUMERIC\n.end\n.thread A\n"
@@ -63,6 +75,14 @@ no_command = (refl, simp digits)
 set_twice : answer (answer_of (source ++ codes "setlocale LC_NUMERIC a\nsetlocale LC_NUMERIC a\ninfo THOUSEP")) (codes "1 A 1 0 g1 name a\n1 A 2 1 g2 name a\n1 A 3 - g2 text \".\"\n2 A 4 2 - ended\n")
 unfolding bundle_reading parts_of numeric_texts plan_of
 set_twice = (refl, simp digits)
+
+freed_while_selected : answer (answer_of (source ++ codes "new x LC_NUMERIC a\nuse x\ninfo RADIXCHAR\nfree x\nuse x\ninfo RADIXCHAR\nuse GLOBAL\ninfo RADIXCHAR\n")) (codes "1 A 1 0 - handle A.0.1\n1 A 2 1 - was GLOBAL\n1 A 3 - - text \",\"\n1 A 4 2 - freed\n1 A 5 3 - refused Stale\n1 A 6 - - text \",\"\n1 A 7 4 - was A.0.1\n1 A 8 - g0 text \".\"\n2 A 9 5 - ended\n")
+unfolding bundle_reading parts_of numeric_texts plan_of
+freed_while_selected = (refl, simp digits)
+
+an_unset_variable : answer (answer_of (source ++ codes "free x\nfree GLOBAL\n")) (codes "1 A 1 - - refused Unset\n1 A 2 0 - refused GlobalHandle\n2 A 3 1 - ended\n")
+unfolding bundle_reading parts_of numeric_texts plan_of
+an_unset_variable = (refl, simp digits)
 
 not_yet_built : not_built (answer_of [])
 unfolding bundle_reading parts_of numeric_texts plan_of

@@ -1,4 +1,4 @@
 pub mod Scripts
 pub mod Blocks
-pub mod SerialLines
 pub mod Examples
+pub mod SerialRuns

@@ -5,8 +5,10 @@ use Rattle.std.specs.Option.{option_map}
 use Rattle.std.specs.Str.{bytes_eq}
 use Rattle.lc_base.specs.Lines.{after, first_of, ◌>>=◌}
 use Rattle.locale_cli.specs.declared.bundle.Item.TheVariants.{Radixchar, Thousep}
+use Rattle.locale_cli.specs.declared.bundle.Target.{Target}
+use Rattle.locale_cli.specs.declared.bundle.Target.TheVariants.{Global, Variable}
 use Rattle.locale_cli.specs.declared.bundle.Command.{Command}
-use Rattle.locale_cli.specs.declared.bundle.Command.TheVariants.{Info, Setlocale}
+use Rattle.locale_cli.specs.declared.bundle.Command.TheVariants.{Info, Setlocale, New, Free, Use}
 use Rattle.locale_cli.specs.Names.{is_locale_name, is_thread_name}
 
 -- what stands before back in a line that ends with it
@@ -47,6 +49,7 @@ pub record BundleParts : Type 0 where
   pub thread : List ℕ
   pub script : List (List ℕ)
 
+-- the parts of a bundle's lines, where they are all there
 unfoldable pub parts_of : List (List ℕ) → Option BundleParts
 parts_of lines = do
   head ← first_of lines
@@ -60,12 +63,46 @@ parts_of lines = do
 abbrev pub is_setlocale : List ℕ → List ℕ → Bool
 is_setlocale name line = has_rest name (after (codes "setlocale LC_NUMERIC ") line)
 
+-- what a command names: `GLOBAL` or a variable
+abbrev pub target_of : List ℕ → Option Target
+target_of word = if bytes_eq word (codes "GLOBAL") then Some Global else (if is_thread_name word then Some (Variable word) else None)
+
+-- the variable in `N LC_NUMERIC NAME` with this name
+abbrev pub new_variable : List ℕ → List ℕ → Option (List ℕ)
+new_variable name words = do
+  front ← before name words
+  variable ← before (codes " LC_NUMERIC ") front
+  if_passes is_thread_name variable
+
+-- the commands behind `new`, `free` and `use`
+abbrev pub new_command : List ℕ → List ℕ → Option Command
+new_command name words = new_variable name words >>= λ variable. Some (New variable)
+
+abbrev pub free_command : List ℕ → Option Command
+free_command word = target_of word >>= λ target. Some (Free target)
+
+abbrev pub use_command : List ℕ → Option Command
+use_command word = target_of word >>= λ target. Some (Use target)
+
+-- the command behind its first word, where the line has that, else the other one
+abbrev pub behind : (List ℕ → Option Command) → Option (List ℕ) → Option Command → Option Command
+behind command None others = others
+behind command (Some words) others = command words
+
+-- `new N LC_NUMERIC NAME`, `free H` or `use H`
+abbrev pub object_command : List ℕ → List ℕ → Option Command
+object_command name line =
+    behind (new_command name) (after (codes "new ") line) (
+    behind free_command (after (codes "free ") line) (
+    behind use_command (after (codes "use ") line) None))
+
 -- the command of a line, where the locale has this name
 abbrev pub command_of : List ℕ → List ℕ → Option Command
 command_of name line =
     if bytes_eq line (codes "info RADIXCHAR") then Some (Info Radixchar) else
     if bytes_eq line (codes "info THOUSEP") then Some (Info Thousep) else
-    if is_setlocale name line then Some Setlocale else None
+    if is_setlocale name line then Some Setlocale else
+    object_command name line
 
 -- the commands of lines
 abbrev pub script_of : List ℕ → List (List ℕ) → Option (List Command)
@@ -76,5 +113,6 @@ script_of name (line ∷ lines) = command_of name line >>= λ c. script_of name 
 abbrev pub within_limit : List Command → Option (List Command)
 within_limit commands = if nat_lt 20000 (length commands) then None else Some commands
 
+-- the commands of a script, where each line is one and they are not too many
 abbrev pub commands_of : List ℕ → List (List ℕ) → Option (List Command)
 commands_of name lines = script_of name lines >>= within_limit

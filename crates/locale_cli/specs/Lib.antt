@@ -10,3 +10,4 @@ pub mod Answer
 pub mod Status
 pub mod Run
 pub mod StatusCode
+pub mod Thread

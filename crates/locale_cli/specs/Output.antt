@@ -5,12 +5,19 @@ use Rattle.std.specs.Fmt.{decimal}
 use Rattle.locale_cli.specs.declared.output.Places.{Places}
 use Rattle.locale_cli.specs.declared.output.Places.TheVariants as places
 use Rattle.locale_cli.specs.declared.output.Said.{Said}
-use Rattle.locale_cli.specs.declared.output.Said.TheVariants.{Name, Text, Ended}
+use Rattle.locale_cli.specs.declared.output.Said.TheVariants as said
+use Rattle.locale_cli.specs.declared.output.Why.{Why}
+use Rattle.locale_cli.specs.declared.output.Why.TheVariants as whys
+use Rattle.handle_table.specs.declared.handle.Handle.{Handle}
+use Rattle.handle_table.specs.declared.handle.Named.{Named}
+use Rattle.handle_table.specs.declared.handle.Named.TheVariants.{Global, Of}
 use Rattle.locale_cli.specs.declared.output.OutLine.{OutLine}
 
+-- one space
 abbrev pub space : List ℕ
 space = 32 ∷ []
 
+-- one newline
 abbrev pub newline : List ℕ
 newline = 10 ∷ []
 
@@ -39,26 +46,47 @@ abbrev pub version_text : Option ℕ → List ℕ
 version_text None = codes "-"
 version_text (Some v) = codes "g" ++ decimal v
 
-abbrev pub reply_text : Said → List ℕ
-reply_text (Name name) = codes "name " ++ name
-reply_text (Text text) = codes "text " ++ quoted text
-reply_text Ended = codes "ended"
+-- THREAD.ROW.GENERATION, where the threads have these names
+abbrev pub handle_text : List (List ℕ) → Handle → List ℕ
+handle_text names h = slice_index_or names h.owner [] ++ codes "." ++ decimal h.row ++ codes "." ++ decimal h.generation
+
+-- what a command named: GLOBAL or a handle
+abbrev pub named_text : List (List ℕ) → Named → List ℕ
+named_text names Global = codes "GLOBAL"
+named_text names (Of h) = handle_text names h
+
+-- the word for why a command is refused
+abbrev pub why_word : Why → List ℕ
+why_word whys.Unset = codes "Unset"
+why_word whys.GlobalHandle = codes "GlobalHandle"
+why_word whys.NeverMade = codes "NeverMade"
+why_word whys.Stale = codes "Stale"
+why_word whys.TooMany = codes "TooMany"
+why_word whys.AlreadyHeld = codes "AlreadyHeld"
+why_word whys.NotHeld = codes "NotHeld"
+why_word whys.EmptyCell = codes "EmptyCell"
+
+-- a reply, where the threads have these names
+abbrev pub reply_text : List (List ℕ) → Said → List ℕ
+reply_text names (said.Handle h) = codes "handle " ++ handle_text names h
+reply_text names said.Freed = codes "freed"
+reply_text names (said.Was former) = codes "was " ++ named_text names former
+reply_text names (said.Name name) = codes "name " ++ name
+reply_text names (said.Text text) = codes "text " ++ quoted text
+reply_text names said.Ended = codes "ended"
+reply_text names (said.Refused why) = codes "refused " ++ why_word why
 
 -- ROUND THREAD INDEX, each with a space after it
 abbrev pub caller_text : List ℕ → OutLine → List ℕ
 caller_text name l = decimal l.round ++ space ++ name ++ space ++ decimal l.index ++ space
 
 -- PLACES GLOBAL REPLY and a newline
-abbrev pub outcome_text : OutLine → List ℕ
-outcome_text l = places_text l.places ++ space ++ version_text l.global ++ space ++ reply_text l.reply ++ newline
+abbrev pub outcome_text : List (List ℕ) → OutLine → List ℕ
+outcome_text names l = places_text l.places ++ space ++ version_text l.global ++ space ++ reply_text names l.reply ++ newline
 
--- a line, where its thread has this name
-abbrev pub named_line_text : List ℕ → OutLine → List ℕ
-named_line_text name l = caller_text name l ++ outcome_text l
-
--- the same, where the threads have these names
+-- a line, where the threads have these names
 abbrev pub line_text : List (List ℕ) → OutLine → List ℕ
-line_text names l = named_line_text (slice_index_or names l.thread []) l
+line_text names l = caller_text (slice_index_or names l.thread []) l ++ outcome_text names l
 
 -- the printed text of lines
 abbrev pub printed : List OutLine → List (List ℕ) → List ℕ

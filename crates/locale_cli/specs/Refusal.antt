@@ -12,12 +12,14 @@ use Rattle.lc_base.specs.declared.reason.Class.{Class}
 use Rattle.lc_base.specs.declared.reason.Class.TheVariants as classes
 use Rattle.locale_cli.specs.Output.{space, newline}
 
+-- the word for a part of a bundle's line
 abbrev pub part_word : LinePart → List ℕ
 part_word parts.Directive = codes "directive"
 part_word parts.Command = codes "command"
 part_word parts.Argument = codes "argument"
 part_word parts.Thread = codes "thread"
 
+-- the word for a limit
 abbrev pub limit_word : Limit → List ℕ
 limit_word limits.Locales = codes "locales"
 limit_word limits.Charmaps = codes "charmaps"
@@ -32,6 +34,7 @@ limit_word limits.Text = codes "string"
 limit_word limits.Texts = codes "list"
 limit_word limits.Conversions = codes "conversions"
 
+-- the word for a character class
 abbrev pub class_word : Class → List ℕ
 class_word classes.Upper = codes "upper"
 class_word classes.Lower = codes "lower"

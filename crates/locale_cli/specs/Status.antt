@@ -16,9 +16,11 @@ use Rattle.locale_cli.specs.Refusal.{refusal_line}
 abbrev pub input_limit : ℕ
 input_limit = 16777216
 
+-- what is written for wrong words
 abbrev pub usage_line : List ℕ
 usage_line = codes "refused: usage" ++ newline
 
+-- what is written for too large an input
 abbrev pub too_large_line : List ℕ
 too_large_line = codes "refused: too large" ++ newline
 

@@ -3,6 +3,7 @@ use Rattle.std.specs.Prelude.{ℕ}
 use Rattle.locale_cli.specs.declared.answer.Status.{Status}
 use Rattle.locale_cli.specs.declared.answer.Status.TheVariants.{Done, Usage, Refused, ReadFault, WriteFault, Memory, TooLarge}
 
+-- the exit code of a status
 abbrev pub status_code : Status → ℕ
 status_code Done = 0
 status_code Usage = 2

@@ -1,17 +1,17 @@
 //! Bundles of the first form.
 
-ghost use Rattle.std.specs.Prelude.{◌≡◌, ◌≤◌, length};
+ghost use Rattle.std.specs.Prelude.{◌≡◌, ◌≤◌, length, IfOk};
 ghost use Rattle.std.specs.Option.{option_copied, option_map};
 ghost use Rattle.lc_base.specs.Lines.{lines_of};
 ghost use Rattle.lc_base.specs.Reading.{Gives};
 ghost use Rattle.locale_reader.specs.NumericSection.{if_built};
-ghost use Rattle.locale_cli.specs.Bundle.{locale_name, thread_name, before, block_of, parts_of, command_of, is_setlocale, within_limit, commands_of};
+ghost use Rattle.locale_cli.specs.Bundle.{locale_name, thread_name, before, block_of, parts_of, target_of, new_variable, new_command, free_command, use_command, object_command, command_of, is_setlocale, within_limit, commands_of};
 ghost use Rattle.locale_cli.specs.Accepted.{not_built, seen_parts, bundle_of};
 
 use crate::names::{is_locale_name, is_thread_name};
 use lc_base::{ByteText, Place, Reason, TextFault, after, next_line};
 use locale_reader::{LocaleSource, read_numeric};
-use std::alloc::Global;
+use std::alloc::{AllocError, Global};
 use std::marker::Model;
 
 /// The most commands of a bundle.
@@ -26,13 +26,28 @@ pub enum Item {
     Thousep,
 }
 
+/// What a command names.
+#[derive(Debug, Drop)]
+pub enum Target {
+    /// The global locale.
+    Global,
+    /// What the variable of this name stands for.
+    Variable(ByteText),
+}
+
 /// A command of the script.
-#[derive(Clone, Copy, Debug, PartialEq, Eq)]
+#[derive(Debug, Drop)]
 pub enum Command {
     /// nl_langinfo.
     Info(Item),
     /// setlocale of `LC_NUMERIC` to the bundle's locale.
     Setlocale,
+    /// newlocale of `LC_NUMERIC` of the bundle's locale, without a base, bound to this variable.
+    New(ByteText),
+    /// freelocale.
+    Free(Target),
+    /// uselocale.
+    Use(Target),
 }
 
 /// At most 20000 commands.
@@ -191,7 +206,7 @@ fn commands(alloc: Global, name: &[u8], script: &[u8]) -> Result<Script, TextFau
     let mut commands = Vec::new(alloc);
     let mut rest = script;
     while let Some((line, following)) = next_line(rest) {
-        let Some(command) = command_of(name, line) else {
+        let Some(command) = command_of(alloc, name, line)? else {
             return Err(not_built());
         };
         commands.push(command)?;
@@ -204,17 +219,85 @@ fn commands(alloc: Global, name: &[u8], script: &[u8]) -> Result<Script, TextFau
 }
 
 /// The command of a line, where the locale has this name.
-fn command_of(name: &[u8], line: &[u8]) -> Option<Command>
-    ensures { result ≡ command_of name.now line.now }
+fn command_of(alloc: Global, name: &[u8], line: &[u8]) -> Result<Option<Command>, AllocError>
+    ensures { IfOk result (λ command. command ≡ command_of name.now line.now) }
 {
     if line == b"info RADIXCHAR".as_slice() {
-        Some(Command::Info(Item::Radixchar))
+        Ok(Some(Command::Info(Item::Radixchar)))
     } else if line == b"info THOUSEP".as_slice() {
-        Some(Command::Info(Item::Thousep))
+        Ok(Some(Command::Info(Item::Thousep)))
     } else if is_setlocale(name, line) {
-        Some(Command::Setlocale)
+        Ok(Some(Command::Setlocale))
+    } else {
+        object_command(alloc, name, line)
+    }
+}
+
+/// The command `new N LC_NUMERIC NAME`, `free H` or `use H`.
+fn object_command(alloc: Global, name: &[u8], line: &[u8]) -> Result<Option<Command>, AllocError>
+    ensures { IfOk result (λ command. command ≡ object_command name.now line.now) }
+{
+    if let Some(words) = after(b"new ", line) {
+        return new_command(alloc, name, words);
+    }
+    if let Some(words) = after(b"free ", line) {
+        return free_command(alloc, words);
+    }
+    if let Some(words) = after(b"use ", line) {
+        return use_command(alloc, words);
+    }
+    Ok(None)
+}
+
+fn new_command(alloc: Global, name: &[u8], words: &[u8]) -> Result<Option<Command>, AllocError>
+    ensures { IfOk result (λ command. command ≡ new_command name.now words.now) }
+{
+    match new_variable(name, words) {
+        Some(variable) => Ok(Some(Command::New(ByteText::of(alloc, variable)?))),
+        None => Ok(None),
+    }
+}
+
+fn free_command(alloc: Global, word: &[u8]) -> Result<Option<Command>, AllocError>
+    ensures { IfOk result (λ command. command ≡ free_command word.now) }
+{
+    match target_of(alloc, word)? {
+        Some(target) => Ok(Some(Command::Free(target))),
+        None => Ok(None),
+    }
+}
+
+fn use_command(alloc: Global, word: &[u8]) -> Result<Option<Command>, AllocError>
+    ensures { IfOk result (λ command. command ≡ use_command word.now) }
+{
+    match target_of(alloc, word)? {
+        Some(target) => Ok(Some(Command::Use(target))),
+        None => Ok(None),
+    }
+}
+
+/// The variable in `N LC_NUMERIC NAME`.
+fn new_variable<'a>(name: &[u8], words: &'a [u8]) -> Option<&'a [u8]>
+    ensures { option_copied result ≡ new_variable name.now words.now }
+{
+    let variable = before(b" LC_NUMERIC ", before(name, words)?)?;
+    if is_thread_name(variable) {
+        Some(variable)
     } else {
         None
+    }
+}
+
+/// What the word names.
+fn target_of(alloc: Global, word: &[u8]) -> Result<Option<Target>, AllocError>
+    ensures { IfOk result (λ target. target ≡ target_of word.now) }
+{
+    if word == b"GLOBAL".as_slice() {
+        Ok(Some(Target::Global))
+    } else if is_thread_name(word) {
+        Ok(Some(Target::Variable(ByteText::of(alloc, word)?)))
+    } else {
+        Ok(None)
     }
 }
 

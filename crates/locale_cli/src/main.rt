@@ -8,8 +8,10 @@ mod output;
 mod plan;
 mod refusal;
 mod serial;
+mod share;
 #[cfg(test)]
 mod tests;
+mod thread;
 mod top;
 mod words;
 

@@ -1,10 +1,11 @@
 //! The printed lines.
 
-ghost use Rattle.std.specs.Prelude.{◌≡◌, ◌++◌, ◌<◌, [], length, slice_index_or, All, IfOk, OnOk};
+ghost use Rattle.std.specs.Prelude.{◌≡◌, ◌++◌, ◌<◌, [], slice_index_or, IfOk, OnOk};
 ghost use Rattle.std.specs.Fmt.{decimal};
 ghost use Rattle.std.specs.List.{flat_map};
-ghost use Rattle.locale_cli.specs.Output.{hex_digit, escaped, quoted, places_text, version_text, reply_text, caller_text, outcome_text, named_line_text, line_text, printed};
+ghost use Rattle.locale_cli.specs.Output.{hex_digit, escaped, quoted, places_text, version_text, handle_text, named_text, why_word, reply_text, caller_text, outcome_text, line_text, printed};
 
+use handle_table::{Handle, Named};
 use itoa::Buffer;
 use lc_base::{ByteText, List};
 use std::alloc::{AllocError, Global};
@@ -17,15 +18,36 @@ pub enum Places {
     One(u64),
 }
 
+/// Why a command is refused.
+#[derive(Clone, Copy, Debug, PartialEq, Eq)]
+pub enum Why {
+    /// The command names a variable that no earlier accepted command of the thread bound.
+    Unset,
+    GlobalHandle,
+    NeverMade,
+    Stale,
+    TooMany,
+    AlreadyHeld,
+    NotHeld,
+    EmptyCell,
+}
+
 /// A printed reply.
 #[derive(Debug, Drop)]
 pub enum Said {
+    /// newlocale: the handle of the object that was made.
+    Handle(Handle),
+    /// freelocale.
+    Freed,
+    /// uselocale: what was selected before.
+    Was(Named),
     /// setlocale: the name of the category.
     Name(ByteText),
     /// nl_langinfo.
     Text(ByteText),
     /// The end of a thread.
     Ended,
+    Refused(Why),
 }
 
 /// A printed line.
@@ -43,35 +65,37 @@ pub struct OutLine {
     pub reply: Said,
 }
 
-/// The printed text of the lines, where the threads have these names.
+/// The printed text of the lines, where the threads have these names. A thread without a name
+/// prints as nothing.
 pub fn print(
     alloc: Global,
     lines: &List<OutLine>,
     threads: &List<ByteText>,
 ) -> Result<ByteText, AllocError>
-    requires { All (λ l. l.thread < length threads.now) lines.now }
     ensures { IfOk result (λ text. text ≡ printed lines.now threads.now) }
 {
     let mut out = Vec::new(alloc);
     for line in lines.as_slice() {
-        push_line(&mut out, line, name_of(threads, line.thread))?;
+        push_line(&mut out, line, threads)?;
     }
     Ok(ByteText::from_vec(out))
 }
 
 /// The name of a thread.
 fn name_of(threads: &List<ByteText>, thread: u32) -> &[u8]
-    requires { thread < length threads.now }
     ensures { result.now ≡ slice_index_or threads.now thread [] }
 {
-    threads.as_slice()[thread as usize].as_bytes()
+    match threads.as_slice().get(thread as usize) {
+        Some(name) => name.as_bytes(),
+        None => &[],
+    }
 }
 
-fn push_line(out: &mut Vec<u8>, line: &OutLine, thread: &[u8]) -> Result<(), AllocError>
-    ensures { OnOk result (out.new.items ≡ out.old.items ++ named_line_text thread.now line.now) }
+fn push_line(out: &mut Vec<u8>, line: &OutLine, threads: &List<ByteText>) -> Result<(), AllocError>
+    ensures { OnOk result (out.new.items ≡ out.old.items ++ line_text threads.now line.now) }
 {
-    push_caller(out, line, thread)?;
-    push_outcome(out, line)
+    push_caller(out, line, name_of(threads, line.thread))?;
+    push_outcome(out, line, threads)
 }
 
 /// Adds the round, the thread and the index.
@@ -88,14 +112,18 @@ fn push_caller(out: &mut Vec<u8>, line: &OutLine, thread: &[u8]) -> Result<(), A
 }
 
 /// Adds the places, the version and the reply.
-fn push_outcome(out: &mut Vec<u8>, line: &OutLine) -> Result<(), AllocError>
-    ensures { OnOk result (out.new.items ≡ out.old.items ++ outcome_text line.now) }
+fn push_outcome(
+    out: &mut Vec<u8>,
+    line: &OutLine,
+    threads: &List<ByteText>,
+) -> Result<(), AllocError>
+    ensures { OnOk result (out.new.items ≡ out.old.items ++ outcome_text threads.now line.now) }
 {
     push_places(out, line.places)?;
     out.push(b' ')?;
     push_version(out, line.global)?;
     out.push(b' ')?;
-    push_reply(out, &line.reply)?;
+    push_reply(out, &line.reply, threads)?;
     out.push(b'\n')?;
     Ok(())
 }
@@ -121,10 +149,19 @@ fn push_version(out: &mut Vec<u8>, version: Option<u32>) -> Result<(), AllocErro
     }
 }
 
-fn push_reply(out: &mut Vec<u8>, reply: &Said) -> Result<(), AllocError>
-    ensures { OnOk result (out.new.items ≡ out.old.items ++ reply_text reply.now) }
+fn push_reply(out: &mut Vec<u8>, reply: &Said, threads: &List<ByteText>) -> Result<(), AllocError>
+    ensures { OnOk result (out.new.items ≡ out.old.items ++ reply_text threads.now reply.now) }
 {
     match reply {
+        Said::Handle(handle) => {
+            out.extend_from_slice(b"handle ")?;
+            push_handle(out, *handle, threads)
+        }
+        Said::Freed => out.extend_from_slice(b"freed"),
+        Said::Was(former) => {
+            out.extend_from_slice(b"was ")?;
+            push_named(out, *former, threads)
+        }
         Said::Name(name) => {
             out.extend_from_slice(b"name ")?;
             out.extend_from_slice(name.as_bytes())
@@ -134,6 +171,49 @@ fn push_reply(out: &mut Vec<u8>, reply: &Said) -> Result<(), AllocError>
             push_quoted(out, text.as_bytes())
         }
         Said::Ended => out.extend_from_slice(b"ended"),
+        Said::Refused(why) => {
+            out.extend_from_slice(b"refused ")?;
+            out.extend_from_slice(why_word(*why).as_bytes())
+        }
+    }
+}
+
+fn push_named(out: &mut Vec<u8>, named: Named, threads: &List<ByteText>) -> Result<(), AllocError>
+    ensures { OnOk result (out.new.items ≡ out.old.items ++ named_text threads.now named) }
+{
+    match named {
+        Named::Global => out.extend_from_slice(b"GLOBAL"),
+        Named::Of(handle) => push_handle(out, handle, threads),
+    }
+}
+
+/// Adds `THREAD.ROW.GENERATION`.
+fn push_handle(
+    out: &mut Vec<u8>,
+    handle: Handle,
+    threads: &List<ByteText>,
+) -> Result<(), AllocError>
+    ensures { OnOk result (out.new.items ≡ out.old.items ++ handle_text threads.now handle) }
+{
+    out.extend_from_slice(name_of(threads, handle.owner))?;
+    out.push(b'.')?;
+    push_number(out, u64::from(handle.row))?;
+    out.push(b'.')?;
+    push_number(out, u64::from(handle.generation))
+}
+
+fn why_word(why: Why) -> &'static str
+    ensures { result.now ≡ why_word why }
+{
+    match why {
+        Why::Unset => "Unset",
+        Why::GlobalHandle => "GlobalHandle",
+        Why::NeverMade => "NeverMade",
+        Why::Stale => "Stale",
+        Why::TooMany => "TooMany",
+        Why::AlreadyHeld => "AlreadyHeld",
+        Why::NotHeld => "NotHeld",
+        Why::EmptyCell => "EmptyCell",
     }
 }
 

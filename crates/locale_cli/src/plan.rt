@@ -30,7 +30,8 @@ pub fn prepare(alloc: Global, text: &[u8]) -> Result<Plan, TextFault>
     Ok(Plan { bundle, numeric })
 }
 
-/// The category of the first section, which the POSIX locale's stands for where there is none.
+/// The category of the first section's keyword list. Where there is no section, or it copies, the
+/// list is empty, and the category is the POSIX locale's.
 fn compile(alloc: Global, sections: &List<Section>) -> Result<Numeric, TextFault>
     ensures { Gives (λ numeric. numeric) result (numeric_values (entries_of sections.now)) }
 {

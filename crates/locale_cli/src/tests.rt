@@ -133,6 +133,49 @@ fn scripts(rt: HostRuntime) -> Result<(), Fail> {
 }
 
 #[test]
+fn freed_while_selected(rt: HostRuntime) -> Result<(), Fail> {
+    script(
+        &rt,
+        b"\nnew x LC_NUMERIC a\nuse x\ninfo RADIXCHAR\nfree x\nuse x\ninfo RADIXCHAR\nuse GLOBAL\ninfo RADIXCHAR\n",
+        Status::Done,
+        b"1 A 1 0 - handle A.0.1\n1 A 2 1 - was GLOBAL\n1 A 3 - - text \",\"\n1 A 4 2 - freed\n1 A 5 3 - refused Stale\n1 A 6 - - text \",\"\n1 A 7 4 - was A.0.1\n1 A 8 - g0 text \".\"\n2 A 9 5 - ended\n",
+    )?;
+    Ok(())
+}
+
+#[test]
+fn seventeen_makes(rt: HostRuntime) -> Result<(), Fail> {
+    let mut makes = Vec::new(rt.alloc());
+    let mut written = Vec::new(rt.alloc());
+    for i in 0u32..16 {
+        makes.extend_from_slice(b"\nnew x LC_NUMERIC a")?;
+        let line = format!(in rt.alloc(); "1 A {} {i} - handle A.{i}.1\n", i + 1)?;
+        written.extend_from_slice(line.as_bytes())?;
+    }
+    makes.extend_from_slice(b"\nnew x LC_NUMERIC a")?;
+    written.extend_from_slice(b"1 A 17 16 - refused TooMany\n2 A 18 17 - ended\n")?;
+    script(&rt, makes.as_slice(), Status::Done, written.as_slice())?;
+    Ok(())
+}
+
+#[test]
+fn refused_commands(rt: HostRuntime) -> Result<(), Fail> {
+    script(
+        &rt,
+        b"\nfree q\nfree GLOBAL\nuse q\nuse GLOBAL\nnew x LC_NUMERIC a\nfree x\nfree x\n",
+        Status::Done,
+        b"1 A 1 - - refused Unset\n1 A 2 0 - refused GlobalHandle\n1 A 3 - - refused Unset\n1 A 4 1 - was GLOBAL\n1 A 5 2 - handle A.0.1\n1 A 6 3 - freed\n1 A 7 4 - refused Stale\n2 A 8 5 - ended\n",
+    )?;
+    script(
+        &rt,
+        b"\nnew x LC_NUMERIC a\nuse x\nsetlocale LC_NUMERIC a\ninfo RADIXCHAR\nfree x\nnew x LC_NUMERIC a\nuse GLOBAL\nnew x LC_NUMERIC a\ninfo THOUSEP\n",
+        Status::Done,
+        b"1 A 1 0 - handle A.0.1\n1 A 2 1 - was GLOBAL\n1 A 3 2 g1 name a\n1 A 4 - - text \",\"\n1 A 5 3 - freed\n1 A 6 4 - handle A.1.1\n1 A 7 5 - was A.0.1\n1 A 8 6 - handle A.0.2\n1 A 9 - g1 text \".\"\n2 A 10 7 - ended\n",
+    )?;
+    Ok(())
+}
+
+#[test]
 fn nearly_the_form(rt: HostRuntime) -> Result<(), Fail> {
     let refused = Status::Refused;
     script(&rt, b"\ninfo  RADIXCHAR\n", refused, NOT_BUILT)?;
@@ -140,6 +183,10 @@ fn nearly_the_form(rt: HostRuntime) -> Result<(), Fail> {
     script(&rt, b"\n\n", refused, NOT_BUILT)?;
     script(&rt, b"\nsetlocale LC_NUMERIC b\n", refused, NOT_BUILT)?;
     script(&rt, b" \n", refused, NOT_BUILT)?;
+    script(&rt, b"\nnew GLOBAL LC_NUMERIC a\n", refused, NOT_BUILT)?;
+    script(&rt, b"\nnew x LC_NUMERIC b\n", refused, NOT_BUILT)?;
+    script(&rt, b"\nfree 1\n", refused, NOT_BUILT)?;
+    script(&rt, b"\nuse\n", refused, NOT_BUILT)?;
     Ok(())
 }
 

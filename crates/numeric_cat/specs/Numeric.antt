@@ -1,4 +1,4 @@
--- The values of LC_NUMERIC's keywords (XBD 7.3.4 and 7.3.4.2, the POSIX locale).
+-- The values of LC_NUMERIC's keywords (XBD 7.3.4).
 use Rattle.std.specs.Prelude.{List, [], ◌∷◌, codes, Option, Some, None, Ok, Err}
 use Rattle.lc_base.specs.declared.place.Place.{Place}
 use Rattle.lc_base.specs.declared.reason.Reason.TheVariants.{EmptyRadix}
@@ -9,10 +9,11 @@ use Rattle.locale_reader.specs.declared.source.Entry.{Entry}
 use Rattle.numeric_cat.specs.Keywords.{operand, text_or}
 use Rattle.numeric_cat.specs.NumericValues.{NumericValues}
 
--- the operands of decimal_point and of thousands_sep
+-- the operand of decimal_point
 abbrev pub radix_operand : List Entry → Option (Place × Value)
 radix_operand list = operand list (codes "decimal_point")
 
+-- the operand of thousands_sep
 abbrev pub separator_operand : List Entry → Option (Place × Value)
 separator_operand list = operand list (codes "thousands_sep")
 

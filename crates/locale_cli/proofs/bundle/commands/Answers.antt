@@ -1,8 +1,10 @@
+use Rattle.std.proofs.Common.{◌≡◌, ◌∙◌, sym, Some}
 use Rattle.lc_base.specs.Lines.{lines_of}
-use Rattle.locale_cli.specs.Bundle.{script_of}
+use Rattle.locale_cli.specs.Bundle.{command_of, script_of}
 use Rattle.locale_cli.proofs.Scripts.{goes_on}
 use Rattle.locale_cli.proofs.bundle.commands.Goals as goal
 
 pub loop-line-preserved : goal.loop-line-preserved
 loop-line-preserved c =
-    rw c.in_ok-push.ensures.items (goes_on c.loop-line.commands.items c.args.name.now c.in-Some.line.now (lines_of c.loop-line.rest.now) (lines_of c.in-Some.following.now) c.in-Some-command_of.command (script_of c.args.name.now (lines_of c.args.script.now)) c.in-Some.ensures.line.lines c.in-Some-command_of.ensures c.loop-line.invariant)
+    let is : Some c.in-Some-2.command ≡ command_of c.args.name.now c.in-Some.line.now = sym c.in-Some-2.is ∙ c.in_ok-command.ensures in
+    rw c.in_ok-push.ensures.items (goes_on c.loop-line.commands.items c.args.name.now c.in-Some.line.now (lines_of c.loop-line.rest.now) (lines_of c.in-Some.following.now) c.in-Some-2.command (script_of c.args.name.now (lines_of c.args.script.now)) c.in-Some.ensures.line.lines is c.loop-line.invariant)

@@ -1,0 +1,76 @@
+-- One entry of a history: who called, what was asked and what was replied, as plain data.
+use Rattle.std.specs.Prelude.{ℕ, List, Option, Bool, true, false, ◌==◌, ◌&&◌}
+use Rattle.mask_compose.specs.Parts.{Parts}
+use Rattle.handle_table.specs.declared.handle.Handle.{Handle}
+use Rattle.handle_table.specs.declared.handle.Named.{Named}
+use Rattle.handle_table.specs.declared.handle.Named.TheVariants.{Global, Of}
+
+-- what a thread asks of the table; masks are bits, objects are their five parts
+pub data Op : Type 0 where
+  New : ℕ → Parts → Option Named → Op
+  Dup : Named → Op
+  Free : Named → Op
+  Use : Named → Op
+  Hold : Named → Op
+  Release : Named → Op
+  SetGlobal : ℕ → Parts → Op
+  Post : ℕ → Named → Op
+  Fetch : ℕ → ℕ → Op
+  Pins : Named → Op
+  End : Op
+
+-- why an op is refused
+pub data Refusal : Type 0 where
+  GlobalHandle : Refusal
+  NeverMade : Refusal
+  Stale : Refusal
+  TooMany : Refusal
+  AlreadyHeld : Refusal
+  NotHeld : Refusal
+  EmptyCell : Refusal
+
+-- what the table replies
+pub data Reply : Type 0 where
+  Made : Handle → Reply
+  Freed : Reply
+  Was : Named → Option Parts → Reply
+  Held : Parts → Reply
+  Released : Reply
+  Set : ℕ → Parts → Reply
+  Posted : Reply
+  Got : Handle → Reply
+  Pinned : ℕ → Reply
+  Ended : Reply
+  Refused : Refusal → Reply
+
+-- one call of a thread, with its reply
+pub record Entry : Type 0 where
+  pub who : ℕ
+  pub op : Op
+  pub reply : Reply
+
+-- all entries, the newest first, so that each search goes from the end of the history to its begin;
+-- an entry's place is the number of entries below it
+abbrev pub History : Type 0
+History = List Entry
+
+-- what a table is made for: threads, rows a thread, generations a row, and the POSIX locale's object
+pub record Setting : Type 0 where
+  pub threads : ℕ
+  pub rows : ℕ
+  pub generations : ℕ
+  pub posix : Parts
+
+-- whether two handles are one
+abbrev pub same_handle : Handle → Handle → Bool
+same_handle g h = g.owner == h.owner && g.row == h.row && g.generation == h.generation
+
+-- whether a name is that of the handle
+abbrev pub names : Named → Handle → Bool
+names Global h = false
+names (Of g) h = same_handle g h
+
+-- an entry is accepted where its reply is not a refusal
+abbrev pub is_accepted : Reply → Bool
+is_accepted (Refused _) = false
+is_accepted _ = true

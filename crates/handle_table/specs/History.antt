@@ -1,0 +1,185 @@
+-- What a history says. Each is a search from the newest entry to the oldest; no entry's effect is stored.
+-- How an answer changes when an entry is added is the second equation of its search.
+use Rattle.std.specs.Prelude.{ℕ, zero, suc, ◌+◌, Bool, false, ◌==◌, nat_lt, nat_le, not, ◌&&◌, ◌||◌, if◌then◌else◌, List, [], ◌∷◌, ◌++◌, length, Option, None, Some}
+use Rattle.std.specs.List.{list_any}
+use Rattle.std.specs.Option.{option_or}
+use Rattle.mask_compose.specs.Parts.{Parts, composed}
+use Rattle.handle_table.specs.declared.handle.Handle.{Handle}
+use Rattle.handle_table.specs.declared.handle.Named.{Named}
+use Rattle.handle_table.specs.declared.handle.Named.TheVariants.{Global, Of}
+use Rattle.handle_table.specs.Entry.{Op, New, Dup, Free, Use, Hold, Release, SetGlobal, Post, End, Reply, Made, Entry, History, Setting, same_handle, names, is_accepted}
+
+-- the handle that a reply made: an accepted New or Dup has this reply, and no other op has it
+abbrev pub handle_made : Reply → Option Handle
+handle_made (Made h) = Some h
+handle_made _ = None
+
+-- whether there is a handle, and it is this one
+abbrev pub is_handle : Option Handle → Handle → Bool
+is_handle None h = false
+is_handle (Some g) h = same_handle g h
+
+-- whether the entry made the handle
+abbrev pub makes_handle : Entry → Handle → Bool
+makes_handle e h = is_handle (handle_made e.reply) h
+
+-- whether an entry made the handle
+abbrev pub made : History → Handle → Bool
+made [] h = false
+made (e ∷ H) h = makes_handle e h || made H h
+
+-- whether the op, once accepted, frees the handle: a Free names it, or a New has it as its base
+abbrev pub op_frees : Op → Handle → Bool
+op_frees (Free n) h = names n h
+op_frees (New mask picks (Some n)) h = names n h
+op_frees _ h = false
+
+-- whether the entry freed the handle
+abbrev pub frees_handle : Entry → Handle → Bool
+frees_handle e h = is_accepted e.reply && op_frees e.op h
+
+-- a handle is live where it was made and nothing later freed it
+abbrev pub live : History → Handle → Bool
+live [] h = false
+live (e ∷ H) h = not (frees_handle e h) && (makes_handle e h || live H h)
+
+-- whether the handle is one of this thread in this row
+abbrev pub is_in_row : ℕ → ℕ → Handle → Bool
+is_in_row t r h = h.owner == t && h.row == r
+
+-- the handle, if there is one of this thread in this row, before the others
+abbrev pub with_handle : ℕ → ℕ → Option Handle → List Handle → List Handle
+with_handle t r None hs = hs
+with_handle t r (Some h) hs = if is_in_row t r h then h ∷ hs else hs
+
+-- the handles that were made for a thread in a row, the newest first
+abbrev pub handles : History → ℕ → ℕ → List Handle
+handles [] t r = []
+handles (e ∷ H) t r = with_handle t r (handle_made e.reply) (handles H t r)
+
+-- how many handles were made for a thread in a row
+abbrev pub makes : History → ℕ → ℕ → ℕ
+makes H t r = length (handles H t r)
+
+-- how many times the global locale was set
+abbrev pub sets_of : Op → ℕ
+sets_of (SetGlobal mask picks) = 1
+sets_of _ = 0
+
+-- the version of the global locale: the number of SetGlobal entries
+abbrev pub sets : History → ℕ
+sets [] = 0
+sets (e ∷ H) = sets_of e.op + sets H
+
+-- the global object after the op
+abbrev pub global_after : Op → Parts → Parts
+global_after (SetGlobal mask picks) object = composed mask picks object
+global_after _ object = object
+
+-- the global object: the POSIX locale's, and each SetGlobal composes its picks with the object before
+abbrev pub global : Setting → History → Parts
+global c [] = c.posix
+global c (e ∷ H) = global_after e.op (global c H)
+
+-- the global object of a version: the one after that many SetGlobal entries
+abbrev pub global_at : Setting → History → ℕ → Parts
+global_at c [] k = c.posix
+global_at c (e ∷ H) k = if nat_le k (sets H) then global_at c H k else global c (e ∷ H)
+
+-- the object of a name, by the objects of handles and the global one
+abbrev pub object_named : (Handle → Parts) → Parts → Named → Parts
+object_named objects all Global = all
+object_named objects all (Of h) = objects h
+
+-- the object that a New goes by outside its mask: its base's, or the POSIX locale's where it has no base
+abbrev pub object_below : Setting → (Handle → Parts) → Parts → Option Named → Parts
+object_below c objects all None = c.posix
+object_below c objects all (Some n) = object_named objects all n
+
+-- the object that a New or a Dup makes, by the objects before it: New composes, and Dup copies
+abbrev pub object_by : Setting → (Handle → Parts) → Parts → Op → Parts
+object_by c objects all (New mask picks base) = composed mask picks (object_below c objects all base)
+object_by c objects all (Dup n) = object_named objects all n
+object_by c objects all _ = c.posix
+
+-- the object that a handle was made with
+abbrev pub object : Setting → History → Handle → Parts
+object c [] h = c.posix
+object c (e ∷ H) h = if makes_handle e h then object_by c (object c H) (global c H) e.op else object c H h
+
+-- what a thread has selected after its accepted op
+abbrev pub selection_after : Op → Named → Named
+selection_after (Use n) before = n
+selection_after End before = Global
+selection_after _ before = before
+
+-- what the thread has selected: the target of its last accepted Use since its last End, else Global
+abbrev pub selection : History → ℕ → Named
+selection [] t = Global
+selection (e ∷ H) t = if e.who == t && is_accepted e.reply then selection_after e.op (selection H t) else selection H t
+
+-- whether a thread holds the handle after its accepted op
+abbrev pub holding_after : Op → Handle → Bool → Bool
+holding_after (Hold n) h before = names n h || before
+holding_after (Release n) h before = not (names n h) && before
+holding_after End h before = false
+holding_after _ h before = before
+
+-- whether the thread has an open Hold of the handle: neither a Release of it nor an End came after
+abbrev pub holding : History → ℕ → Handle → Bool
+holding [] t h = false
+holding (e ∷ H) t h = if e.who == t && is_accepted e.reply then holding_after e.op h (holding H t h) else holding H t h
+
+-- how a thread can hold on to a handle
+pub data Manner : Type 0 where
+  Selects : Manner
+  Holds : Manner
+
+-- the ways in which a thread holds on to the handle
+abbrev pub holders_of : History → Handle → ℕ → List (ℕ × Manner)
+holders_of H h t = (if names (selection H t) h then (t, Selects) ∷ [] else []) ++ (if holding H t h then (t, Holds) ∷ [] else [])
+
+-- those of the threads below a number
+abbrev pub holders_below : History → Handle → ℕ → List (ℕ × Manner)
+holders_below H h zero = []
+holders_below H h (suc t) = holders_below H h t ++ holders_of H h t
+
+-- who holds on to the handle, and how
+abbrev pub holders : Setting → History → Handle → List (ℕ × Manner)
+holders c H h = holders_below H h c.threads
+
+-- the pins of a handle: the number of its holders
+abbrev pub pins : Setting → History → Handle → ℕ
+pins c H h = length (holders c H h)
+
+-- whether the handle is live or has pins
+abbrev pub is_kept : Setting → History → Handle → Bool
+is_kept c H h = live H h || nat_lt 0 (pins c H h)
+
+-- a row of a thread is free where none of its handles is live or has pins, and it has generations left
+abbrev pub is_free : Setting → History → ℕ → ℕ → Bool
+is_free c H t r = not (list_any (is_kept c H) (handles H t r)) && nat_lt (makes H t r) c.generations
+
+-- the least number below n that passes the test
+abbrev pub least_below : ℕ → (ℕ → Bool) → Option ℕ
+least_below zero p = None
+least_below (suc n) p = option_or (least_below n p) (if p n then Some n else None)
+
+-- the least free row of a thread, or none
+abbrev pub free_row : Setting → History → ℕ → Option ℕ
+free_row c H t = least_below c.rows (is_free c H t)
+
+-- the handle of a name that is not global
+abbrev pub handle_named : Named → Option Handle
+handle_named Global = None
+handle_named (Of h) = Some h
+
+-- what stands in a thread's cell k after its accepted op
+abbrev pub posted_after : Op → ℕ → Option Handle → Option Handle
+posted_after (Post j n) k before = if j == k then handle_named n else before
+posted_after _ k before = before
+
+-- the handle of the thread's last accepted Post to its cell k, or none
+abbrev pub posted : History → ℕ → ℕ → Option Handle
+posted [] t k = None
+posted (e ∷ H) t k = if e.who == t && is_accepted e.reply then posted_after e.op k (posted H t k) else posted H t k

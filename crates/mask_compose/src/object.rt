@@ -1,0 +1,96 @@
+//! Locale objects and how they are composed.
+
+ghost use Rattle.std.specs.Prelude.{◌≡◌};
+ghost use Rattle.lc_base.specs.declared.category.Category.{Category};
+ghost use Rattle.mask_compose.specs.Parts.{part_of, composed};
+
+use crate::part::Part;
+use lc_base::{Category, Mask};
+use std::marker::Model;
+
+/// A locale object: a part for each category (POSIX.1-2017, XBD 3.204 and XSH newlocale).
+#[derive(Drop)]
+pub struct Object<P: Part> {
+    ctype: P,
+    numeric: P,
+    monetary: P,
+    time: P,
+    messages: P,
+}
+
+impl<P: Part> Model for Object<P> {
+    ghost use Rattle.mask_compose.specs.Parts.{Parts};
+
+    ghost Value = { Parts };
+
+    ghost view = { λ o. record {
+      ctype = P.number o.ctype;
+      numeric = P.number o.numeric;
+      monetary = P.number o.monetary;
+      time = P.number o.time;
+      messages = P.number o.messages;
+    } };
+}
+
+impl<P: Part> Object<P> {
+    /// The object of these parts.
+    pub fn of(ctype: P, numeric: P, monetary: P, time: P, messages: P) -> Object<P>
+        ensures ctype { result.ctype ≡ P.number ctype }
+        ensures numeric { result.numeric ≡ P.number numeric }
+        ensures monetary { result.monetary ≡ P.number monetary }
+        ensures time { result.time ≡ P.number time }
+        ensures messages { result.messages ≡ P.number messages }
+    {
+        Object {
+            ctype,
+            numeric,
+            monetary,
+            time,
+            messages,
+        }
+    }
+
+    /// The part of a category.
+    pub fn part(&self, category: Category) -> &P
+        ensures { P.number result.now ≡ part_of self.now category }
+    {
+        match category {
+            Category::Ctype => &self.ctype,
+            Category::Numeric => &self.numeric,
+            Category::Monetary => &self.monetary,
+            Category::Time => &self.time,
+            Category::Messages => &self.messages,
+        }
+    }
+
+    /// The same object once more, without taking memory.
+    pub fn share(&self) -> Object<P>
+        ensures { result ≡ self.now }
+    {
+        Object {
+            ctype: self.ctype.share(),
+            numeric: self.numeric.share(),
+            monetary: self.monetary.share(),
+            time: self.time.share(),
+            messages: self.messages.share(),
+        }
+    }
+}
+
+/// The object with the parts of `picks` in the categories of the mask and those of `base` in the
+/// others (XSH newlocale and setlocale). Takes no memory.
+pub fn compose<P: Part>(mask: Mask, picks: &Object<P>, base: &Object<P>) -> Object<P>
+    ensures composed { result ≡ composed mask picks.now base.now }
+{
+    let chosen = |category: Category| {
+        let from = if mask.has(category) { picks } else { base };
+        from.part(category).share()
+    };
+    Object::of(
+        chosen(Category::Ctype),
+        chosen(Category::Numeric),
+        chosen(Category::Monetary),
+        chosen(Category::Time),
+        chosen(Category::Messages),
+    )
+}

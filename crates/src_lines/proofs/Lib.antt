@@ -1,0 +1,8 @@
+mod Examples
+pub mod Operands
+pub mod Opening
+pub mod Runs
+pub mod Itemizing
+pub mod Naming
+pub mod Splitting
+pub mod Storing

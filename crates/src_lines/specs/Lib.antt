@@ -1,0 +1,9 @@
+pub mod Words
+pub mod Places
+pub mod Rows
+pub mod Held
+pub mod Stored
+pub mod Logical
+pub mod Steps
+pub mod Atoms
+pub mod Tokens

@@ -1,0 +1,102 @@
+-- The logical lines of a text (XBD 7.3): lines are cut at LF and joined, comments, blank lines and head lines are taken out.
+use Rattle.std.specs.Prelude.{ℕ, ◌+◌, ◌-◌, Bool, true, false, ◌||◌, ◌&&◌, not, ◌==◌, nat_lt, nat_le, List, [], ◌∷◌, length, take, slice_index, Option, Some, None, Ok, Err, if◌then◌else◌}
+use Rattle.std.specs.Str.{bytes_eq}
+use Rattle.std.specs.Prelude.{codes, nat_eq}
+use Rattle.std.specs.List.{starts_with}
+use Rattle.lc_base.specs.declared.reason.Reason.TheVariants.{WrongOperand, BadHeader}
+use Rattle.lc_base.specs.Reading.{Reads, ◌>>=◌}
+use Rattle.src_lines.specs.declared.signs.Kind.{Kind}
+use Rattle.src_lines.specs.declared.signs.Kind.TheVariants.{Locale, Charmap}
+use Rattle.src_lines.specs.declared.head.Fate.{Fate}
+use Rattle.src_lines.specs.Words.{next_word, blanks}
+use Rattle.src_lines.specs.Places.{Logical, fresh, extended, continued, place_at}
+
+-- the lines of a text, cut at LF; the last one, perhaps empty, has none
+abbrev pub with_first : ℕ → List (List ℕ) → List (List ℕ)
+with_first b [] = []
+with_first b (l ∷ ls) = (b ∷ l) ∷ ls
+
+abbrev pub physical : List ℕ → List (List ℕ)
+physical [] = [] ∷ []
+physical (b ∷ bs) = if b == 10 then [] ∷ physical bs else with_first b (physical bs)
+
+-- whether a line's last byte is the escape character, so that the next line is joined to it
+abbrev pub takes_next : ℕ → List ℕ → Bool
+takes_next escape l = nat_lt 0 (length l) && (slice_index l (length l - 1) == escape)
+
+-- a comment or a line of blanks
+abbrev pub is_dropped : ℕ → List ℕ → Bool
+is_dropped comment bs = (nat_lt 0 (length bs) && (slice_index bs 0 == comment)) || (blanks bs == length bs)
+
+-- the words that begin head lines
+abbrev pub escape_word : Kind → List ℕ
+escape_word Locale = codes "escape_char"
+escape_word Charmap = codes "<escape_char>"
+
+abbrev pub comment_word : Kind → List ℕ
+comment_word Locale = codes "comment_char"
+comment_word Charmap = codes "<comment_char>"
+
+-- a sign is one byte from 0x21 to 0x7E
+abbrev pub sign_of : List ℕ → Option ℕ
+sign_of [] = None
+sign_of (b ∷ []) = if nat_le 33 b && nat_le b 126 then Some b else None
+sign_of (b ∷ c ∷ bs) = None
+
+-- a head line's fault: at its own byte in a locale source, at the line's first word in a charmap
+abbrev pub bad_head : {A : Type 0} → Kind → Logical → ℕ → Reads A
+bad_head Locale l k = Err (place_at l k, WrongOperand)
+bad_head Charmap l k = Err (place_at l (blanks l.bytes), BadHeader)
+
+-- the sign that a head line gives: its second word, which is not the other sign, and no third word
+abbrev pub head_sign : Kind → Logical → ℕ → Reads ℕ
+head_sign kind l other =
+    let first = next_word l.bytes in
+    let second = next_word first.rest in
+    let third = next_word second.rest in
+    let second_at = first.skipped + length first.text + second.skipped in
+    let third_at = second_at + length second.text + third.skipped in
+    if length second.text == 0 then bad_head kind l first.skipped
+    else (elim (sign_of second.text) [
+      | None ↦ bad_head kind l second_at
+      | Some sign ↦ if sign == other then bad_head kind l second_at
+          else (if length third.text == 0 then Ok sign else bad_head kind l third_at)
+    ])
+
+-- whether the head lines end here: at the first section of a locale source, at the line CHARMAP of a charmap
+abbrev pub ends_head : Kind → List ℕ → List ℕ → Bool
+ends_head Locale first second = starts_with nat_eq first (codes "LC_") && (length second == 0)
+ends_head Charmap first second = bytes_eq first (codes "CHARMAP") && (length second == 0)
+
+-- what becomes of a line: dropped, taken as a head line with new signs, or kept
+abbrev pub fate : Kind → Bool → Logical → Reads Fate
+fate kind heads l =
+    let first = next_word l.bytes in
+    if is_dropped l.signs.comment l.bytes then Ok (record { signs = l.signs; heads = heads; kept = false })
+    else (if heads && bytes_eq first.text (escape_word kind) then (do
+      sign ← head_sign kind l l.signs.comment
+      Ok (record { signs = record { escape = sign; comment = l.signs.comment }; heads = true; kept = false }))
+    else (if heads && bytes_eq first.text (comment_word kind) then (do
+      sign ← head_sign kind l l.signs.escape
+      Ok (record { signs = record { escape = l.signs.escape; comment = sign }; heads = true; kept = false }))
+    else Ok (record { signs = l.signs; heads = heads && not (ends_head kind first.text (next_word first.rest).text); kept = true })))
+
+-- a line before others, where it is kept
+abbrev pub before : Fate → Logical → Reads (List Logical) → Reads (List Logical)
+before f l later = later >>= λ ls. Ok (if f.kept then l ∷ ls else ls)
+
+-- the logical lines from a line of the text on, which has this number: l is what was joined before it
+unfoldable pub lines_from : Kind → Bool → Logical → ℕ → List (List ℕ) → Reads (List Logical)
+lines_from kind heads l n [] = Ok []
+lines_from kind heads l n (p ∷ []) = do
+  f ← fate kind heads (extended l p)
+  before f (extended l p) (Ok [])
+lines_from kind heads l n (p ∷ q ∷ ps) =
+    if takes_next l.signs.escape p then lines_from kind heads (continued (extended l (take (length p - 1) p)) (n + 1)) (n + 1) (q ∷ ps)
+    else (do
+      f ← fate kind heads (extended l p)
+      before f (extended l p) (lines_from kind f.heads (fresh f.signs (n + 1)) (n + 1) (q ∷ ps)))
+
+-- the logical lines of a text whose first line has this number; the signs are \ and # at first
+unfoldable pub logical : List ℕ → ℕ → Kind → Reads (List Logical)
+logical text first kind = lines_from kind true (fresh (record { escape = 92; comment = 35 }) first) first (physical text)

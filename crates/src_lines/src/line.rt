@@ -1,0 +1,36 @@
+//! What a logical line says.
+
+use lc_base::{ByteText, List, Place};
+
+/// A part of an operand.
+#[derive(Debug, Drop)]
+pub enum Piece {
+    /// A byte, written as itself, after the escape character, or as a number.
+    Byte(u8),
+    /// A character's name, without its `<` and `>`.
+    Name(ByteText),
+}
+
+/// An operand.
+#[derive(Debug, Drop)]
+pub enum Operand {
+    /// A run of bytes, perhaps empty, with names and escapes.
+    Plain(List<Piece>),
+    /// A text in quotes.
+    Quoted(List<Piece>),
+    /// `...`
+    Dots,
+    /// `(a,b)`
+    Pair(List<Piece>, List<Piece>),
+}
+
+/// A logical line, read.
+#[derive(Debug, Drop)]
+pub struct Line {
+    /// The place of the keyword.
+    pub place: Place,
+    /// The first word of the line, as it stands.
+    pub keyword: ByteText,
+    /// The operands, each with the place of its first byte.
+    pub operands: List<(Place, Operand)>,
+}

@@ -1,0 +1,178 @@
+//! The logical lines of a text (XBD 7.3).
+
+ghost use Rattle.std.specs.Prelude.{◌≡◌, ◌+◌, ◌^◌, ◌<◌, ◌≤◌, ◌↔◌, [], length, OnOk, IfSome, IsTrue};
+ghost use Rattle.lc_base.specs.Reading.{Gives};
+ghost use Rattle.src_lines.specs.Places.{Logical, line_at, start};
+ghost use Rattle.src_lines.specs.Words.{first_word, second_word};
+ghost use Rattle.src_lines.specs.Logical.{logical, takes_next};
+ghost use Rattle.src_lines.specs.Tokens.{tokens};
+ghost use Rattle.src_lines.specs.Steps.{first_lf, ended, taken};
+
+use crate::head::fate_of;
+use crate::line::Line;
+use crate::operand::tokens_of;
+use crate::signs::{Kind, Signs};
+use crate::store::Store;
+use crate::words::{blanks, next_word};
+use lc_base::{Place, TextFault};
+use std::alloc::Global;
+use std::marker::Model;
+
+/// The logical lines of a text: joined, without comments, blank lines and head lines.
+#[derive(Debug, Drop)]
+pub struct Lines {
+    store: Store,
+}
+
+impl Model for Lines {
+    ghost use Rattle.std.specs.Prelude.{List};
+    ghost use Rattle.src_lines.specs.Places.{Logical};
+
+    ghost Value = { List Logical };
+
+    ghost view = { λ l. l.store.kept };
+}
+
+impl Lines {
+    /// The number of lines.
+    pub fn len(&self) -> usize
+        ensures { result ≡ length self.now }
+    {
+        self.store.len()
+    }
+
+    /// Whether there is no line.
+    pub fn is_empty(&self) -> bool
+        ensures { IsTrue result ↔ (self.now ≡ []) }
+    {
+        self.store.len() == 0
+    }
+
+    /// The place of the line's first word.
+    pub fn place(&self, i: usize) -> Place
+        requires { i < length self.now }
+        ensures { result ≡ start (line_at self.now i) }
+    {
+        let row = self.store.row(i);
+        row.place_at(blanks(row.bytes))
+    }
+
+    /// The line's first two words, perhaps empty, as they stand.
+    pub fn first_words(&self, i: usize) -> (&[u8], &[u8])
+        requires { i < length self.now }
+        ensures first { result.0.now ≡ first_word (line_at self.now i).bytes }
+        ensures second { result.1.now ≡ second_word (line_at self.now i).bytes }
+    {
+        let row = self.store.row(i);
+        let first = next_word(row.bytes);
+        (first.text, next_word(first.rest).text)
+    }
+
+    /// The line's keyword and operands (XBD 7.3.1).
+    ///
+    /// The fault is the one at the least place: `BadEscape`, `OpenString`, `OpenName`,
+    /// `WrongOperand` where an operand is followed by neither `;` nor the end, and `OverLimit` at
+    /// the 65537th operand.
+    pub fn tokens(&self, alloc: Global, i: usize) -> Result<Line, TextFault>
+        requires { i < length self.now }
+        ensures { Gives (λ line. line) result (tokens (line_at self.now i)) }
+    {
+        tokens_of(alloc, &self.store.row(i))
+    }
+
+    /// The signs in force at the line.
+    pub fn signs(&self, i: usize) -> Signs
+        requires { i < length self.now }
+        ensures { result ≡ (line_at self.now i).signs }
+    {
+        self.store.row(i).signs
+    }
+}
+
+/// The signs at a text's first line.
+const AT_FIRST: Signs = Signs {
+    escape: b'\\',
+    comment: b'#',
+};
+
+/// Where the first LF stands.
+fn first_lf(bytes: &[u8]) -> Option<usize>
+    ensures is { result ≡ first_lf bytes.now }
+    ensures within { IfSome result (λ k. k < length bytes.now) }
+{
+    for (i, byte) in bytes.iter().enumerate() {
+        if *byte == b'\n' {
+            return Some(i);
+        }
+    }
+    None
+}
+
+/// Ends the draft as a logical line, where the next one begins at the line `next` of the text.
+#[tactic(auto, unfolding(crate::specs::Steps::ended))]
+fn end_line(store: &mut Store, kind: Kind, heads: bool, next: u32) -> Result<bool, TextFault>
+    ensures is { Gives (λ b. (b, store.new.kept, store.new.draft)) result (ended kind heads next store.old.kept store.old.draft) }
+    ensures room { OnOk result (store.new.room ≤ store.old.room) }
+{
+    let fate = fate_of(kind, heads, &store.draft())?;
+    if fate.kept {
+        store.keep(fate.signs, next)?;
+    } else {
+        store.discard(fate.signs, next);
+    }
+    Ok(fate.heads)
+}
+
+/// Takes a line of the text, before the line `next`.
+#[tactic(auto, unfolding(crate::specs::Steps::taken))]
+fn take_line(
+    store: &mut Store,
+    kind: Kind,
+    heads: bool,
+    part: &[u8],
+    next: u32,
+) -> Result<bool, TextFault>
+    requires { store.old.room + length part.now < 2 ^ 31 }
+    ensures is { Gives (λ b. (b, store.new.kept, store.new.draft)) result (taken kind heads next store.old.kept store.old.draft part.now) }
+    ensures room { OnOk result (store.new.room ≤ store.old.room + length part.now) }
+{
+    if takes_next(store.draft().signs.escape, part) {
+        store.add(&part[..part.len() - 1])?;
+        store.join(next)?;
+        return Ok(heads);
+    }
+    store.add(part)?;
+    end_line(store, kind, heads, next)
+}
+
+/// Whether the next line is joined to this one.
+fn takes_next(escape: u8, part: &[u8]) -> bool
+    ensures is { result ≡ takes_next escape part.now }
+{
+    !part.is_empty() && part[part.len() - 1] == escape
+}
+
+/// The logical lines of a text whose first line has the number `first_line`.
+///
+/// Head lines stand before the first section or the line `CHARMAP`. A wrong one is `WrongOperand`
+/// in a locale source and `BadHeader` in a charmap.
+pub fn split(alloc: Global, text: &[u8], first_line: u32, kind: Kind) -> Result<Lines, TextFault>
+    requires text_size { length text.now < 2 ^ 31 }
+    requires line_size { first_line < 2 ^ 31 }
+    ensures { Gives (λ lines. lines) result (logical text.now first_line kind) }
+{
+    let mut store = Store::new(alloc, AT_FIRST, first_line);
+    let mut heads = true;
+    let mut line = first_line;
+    let mut rest = text;
+    while let Some(end) = first_lf(rest) {
+        let (part, _) = rest.split_at(end);
+        let (_, after) = rest.split_at(end + 1);
+        line += 1;
+        heads = take_line(&mut store, kind, heads, part, line)?;
+        rest = after;
+    }
+    store.add(rest)?;
+    end_line(&mut store, kind, heads, line)?;
+    Ok(Lines { store })
+}

@@ -1,0 +1,65 @@
+//! Words of a line: what stands between blanks.
+
+ghost use Rattle.std.specs.Prelude.{◌≡◌, ◌+◌, ◌≤◌, length};
+ghost use Rattle.src_lines.specs.Words.{is_blank, blanks, solid, next_word};
+
+/// The next word of a text.
+#[derive(Clone, Copy)]
+pub struct Word<'a> {
+    /// How many blanks come before it.
+    pub skipped: usize,
+    /// The word, perhaps empty.
+    pub text: &'a [u8],
+    /// What follows it.
+    pub rest: &'a [u8],
+}
+
+/// Whether a byte is a space or a tab.
+pub fn is_blank(byte: u8) -> bool
+    ensures { result ≡ is_blank byte }
+{
+    byte == b' ' || byte == b'\t'
+}
+
+/// How many blanks come first.
+pub fn blanks(bytes: &[u8]) -> usize
+    ensures is { result ≡ blanks bytes.now }
+    ensures within { result ≤ length bytes.now }
+{
+    for (i, byte) in bytes.iter().enumerate() {
+        if !is_blank(*byte) {
+            return i;
+        }
+    }
+    bytes.len()
+}
+
+/// How many bytes come before the first blank, or the end.
+fn solid(bytes: &[u8]) -> usize
+    ensures is { result ≡ solid bytes.now }
+    ensures within { result ≤ length bytes.now }
+{
+    for (i, byte) in bytes.iter().enumerate() {
+        if is_blank(*byte) {
+            return i;
+        }
+    }
+    bytes.len()
+}
+
+/// The next word of a text.
+pub fn next_word(bytes: &[u8]) -> Word<'_>
+    ensures skipped { result.skipped ≡ (next_word bytes.now).skipped }
+    ensures text { result.text.now ≡ (next_word bytes.now).text }
+    ensures rest { result.rest.now ≡ (next_word bytes.now).rest }
+    ensures lengths { result.skipped + length result.text.now + length result.rest.now ≡ length bytes.now }
+{
+    let skipped = blanks(bytes);
+    let (_, front) = bytes.split_at(skipped);
+    let (text, rest) = front.split_at(solid(front));
+    Word {
+        skipped,
+        text,
+        rest,
+    }
+}
