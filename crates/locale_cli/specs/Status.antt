@@ -24,6 +24,10 @@ usage_line = codes "refused: usage" ++ newline
 abbrev pub too_large_line : List ℕ
 too_large_line = codes "refused: too large" ++ newline
 
+-- what is written for a text that is of no form that is built
+abbrev pub not_built_line : List ℕ
+not_built_line = codes "refused: 1:1 NotBuilt" ++ newline
+
 -- all bytes of the source came, within the limit
 pub record WholeInput (old new : Option (List ℕ)) (input : List ℕ) : Type 0 where
   pub came : Consumes old new input

@@ -6,7 +6,7 @@ ghost use Rattle.lc_base.specs.Faults.{Rose};
 ghost use Rattle.lc_base.specs.Bytes.{CameAtMost, AddsPrefix};
 ghost use Rattle.locale_cli.specs.Words.{mode_of};
 ghost use Rattle.locale_cli.specs.Run.{Told, Ran};
-ghost use Rattle.locale_cli.specs.Status.{input_limit, usage_line, IsDone, IsRefused, IsTooLarge, IsCutShort, due_status, IsDue, StayedSound};
+ghost use Rattle.locale_cli.specs.Status.{input_limit, usage_line, not_built_line, IsDone, IsRefused, IsTooLarge, IsCutShort, due_status, IsDue, StayedSound};
 
 use crate::answer::{Status, answer_to};
 use crate::words::{Mode, mode_of};
@@ -30,6 +30,9 @@ pub fn top<S: Source, K: Sink>(
 
     ensures done { result ≡ Status.Done → IsDone (S.left source.old) (S.left source.new) (K.written sink.old) (K.written sink.new) }
     ensures refused { result ≡ Status.Refused → IsRefused (S.left source.old) (S.left source.new) (K.written sink.old) (K.written sink.new) }
+    // The only fault of a bundle so far is that its form is not built.
+    ensures not_built { result ≡ Status.Refused → Appends (K.written sink.old) (K.written sink.new) not_built_line }
+
     ensures too_large { result ≡ Status.TooLarge → IsTooLarge (S.left source.old) (S.left source.new) (K.written sink.old) (K.written sink.new) }
 
     // A fault comes only where its count rose.

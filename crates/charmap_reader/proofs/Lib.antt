@@ -1,0 +1,4 @@
+pub mod HexLemmas
+pub mod Encodings
+pub mod Named
+mod Examples

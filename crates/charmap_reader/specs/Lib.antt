@@ -1,0 +1,5 @@
+pub mod Portable
+pub mod Hex
+pub mod CodedSet
+pub mod Runs
+pub mod Code
