@@ -1,5 +1,6 @@
 mod Examples
 pub mod Operands
+pub mod Fielding
 pub mod Opening
 pub mod Runs
 pub mod Itemizing

@@ -5,7 +5,7 @@ use Rattle.std.proofs.lemmas.List.{drop_more, drop-drop}
 use Rattle.lc_base.specs.Reading.{◌>>=◌}
 use Rattle.src_lines.specs.declared.line.Piece.TheVariants.{Byte}
 use Rattle.src_lines.specs.declared.atom.Atom.{Atom}
-use Rattle.src_lines.specs.declared.atom.Atom.TheVariants.{Bare, Made, Wrong}
+use Rattle.src_lines.specs.declared.atom.Atom.TheVariants.{Bare, Number, Made, Wrong}
 use Rattle.src_lines.specs.declared.line.Operand.TheVariants.{Quoted}
 use Rattle.lc_base.specs.declared.reason.Reason.TheVariants.{BadEscape}
 use Rattle.src_lines.specs.Words.{is_blank, blanks}
@@ -17,16 +17,19 @@ use Rattle.src_lines.proofs.Itemizing.{items_next, items_end}
 -- an atom that is no bare byte
 abbrev NotBare : Atom → Type 0
 NotBare (Bare b) = ⊥
+NotBare (Number b) = Unit {0}
 NotBare (Made p) = Unit {0}
 NotBare (Wrong r) = Unit {0}
 
 not_blank : (u : Atom) → NotBare u → is_blank_atom u ≡ false
 not_blank (Bare b) h = absurd h
+not_blank (Number b) h = refl
 not_blank (Made p) h = refl
 not_blank (Wrong r) h = refl
 
 not_byte : (c : ℕ) (u : Atom) → NotBare u → is_bare c u ≡ false
 not_byte c (Bare b) h = absurd h
+not_byte c (Number b) h = refl
 not_byte c (Made p) h = refl
 not_byte c (Wrong r) h = refl
 
@@ -36,7 +39,7 @@ either false x y h k = k
 
 number_not_bare : (lead : ℕ) (n : Option (ℕ × ℕ)) → NotBare (number_atom lead n).0
 number_not_bare lead None = tt
-number_not_bare lead (Some n) = either _ (Made (Byte n.0), lead + n.1) (Wrong BadEscape, 2) tt tt
+number_not_bare lead (Some n) = either _ (Number n.0, lead + n.1) (Wrong BadEscape, 2) tt tt
 
 escaped_not_bare : (bs : List ℕ) → NotBare (escaped bs).0
 escaped_not_bare [] = tt
@@ -138,7 +141,7 @@ pub operand_quoted : (is : List Item) (rest : List Item) (i : Item) → is ≡ i
 unfolding operand
 operand_quoted is rest i e h = rw (e, h) refl
 
-pub operand_run : (is : List Item) → opens is ≡ false → operand is ≡ (run is >>= λ x. Ok (shape x.0, x.1))
+pub operand_run : (is : List Item) → opens is ≡ false → operand is ≡ (run true is >>= λ x. Ok (shape x.0, x.1))
 unfolding operand run
 operand_run [] h = refl
 operand_run (i ∷ is) h = rw h refl

@@ -26,23 +26,23 @@ after-choice front false p q = refl
 
 -- ---- runs
 
-pub run_ends : (front : List Atom) (is : List Item) (place : Place) (u : Atom) (rest : List Item) → is ≡ record { place = place; atom = u } ∷ rest → ends_run u ≡ true → after front (run is) ≡ Ok (front, is)
+pub run_ends : (operands : Bool) (front : List Atom) (is : List Item) (place : Place) (u : Atom) (rest : List Item) → is ≡ record { place = place; atom = u } ∷ rest → ends_run operands u ≡ true → after front (run operands is) ≡ Ok (front, is)
 unfolding run
-run_ends front is place u rest e ends = rw (e, ends) (ap {B = Reads (List Atom × List Item)} (λ (us : List Atom). Ok (us, record { place = place; atom = u } ∷ rest)) (append-nil front))
+run_ends operands front is place u rest e ends = rw (e, ends) (ap {B = Reads (List Atom × List Item)} (λ (us : List Atom). Ok (us, record { place = place; atom = u } ∷ rest)) (append-nil front))
 
-pub run_is_over : (front : List Atom) (is : List Item) → is ≡ [] → after front (run is) ≡ Ok (front, is)
+pub run_is_over : (operands : Bool) (front : List Atom) (is : List Item) → is ≡ [] → after front (run operands is) ≡ Ok (front, is)
 unfolding run
-run_is_over front is e = rw e (ap {B = Reads (List Atom × List Item)} (λ (us : List Atom). Ok (us, [])) (append-nil front))
+run_is_over operands front is e = rw e (ap {B = Reads (List Atom × List Item)} (λ (us : List Atom). Ok (us, [])) (append-nil front))
 
-pub run_goes_on : (front : List Atom) (is : List Item) (place : Place) (u v : Atom) (rest : List Item) → is ≡ record { place = place; atom = u } ∷ rest → ends_run u ≡ false → checked place u ≡ Ok v → after front (run is) ≡ after (front ++ v ∷ []) (run rest)
+pub run_goes_on : (operands : Bool) (front : List Atom) (is : List Item) (place : Place) (u v : Atom) (rest : List Item) → is ≡ record { place = place; atom = u } ∷ rest → ends_run operands u ≡ false → checked place u ≡ Ok v → after front (run operands is) ≡ after (front ++ v ∷ []) (run operands rest)
 unfolding run
-run_goes_on front is place u v rest e goes ok = rw (e, goes, ok) (after-and_then front v (run rest))
+run_goes_on operands front is place u v rest e goes ok = rw (e, goes, ok) (after-and_then front v (run operands rest))
 
-pub run_fails : (e : TextFault) (front : List Atom) (is : List Item) (place : Place) (u : Atom) (rest : List Item) (total : Reads (List Atom × List Item)) → is ≡ record { place = place; atom = u } ∷ rest → ends_run u ≡ false → after front (run is) ≡ total → Fails e (checked place u) → Fails e total
+pub run_fails : (e : TextFault) (operands : Bool) (front : List Atom) (is : List Item) (place : Place) (u : Atom) (rest : List Item) (total : Reads (List Atom × List Item)) → is ≡ record { place = place; atom = u } ∷ rest → ends_run operands u ≡ false → after front (run operands is) ≡ total → Fails e (checked place u) → Fails e total
 unfolding run
-run_fails Memory front is place u rest total e goes so_far fails = tt
-run_fails (At p r) front is place u rest total e goes so_far fails =
-    let one : after front (run is) ≡ Err (p, r) = rw (e, goes, fails) refl in
+run_fails Memory operands front is place u rest total e goes so_far fails = tt
+run_fails (At p r) operands front is place u rest total e goes so_far fails =
+    let one : after front (run operands is) ≡ Err (p, r) = rw (e, goes, fails) refl in
     sym so_far ∙ one
 
 -- ---- texts

@@ -4,7 +4,7 @@ use Rattle.lc_base.specs.declared.place.Place.{Place}
 use Rattle.lc_base.specs.declared.reason.Reason.TheVariants.{BadEscape, OpenName}
 use Rattle.src_lines.specs.declared.line.Piece.TheVariants.{Byte, Name}
 use Rattle.src_lines.specs.declared.atom.Atom.{Atom}
-use Rattle.src_lines.specs.declared.atom.Atom.TheVariants.{Bare, Made, Wrong}
+use Rattle.src_lines.specs.declared.atom.Atom.TheVariants.{Bare, Number, Made, Wrong}
 use Rattle.src_lines.specs.Words.{is_blank}
 use Rattle.src_lines.specs.Places.{Logical, place_at}
 
@@ -28,7 +28,7 @@ number base three bs =
 -- a number is a byte where it is below 256, and it takes its digits and those bytes that come before them
 abbrev pub number_atom : ℕ → Option (ℕ × ℕ) → Atom × ℕ
 number_atom lead None = (Wrong BadEscape, 2)
-number_atom lead (Some n) = if nat_lt n.0 256 then (Made (Byte n.0), lead + n.1) else (Wrong BadEscape, 2)
+number_atom lead (Some n) = if nat_lt n.0 256 then (Number n.0, lead + n.1) else (Wrong BadEscape, 2)
 
 -- what the escape character makes of the bytes after it, and how many bytes go with it
 abbrev pub escaped : List ℕ → Atom × ℕ

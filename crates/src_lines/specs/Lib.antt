@@ -7,3 +7,4 @@ pub mod Logical
 pub mod Steps
 pub mod Atoms
 pub mod Tokens
+pub mod Fields

@@ -3,6 +3,8 @@ use Rattle.std.specs.Prelude.{ℕ, ◌+◌, ◌-◌, Bool, true, false, ◌||◌
 use Rattle.std.specs.Str.{bytes_eq}
 use Rattle.std.specs.Prelude.{codes, nat_eq}
 use Rattle.std.specs.List.{starts_with}
+use Rattle.lc_base.specs.declared.place.Place.{Place}
+use Rattle.lc_base.specs.declared.reason.Reason.{Reason}
 use Rattle.lc_base.specs.declared.reason.Reason.TheVariants.{WrongOperand, BadHeader}
 use Rattle.lc_base.specs.Reading.{Reads, ◌>>=◌}
 use Rattle.src_lines.specs.declared.signs.Kind.{Kind}
@@ -81,22 +83,45 @@ fate kind heads l =
       Ok (record { signs = record { escape = l.signs.escape; comment = sign }; heads = true; kept = false }))
     else Ok (record { signs = l.signs; heads = heads && not (ends_head kind first.text (next_word first.rest).text); kept = true })))
 
+-- the logical lines of a text up to its first bad head line, and that line's fault, if there is one
+pub record Front : Type 0 where
+  pub lines : List Logical
+  pub fault : Option (Place × Reason)
+
+-- no line and no fault
+abbrev pub nothing_more : Front
+nothing_more = record { lines = []; fault = None }
+
 -- a line before others, where it is kept
-abbrev pub before : Fate → Logical → Reads (List Logical) → Reads (List Logical)
-before f l later = later >>= λ ls. Ok (if f.kept then l ∷ ls else ls)
+abbrev pub before : Fate → Logical → Front → Front
+before f l later = record { lines = (if f.kept then l ∷ later.lines else later.lines); fault = later.fault }
+
+-- a whole line with this fate, and what follows it; after a fault nothing follows
+abbrev pub after_fate : Logical → (Fate → Front) → Reads Fate → Front
+after_fate l later (Ok f) = before f l (later f)
+after_fate l later (Err fault) = record { lines = []; fault = Some fault }
 
 -- the logical lines from a line of the text on, which has this number: l is what was joined before it
-unfoldable pub lines_from : Kind → Bool → Logical → ℕ → List (List ℕ) → Reads (List Logical)
-lines_from kind heads l n [] = Ok []
-lines_from kind heads l n (p ∷ []) = do
-  f ← fate kind heads (extended l p)
-  before f (extended l p) (Ok [])
-lines_from kind heads l n (p ∷ q ∷ ps) =
-    if takes_next l.signs.escape p then lines_from kind heads (continued (extended l (take (length p - 1) p)) (n + 1)) (n + 1) (q ∷ ps)
-    else (do
-      f ← fate kind heads (extended l p)
-      before f (extended l p) (lines_from kind f.heads (fresh f.signs (n + 1)) (n + 1) (q ∷ ps)))
+unfoldable pub front_from : Kind → Bool → Logical → ℕ → List (List ℕ) → Front
+front_from kind heads l n [] = nothing_more
+front_from kind heads l n (p ∷ []) = after_fate (extended l p) (λ f. nothing_more) (fate kind heads (extended l p))
+front_from kind heads l n (p ∷ q ∷ ps) =
+    if takes_next l.signs.escape p then front_from kind heads (continued (extended l (take (length p - 1) p)) (n + 1)) (n + 1) (q ∷ ps)
+    else after_fate (extended l p) (λ f. front_from kind f.heads (fresh f.signs (n + 1)) (n + 1) (q ∷ ps)) (fate kind heads (extended l p))
 
--- the logical lines of a text whose first line has this number; the signs are \ and # at first
+-- the lines of a text whose first line has this number; the signs are \ and # at first
+unfoldable pub front : List ℕ → ℕ → Kind → Front
+front text first kind = front_from kind true (fresh (record { escape = 92; comment = 35 }) first) first (physical text)
+
+-- lines, if there is no fault
+abbrev pub unless_fault : List Logical → Option (Place × Reason) → Reads (List Logical)
+unless_fault ls None = Ok ls
+unless_fault ls (Some fault) = Err fault
+
+-- the lines of a text, if its head lines have no fault
+abbrev pub whole : Front → Reads (List Logical)
+whole f = unless_fault f.lines f.fault
+
+-- the logical lines of a text whose first line has this number, or the fault of its first bad head line
 unfoldable pub logical : List ℕ → ℕ → Kind → Reads (List Logical)
-logical text first kind = lines_from kind true (fresh (record { escape = 92; comment = 35 }) first) first (physical text)
+logical text first kind = whole (front text first kind)

@@ -1,5 +1,5 @@
 -- How a text is split, line by line.
-use Rattle.std.specs.Prelude.{ℕ, ◌+◌, ◌-◌, Bool, List, [], ◌∷◌, ◌++◌, length, take, ◌==◌, Option, Some, None, option_map, Ok, if◌then◌else◌}
+use Rattle.std.specs.Prelude.{ℕ, ◌+◌, ◌-◌, Bool, List, [], ◌∷◌, ◌++◌, length, take, ◌==◌, Option, Some, None, option_map, Ok, Err, if◌then◌else◌}
 use Rattle.lc_base.specs.Reading.{Reads, ◌>>=◌}
 use Rattle.src_lines.specs.declared.signs.Kind.{Kind}
 use Rattle.src_lines.specs.Places.{Logical, fresh, extended, continued}
@@ -13,6 +13,11 @@ first_lf (b ∷ bs) = if b == 10 then Some 0 else option_map (λ k. k + 1) (firs
 -- whether head lines may still come, the lines that are kept, and the line that is being joined
 abbrev pub State : Type 0
 State = Bool × List Logical × Logical
+
+-- the state after a step that says whether head lines may still come, or the step's fault
+abbrev pub state_of : Reads Bool → List Logical → Logical → Reads State
+state_of (Ok heads) kept draft = Ok (heads, kept, draft)
+state_of (Err fault) kept draft = Err fault
 
 -- after a whole logical line, where the next one begins at this line of the text
 unfoldable pub ended : Kind → Bool → ℕ → List Logical → Logical → Reads State

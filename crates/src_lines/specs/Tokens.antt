@@ -1,5 +1,5 @@
 -- The keyword and the operands of a logical line (XBD 7.3.1), or the fault at its least place.
-use Rattle.std.specs.Prelude.{ℕ, zero, suc, ◌+◌, ◌-◌, Bool, false, ◌||◌, ◌&&◌, ◌==◌, List, [], ◌∷◌, length, take, drop, map, count_by, position, Option, Some, None, Result, Ok, Err, if◌then◌else◌}
+use Rattle.std.specs.Prelude.{ℕ, zero, suc, ◌+◌, ◌-◌, Bool, true, false, ◌||◌, ◌&&◌, ◌==◌, List, [], ◌∷◌, length, take, drop, map, count_by, position, Option, Some, None, Result, Ok, Err, if◌then◌else◌}
 use Rattle.lc_base.specs.declared.place.Place.{Place}
 use Rattle.lc_base.specs.declared.reason.Reason.{Reason}
 use Rattle.lc_base.specs.declared.reason.Reason.TheVariants.{OpenString, WrongOperand, OverLimit}
@@ -11,7 +11,7 @@ use Rattle.src_lines.specs.declared.line.Operand.{Operand}
 use Rattle.src_lines.specs.declared.line.Operand.TheVariants.{Plain, Quoted, Dots, Pair}
 use Rattle.src_lines.specs.declared.line.Line.{Line}
 use Rattle.src_lines.specs.declared.atom.Atom.{Atom}
-use Rattle.src_lines.specs.declared.atom.Atom.TheVariants.{Bare, Made, Wrong}
+use Rattle.src_lines.specs.declared.atom.Atom.TheVariants.{Bare, Number, Made, Wrong}
 use Rattle.src_lines.specs.Words.{is_blank, next_word}
 use Rattle.src_lines.specs.Places.{Logical, place_at}
 use Rattle.src_lines.specs.Atoms.{Item, items_from}
@@ -19,18 +19,21 @@ use Rattle.src_lines.specs.Atoms.{Item, items_from}
 -- whether an atom is this byte, bare
 abbrev pub is_bare : ℕ → Atom → Bool
 is_bare b (Bare c) = c == b
+is_bare b (Number c) = false
 is_bare b (Made p) = false
 is_bare b (Wrong r) = false
 
--- whether an atom ends a run: a bare blank or `;`
-abbrev pub ends_run : Atom → Bool
-ends_run (Bare c) = is_blank c || (c == 59)
-ends_run (Made p) = false
-ends_run (Wrong r) = false
+-- whether an atom ends a run: a bare blank, and among operands a bare `;`
+abbrev pub ends_run : Bool → Atom → Bool
+ends_run operands (Bare c) = is_blank c || (operands && (c == 59))
+ends_run operands (Number c) = false
+ends_run operands (Made p) = false
+ends_run operands (Wrong r) = false
 
 -- an atom as a piece, or why it is none
 abbrev pub piece : Atom → Result Piece Reason
 piece (Bare b) = Ok (Byte b)
+piece (Number b) = Ok (Byte b)
 piece (Made p) = Ok p
 piece (Wrong r) = Err r
 
@@ -41,15 +44,16 @@ and_then a later = later >>= λ x. Ok (a ∷ x.0, x.1)
 -- an atom that is no fault, at this place
 abbrev pub checked : Place → Atom → Reads Atom
 checked place (Bare b) = Ok (Bare b)
+checked place (Number b) = Ok (Number b)
 checked place (Made p) = Ok (Made p)
 checked place (Wrong r) = Err (place, r)
 
--- a run: its atoms up to a bare blank, a bare `;` or the end
-unfoldable pub run : List Item → Reads (List Atom × List Item)
-run [] = Ok ([], [])
-run (i ∷ is) =
-    if ends_run i.atom then Ok ([], i ∷ is)
-    else (checked i.place i.atom >>= λ u. and_then u (run is))
+-- a run: its atoms up to an atom that ends it, or the end
+unfoldable pub run : Bool → List Item → Reads (List Atom × List Item)
+run operands [] = Ok ([], [])
+run operands (i ∷ is) =
+    if ends_run operands i.atom then Ok ([], i ∷ is)
+    else (checked i.place i.atom >>= λ u. and_then u (run operands is))
 
 -- whether a closing quote comes
 abbrev pub closes : List Item → Bool
@@ -70,6 +74,7 @@ text quote (i ∷ is) =
 -- an atom's piece, where it is no fault
 abbrev pub piece_of : Atom → Piece
 piece_of (Bare b) = Byte b
+piece_of (Number b) = Byte b
 piece_of (Made p) = p
 piece_of (Wrong r) = Byte 0
 
@@ -115,11 +120,12 @@ unfoldable pub operand : List Item → Reads (Operand × List Item)
 operand [] = Ok (Plain [], [])
 operand (i ∷ is) =
     if is_bare 34 i.atom then (text i.place is >>= λ x. Ok (Quoted x.0, x.1))
-    else (run (i ∷ is) >>= λ x. Ok (shape x.0, x.1))
+    else (run true (i ∷ is) >>= λ x. Ok (shape x.0, x.1))
 
 -- what comes after blanks
 abbrev pub is_blank_atom : Atom → Bool
 is_blank_atom (Bare b) = is_blank b
+is_blank_atom (Number b) = false
 is_blank_atom (Made p) = false
 is_blank_atom (Wrong r) = false
 

@@ -15,7 +15,9 @@ use std::alloc::{AllocError, Global};
 pub enum Atom {
     /// A byte that stands for itself, with the meaning that it has by its place.
     Bare(u8),
-    /// An escaped byte, a number or a name.
+    /// A byte that is written as a number.
+    Number(u8),
+    /// An escaped byte or a name.
     Made(Piece),
     /// A fault that begins here.
     Wrong(Reason),
@@ -68,10 +70,7 @@ fn number_atom(lead: usize, number: Option<(u16, usize)>) -> (Atom, usize)
     ensures { result ≡ number_atom lead number }
 {
     match number {
-        Some((value, digits)) if value < 256 => (
-            Atom::Made(Piece::Byte(value as u8)),
-            lead + digits,
-        ),
+        Some((value, digits)) if value < 256 => (Atom::Number(value as u8), lead + digits),
         _ => (Atom::Wrong(Reason::BadEscape), 2),
     }
 }

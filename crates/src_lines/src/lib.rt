@@ -2,6 +2,7 @@
 #![tactic(auto)]
 
 mod atom;
+mod fields;
 mod head;
 mod line;
 mod lines;
@@ -13,9 +14,12 @@ mod store;
 mod text;
 mod words;
 
+pub use atom::Atom;
+pub use fields::Field;
 pub use line::{Line, Operand, Piece};
-pub use lines::{Lines, split};
+pub use lines::{Lines, split, split_front};
 pub use signs::{Kind, Signs};
+pub use words::{Word, next_word};
 
 #[cfg(test)]
 mod tests;

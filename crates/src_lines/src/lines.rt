@@ -1,21 +1,23 @@
 //! The logical lines of a text (XBD 7.3).
 
-ghost use Rattle.std.specs.Prelude.{◌≡◌, ◌+◌, ◌^◌, ◌<◌, ◌≤◌, ◌↔◌, [], length, OnOk, IfSome, IsTrue};
+ghost use Rattle.std.specs.Prelude.{◌≡◌, ◌+◌, ◌^◌, ◌<◌, ◌≤◌, ◌↔◌, [], length, IfOk, OnOk, OnErr, IfSome, IsTrue};
 ghost use Rattle.lc_base.specs.Reading.{Gives};
 ghost use Rattle.src_lines.specs.Places.{Logical, line_at, start};
 ghost use Rattle.src_lines.specs.Words.{first_word, second_word};
-ghost use Rattle.src_lines.specs.Logical.{logical, takes_next};
+ghost use Rattle.src_lines.specs.Logical.{front, logical, takes_next};
 ghost use Rattle.src_lines.specs.Tokens.{tokens};
-ghost use Rattle.src_lines.specs.Steps.{first_lf, ended, taken};
+ghost use Rattle.src_lines.specs.Fields.{fields};
+ghost use Rattle.src_lines.specs.Steps.{first_lf, state_of, ended, taken};
 
+use crate::fields::{Field, fields_of};
 use crate::head::fate_of;
 use crate::line::Line;
 use crate::operand::tokens_of;
 use crate::signs::{Kind, Signs};
 use crate::store::Store;
 use crate::words::{blanks, next_word};
-use lc_base::{Place, TextFault};
-use std::alloc::Global;
+use lc_base::{Place, Reason, TextFault};
+use std::alloc::{AllocError, Global};
 use std::marker::Model;
 
 /// The logical lines of a text: joined, without comments, blank lines and head lines.
@@ -80,6 +82,25 @@ impl Lines {
         tokens_of(alloc, &self.store.row(i))
     }
 
+    /// The line's first two fields, perhaps empty, with their names, escapes and numbers (XBD 6.4).
+    ///
+    /// The fault is the one at the least place: `BadEscape` or `OpenName`. What follows the second
+    /// field is not read.
+    pub fn fields(&self, alloc: Global, i: usize) -> Result<(Field, Field), TextFault>
+        requires { i < length self.now }
+        ensures { Gives (λ x. x) result (fields (line_at self.now i)) }
+    {
+        fields_of(alloc, &self.store.row(i))
+    }
+
+    /// The line's bytes as they stand, with the joins taken out.
+    pub fn bytes(&self, i: usize) -> &[u8]
+        requires { i < length self.now }
+        ensures { result.now ≡ (line_at self.now i).bytes }
+    {
+        self.store.row(i).bytes
+    }
+
     /// The signs in force at the line.
     pub fn signs(&self, i: usize) -> Signs
         requires { i < length self.now }
@@ -109,18 +130,30 @@ fn first_lf(bytes: &[u8]) -> Option<usize>
 }
 
 /// Ends the draft as a logical line, where the next one begins at the line `next` of the text.
+///
+/// Where it is a wrong head line, its fault is given and no line is lost.
 #[tactic(auto, unfolding(crate::specs::Steps::ended))]
-fn end_line(store: &mut Store, kind: Kind, heads: bool, next: u32) -> Result<bool, TextFault>
-    ensures is { Gives (λ b. (b, store.new.kept, store.new.draft)) result (ended kind heads next store.old.kept store.old.draft) }
+fn end_line(
+    store: &mut Store,
+    kind: Kind,
+    heads: bool,
+    next: u32,
+) -> Result<Result<bool, (Place, Reason)>, AllocError>
+    ensures is { IfOk result (λ r. state_of r store.new.kept store.new.draft ≡ ended kind heads next store.old.kept store.old.draft) }
+    ensures kept { IfOk result (λ r. OnErr r (store.new.kept ≡ store.old.kept)) }
     ensures room { OnOk result (store.new.room ≤ store.old.room) }
 {
-    let fate = fate_of(kind, heads, &store.draft())?;
+    let fate = match fate_of(kind, heads, &store.draft()) {
+        Ok(fate) => fate,
+        Err(TextFault::At(place, reason)) => return Ok(Err((place, reason))),
+        Err(TextFault::Memory) => return Err(AllocError),
+    };
     if fate.kept {
         store.keep(fate.signs, next)?;
     } else {
         store.discard(fate.signs, next);
     }
-    Ok(fate.heads)
+    Ok(Ok(fate.heads))
 }
 
 /// Takes a line of the text, before the line `next`.
@@ -131,15 +164,16 @@ fn take_line(
     heads: bool,
     part: &[u8],
     next: u32,
-) -> Result<bool, TextFault>
+) -> Result<Result<bool, (Place, Reason)>, AllocError>
     requires { store.old.room + length part.now < 2 ^ 31 }
-    ensures is { Gives (λ b. (b, store.new.kept, store.new.draft)) result (taken kind heads next store.old.kept store.old.draft part.now) }
+    ensures is { IfOk result (λ r. state_of r store.new.kept store.new.draft ≡ taken kind heads next store.old.kept store.old.draft part.now) }
+    ensures kept { IfOk result (λ r. OnErr r (store.new.kept ≡ store.old.kept)) }
     ensures room { OnOk result (store.new.room ≤ store.old.room + length part.now) }
 {
     if takes_next(store.draft().signs.escape, part) {
         store.add(&part[..part.len() - 1])?;
         store.join(next)?;
-        return Ok(heads);
+        return Ok(Ok(heads));
     }
     store.add(part)?;
     end_line(store, kind, heads, next)
@@ -152,14 +186,17 @@ fn takes_next(escape: u8, part: &[u8]) -> bool
     !part.is_empty() && part[part.len() - 1] == escape
 }
 
-/// The logical lines of a text whose first line has the number `first_line`.
-///
-/// Head lines stand before the first section or the line `CHARMAP`. A wrong one is `WrongOperand`
-/// in a locale source and `BadHeader` in a charmap.
-pub fn split(alloc: Global, text: &[u8], first_line: u32, kind: Kind) -> Result<Lines, TextFault>
+/// The logical lines before the first wrong head line, and that line's fault, if there is one.
+pub fn split_front(
+    alloc: Global,
+    text: &[u8],
+    first_line: u32,
+    kind: Kind,
+) -> Result<(Lines, Option<(Place, Reason)>), AllocError>
     requires text_size { length text.now < 2 ^ 31 }
     requires line_size { first_line < 2 ^ 31 }
-    ensures { Gives (λ lines. lines) result (logical text.now first_line kind) }
+    ensures lines { IfOk result (λ x. x.0 ≡ (front text.now first_line kind).lines) }
+    ensures fault { IfOk result (λ x. x.1 ≡ (front text.now first_line kind).fault) }
 {
     let mut store = Store::new(alloc, AT_FIRST, first_line);
     let mut heads = true;
@@ -169,10 +206,30 @@ pub fn split(alloc: Global, text: &[u8], first_line: u32, kind: Kind) -> Result<
         let (part, _) = rest.split_at(end);
         let (_, after) = rest.split_at(end + 1);
         line += 1;
-        heads = take_line(&mut store, kind, heads, part, line)?;
+        match take_line(&mut store, kind, heads, part, line)? {
+            Ok(more) => heads = more,
+            Err(fault) => return Ok((Lines { store }, Some(fault))),
+        }
         rest = after;
     }
     store.add(rest)?;
-    end_line(&mut store, kind, heads, line)?;
-    Ok(Lines { store })
+    let last = end_line(&mut store, kind, heads, line)?;
+    Ok((Lines { store }, last.err()))
+}
+
+/// The logical lines of a text whose first line has the number `first_line`.
+///
+/// Head lines stand before the first section or the line `CHARMAP`. A wrong one is `WrongOperand`
+/// in a locale source and `BadHeader` in a charmap.
+#[tactic(auto, unfolding(crate::specs::Logical::logical))]
+pub fn split(alloc: Global, text: &[u8], first_line: u32, kind: Kind) -> Result<Lines, TextFault>
+    requires text_size { length text.now < 2 ^ 31 }
+    requires line_size { first_line < 2 ^ 31 }
+    ensures { Gives (λ lines. lines) result (logical text.now first_line kind) }
+{
+    let (lines, fault) = split_front(alloc, text, first_line, kind)?;
+    match fault {
+        None => Ok(lines),
+        Some((place, reason)) => Err(TextFault::At(place, reason)),
+    }
 }

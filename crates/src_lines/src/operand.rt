@@ -58,7 +58,7 @@ fn operand_at(alloc: Global, row: &Row<'_>, at: usize) -> Result<(Operand, usize
         let (pieces, end) = text(alloc, row, at, at + 1)?;
         return Ok((Operand::Quoted(List::of(pieces)), end));
     }
-    let (atoms, end) = run(alloc, row, at)?;
+    let (atoms, end) = run(alloc, row, true, at)?;
     Ok((shape_of(alloc, atoms)?, end))
 }
 

@@ -14,7 +14,7 @@ fn piece_of(atom: Atom) -> Piece
     ensures { result ≡ piece_of atom }
 {
     match atom {
-        Atom::Bare(byte) => Piece::Byte(byte),
+        Atom::Bare(byte) | Atom::Number(byte) => Piece::Byte(byte),
         Atom::Made(piece) => piece,
         Atom::Wrong(_) => Piece::Byte(0),
     }

@@ -1,7 +1,7 @@
 ghost use Rattle.std.specs.Prelude.{◌^◌, ◌<◌, length};
 
 use super::*;
-use lc_base::{Place, TextFault};
+use lc_base::{Place, Reason, TextFault};
 use std::alloc::Global;
 use std::test::Fail;
 
@@ -235,5 +235,56 @@ fn lines_and_words(rt: HostRuntime) -> Result<(), Fail> {
             comment: b'#'
         }
     );
+    Ok(())
+}
+
+#[test]
+fn fields_of_a_charmap_line(rt: HostRuntime) -> Result<(), Fail> {
+    let text = b"CHARMAP\n <a;b>...<c>\\x80\t\\d065\\; <d\n<e> \\4\n";
+    let Ok(lines) = split(rt.alloc(), text, 1, Kind::Charmap) else {
+        return Err("the text has no fault".into());
+    };
+    assert_eq!(rt; lines.len(), 3);
+    assert_eq!(rt; lines.bytes(0), b"CHARMAP".as_slice());
+    let Ok((first, second)) = lines.fields(rt.alloc(), 1) else {
+        return Err("the fields have no fault".into());
+    };
+    assert_eq!(rt; first.place, Place { line: 2, column: 2 });
+    assert_eq!(rt; first.atoms.len(), 6);
+    assert!(rt;
+        matches!(
+            first.atoms.as_slice(),
+            [Atom::Made(_), Atom::Bare(b'.'), .., Atom::Number(0x80)]
+        )
+    );
+    assert_eq!(rt;
+        second.place,
+        Place {
+            line: 2,
+            column: 18
+        }
+    );
+    assert!(rt; matches!(second.atoms.as_slice(), [Atom::Number(65), Atom::Made(_)]));
+    match lines.fields(rt.alloc(), 2) {
+        Err(TextFault::At(place, reason)) => {
+            assert_eq!(rt; place, Place { line: 3, column: 5 });
+            assert_eq!(rt; reason, Reason::BadEscape);
+        }
+        _ => return Err("the escape is wrong".into()),
+    }
+    Ok(())
+}
+
+#[test]
+fn lines_before_a_bad_head_line(rt: HostRuntime) -> Result<(), Fail> {
+    let text = b"<code_set_name> A\n<escape_char> /\n<width> 2\n<comment_char> ab\nCHARMAP\n";
+    let (lines, fault) = split_front(rt.alloc(), text, 7, Kind::Charmap)?;
+    assert_eq!(rt; lines.len(), 2);
+    assert_eq!(rt; lines.place(1), Place { line: 9, column: 1 });
+    let at = Place {
+        line: 10,
+        column: 1,
+    };
+    assert_eq!(rt; fault, Some((at, Reason::BadHeader)));
     Ok(())
 }

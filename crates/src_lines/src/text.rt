@@ -22,17 +22,17 @@ pub fn is_bare(byte: u8, atom: &Atom) -> bool
 {
     match atom {
         Atom::Bare(bare) => *bare == byte,
-        Atom::Made(_) | Atom::Wrong(_) => false,
+        Atom::Number(_) | Atom::Made(_) | Atom::Wrong(_) => false,
     }
 }
 
 /// Whether an atom ends a run.
-fn ends_run(atom: &Atom) -> bool
-    ensures { result ≡ ends_run atom.now }
+fn ends_run(operands: bool, atom: &Atom) -> bool
+    ensures { result ≡ ends_run operands atom.now }
 {
     match atom {
-        Atom::Bare(bare) => is_blank(*bare) || *bare == b';',
-        Atom::Made(_) | Atom::Wrong(_) => false,
+        Atom::Bare(bare) => is_blank(*bare) || (operands && *bare == b';'),
+        Atom::Number(_) | Atom::Made(_) | Atom::Wrong(_) => false,
     }
 }
 
@@ -52,23 +52,29 @@ fn piece(atom: Atom) -> Result<Piece, Reason>
     ensures { result ≡ piece atom }
 {
     match atom {
-        Atom::Bare(byte) => Ok(Piece::Byte(byte)),
+        Atom::Bare(byte) | Atom::Number(byte) => Ok(Piece::Byte(byte)),
         Atom::Made(piece) => Ok(piece),
         Atom::Wrong(reason) => Err(reason),
     }
 }
 
-/// A run from a byte of a line on: its atoms, and where it ends.
-pub fn run(alloc: Global, row: &Row<'_>, at: usize) -> Result<(Vec<Atom>, usize), TextFault>
+/// A run from a byte of a line on: its atoms up to a bare blank, and among operands up to a bare
+/// `;`, and where it ends.
+pub fn run(
+    alloc: Global,
+    row: &Row<'_>,
+    operands: bool,
+    at: usize,
+) -> Result<(Vec<Atom>, usize), TextFault>
     requires { at ≤ length row.now.bytes.now }
-    ensures is { Gives (λ x. (x.0.items, items_from (seen row.now) x.1)) result (run (items_from (seen row.now) at)) }
+    ensures is { Gives (λ x. (x.0.items, items_from (seen row.now) x.1)) result (run operands (items_from (seen row.now) at)) }
     ensures within { IfOk result (λ x. x.1 ≤ length row.now.bytes.now) }
     ensures forward { IfOk result (λ x. at ≤ x.1) }
 {
     let mut atoms = Vec::new(alloc);
     let mut end = at;
     while let Some((atom, next)) = next_atom(alloc, row, end)? {
-        if ends_run(&atom) {
+        if ends_run(operands, &atom) {
             return Ok((atoms, end));
         }
         atoms.push(checked(row, end, atom)?)?;

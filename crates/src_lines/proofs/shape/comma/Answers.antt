@@ -4,12 +4,13 @@ use Rattle.std.proofs.lemmas.Bool.{cases_lt, eqb-true}
 use Rattle.std.proofs.lemmas.List.{drop_more}
 use Rattle.std.proofs.lemmas.List.Quantifiers.{position-Some}
 use Rattle.src_lines.specs.declared.atom.Atom.{Atom}
-use Rattle.src_lines.specs.declared.atom.Atom.TheVariants.{Bare, Made, Wrong}
+use Rattle.src_lines.specs.declared.atom.Atom.TheVariants.{Bare, Number, Made, Wrong}
 use Rattle.src_lines.specs.Tokens.{is_bare, stops}
 use Rattle.src_lines.proofs.shape.comma.Goals as goal
 
 not_both : (u : Atom) → is_bare 44 u ≡ true → is_bare 41 u ≡ true → ⊥
 not_both (Bare b) h k = omega (arith, eqb-true b 44 h, eqb-true b 41 k)
+not_both (Number b) h k = cc
 not_both (Made p) h k = cc
 not_both (Wrong r) h k = cc
 

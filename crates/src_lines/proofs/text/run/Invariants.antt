@@ -9,7 +9,7 @@ abbrev pub invariant-loop-atoms : goal.invariant-loop-atoms
 invariant-loop-atoms l = record {
   within : l.end ≤ length l.row.bytes.now;
   forward : l.at ≤ l.end;
-  is : after l.atoms.items (run (items_from (seen l.row) l.end)) ≡ run (items_from (seen l.row) l.at);
+  is : after l.atoms.items (run l.operands (items_from (seen l.row) l.end)) ≡ run l.operands (items_from (seen l.row) l.at);
 }
 
 abbrev pub decreases-loop-atoms : goal.decreases-loop-atoms

@@ -1,11 +1,11 @@
 use Rattle.std.proofs.Common.{◌≡◌, ◌+◌, ◌^◌, ◌<◌, length}
-use Rattle.src_lines.specs.Logical.{lines_from, logical, physical}
+use Rattle.src_lines.specs.Logical.{front_from, front, physical}
 use Rattle.src_lines.proofs.Splitting.{after_kept}
-use Rattle.src_lines.proofs.lines.split.Given as goal
+use Rattle.src_lines.proofs.lines.split_front.Given as goal
 
 abbrev pub invariant-loop-end : goal.invariant-loop-end
 invariant-loop-end l = record {
-  is : after_kept l.store.kept (lines_from l.kind l.heads l.store.draft l.line (physical l.rest)) ≡ logical l.text l.first_line l.kind;
+  is : after_kept l.store.kept (front_from l.kind l.heads l.store.draft l.line (physical l.rest)) ≡ front l.text l.first_line l.kind;
   room : l.store.room + length l.rest < 2 ^ 31;
   line : l.line + length l.rest < 2 ^ 32;
 }

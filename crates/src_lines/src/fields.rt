@@ -1,0 +1,46 @@
+//! The first two fields of a line of a charmap (XBD 6.4).
+
+ghost use Rattle.std.specs.Prelude.{◌≡◌, ◌≤◌, length, IfOk};
+ghost use Rattle.lc_base.specs.Reading.{Gives};
+ghost use Rattle.src_lines.specs.Rows.{seen};
+ghost use Rattle.src_lines.specs.Atoms.{items_from};
+ghost use Rattle.src_lines.specs.Fields.{field, fields};
+
+use crate::atom::Atom;
+use crate::operand::skip_blanks;
+use crate::row::Row;
+use crate::text::run;
+use lc_base::{List, Place, TextFault};
+use std::alloc::Global;
+
+/// A part of a line up to a bare blank, or the line's end.
+#[derive(Debug, Drop)]
+pub struct Field {
+    /// The place of its first byte. An empty field stands at the line's end.
+    pub place: Place,
+    pub atoms: List<Atom>,
+}
+
+/// The next field from a byte of a line on, and where it ends.
+fn field_at(alloc: Global, row: &Row<'_>, at: usize) -> Result<(Field, usize), TextFault>
+    requires { at ≤ length row.now.bytes.now }
+    ensures is { Gives (λ x. (x.0, items_from (seen row.now) x.1)) result (field (seen row.now) (items_from (seen row.now) at)) }
+    ensures within { IfOk result (λ x. x.1 ≤ length row.now.bytes.now) }
+{
+    let start = skip_blanks(row, at);
+    let (atoms, end) = run(alloc, row, false, start)?;
+    let field = Field {
+        place: row.place_at(start),
+        atoms: List::of(atoms),
+    };
+    Ok((field, end))
+}
+
+/// The first two fields of a line.
+pub fn fields_of(alloc: Global, row: &Row<'_>) -> Result<(Field, Field), TextFault>
+    ensures { Gives (λ x. x) result (fields (seen row.now)) }
+{
+    let (first, end) = field_at(alloc, row, 0)?;
+    let (second, _) = field_at(alloc, row, end)?;
+    Ok((first, second))
+}
