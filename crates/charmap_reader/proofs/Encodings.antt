@@ -1,7 +1,7 @@
 -- Encodings and wide values belong together, one to one.
 use Rattle.std.specs.Bool.{nat_lt}
 use Rattle.std.specs.List.{find, list_any}
-use Rattle.std.specs.Option.{is_some, option_map}
+use Rattle.std.specs.Option.{is_some, option_map, IfSome}
 use Rattle.std.proofs.Common.{◌≡◌, ℕ, Bool, true, false, cond, ◌||◌, List, [], ◌∷◌, ◌++◌, length, Option, Some, None, refl, sym, ◌∙◌, ap, subst, arith, get_or, append-nil, length-append}
 use Rattle.std.specs.Char.{IsScalar, encode_utf8}
 use Rattle.std.specs.Str.{IsUtf8, chars, encode_utf8_all, all_scalars}
@@ -10,6 +10,8 @@ use Rattle.std.proofs.lemmas.Slice.Eq.{bytes_eq-Decides}
 use Rattle.std.proofs.lemmas.Bool.{eqb-true}
 use Rattle.std.proofs.lemmas.Bool.Decides.{nat_tests}
 use Rattle.charmap_reader.specs.Portable.{Name, is_portable}
+use Rattle.charmap_reader.specs.declared.code.Code.{Code}
+use Rattle.charmap_reader.specs.Code.{code_bytes}
 use Rattle.charmap_reader.specs.CodedSet.{CodedSet, utf8, posix, listed, has, encoded, Decodes, is_scalar, has_value, valued, value_read, is_code, big_endian}
 
 -- the two tests of a scalar value agree
@@ -122,3 +124,13 @@ is_some-encoded posix w =
 is_some-encoded (listed name entries) w =
     let P : Bool → Type 0 = λ b. is_some (cond b (Some (w ∷ [])) (option_map (λ (entry : Name × List ℕ). entry.1) (find (has_value w) entries))) ≡ (b || list_any (has_value w) entries) in
     elim (is_portable w) as P [ true ↦ refl | false ↦ is_some-found entries w ]
+
+-- so an answer with those bytes is there exactly where the set has the character
+pub is_some-code : (set : CodedSet) (w : ℕ) (code : Option Code) → option_map code_bytes code ≡ encoded set w → is_some code ≡ has set w
+is_some-code set w None h = ap is_some h ∙ is_some-encoded set w
+is_some-code set w (Some code) h = ap is_some h ∙ is_some-encoded set w
+
+-- and bytes that are one character are one that the set has
+pub decoded-has : (set : CodedSet) (bytes : List ℕ) (r : Option ℕ) → Decodes set bytes r → IfSome r (λ w. has set w ≡ true)
+decoded-has set bytes None none = tt
+decoded-has set bytes (Some w) found = sym (is_some-encoded set w) ∙ ap is_some found

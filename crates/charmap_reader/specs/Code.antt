@@ -3,7 +3,7 @@ use Rattle.std.specs.Prelude.{◌≡◌, ℕ, ◌-◌, List, take, drop, replica
 use Rattle.charmap_reader.specs.CodedSet.{CodedSet, utf8, posix}
 use Rattle.charmap_reader.specs.declared.code.Code.{Code}
 use Rattle.charmap_reader.specs.declared.kind.Kind.{Kind}
-use Rattle.charmap_reader.specs.declared.kind.Kind.TheVariants.{Utf8, Posix}
+use Rattle.charmap_reader.specs.declared.kind.Kind.TheVariants.{Utf8, Posix, Listed}
 
 -- the bytes of an encoding
 abbrev pub code_bytes : Code → List ℕ
@@ -17,3 +17,4 @@ IsPadded code = drop code.len code.bytes ≡ replicate (4 - code.len) 0
 abbrev pub set_of : Kind → CodedSet
 set_of Utf8 = utf8
 set_of Posix = posix
+set_of (Listed set) = set

@@ -3,3 +3,11 @@ pub mod Hex
 pub mod CodedSet
 pub mod Runs
 pub mod Code
+pub mod Numbering
+pub mod Distances
+pub mod Subject
+pub mod Seen
+pub mod Encoding
+pub mod Names
+pub mod Listing
+pub mod Charmap

@@ -1,15 +1,19 @@
 //! Charsets.
 
-ghost use Rattle.std.specs.Prelude.{◌≡◌, true, ◌≤◌, IsOkAnd, IfSome, is_some};
+ghost use Rattle.std.specs.Prelude.{◌≡◌, true, ◌≤◌, IsOkAnd, IfOk, IfSome, is_some};
 ghost use Rattle.std.specs.Option.{option_map};
-ghost use Rattle.charmap_reader.specs.CodedSet.{utf8, posix, set_name, has, named, named_beside, encoded, Decodes, valued};
+ghost use Rattle.charmap_reader.specs.CodedSet.{utf8, posix, listed, set_name, has, named, named_beside, encoded, Decodes, valued};
 ghost use Rattle.charmap_reader.specs.Code.{code_bytes, IsPadded};
 ghost use Rattle.charmap_reader.specs.Runs.{IsNextRun};
+ghost use Rattle.charmap_reader.specs.Names.{entries_of};
 
 use crate::code::Code;
 use crate::kind::Kind;
+use crate::listed::Listed;
+use crate::names::Names;
 use crate::portable::portable_code;
 use crate::{ascii, unicode};
+use lc_base::ByteText;
 use std::alloc::{AllocError, Global};
 use std::marker::Model;
 
@@ -44,13 +48,23 @@ impl Charset {
         Ok(Charset { kind: Kind::Posix })
     }
 
+    /// The charset of a charmap with this code set name and these names.
+    pub(crate) fn listed(alloc: Global, name: ByteText, names: Names) -> Result<Charset, AllocError>
+        ensures { IfOk result (λ c. c ≡ listed name (entries_of names)) }
+    {
+        Ok(Charset {
+            kind: Kind::Listed(Listed::of(alloc, name, names)?),
+        })
+    }
+
     /// The code set name (XSH nl_langinfo, `CODESET`).
     pub fn name(&self) -> &[u8]
         ensures { result.now ≡ set_name self.now }
     {
-        match self.kind {
+        match &self.kind {
             Kind::Utf8 => b"UTF-8",
             Kind::Posix => b"US-ASCII",
+            Kind::Listed(set) => set.name(),
         }
     }
 
@@ -58,9 +72,10 @@ impl Charset {
     pub fn has(&self, w: u32) -> bool
         ensures { result ≡ has self.now w }
     {
-        match self.kind {
+        match &self.kind {
             Kind::Utf8 => unicode::has(w),
             Kind::Posix => ascii::has(w),
+            Kind::Listed(set) => set.has(w),
         }
     }
 
@@ -69,15 +84,16 @@ impl Charset {
         ensures value { result ≡ named self.now name.now }
         ensures has { IfSome result (λ w. has self.now w ≡ true) }
     {
-        portable_code(name).or_else(|| self.numbered(name))
+        portable_code(name).or_else(|| self.named_beside(name))
     }
 
-    fn numbered(&self, name: &[u8]) -> Option<u32>
+    fn named_beside(&self, name: &[u8]) -> Option<u32>
         ensures { result ≡ named_beside self.now name.now }
     {
-        match self.kind {
+        match &self.kind {
             Kind::Utf8 => unicode::named(name),
             Kind::Posix => ascii::named(name),
+            Kind::Listed(set) => set.named(name),
         }
     }
 
@@ -88,9 +104,10 @@ impl Charset {
         ensures len { IfSome result (λ code. 1 ≤ code.len) }
         ensures padding { IfSome result IsPadded }
     {
-        match self.kind {
+        match &self.kind {
             Kind::Utf8 => unicode::encode(w),
             Kind::Posix => ascii::encode(w),
+            Kind::Listed(set) => set.encode(w),
         }
     }
 
@@ -100,9 +117,10 @@ impl Charset {
         ensures value { result ≡ valued self.now bytes.now }
         ensures has { IfSome result (λ w. has self.now w ≡ true) }
     {
-        match self.kind {
+        match &self.kind {
             Kind::Utf8 => unicode::decode(bytes),
             Kind::Posix => ascii::decode(bytes),
+            Kind::Listed(set) => set.decode(bytes),
         }
     }
 
@@ -111,9 +129,10 @@ impl Charset {
     pub fn run_from(&self, w: u32) -> Option<(u32, u32)>
         ensures { IsNextRun self.now w result }
     {
-        match self.kind {
+        match &self.kind {
             Kind::Utf8 => unicode::run_from(w),
             Kind::Posix => ascii::run_from(w),
+            Kind::Listed(set) => set.run_from(w),
         }
     }
 }

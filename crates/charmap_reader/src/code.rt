@@ -1,6 +1,6 @@
 //! Encodings of characters.
 
-ghost use Rattle.std.specs.Prelude.{◌≡◌, ◌≤◌, length};
+ghost use Rattle.std.specs.Prelude.{◌≡◌, ◌<◌, ◌≤◌, ◌^◌, length};
 
 /// The encoding of a character: its first `len` bytes. The others are 0.
 #[derive(Clone, Copy, Debug, PartialEq, Eq)]
@@ -13,6 +13,8 @@ pub struct Code {
 
 impl Code {
     ghost use Rattle.charmap_reader.specs.Code.{code_bytes, IsPadded};
+    ghost use Rattle.charmap_reader.specs.CodedSet.{big_endian};
+    ghost use Rattle.charmap_reader.specs.Encoding.{bytes_of, shortest};
 
     /// The bytes of the encoding.
     pub fn as_bytes(&self) -> &[u8]
@@ -33,5 +35,30 @@ impl Code {
             len: bytes.len() as u8,
             bytes: padded,
         }
+    }
+
+    /// The one encoding that may have this wide value: its bytes without zeros in front.
+    pub(crate) fn shortest(w: u32) -> Code
+        ensures same { code_bytes result ≡ shortest w }
+        ensures len { 1 ≤ result.len }
+        ensures padding { IsPadded result }
+    {
+        let bytes = w.to_be_bytes();
+        let zeros = (w.leading_zeros() / 8).min(3) as usize;
+        Code::of(&bytes[zeros..])
+    }
+
+    /// The wide value: the bytes as a number, the first being the highest.
+    pub(crate) fn value(&self) -> u32
+        ensures is { result ≡ big_endian (code_bytes self.now) }
+        ensures back { bytes_of self.now.len result ≡ code_bytes self.now }
+        ensures bound { result < 256 ^ self.now.len }
+        ensures len { length (code_bytes self.now) ≡ self.now.len }
+    {
+        let mut value: u32 = 0;
+        for byte in self.as_bytes() {
+            value = value * 256 + u32::from(*byte);
+        }
+        value
     }
 }

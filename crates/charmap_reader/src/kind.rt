@@ -1,6 +1,9 @@
+use crate::listed::Listed;
+
 /// Which charset it is.
-#[derive(Clone, Copy, Debug, PartialEq, Eq)]
+#[derive(Debug, Drop)]
 pub enum Kind {
     Utf8,
     Posix,
+    Listed(Listed),
 }

@@ -2,14 +2,24 @@
 #![tactic(auto)]
 
 mod ascii;
+mod body;
+mod charmap;
 mod charset;
 mod code;
+mod encoding;
+mod header;
 mod hex;
 mod kind;
+mod listed;
+mod names;
+mod numbering;
 mod portable;
+mod runs;
+mod subject;
 #[cfg(test)]
 mod tests;
 mod unicode;
 
+pub use charmap::read_charmap;
 pub use charset::Charset;
 pub use code::Code;

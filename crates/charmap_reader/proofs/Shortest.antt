@@ -1,0 +1,164 @@
+-- The bytes of a number: as many as are asked for, or as few as it needs.
+use Rattle.std.specs.List.{range_with_len}
+use Rattle.std.specs.Int.{w32, to_be_bytes}
+use Rattle.std.specs.Int.Count.{count_leading_zeros}
+use Rattle.std.proofs.Common.{◌≡◌, ℕ, zero, suc, ◌+◌, ◌-◌, min, ◌*◌, ◌/◌, ◌%◌, ◌^◌, ◌<◌, ◌≤◌, true, cond, ◌⊎◌, inl, inr, ⊎_elim, List, [], ◌∷◌, ◌++◌, length, map, drop, Option, Some, None, refl, sym, ◌∙◌, ap, arith}
+use Rattle.std.proofs.Math.Nat.{pow-suc, pow-le-pow_right}
+use Rattle.std.proofs.lemmas.Bool.{lt-ltb, le-ltb}
+use Rattle.std.proofs.lemmas.Bool.Decides.{nat_tests}
+use Rattle.std.proofs.lemmas.Nat.{leading_length, mul-le}
+use Rattle.src_lines.specs.declared.atom.Atom.{Atom}
+use Rattle.charmap_reader.specs.CodedSet.{big_endian, big_endian_after}
+use Rattle.charmap_reader.specs.Encoding.{atom_number, and_bytes, numbers, is_encoding, encoding, bytes_of, short_bytes, shortest}
+use Rattle.charmap_reader.specs.Charmap.{entries}
+use Rattle.charmap_reader.specs.Names.{valued_names}
+use Rattle.charmap_reader.specs.Subject.{Subject, name_at}
+
+-- ---- the encoding that a field is
+
+-- the encoding that bytes are, if they are there
+abbrev encoding_from : Option (List ℕ) → Option (List ℕ)
+encoding_from None = None
+encoding_from (Some bs) = cond (is_encoding bs) (Some bs) None
+
+-- a byte before others makes them one more
+and_bytes-length : (b : Option ℕ) (o : Option (List ℕ)) (n : ℕ) → ((bs : List ℕ) → o ≡ Some bs → length bs ≡ n) → (bs : List ℕ) → and_bytes b o ≡ Some bs → length bs ≡ suc n
+and_bytes-length None o n rest bs h = cc
+and_bytes-length (Some b) None n rest bs h = cc
+and_bytes-length (Some b) (Some own) n rest bs h =
+    let same : b ∷ own ≡ bs = cc in sym (ap (λ (x : List ℕ). length x) same) ∙ ap suc (rest own refl)
+
+-- atoms write as many bytes as there are atoms
+numbers-length : (atoms : List Atom) (bs : List ℕ) → numbers atoms ≡ Some bs → length bs ≡ length atoms
+numbers-length [] bs h = let same : [] ≡ bs = cc in sym (ap (λ (x : List ℕ). length x) same)
+numbers-length (atom ∷ atoms) bs h = and_bytes-length (atom_number atom) (numbers atoms) (length atoms) (numbers-length atoms) bs h
+
+-- more than four bytes encode nothing
+encoding_from-long : (o : Option (List ℕ)) → ((bs : List ℕ) → o ≡ Some bs → 4 < length bs) → None ≡ encoding_from o
+encoding_from-long None long = refl
+encoding_from-long (Some bs) long = let more : 4 < length bs = long bs refl in grind (arith, nat_tests)
+
+-- more than four atoms are no encoding
+pub encoding-long : (atoms : List Atom) → 4 < length atoms → None ≡ encoding atoms
+encoding-long atoms long = encoding_from-long (numbers atoms) (λ bs e. omega (arith, numbers-length atoms bs e))
+
+-- bytes that may encode a character are one to four
+pub length-encoding : (bs : List ℕ) → is_encoding bs ≡ true → (1 ≤ length bs) × (length bs ≤ 4)
+length-encoding bs h = grind (arith, nat_tests)
+
+-- the first of several is not zero
+first_byte-encoding : (b : ℕ) (bs : List ℕ) → is_encoding (b ∷ bs) ≡ true → (length bs ≡ 0) ⊎ (1 ≤ b)
+first_byte-encoding b bs h = grind (arith, nat_tests)
+
+-- ---- the least value of so many bytes
+
+-- bytes after a number give at least that number, moved up
+big_endian_after-least : (n : ℕ) (bs : List ℕ) → n * 256 ^ length bs ≤ big_endian_after n bs
+big_endian_after-least n [] = omega arith
+big_endian_after-least n (b ∷ bs) =
+    let step : (256 * n + b) * 256 ^ length bs ≤ big_endian_after (256 * n + b) bs = big_endian_after-least (256 * n + b) bs in
+    let power : 256 ^ suc (length bs) ≡ 256 ^ length bs * 256 = pow-suc 256 (length bs) in
+    let less : n * 256 * 256 ^ length bs ≤ (256 * n + b) * 256 ^ length bs = mul-le (n * 256) (256 ^ length bs) (256 * n + b) (256 ^ length bs) (omega arith) (omega arith) in
+    omega (arith, ap (λ (x : ℕ). n * x) power)
+
+-- an encoding has no fewer bytes than its value needs
+pub least_value : (bs : List ℕ) → is_encoding bs ≡ true → (length bs ≡ 1) ⊎ (256 ^ (length bs - 1) ≤ big_endian bs)
+least_value [] h = absurd (omega (arith, (length-encoding [] h).0))
+least_value (b ∷ bs) h =
+    ⊎_elim (λ e. inl (ap suc e))
+    (λ one. inr (
+    let after : b * 256 ^ length bs ≤ big_endian_after b bs = big_endian_after-least b bs in
+    let less : 1 * 256 ^ length bs ≤ b * 256 ^ length bs = mul-le 1 (256 ^ length bs) b (256 ^ length bs) one (omega arith) in
+    let count : suc (length bs) - 1 ≡ length bs = omega arith in
+    let byte : 0 + b ≡ b = omega arith in
+    rw (count, byte) (omega arith)
+    ))
+    (first_byte-encoding b bs h)
+
+-- ---- as many bytes as a number needs
+
+-- so many bytes of a number are its fewest, if the first is not zero or is the last
+bytes_of-short_bytes : (more len n : ℕ) → len ≤ more → n < 256 ^ suc len → (len ≡ 0) ⊎ (256 ^ len ≤ n) → bytes_of (suc len) n ≡ short_bytes more n
+bytes_of-short_bytes zero zero n few below least = ap (λ (x : ℕ). x ∷ []) (omega arith)
+bytes_of-short_bytes zero (suc len) n few below least = absurd (omega arith)
+bytes_of-short_bytes (suc more) zero n few below least =
+    let small : n < 256 = omega arith in
+    rw (lt-ltb n 256 small) (ap (λ (x : ℕ). x ∷ []) (omega arith))
+bytes_of-short_bytes (suc more) (suc len) n few below least =
+    let power : 256 ^ suc len ≡ 256 ^ len * 256 = pow-suc 256 len in
+    let larger : 256 ^ suc (suc len) ≡ 256 ^ suc len * 256 = pow-suc 256 (suc len) in
+    let some : 256 ^ 0 ≤ 256 ^ len = pow-le-pow_right {n = 256} (omega arith) {i = 0} {j = len} (omega arith) in
+    let much : 256 ≤ n = omega arith in
+    let front : bytes_of (suc len) (n / 256) ≡ short_bytes more (n / 256) = bytes_of-short_bytes more len (n / 256) (omega arith) (omega arith) (inr (omega arith)) in
+    rw (le-ltb n 256 much) (ap (λ (bs : List ℕ). bs ++ n % 256 ∷ []) front)
+
+-- the same of one to four bytes
+pub bytes_of-shortest : (len n : ℕ) → 1 ≤ len → len ≤ 4 → n < 256 ^ len → (len ≡ 1) ⊎ (256 ^ (len - 1) ≤ n) → bytes_of len n ≡ shortest n
+bytes_of-shortest zero n some few below least = absurd (omega arith)
+bytes_of-shortest (suc len) n some few below least = bytes_of-short_bytes 3 len n (omega arith) below (let count : suc len - 1 ≡ len = omega arith in ⊎_elim (λ e. inl (omega arith)) (λ e. inr (rw count at e)) least)
+
+-- ---- the entries of a range
+
+-- functions that agree on a range map it alike
+map_range-same : {X : Type 0} (f g : ℕ → X) (a n : ℕ) → ((k : ℕ) → a ≤ k → k < a + n → f k ≡ g k) → map f (range_with_len a n) ≡ map g (range_with_len a n)
+map_range-same f g a zero same = refl
+map_range-same f g a (suc n) same =
+    let first : f a ≡ g a = same a (omega arith) (omega arith) in
+    let rest : map f (range_with_len (a + 1) n) ≡ map g (range_with_len (a + 1) n) = map_range-same f g (a + 1) n (λ k low high. same k (omega arith) (omega arith)) in
+    cc
+
+-- the entries of a range are its names with their wide values
+pub entries_valued : (s : Subject) (code : List ℕ) (more : ℕ) → is_encoding code ≡ true → big_endian code + more < 256 ^ length code → entries s code more ≡ valued_names s (big_endian code) more
+entries_valued s code more h below =
+    let lengths : (1 ≤ length code) × (length code ≤ 4) = length-encoding code h in
+    map_range-same _ _ 0 (more + 1) (λ k low high. ap (λ (bs : List ℕ). (name_at s k, bs)) (
+    bytes_of-shortest (length code) (big_endian code + k) lengths.0 lengths.1 (omega arith)
+    (⊎_elim (λ e. inl e) (λ e. inr (omega arith)) (least_value code h))
+    ))
+
+-- ---- reading bytes, one after another
+
+-- a number of at most three bytes is below this bound
+three_bytes : (n i : ℕ) → n < 256 ^ i → i < 4 → n < 16777216
+three_bytes n i below few =
+    let bound : 256 ^ i ≤ 256 ^ 3 = pow-le-pow_right {n = 256} (omega arith) {i = i} {j = 3} (omega arith) in
+    omega arith
+
+-- a byte more fits 32 bits
+pub byte_more-fits : (n i b : ℕ) → n < 256 ^ i → i < 4 → b < 256 → n * 256 + b < 2 ^ 32
+byte_more-fits n i b below few byte = omega (arith, three_bytes n i below few)
+
+-- ---- the bytes of 32 bits without zeros in front
+
+-- the last bytes of 32 bits
+drop-to_be_bytes : (w front : ℕ) → front ≤ 4 → drop front (to_be_bytes w32 w) ≡ bytes_of (4 - front) w
+drop-to_be_bytes w zero few =
+    let third : w / 256 / 256 / 256 ≡ w / 16777216 = omega arith in
+    let second : w / 256 / 256 ≡ w / 65536 = omega arith in
+    rw (third, second) refl
+drop-to_be_bytes w (suc zero) few =
+    let second : w / 256 / 256 ≡ w / 65536 = omega arith in
+    rw second refl
+drop-to_be_bytes w (suc (suc zero)) few = refl
+drop-to_be_bytes w (suc (suc (suc zero))) few = refl
+drop-to_be_bytes w (suc (suc (suc (suc zero)))) few = refl
+drop-to_be_bytes w (suc (suc (suc (suc (suc more))))) few = absurd (omega arith)
+
+-- powers of two by their places
+pow-le : (i j : ℕ) → i ≤ j → 2 ^ i ≤ 2 ^ j
+pow-le i j less = pow-le-pow_right {n = 2} (omega arith) {i = i} {j = j} less
+
+-- a number with so many zero bytes in front, of which at most three count, has so many bytes
+leading-bytes : (w count m front : ℕ) → count + m ≡ 32 → w < 2 ^ m → 2 ^ m ≤ 2 * w + 1 → front ≡ min (count / 8) 3 → (w < 256 ^ (4 - front)) × ((4 - front ≡ 1) ⊎ (256 ^ (4 - front - 1) ≤ w))
+leading-bytes w count m zero whole below least zeros = (omega (arith, pow-le m 32 (omega arith)), inr (omega (arith, pow-le 25 m (omega arith))))
+leading-bytes w count m (suc zero) whole below least zeros = (omega (arith, pow-le m 24 (omega arith)), inr (omega (arith, pow-le 17 m (omega arith))))
+leading-bytes w count m (suc (suc zero)) whole below least zeros = (omega (arith, pow-le m 16 (omega arith)), inr (omega (arith, pow-le 9 m (omega arith))))
+leading-bytes w count m (suc (suc (suc zero))) whole below least zeros = (omega (arith, pow-le m 8 (omega arith)), inl refl)
+leading-bytes w count m (suc (suc (suc (suc more)))) whole below least zeros = absurd (omega arith)
+
+-- the bytes of 32 bits without those zeros in front are the fewest
+pub drop-to_be_bytes-shortest : (w front : ℕ) → w < 2 ^ 32 → front ≡ min (count_leading_zeros 32 w / 8) 3 → drop front (to_be_bytes w32 w) ≡ shortest w
+drop-to_be_bytes-shortest w front fits zeros =
+    let lead : (m : ℕ) × (count_leading_zeros 32 w + m ≡ 32) × (w < 2 ^ m) × (2 ^ m ≤ 2 * w + 1) = leading_length 32 w fits in
+    let size : (w < 256 ^ (4 - front)) × ((4 - front ≡ 1) ⊎ (256 ^ (4 - front - 1) ≤ w)) = leading-bytes w (count_leading_zeros 32 w) lead.0 front lead.1 lead.2 lead.3 zeros in
+    drop-to_be_bytes w front (omega arith) ∙ bytes_of-shortest (4 - front) w (omega arith) (omega arith) size.0 size.1

@@ -1,0 +1,121 @@
+//! The charset of a charmap.
+
+ghost use Rattle.std.specs.Prelude.{◌≡◌, ◌≤◌, IfOk, OnOk, IfSome, option_map};
+ghost use Rattle.charmap_reader.specs.CodedSet.{listed, set_name, has, named_beside, encoded, Decodes};
+ghost use Rattle.charmap_reader.specs.Code.{code_bytes, IsPadded};
+ghost use Rattle.charmap_reader.specs.Runs.{IsNextRun};
+ghost use Rattle.charmap_reader.specs.Names.{entries_of};
+ghost use Rattle.charmap_reader.specs.Listing.{HasPortable};
+
+use crate::code::Code;
+use crate::names::{Names, value_named, values_of};
+use crate::runs::Runs;
+use lc_base::ByteText;
+use std::alloc::{AllocError, Global};
+use std::marker::Model;
+
+/// A code set name, names with their wide values, and all wide values as runs.
+#[derive(Debug, Drop)]
+pub struct Listed {
+    name: ByteText,
+    names: Names,
+    runs: Runs,
+}
+
+impl Model for Listed {
+    ghost use Rattle.charmap_reader.specs.CodedSet.{CodedSet, listed};
+    ghost use Rattle.charmap_reader.specs.Names.{entries_of};
+    ghost use Rattle.charmap_reader.specs.Listing.{HasRuns};
+
+    ghost Value = { CodedSet };
+
+    ghost view = { λ l. listed l.name (entries_of l.names) };
+
+    ghost invariant = { λ l. HasRuns (listed l.name (entries_of l.names)) l.runs };
+}
+
+/// Adds the codes of the portable characters but 0.
+fn add_portable(values: &mut Vec<u32>) -> Result<(), AllocError>
+    ensures { OnOk result (HasPortable values.old.items values.new.items) }
+{
+    for control in 7..14 {
+        values.push(control)?;
+    }
+    for visible in 32..127 {
+        values.push(visible)?;
+    }
+    Ok(())
+}
+
+impl Listed {
+    /// The charset with this code set name and these names.
+    pub fn of(alloc: Global, name: ByteText, names: Names) -> Result<Listed, AllocError>
+        ensures { IfOk result (λ l. l ≡ listed name (entries_of names)) }
+    {
+        let mut values = values_of(alloc, &names)?;
+        add_portable(&mut values)?;
+        let runs = Runs::of(alloc, values)?;
+        Ok(Listed { name, names, runs })
+    }
+
+    /// The code set name.
+    pub fn name(&self) -> &[u8]
+        ensures { result.now ≡ set_name self.now }
+    {
+        self.name.as_bytes()
+    }
+
+    /// Whether a character has this wide value.
+    pub fn has(&self, w: u32) -> bool
+        ensures { result ≡ has self.now w }
+    {
+        self.runs.has(w)
+    }
+
+    /// The character of a name that is no portable one.
+    pub fn named(&self, name: &[u8]) -> Option<u32>
+        ensures { result ≡ named_beside self.now name.now }
+    {
+        value_named(&self.names, name)
+    }
+
+    /// The encoding of a character.
+    pub fn encode(&self, w: u32) -> Option<Code>
+        ensures bytes { option_map code_bytes result ≡ encoded self.now w }
+        ensures len { IfSome result (λ code. 1 ≤ code.len) }
+        ensures padding { IfSome result IsPadded }
+    {
+        if self.runs.has(w) {
+            Some(Code::shortest(w))
+        } else {
+            None
+        }
+    }
+
+    /// The character with just these bytes.
+    pub fn decode(&self, bytes: &[u8]) -> Option<u32>
+        ensures { Decodes self.now bytes.now result }
+    {
+        let runs = &self.runs;
+        if bytes.len() > 4 {
+            return None;
+        }
+        let w = Code::of(bytes).value();
+        if !runs.has(w) {
+            return None;
+        }
+        let code = Code::shortest(w);
+        if code.as_bytes() == bytes {
+            Some(w)
+        } else {
+            None
+        }
+    }
+
+    /// The next run of wide values.
+    pub fn run_from(&self, w: u32) -> Option<(u32, u32)>
+        ensures { IsNextRun self.now w result }
+    {
+        self.runs.next(w)
+    }
+}

@@ -1,0 +1,69 @@
+//! Unbroken runs of wide values.
+
+ghost use Rattle.std.specs.Prelude.{◌≡◌, ℕ, ◌==◌, ◌||◌, IfOk};
+ghost use Rattle.std.specs.List.{list_any};
+ghost use Rattle.charmap_reader.specs.Runs.{IsRunOf, covers};
+
+use std::alloc::{AllocError, Global};
+use std::marker::Model;
+
+/// A set of wide values, as its runs in order.
+#[derive(Debug, Drop)]
+pub struct Runs {
+    runs: Vec<(u32, u32)>,
+}
+
+impl Model for Runs {
+    ghost use Rattle.std.specs.Prelude.{ℕ, List};
+    ghost use Rattle.charmap_reader.specs.Runs.{IsApart};
+
+    ghost Value = { List (ℕ × ℕ) };
+
+    ghost view = { λ r. r.runs.items };
+
+    ghost invariant = { λ r. IsApart r.runs.items };
+}
+
+impl Runs {
+    /// The runs of these values and 0.
+    pub fn of(alloc: Global, values: Vec<u32>) -> Result<Runs, AllocError>
+        ensures { IfOk result (λ r. (w : ℕ) → covers r w ≡ ((w == 0) || list_any (λ v. v == w) values.items)) }
+    {
+        let mut values = values;
+        values.sort_unstable();
+        let mut runs = Vec::new(alloc);
+        let mut first = 0;
+        let mut last = 0;
+        for value in &values {
+            if *value - last > 1 {
+                runs.push((first, last))?;
+                first = *value;
+            }
+            last = *value;
+        }
+        runs.push((first, last))?;
+        Ok(Runs { runs })
+    }
+
+    /// The least value not below `w`, and the last of the run from it.
+    pub fn next(&self, w: u32) -> Option<(u32, u32)>
+        ensures { IsRunOf (covers self.now) w result }
+    {
+        let at = self.runs.partition_point(|run| run.1 < w);
+        if at == self.runs.len() {
+            return None;
+        }
+        let (first, last) = self.runs[at];
+        Some((first.max(w), last))
+    }
+
+    /// Whether the value is in the set.
+    pub fn has(&self, w: u32) -> bool
+        ensures { result ≡ covers self.now w }
+    {
+        match self.next(w) {
+            Some((first, _)) => first == w,
+            None => false,
+        }
+    }
+}

@@ -1,0 +1,76 @@
+//! What a line of a charmap's body speaks of (XBD 6.4).
+
+ghost use Rattle.std.specs.Prelude.{◌≡◌, ◌-◌, min, MatchOption, option_map, None, Some};
+ghost use Rattle.src_lines.specs.Tokens.{is_bare};
+ghost use Rattle.charmap_reader.specs.Subject.{atom_name, subject, more_between, more_names};
+ghost use Rattle.charmap_reader.specs.Seen.{seen};
+
+use crate::numbering::{distance, split_number};
+use src_lines::{Atom, Piece};
+
+/// The characters that a line gives an encoding: one name, or with a last name a range.
+#[derive(Clone, Copy)]
+pub struct Subject<'a> {
+    pub first: &'a [u8],
+    pub last: Option<&'a [u8]>,
+}
+
+/// A character's name, if an atom is one.
+fn atom_name(atom: &Atom) -> Option<&[u8]>
+    ensures { option_map (λ name. name.now) result ≡ atom_name atom.now }
+{
+    match atom {
+        Atom::Made(Piece::Name(name)) => Some(name.as_bytes()),
+        _ => None,
+    }
+}
+
+/// Whether an atom is a bare dot.
+fn is_dot(atom: &Atom) -> bool
+    ensures { result ≡ is_bare 46 atom.now }
+{
+    match atom {
+        Atom::Bare(byte) => *byte == b'.',
+        _ => false,
+    }
+}
+
+/// The subject that a whole field is.
+pub fn subject_of(atoms: &[Atom]) -> Option<Subject<'_>>
+    ensures { option_map seen result ≡ subject atoms.now }
+{
+    match atoms {
+        [name] => Some(Subject {
+            first: atom_name(name)?,
+            last: None,
+        }),
+        [first, a, b, c, last] if is_dot(a) && is_dot(b) && is_dot(c) => Some(Subject {
+            first: atom_name(first)?,
+            last: Some(atom_name(last)?),
+        }),
+        _ => None,
+    }
+}
+
+/// How many names follow the first one of a range, up to `FAR`. None where an end has no digits,
+/// where the parts before them differ, or where the range runs backward.
+fn more_between(first: &[u8], last: &[u8]) -> Option<u64>
+    ensures { result ≡ option_map (λ n. min n 4294967296) (more_between first.now last.now) }
+{
+    let (first_stem, first_digits) = split_number(first);
+    let (last_stem, last_digits) = split_number(last);
+    if first_digits.is_empty() || last_digits.is_empty() || first_stem != last_stem {
+        return None;
+    }
+    distance(first_digits, last_digits)
+}
+
+/// How many names follow the first one of a subject, up to `FAR`.
+pub fn more_names(subject: &Subject<'_>) -> Option<u64>
+    ensures { result ≡ option_map (λ n. min n 4294967296) (more_names (seen subject.now)) }
+{
+    match subject.last {
+        None => Some(0),
+        Some(last) => more_between(subject.first, last),
+    }
+}
