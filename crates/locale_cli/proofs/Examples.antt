@@ -3,19 +3,14 @@ use Rattle.std.proofs.Common.{◌≡◌, ℕ, List, [], ◌∷◌, ◌++◌, Non
 use Rattle.std.specs.Prelude.{codes}
 use Rattle.std.specs.Fmt.{decimal}
 use Rattle.std.proofs.lemmas.Fmt.{decimal_digit}
-use Rattle.lc_base.specs.declared.reason.Reason.TheVariants as reasons
-use Rattle.lc_base.specs.declared.reason.Limit.TheVariants as limits
-use Rattle.lc_base.specs.declared.reason.Class.TheVariants as classes
 use Rattle.locale_reader.specs.NumericSection.{numeric_texts}
 use Rattle.locale_cli.specs.declared.answer.Status.TheVariants.{Done, Refused}
 use Rattle.locale_cli.specs.declared.answer.Answer.{Answer}
 use Rattle.locale_cli.specs.declared.words.Mode.TheVariants.{Serial}
-use Rattle.locale_cli.specs.Accepted.{bundle_reading}
+use Rattle.script_lang.specs.Accepted.{bundle_reading}
 use Rattle.locale_cli.specs.Answer.{answer_of}
-use Rattle.locale_cli.specs.Bundle.{parts_of}
-use Rattle.locale_cli.specs.Output.{quoted}
-use Rattle.locale_cli.specs.Plan.{plan_of}
-use Rattle.locale_cli.specs.Refusal.{refusal_line}
+use Rattle.script_lang.specs.Bundle.{parts_of}
+use Rattle.script_run.specs.Plan.{plan_of}
 use Rattle.locale_cli.specs.Words.{mode_of}
 
 digit0 : decimal 0 ≡ codes "0"
@@ -116,16 +111,7 @@ quote_inside : not_built (answer_of (codes ".locale a UTF-8\nLC_NUMERIC\ndecimal
 unfolding bundle_reading parts_of numeric_texts plan_of
 quote_inside = (refl, simp digits)
 
--- ---- texts and lines
-
-quoted_text : quoted (97 ∷ 34 ∷ 92 ∷ 10 ∷ 127 ∷ 200 ∷ []) ≡ codes "\"a\\\"\\\\\\x0a\\x7f" ++ 200 ∷ 34 ∷ []
-quoted_text = refl
-
-excluded_line : refusal_line (record { line = 2; column = 1 }) (reasons.Excluded classes.Alpha classes.Punct 5) ≡ codes "refused: 2:1 Excluded alpha punct 5\n"
-excluded_line = simp digits
-
-limit_line : refusal_line (record { line = 2; column = 4 }) (reasons.OverLimit limits.Text) ≡ codes "refused: 2:4 OverLimit string\n"
-limit_line = simp digits
+-- ---- words
 
 no_words : mode_of [] ≡ None
 no_words = refl

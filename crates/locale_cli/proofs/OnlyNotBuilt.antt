@@ -13,12 +13,12 @@ use Rattle.lc_base.specs.Reading.{Reads, ◌>>=◌}
 use Rattle.locale_reader.specs.Texts.{quoted_after}
 use Rattle.locale_reader.specs.NumericSection.{place_at, frames, numeric_texts, numeric_list, numeric_source, numeric_reading, if_built}
 use Rattle.numeric_cat.specs.Numeric.{numeric_values}
-use Rattle.locale_cli.specs.declared.bundle.Bundle.{Bundle}
+use Rattle.script_lang.specs.declared.bundle.Bundle.{Bundle}
 use Rattle.locale_reader.specs.declared.source.LocaleSource.{LocaleSource}
-use Rattle.locale_cli.specs.Accepted.{bundle_reading, bundle_of}
-use Rattle.locale_cli.specs.Bundle.{BundleParts, parts_of, commands_of}
-use Rattle.locale_cli.specs.Plan.{entries_of, plan_of}
-use Rattle.locale_cli.specs.Refusal.{refusal_line}
+use Rattle.script_lang.specs.Accepted.{bundle_reading, bundle_of}
+use Rattle.script_lang.specs.Bundle.{BundleParts, parts_of, commands_of}
+use Rattle.script_run.specs.Plan.{entries_of, plan_of}
+use Rattle.script_lang.specs.Refusal.{refusal_line}
 use Rattle.locale_cli.specs.Status.{IsRefused, not_built_line}
 
 abbrev the_fault : Place × Reason

@@ -9,12 +9,12 @@ use Rattle.lc_base.specs.declared.reason.Reason.{Reason}
 use Rattle.lc_base.specs.Faults.{Rose}
 use Rattle.lc_base.specs.Bytes.{CameExactly}
 use Rattle.lc_base.specs.Reading.{Reads}
-use Rattle.locale_cli.specs.declared.plan.Plan.{Plan}
+use Rattle.script_run.specs.declared.plan.Plan.{Plan}
 use Rattle.locale_cli.specs.declared.answer.Status.{Status}
 use Rattle.locale_cli.specs.declared.answer.Status.TheVariants.{Done, Usage, Refused, ReadFault, WriteFault, Memory, TooLarge}
 use Rattle.locale_cli.specs.Answer.{answer_to, answer_of}
-use Rattle.locale_cli.specs.Plan.{plan_of}
-use Rattle.locale_cli.specs.Refusal.{refusal_line}
+use Rattle.script_run.specs.Plan.{plan_of}
+use Rattle.script_lang.specs.Refusal.{refusal_line}
 use Rattle.locale_cli.specs.Run.{SourceStep, SinkStep, Ran}
 use Rattle.locale_cli.specs.Status.{input_limit, WholeInput, IsRefused, due_status, IsDue, StayedSound}
 

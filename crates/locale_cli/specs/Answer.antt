@@ -1,13 +1,13 @@
 -- The answer to an input (our own).
 use Rattle.std.specs.Prelude.{ℕ, List, [], ◌∷◌, Ok, Err}
 use Rattle.lc_base.specs.Reading.{Reads}
-use Rattle.locale_cli.specs.declared.plan.Plan.{Plan}
+use Rattle.script_run.specs.declared.plan.Plan.{Plan}
 use Rattle.locale_cli.specs.declared.answer.Status.TheVariants.{Done, Refused}
 use Rattle.locale_cli.specs.declared.answer.Answer.{Answer}
-use Rattle.locale_cli.specs.Output.{printed}
-use Rattle.locale_cli.specs.Plan.{plan_of}
-use Rattle.locale_cli.specs.Refusal.{refusal_line}
-use Rattle.locale_cli.specs.Serial.{serial_lines}
+use Rattle.script_lang.specs.Output.{printed}
+use Rattle.script_run.specs.Plan.{plan_of}
+use Rattle.script_lang.specs.Refusal.{refusal_line}
+use Rattle.script_run.specs.Serial.{serial_lines}
 
 -- what an accepted bundle prints
 abbrev pub serial_text : Plan → List ℕ

@@ -1,13 +1,5 @@
-pub mod Names
-pub mod Bundle
-pub mod Accepted
-pub mod Output
-pub mod Plan
-pub mod Serial
-pub mod Refusal
 pub mod Words
 pub mod Answer
 pub mod Status
 pub mod Run
 pub mod StatusCode
-pub mod Thread

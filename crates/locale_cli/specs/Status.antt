@@ -4,13 +4,13 @@ use Rattle.std.specs.Io.KnownBytes.{Appends, Consumes, IsAtEnd}
 use Rattle.lc_base.specs.declared.place.Place.{Place}
 use Rattle.lc_base.specs.declared.reason.Reason.{Reason}
 use Rattle.lc_base.specs.Bytes.{CameExactly, AddsPrefix}
-use Rattle.locale_cli.specs.declared.plan.Plan.{Plan}
+use Rattle.script_run.specs.declared.plan.Plan.{Plan}
 use Rattle.locale_cli.specs.declared.answer.Status.{Status}
 use Rattle.locale_cli.specs.declared.answer.Status.TheVariants.{Done, Usage, Refused, ReadFault, WriteFault, Memory, TooLarge}
 use Rattle.locale_cli.specs.Answer.{answer_of, serial_text}
-use Rattle.locale_cli.specs.Output.{newline}
-use Rattle.locale_cli.specs.Plan.{plan_of}
-use Rattle.locale_cli.specs.Refusal.{refusal_line}
+use Rattle.script_lang.specs.Output.{newline}
+use Rattle.script_run.specs.Plan.{plan_of}
+use Rattle.script_lang.specs.Refusal.{refusal_line}
 
 -- the most bytes of an input
 abbrev pub input_limit : ℕ

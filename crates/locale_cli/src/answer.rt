@@ -3,13 +3,11 @@
 ghost use Rattle.std.specs.Prelude.{◌≡◌, IfOk};
 ghost use Rattle.locale_cli.specs.Answer.{answer_of, serial_text};
 ghost use Rattle.locale_cli.specs.StatusCode.{status_code};
-ghost use Rattle.locale_cli.specs.Refusal.{refusal_line};
+ghost use Rattle.script_lang.specs.Refusal.{refusal_line};
 
-use crate::output::print;
-use crate::plan::{Plan, prepare};
-use crate::refusal::push_refusal;
-use crate::serial::serial;
 use lc_base::{ByteText, List, Place, Reason, TextFault};
+use script_lang::{print, push_refusal};
+use script_run::{Plan, prepare, serial};
 use std::alloc::{AllocError, Global};
 
 /// How the program ended.

@@ -2,16 +2,8 @@
 #![tactic(auto)]
 
 mod answer;
-mod bundle;
-mod names;
-mod output;
-mod plan;
-mod refusal;
-mod serial;
-mod share;
 #[cfg(test)]
 mod tests;
-mod thread;
 mod top;
 mod words;
 

@@ -1,0 +1,93 @@
+-- The printed lines (our own).
+use Rattle.std.specs.Prelude.{ℕ, ◌+◌, ◌/◌, ◌%◌, ◌==◌, nat_lt, ◌||◌, List, [], ◌∷◌, ◌++◌, slice_index_or, codes, Option, Some, None, if◌then◌else◌}
+use Rattle.std.specs.List.{flat_map}
+use Rattle.std.specs.Fmt.{decimal}
+use Rattle.script_lang.specs.declared.output.Places.{Places}
+use Rattle.script_lang.specs.declared.output.Places.TheVariants as places
+use Rattle.script_lang.specs.declared.output.Said.{Said}
+use Rattle.script_lang.specs.declared.output.Said.TheVariants as said
+use Rattle.script_lang.specs.declared.output.Why.{Why}
+use Rattle.script_lang.specs.declared.output.Why.TheVariants as whys
+use Rattle.handle_table.specs.declared.handle.Handle.{Handle}
+use Rattle.handle_table.specs.declared.handle.Named.{Named}
+use Rattle.handle_table.specs.declared.handle.Named.TheVariants.{Global, Of}
+use Rattle.script_lang.specs.declared.output.OutLine.{OutLine}
+
+-- one space
+abbrev pub space : List ℕ
+space = 32 ∷ []
+
+-- one newline
+abbrev pub newline : List ℕ
+newline = 10 ∷ []
+
+-- a hexadecimal digit, with the lower-case letters
+abbrev pub hex_digit : ℕ → ℕ
+hex_digit n = if nat_lt n 10 then 48 + n else 87 + n
+
+-- a byte of a quoted text: `\"`, `\\`, `\xHH` for a control byte, and any other byte as it is
+abbrev pub escaped : ℕ → List ℕ
+escaped c =
+    if (c == 34) || (c == 92) then 92 ∷ c ∷ [] else
+    if nat_lt c 32 || (c == 127) then 92 ∷ 120 ∷ hex_digit (c / 16) ∷ hex_digit (c % 16) ∷ [] else
+    c ∷ []
+
+-- a text in quotes
+abbrev pub quoted : List ℕ → List ℕ
+quoted text = 34 ∷ [] ++ flat_map escaped text ++ 34 ∷ []
+
+-- the places of a line's entries in the history
+abbrev pub places_text : Places → List ℕ
+places_text places.None = codes "-"
+places_text (places.One p) = decimal p
+
+-- the version of the global locale that a line prints
+abbrev pub version_text : Option ℕ → List ℕ
+version_text None = codes "-"
+version_text (Some v) = codes "g" ++ decimal v
+
+-- THREAD.ROW.GENERATION, where the threads have these names
+abbrev pub handle_text : List (List ℕ) → Handle → List ℕ
+handle_text names h = slice_index_or names h.owner [] ++ codes "." ++ decimal h.row ++ codes "." ++ decimal h.generation
+
+-- what a command named: GLOBAL or a handle
+abbrev pub named_text : List (List ℕ) → Named → List ℕ
+named_text names Global = codes "GLOBAL"
+named_text names (Of h) = handle_text names h
+
+-- the word for why a command is refused
+abbrev pub why_word : Why → List ℕ
+why_word whys.Unset = codes "Unset"
+why_word whys.GlobalHandle = codes "GlobalHandle"
+why_word whys.NeverMade = codes "NeverMade"
+why_word whys.Stale = codes "Stale"
+why_word whys.TooMany = codes "TooMany"
+why_word whys.AlreadyHeld = codes "AlreadyHeld"
+why_word whys.NotHeld = codes "NotHeld"
+why_word whys.EmptyCell = codes "EmptyCell"
+
+-- a reply, where the threads have these names
+abbrev pub reply_text : List (List ℕ) → Said → List ℕ
+reply_text names (said.Handle h) = codes "handle " ++ handle_text names h
+reply_text names said.Freed = codes "freed"
+reply_text names (said.Was former) = codes "was " ++ named_text names former
+reply_text names (said.Name name) = codes "name " ++ name
+reply_text names (said.Text text) = codes "text " ++ quoted text
+reply_text names said.Ended = codes "ended"
+reply_text names (said.Refused why) = codes "refused " ++ why_word why
+
+-- ROUND THREAD INDEX, each with a space after it
+abbrev pub caller_text : List ℕ → OutLine → List ℕ
+caller_text name l = decimal l.round ++ space ++ name ++ space ++ decimal l.index ++ space
+
+-- PLACES GLOBAL REPLY and a newline
+abbrev pub outcome_text : List (List ℕ) → OutLine → List ℕ
+outcome_text names l = places_text l.places ++ space ++ version_text l.global ++ space ++ reply_text names l.reply ++ newline
+
+-- a line, where the threads have these names
+abbrev pub line_text : List (List ℕ) → OutLine → List ℕ
+line_text names l = caller_text (slice_index_or names l.thread []) l ++ outcome_text names l
+
+-- the printed text of lines
+abbrev pub printed : List OutLine → List (List ℕ) → List ℕ
+printed lines names = flat_map (line_text names) lines

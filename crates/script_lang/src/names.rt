@@ -1,0 +1,58 @@
+//! Names of locales and threads.
+
+ghost use Rattle.std.specs.Prelude.{◌≡◌};
+ghost use Rattle.std.specs.List.{list_all};
+ghost use Rattle.script_lang.specs.Names.{is_letter, is_letter_or_digit, is_name_byte, is_locale_name, is_thread_name};
+
+/// Whether a locale may have this name: 1 to 64 letters, digits, `_`, `.`, `-` and `@`, and
+/// neither `C` nor `POSIX`.
+pub fn is_locale_name(name: &[u8]) -> bool
+    ensures { result ≡ is_locale_name name.now }
+{
+    !name.is_empty()
+        && name.len() <= 64
+        && are_name_bytes(name)
+        && name != b"C".as_slice()
+        && name != b"POSIX".as_slice()
+}
+
+/// Whether a thread may have this name: a letter and up to 15 letters and digits, and not `GLOBAL`.
+pub fn is_thread_name(name: &[u8]) -> bool
+    ensures { result ≡ is_thread_name name.now }
+{
+    !name.is_empty()
+        && name.len() <= 16
+        && is_letter(name[0])
+        && are_letters_or_digits(name)
+        && name != b"GLOBAL".as_slice()
+}
+
+fn are_name_bytes(name: &[u8]) -> bool
+    ensures { result ≡ list_all is_name_byte name.now }
+{
+    name.iter().all(|c| is_name_byte(*c))
+}
+
+fn are_letters_or_digits(name: &[u8]) -> bool
+    ensures { result ≡ list_all is_letter_or_digit name.now }
+{
+    name.iter().all(|c| is_letter_or_digit(*c))
+}
+
+fn is_name_byte(c: u8) -> bool
+    ensures { result ≡ is_name_byte c }
+{
+    is_letter_or_digit(c) || c == b'_' || c == b'.' || c == b'-' || c == b'@'
+}
+
+fn is_letter_or_digit(c: u8) -> bool
+    ensures { result ≡ is_letter_or_digit c }
+{
+    is_letter(c) || (b'0'..=b'9').contains(&c)
+}
+
+fn is_letter(c: u8) -> bool
+    ensures { result ≡ is_letter c }
+{
+    (b'A'..=b'Z').contains(&c) || (b'a'..=b'z').contains(&c)
+}
