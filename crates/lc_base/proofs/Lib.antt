@@ -1,3 +1,4 @@
 pub mod Streams
+pub mod ReadingLemmas
 pub mod LineLemmas
 mod MemoryExamples

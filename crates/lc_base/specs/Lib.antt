@@ -1,3 +1,4 @@
+pub mod Categories
 pub mod Mask
 pub mod Faults
 pub mod Reading

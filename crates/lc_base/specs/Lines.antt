@@ -20,6 +20,11 @@ lines_of (c ∷ cs) = if is_newline c then [] ∷ lines_of cs else onto_first c 
 abbrev pub ended : List ℕ → List ℕ
 ended line = line ++ 10 ∷ []
 
+-- a text is a line with its newline and what follows them
+pub record EndsLine (text line rest : List ℕ) : Type 0 where
+  pub parts : text ≡ ended line ++ rest
+  pub bare : list_any is_newline line ≡ false
+
 -- a text is a line and what follows it: the rest after a newline, or nothing where the newline is lacking
 pub record CutsLine (text line rest : List ℕ) : Type 0 where
   pub lines : lines_of text ≡ line ∷ lines_of rest

@@ -2,12 +2,13 @@
 
 ghost use Rattle.std.specs.Prelude.{◌≡◌, ◌<◌, ◌↔◌, true, IsNone, IfSome};
 ghost use Rattle.lc_base.specs.declared.category.Category.{Category};
+ghost use Rattle.lc_base.specs.Categories.{category_name};
 ghost use Rattle.lc_base.specs.Mask.{category_bit, includes};
 
 use std::marker::Model;
 
 /// A locale category without `LC_COLLATE` (POSIX.1-2017, XBD 7.3).
-#[derive(Clone, Copy, Debug, PartialEq, Eq, PartialOrd, Ord)]
+#[derive(Clone, Copy, Debug, PartialEq, Eq)]
 pub enum Category {
     /// `LC_CTYPE`: character classes and case.
     Ctype,
@@ -32,6 +33,19 @@ impl Category {
             Category::Monetary => 4,
             Category::Time => 8,
             Category::Messages => 16,
+        }
+    }
+
+    /// The name of the category, `LC_CTYPE` and the like.
+    pub fn name(self) -> &'static [u8]
+        ensures { result.now ≡ category_name self }
+    {
+        match self {
+            Category::Ctype => b"LC_CTYPE",
+            Category::Numeric => b"LC_NUMERIC",
+            Category::Monetary => b"LC_MONETARY",
+            Category::Time => b"LC_TIME",
+            Category::Messages => b"LC_MESSAGES",
         }
     }
 }

@@ -1,6 +1,7 @@
 //! What every crate of the workspace stands on.
 #![tactic(auto)]
 
+mod block;
 mod category;
 mod fault;
 mod lines;
@@ -14,9 +15,10 @@ mod stream;
 mod tests;
 mod whole;
 
+pub use block::{Block, Later};
 pub use category::{Category, Mask};
 pub use fault::TextFault;
-pub use lines::{after, next_line};
+pub use lines::{after, ended_line, next_line};
 pub use list::{ByteText, List};
 pub use memory::{MemSink, MemSource};
 pub use place::Place;

@@ -1,6 +1,6 @@
 //! Sources and sinks in memory, whose calls fail where they are told to.
 
-ghost use Rattle.std.specs.Prelude.{◌≡◌, ◌<◌, ◌≤◌, ◌↔◌, [], length, take, IfOk, IsErr, OnErr, IsTrue};
+ghost use Rattle.std.specs.Prelude.{◌≡◌, ◌<◌, ◌≤◌, ◌↔◌, [], length, take, IfOk, IsErr, OnOk, OnErr, IsTrue};
 ghost use Rattle.std.specs.Io.KnownBytes.{ReadConsumes, WriteAppends};
 ghost use Rattle.lc_base.specs.Faults.{Rose};
 ghost use Rattle.lc_base.specs.Memory.{is_among, read_fails, read_count, after_read, after_failed_read, filled, write_fails, write_count, after_write, after_failed_write};
@@ -73,6 +73,7 @@ impl Source for MemSource {
         ensures within { IfOk result (λ n. n ≤ length buf.old) }
         ensures moved { ReadConsumes (Some self.old.rest) (Some self.new.rest) result buf.new }
         ensures fault { OnErr result (Rose self.old.faults self.new.faults) }
+        ensures sound { OnOk result (self.new.faults ≡ self.old.faults) }
         ensures never_falls { self.old.faults ≤ self.new.faults }
 
         // Just what this one does.
@@ -182,6 +183,7 @@ impl Sink for MemSink {
         ensures some { IfOk result (λ n. 0 < length piece.now → 0 < n) }
         ensures moved { WriteAppends (Some self.old.taken) (Some self.new.taken) result piece.now }
         ensures fault { OnErr result (Rose self.old.faults self.new.faults) }
+        ensures sound { OnOk result (self.new.faults ≡ self.old.faults) }
         ensures never_falls { self.old.faults ≤ self.new.faults }
 
         // Just what this one does.

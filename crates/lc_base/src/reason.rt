@@ -17,6 +17,8 @@ pub enum Reason {
     NoNative,
     /// No `.thread` line names the thread.
     NoThread,
+    /// No `.later` block has the key.
+    NoLater,
     /// A header line of a charmap is wrong.
     BadHeader,
     /// An encoding of a charmap is wrong or missing.
@@ -89,6 +91,8 @@ pub enum LinePart {
 pub enum Limit {
     /// 64 locales.
     Locales,
+    /// 64 later blocks.
+    Later,
     /// 16 charmaps.
     Charmaps,
     /// 16 threads.

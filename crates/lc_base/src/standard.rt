@@ -53,11 +53,11 @@ impl<R: Read> Source for StdSource<R> {
         ensures within { IfOk result (λ n. n ≤ length buf.old) }
         ensures moved { ReadConsumes None None result buf.new }
         ensures fault { OnErr result (Rose self.old.faults self.new.faults) }
+        ensures sound { OnOk result (self.new.faults ≡ self.old.faults) }
         ensures never_falls { self.old.faults ≤ self.new.faults }
 
         // Just the reads that fail are counted, and what the reader gives is passed on.
         ensures failed { OnErr result (self.new.faults ≡ one_more self.old.faults) }
-        ensures ok { OnOk result (self.new.faults ≡ self.old.faults) }
         ensures passed { ReadConsumes (R.remaining self.old.inner) (R.remaining self.new.inner) result buf.new }
     {
         match self.inner.read(buf) {
@@ -118,11 +118,11 @@ impl<W: Write> Sink for StdSink<W> {
         ensures some { IfOk result (λ n. 0 < length piece.now → 0 < n) }
         ensures moved { WriteAppends None None result piece.now }
         ensures fault { OnErr result (Rose self.old.faults self.new.faults) }
+        ensures sound { OnOk result (self.new.faults ≡ self.old.faults) }
         ensures never_falls { self.old.faults ≤ self.new.faults }
 
         // Just the writes that fail are counted, and what is taken is passed on.
         ensures failed { OnErr result (self.new.faults ≡ one_more self.old.faults) }
-        ensures ok { OnOk result (self.new.faults ≡ self.old.faults) }
         ensures passed { WriteAppends (W.contents self.old.inner) (W.contents self.new.inner) result piece.now }
     {
         match self.inner.write(piece) {

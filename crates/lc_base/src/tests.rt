@@ -206,3 +206,106 @@ fn sink_over_a_writer(rt: HostRuntime) -> Result<(), Fail> {
     assert_eq!(rt; held.as_slice(), b"hello".as_slice());
     Ok(())
 }
+
+/// Takes one byte a call, but gives an error at the call of one number.
+#[derive(Drop)]
+struct FailingWriter {
+    call: u32,
+    failing: u32,
+    kind: ErrorKind,
+}
+
+impl Write for FailingWriter {
+    fn write(&mut self, buf: &[u8]) -> io::Result<usize> {
+        let call = self.call;
+        self.call = call.saturating_add(1);
+        if call == self.failing {
+            return Err(io::Error::from(self.kind));
+        }
+        Ok(buf.len().min(1))
+    }
+
+    fn flush(&mut self) -> io::Result<()> {
+        Ok(())
+    }
+}
+
+/// The kinds of an error that a stream may give once and then go on.
+const PASSING: [ErrorKind; 3] = [
+    ErrorKind::Interrupted,
+    ErrorKind::WouldBlock,
+    ErrorKind::Other,
+];
+
+#[test]
+fn a_read_that_fails_once_ends_the_text(rt: HostRuntime) -> Result<(), Fail> {
+    for kind in PASSING {
+        for failing in [0, 1, 4, 5] {
+            let mut source = StdSource::new(FailingReader {
+                call: 0,
+                failing,
+                kind,
+            });
+            let answer = read_all(rt.alloc(), &mut source, 4);
+            let fault = matches!(answer, Err(ReadRefusal::ReadFault));
+            let too_large = matches!(answer, Err(ReadRefusal::TooLarge));
+            // five bytes come before call 5
+            assert_eq!(rt; fault, failing < 5, "{failing}");
+            assert_eq!(rt; too_large, failing == 5, "{failing}");
+            assert_eq!(rt; source.faults(), u64::from(fault), "{failing}");
+        }
+    }
+    Ok(())
+}
+
+#[test]
+fn a_write_that_fails_once_ends_the_text(rt: HostRuntime) -> Result<(), Fail> {
+    for kind in PASSING {
+        for failing in [0, 1, 4, 5] {
+            let mut sink = StdSink::new(FailingWriter {
+                call: 0,
+                failing,
+                kind,
+            });
+            let failed = write_all(&mut sink, b"hello").is_err();
+            assert_eq!(rt; failed, failing < 5, "{failing}");
+            assert_eq!(rt; sink.faults(), u64::from(failed), "{failing}");
+        }
+    }
+    Ok(())
+}
+
+/// A piece that is longer than what a pipe holds.
+fn long_piece(alloc: Global, byte: u8) -> Result<Vec<u8>, AllocError> {
+    vec![in alloc; byte; 70_000]
+}
+
+#[test]
+fn long_pieces_pass(rt: HostRuntime) -> Result<(), Fail> {
+    let long = long_piece(rt.alloc(), b'x')?;
+    let mut came = long_piece(rt.alloc(), b'?')?;
+    let mut source = StdSource::new(long.as_slice());
+    assert_eq!(rt; source.read(&mut came), Ok(70_000));
+    assert_eq!(rt; came.as_slice(), long.as_slice());
+    assert_eq!(rt; source.read(&mut came), Ok(0));
+    assert_eq!(rt; source.faults(), 0);
+
+    let mut held: Vec<u8> = Vec::new(rt.alloc());
+    let mut sink = StdSink::new(&mut held);
+    assert_eq!(rt; sink.write(&long), Ok(70_000));
+    assert_eq!(rt; sink.faults(), 0);
+    assert_eq!(rt; held.as_slice(), long.as_slice());
+    Ok(())
+}
+
+#[test]
+fn a_long_text_passes(rt: HostRuntime) -> Result<(), Fail> {
+    let long = long_piece(rt.alloc(), b'x')?;
+    let mut source = StdSource::new(long.as_slice());
+    let text = read_all(rt.alloc(), &mut source, 70_000);
+    assert!(rt; matches!(&text, Ok(text) if text.as_bytes() == long.as_slice()));
+    let mut held: Vec<u8> = Vec::new(rt.alloc());
+    assert_eq!(rt; write_all(&mut StdSink::new(&mut held), &long), Ok(()));
+    assert_eq!(rt; held.as_slice(), long.as_slice());
+    Ok(())
+}

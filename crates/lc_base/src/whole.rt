@@ -57,6 +57,7 @@ pub fn read_all<S: Source>(
     ensures too_large { IsErrOf result ReadRefusal.TooLarge → CameExactly (S.left source.old) (S.left source.new) (limit + 1) }
     ensures fault_within { IsErrOf result ReadRefusal.ReadFault → CameAtMost (S.left source.old) (S.left source.new) limit }
     ensures fault { IsErrOf result ReadRefusal.ReadFault → Rose (S.faults source.old) (S.faults source.new) }
+    ensures sound { ¬ IsErrOf result ReadRefusal.ReadFault → S.faults source.new ≡ S.faults source.old }
     ensures never_falls { S.faults source.old ≤ S.faults source.new }
 {
     let mut piece = zeros(alloc, PIECE)?;
@@ -84,6 +85,7 @@ fn read_by<S: Source>(
     ensures too_large { IsErrOf result ReadRefusal.TooLarge → CameExactly (S.left source.old) (S.left source.new) (limit + 1) }
     ensures fault_within { IsErrOf result ReadRefusal.ReadFault → CameAtMost (S.left source.old) (S.left source.new) limit }
     ensures fault { IsErrOf result ReadRefusal.ReadFault → Rose (S.faults source.old) (S.faults source.new) }
+    ensures sound { ¬ IsErrOf result ReadRefusal.ReadFault → S.faults source.new ≡ S.faults source.old }
     ensures never_falls { S.faults source.old ≤ S.faults source.new }
 {
     let mut text = Vec::new(alloc);
@@ -103,6 +105,7 @@ pub fn write_all<K: Sink>(sink: &mut K, text: &[u8]) -> Result<(), Failed>
     ensures ok { OnOk result (Appends (K.written sink.old) (K.written sink.new) text.now) }
     ensures front { OnErr result (AddsPrefix (K.written sink.old) (K.written sink.new) text.now) }
     ensures fault { OnErr result (Rose (K.faults sink.old) (K.faults sink.new)) }
+    ensures sound { OnOk result (K.faults sink.new ≡ K.faults sink.old) }
     ensures never_falls { K.faults sink.old ≤ K.faults sink.new }
 {
     let mut done = 0;

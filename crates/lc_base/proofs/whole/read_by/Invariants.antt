@@ -1,4 +1,4 @@
-use Rattle.std.proofs.Common.{◌+◌, ◌-◌, ◌≤◌, ◌<◌, length, vec_len}
+use Rattle.std.proofs.Common.{◌≡◌, ◌+◌, ◌-◌, ◌≤◌, ◌<◌, length, vec_len}
 use Rattle.std.specs.Io.KnownBytes.{Consumes}
 use Rattle.lc_base.proofs.whole.read_by.Given as goal
 
@@ -8,7 +8,7 @@ invariant-loop-text g l = record {
   within : vec_len l.text ≤ l.limit + 1;
   room : 0 < length l.piece;
   came : Consumes (g.S.Source.left l.fn.source) (g.S.Source.left l.source) l.text.items;
-  faults : g.S.Source.faults l.fn.source ≤ g.S.Source.faults l.source;
+  sound : g.S.Source.faults l.source ≡ g.S.Source.faults l.fn.source;
 }
 
 abbrev pub decreases-loop-text : goal.decreases-loop-text

@@ -1,4 +1,4 @@
-use Rattle.std.proofs.Common.{length, ◌-◌, ◌≤◌, take}
+use Rattle.std.proofs.Common.{◌≡◌, length, ◌-◌, ◌≤◌, take}
 use Rattle.std.specs.Io.KnownBytes.{Appends}
 use Rattle.lc_base.proofs.whole.write_all.Given as goal
 
@@ -6,8 +6,8 @@ use Rattle.lc_base.proofs.whole.write_all.Given as goal
 abbrev pub invariant-loop-done : goal.invariant-loop-done
 invariant-loop-done g l = record {
   within : l.done ≤ length l.text;
-  front : Appends (g.K.Sink.written l.initial.sink) (g.K.Sink.written l.sink) (take l.done l.text);
-  faults : g.K.Sink.faults l.initial.sink ≤ g.K.Sink.faults l.sink;
+  front : Appends (g.K.Sink.written l.fn.sink) (g.K.Sink.written l.sink) (take l.done l.text);
+  sound : g.K.Sink.faults l.sink ≡ g.K.Sink.faults l.fn.sink;
 }
 
 abbrev pub decreases-loop-done : goal.decreases-loop-done

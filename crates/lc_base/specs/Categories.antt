@@ -1,0 +1,16 @@
+-- Locale categories and their names (XBD 7.3).
+use Rattle.std.specs.Prelude.{ℕ, List, [], ◌∷◌, codes}
+use Rattle.lc_base.specs.declared.category.Category.{Category}
+use Rattle.lc_base.specs.declared.category.Category.TheVariants.{Ctype, Numeric, Monetary, Time, Messages}
+
+-- the five categories in our own order, that of their bits
+abbrev pub categories : List Category
+categories = Ctype ∷ Numeric ∷ Monetary ∷ Time ∷ Messages ∷ []
+
+-- the name of a category
+abbrev pub category_name : Category → List ℕ
+category_name Ctype = codes "LC_CTYPE"
+category_name Numeric = codes "LC_NUMERIC"
+category_name Monetary = codes "LC_MONETARY"
+category_name Time = codes "LC_TIME"
+category_name Messages = codes "LC_MESSAGES"
