@@ -4,20 +4,20 @@ use Rattle.lc_base.specs.declared.place.Place.{Place}
 use Rattle.lc_base.specs.declared.fault.TextFault.{TextFault}
 use Rattle.lc_base.specs.declared.fault.TextFault.TheVariants.{At, Memory}
 use Rattle.lc_base.specs.Reading.{Fails}
-use Rattle.std.specs.Prelude.{false}
+use Rattle.src_lines.specs.declared.text.RunEnd.TheVariants.{AtBlank}
 use Rattle.src_lines.specs.declared.atom.Atom.{Atom}
 use Rattle.src_lines.specs.declared.fields.Field.{Field}
 use Rattle.src_lines.specs.Places.{Logical, place_at}
 use Rattle.src_lines.specs.Atoms.{Item, items_from}
-use Rattle.src_lines.specs.Tokens.{skip, front, run}
+use Rattle.src_lines.specs.Tokens.{skip, next_place, run}
 use Rattle.src_lines.specs.Fields.{field, fields}
 
-pub field_fails : (e : TextFault) (l : Logical) (is js : List Item) → js ≡ skip is → Fails e (run false js) → Fails e (field l is)
+pub field_fails : (e : TextFault) (l : Logical) (is js : List Item) → js ≡ skip is → Fails e (run AtBlank js) → Fails e (field l is)
 unfolding field
 field_fails Memory l is js s h = tt
 field_fails (At p r) l is js s h = rw (← s, h) refl
 
-pub field_is : (l : Logical) (is js rest : List Item) (place : Place) (us : List Atom) → js ≡ skip is → front (place_at l (length l.bytes)) js ≡ place → run false js ≡ Ok (us, rest)
+pub field_is : (l : Logical) (is js rest : List Item) (place : Place) (us : List Atom) → js ≡ skip is → next_place (place_at l (length l.bytes)) js ≡ place → run AtBlank js ≡ Ok (us, rest)
     → field l is ≡ Ok (record { place = place; atoms = us }, rest)
 unfolding field
 field_is l is js rest place us s at h = rw (← s, h, at) refl

@@ -1,12 +1,14 @@
 -- The atoms of a line, one after the other.
 use Rattle.std.proofs.Common.{◌≡◌, ℕ, zero, suc, ◌+◌, ◌-◌, ◌<◌, ◌≤◌, List, [], ◌∷◌, length, drop, get_or, refl, ap, ◌∙◌, arith}
 use Rattle.std.proofs.lemmas.List.{drop-drop, drop_more, drop_all}
+use Rattle.std.specs.Prelude.{Result}
+use Rattle.lc_base.specs.declared.reason.Reason.{Reason}
 use Rattle.src_lines.specs.declared.atom.Atom.{Atom}
 use Rattle.src_lines.specs.Places.{Logical, place_at}
 use Rattle.src_lines.specs.Atoms.{atom, items, Item, items_from}
 
 -- the bytes of the atom before go by
-items_skip : (l : Logical) (n at : ℕ) (bs : List ℕ) → items l n at bs ≡ items l 0 (at + n) (drop n bs)
+pub items_skip : (l : Logical) (n at : ℕ) (bs : List ℕ) → items l n at bs ≡ items l 0 (at + n) (drop n bs)
 items_skip l zero at bs = ap (λ (k : ℕ). items l 0 k bs) (omega arith)
 items_skip l (suc n) at [] = refl
 items_skip l (suc n) at (b ∷ bs) =
@@ -14,7 +16,7 @@ items_skip l (suc n) at (b ∷ bs) =
     items_skip l n (at + 1) bs ∙ ap (λ (k : ℕ). items l 0 k (drop n bs)) e
 
 -- the atom at a byte, and what follows it
-pub items_next : (l : Logical) (at len : ℕ) (u : Atom) → at < length l.bytes → 0 < len → (u, len) ≡ atom l.signs.escape (get_or l.bytes at 0) (drop (at + 1) l.bytes)
+pub items_next : (l : Logical) (at len : ℕ) (u : Result Atom Reason) → at < length l.bytes → 0 < len → (u, len) ≡ atom l.signs.escape (get_or l.bytes at 0) (drop (at + 1) l.bytes)
     → items_from l at ≡ record { place = place_at l at; atom = u } ∷ items_from l (at + len)
 unfolding items_from
 items_next l at len u lt some e =

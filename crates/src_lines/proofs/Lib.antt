@@ -1,4 +1,6 @@
 mod Examples
+pub mod Celling
+pub mod Shaping
 pub mod Operands
 pub mod Fielding
 pub mod Opening
@@ -7,3 +9,5 @@ pub mod Itemizing
 pub mod Naming
 pub mod Splitting
 pub mod Storing
+pub mod Spelt
+pub mod Spellings

@@ -1,16 +1,18 @@
 -- Splitting a text, line by line.
-use Rattle.std.proofs.Common.{◌≡◌, ℕ, suc, ◌+◌, Bool, true, false, cond, List, [], ◌∷◌, ◌++◌, take, drop, Option, Some, None, Ok, Err, refl, sym, ap, subst, ◌∙◌, append_assoc, add-one}
-use Rattle.std.specs.Prelude.{option_map, nat_eq}
+use Rattle.std.proofs.Common.{◌≡◌, ℕ, ◌+◌, Bool, true, false, cond, List, [], ◌∷◌, ◌++◌, Option, Some, None, Ok, Err, refl, sym, ap, subst, ◌∙◌, append_assoc}
+use Rattle.std.specs.List.{list_any}
 use Rattle.std.specs.Result.{OnErr, result_err}
 use Rattle.std.proofs.lemmas.List.{append-nil}
 use Rattle.lc_base.specs.declared.place.Place.{Place}
 use Rattle.lc_base.specs.declared.reason.Reason.{Reason}
+use Rattle.lc_base.specs.Lines.{is_newline, onto_first, lines_of, ended, EndsLine}
+use Rattle.lc_base.proofs.LineLemmas.{lines_of-ended}
 use Rattle.lc_base.specs.Reading.{Reads, ◌>>=◌}
 use Rattle.src_lines.specs.declared.signs.Kind.{Kind}
 use Rattle.src_lines.specs.declared.head.Fate.{Fate}
 use Rattle.src_lines.specs.Places.{Logical, fresh, extended}
-use Rattle.src_lines.specs.Logical.{physical, with_first, takes_next, fate, Front, nothing_more, before, after_fate, front_from}
-use Rattle.src_lines.specs.Steps.{first_lf, State, state_of, ended, taken}
+use Rattle.src_lines.specs.Logical.{takes_next, fate, Front, nothing_more, before, after_fate, front_from}
+use Rattle.src_lines.specs.Steps.{State, state_of, ended_draft, taken}
 
 -- the lines that are kept, and what is still to come
 abbrev pub after_kept : List Logical → Front → Front
@@ -20,26 +22,6 @@ after_kept kept later = record { lines = kept ++ later.lines; fault = later.faul
 abbrev pub after_step : List Logical → Reads State → (State → Front) → Front
 after_step kept (Ok s) later = later s
 after_step kept (Err fault) later = record { lines = kept; fault = Some fault }
-
--- a text cut at its first LF
-abbrev pub cut_at : List ℕ → Option ℕ → List (List ℕ)
-cut_at xs None = xs ∷ []
-cut_at xs (Some k) = take k xs ∷ physical (drop (k + 1) xs)
-
--- one byte more in the first line of a cut text
-cut_more : (x : ℕ) (xs : List ℕ) (o : Option ℕ) → with_first x (cut_at xs o) ≡ cut_at (x ∷ xs) (option_map (λ k. k + 1) o)
-cut_more x xs None = refl
-cut_more x xs (Some k) = rw (add-one k, add-one (suc k)) refl
-
--- a byte before a text is a line end, or stands in the first line
-cut_first : (x : ℕ) (xs : List ℕ) (b : Bool) → physical xs ≡ cut_at xs (first_lf xs) → cond b ([] ∷ physical xs) (with_first x (physical xs)) ≡ cut_at (x ∷ xs) (cond b (Some 0) (option_map (λ k. k + 1) (first_lf xs)))
-cut_first x xs true h = refl
-cut_first x xs false h = ap (with_first x) h ∙ cut_more x xs (first_lf xs)
-
--- the lines of a text are its first line and those of the rest
-physical_is : (xs : List ℕ) → physical xs ≡ cut_at xs (first_lf xs)
-physical_is [] = refl
-physical_is (x ∷ xs) = cut_first x xs (nat_eq x 10) (physical_is xs)
 
 -- a line that is kept stands behind those that were
 pick : (f : Bool) (kept : List Logical) (l : Logical) (ls : List Logical) → kept ++ cond f (l ∷ ls) ls ≡ cond f (kept ++ l ∷ []) kept ++ ls
@@ -77,31 +59,33 @@ either_step false kept x y s t f h k = k
 -- a line that another one follows is one step
 step : (kind : Kind) (heads : Bool) (n : ℕ) (kept : List Logical) (l : Logical) (p q : List ℕ) (ps : List (List ℕ))
     → after_kept kept (front_from kind heads l n (p ∷ q ∷ ps)) ≡ after_step kept (taken kind heads (n + 1) kept l p) (later_lines kind (n + 1) (q ∷ ps))
-unfolding front_from taken ended
+unfolding front_from taken ended_draft
 step kind heads n kept l p q ps =
     either_step (takes_next l.signs.escape p) kept _ _ _ _ (later_lines kind (n + 1) (q ∷ ps)) refl
     (fate_step kind (n + 1) kept (extended l p) (q ∷ ps) (fate kind heads (extended l p)))
 
--- a text has a line, perhaps empty
-some_line : (xs : List ℕ) (o : Option ℕ) → (q : List ℕ) × (ps : List (List ℕ)) × (cut_at xs o ≡ q ∷ ps)
-some_line xs None = (xs, [], refl)
-some_line xs (Some k) = (take k xs, physical (drop (k + 1) xs), refl)
+-- a line with a newline behind it is there, perhaps empty
+some_more : (c : ℕ) (b : Bool) (ls ms : List (List ℕ)) → ls ≡ ms → ((q : List ℕ) × (ps : List (List ℕ)) × (ms ≡ q ∷ ps)) → (q : List ℕ) × (ps : List (List ℕ)) × (cond b ([] ∷ ls) (onto_first c ls) ≡ q ∷ ps)
+some_more c true ls ms e some = ([], ls, refl)
+some_more c false ls ms e some = (c ∷ some.0, some.1, rw (e, some.2) refl)
+
+some_line : (xs : List ℕ) → (q : List ℕ) × (ps : List (List ℕ)) × (lines_of (ended xs) ≡ q ∷ ps)
+some_line [] = ([], [], refl)
+some_line (x ∷ xs) = some_more x (is_newline x) (lines_of (ended xs)) (lines_of (ended xs)) refl (some_line xs)
 
 -- the rest of a text after a line
 abbrev pub rest_lines : Kind → ℕ → List ℕ → State → Front
-rest_lines kind n rest s = after_kept s.1 (front_from kind s.0 s.2 n (physical rest))
+rest_lines kind n rest s = after_kept s.1 (front_from kind s.0 s.2 n (lines_of (ended rest)))
 
 -- a line of the text with its LF is taken in one step
-step_is : (kind : Kind) (heads : Bool) (n : ℕ) (kept : List Logical) (l : Logical) (rest : List ℕ) (k : ℕ) → Some k ≡ first_lf rest
-    → after_kept kept (front_from kind heads l n (physical rest)) ≡ after_step kept (taken kind heads (n + 1) kept l (take k rest)) (rest_lines kind (n + 1) (drop (k + 1) rest))
-step_is kind heads n kept l rest k h =
-    let later = drop (k + 1) rest in
-    let some = some_line later (first_lf later) in
-    let e : physical later ≡ some.0 ∷ some.1 = physical_is later ∙ some.2 in
-    let f : physical rest ≡ take k rest ∷ physical later = physical_is rest ∙ ap (cut_at rest) (sym h) in
-    let one : (ps : List (List ℕ)) → some.0 ∷ some.1 ≡ ps → after_kept kept (front_from kind heads l n (take k rest ∷ ps)) ≡ after_step kept (taken kind heads (n + 1) kept l (take k rest)) (later_lines kind (n + 1) ps) =
-    λ ps same. subst (λ (ps : List (List ℕ)). after_kept kept (front_from kind heads l n (take k rest ∷ ps)) ≡ after_step kept (taken kind heads (n + 1) kept l (take k rest)) (later_lines kind (n + 1) ps)) same (step kind heads n kept l (take k rest) some.0 some.1) in
-    rw f (one (physical later) (sym e))
+step_is : (kind : Kind) (heads : Bool) (n : ℕ) (kept : List Logical) (l : Logical) (rest part later : List ℕ) → EndsLine rest part later
+    → after_kept kept (front_from kind heads l n (lines_of (ended rest))) ≡ after_step kept (taken kind heads (n + 1) kept l part) (rest_lines kind (n + 1) later)
+step_is kind heads n kept l rest part later cut =
+    let some = some_line later in
+    let f : lines_of (ended rest) ≡ part ∷ lines_of (ended later) = ap (λ (xs : List ℕ). lines_of (ended xs)) cut.parts ∙ ap lines_of (append_assoc (ended part) later (10 ∷ [])) ∙ lines_of-ended part (ended later) cut.bare in
+    let one : (ps : List (List ℕ)) → some.0 ∷ some.1 ≡ ps → after_kept kept (front_from kind heads l n (part ∷ ps)) ≡ after_step kept (taken kind heads (n + 1) kept l part) (later_lines kind (n + 1) ps) =
+    λ ps same. subst (λ (ps : List (List ℕ)). after_kept kept (front_from kind heads l n (part ∷ ps)) ≡ after_step kept (taken kind heads (n + 1) kept l part) (later_lines kind (n + 1) ps)) same (step kind heads n kept l part some.0 some.1) in
+    rw f (one (lines_of (ended later)) (sym some.2))
 
 -- the lines that are kept, without a fault
 abbrev kept_lines : State → Front
@@ -114,11 +98,11 @@ fate_last n kept l (Ok f) = after_kept-before f l kept nothing_more ∙ after_ke
 fate_last n kept l (Err fault) = after_kept-nil kept (Some fault)
 
 -- the last line of the text
-last_is : (kind : Kind) (heads : Bool) (n : ℕ) (kept : List Logical) (l : Logical) (rest : List ℕ) → None ≡ first_lf rest
-    → after_kept kept (front_from kind heads l n (physical rest)) ≡ after_step kept (ended kind heads n kept (extended l rest)) kept_lines
-unfolding front_from ended
-last_is kind heads n kept l rest h =
-    let f : physical rest ≡ rest ∷ [] = physical_is rest ∙ ap (cut_at rest) (sym h) in
+last_is : (kind : Kind) (heads : Bool) (n : ℕ) (kept : List Logical) (l : Logical) (rest : List ℕ) → list_any is_newline rest ≡ false
+    → after_kept kept (front_from kind heads l n (lines_of (ended rest))) ≡ after_step kept (ended_draft kind heads n kept (extended l rest)) kept_lines
+unfolding front_from ended_draft
+last_is kind heads n kept l rest bare =
+    let f : lines_of (ended rest) ≡ rest ∷ [] = ap lines_of (sym (append-nil (ended rest))) ∙ lines_of-ended rest [] bare in
     rw f (fate_last n kept (extended l rest) (fate kind heads (extended l rest)))
 
 -- what a step answers, and what follows it, give what the whole gives
@@ -129,12 +113,12 @@ answer_step kept new draft (Err fault) reads later sofar total one so_far e same
     ap {B = Front} (λ (ls : List Logical). record { lines = ls; fault = Some fault }) same ∙ ap (λ (r : Reads State). after_step kept r later) e ∙ sym one ∙ so_far
 
 -- what is answered for a line of the text, and the rest of the text, give what the whole gives
-pub line_step : (kind : Kind) (heads : Bool) (n : ℕ) (kept : List Logical) (l : Logical) (rest : List ℕ) (k : ℕ) (new : List Logical) (draft : Logical) (answer : Reads Bool) (total : Front)
-    → Some k ≡ first_lf rest → after_kept kept (front_from kind heads l n (physical rest)) ≡ total
-    → state_of answer new draft ≡ taken kind heads (n + 1) kept l (take k rest) → OnErr answer (new ≡ kept)
-    → after_step new (state_of answer new draft) (rest_lines kind (n + 1) (drop (k + 1) rest)) ≡ total
-line_step kind heads n kept l rest k new draft answer total found so_far e same =
-    answer_step kept new draft answer _ (rest_lines kind (n + 1) (drop (k + 1) rest)) _ total (step_is kind heads n kept l rest k found) so_far e same
+pub line_step : (kind : Kind) (heads : Bool) (n : ℕ) (kept : List Logical) (l : Logical) (rest part later : List ℕ) (new : List Logical) (draft : Logical) (answer : Reads Bool) (total : Front)
+    → EndsLine rest part later → after_kept kept (front_from kind heads l n (lines_of (ended rest))) ≡ total
+    → state_of answer new draft ≡ taken kind heads (n + 1) kept l part → OnErr answer (new ≡ kept)
+    → after_step new (state_of answer new draft) (rest_lines kind (n + 1) later) ≡ total
+line_step kind heads n kept l rest part later new draft answer total cut so_far e same =
+    answer_step kept new draft answer _ (rest_lines kind (n + 1) later) _ total (step_is kind heads n kept l rest part later cut) so_far e same
 
 -- after the last step its answer says whether there is a fault
 last_answer : (new : List Logical) (draft : Logical) (answer : Reads Bool) → after_step new (state_of answer new draft) kept_lines ≡ record { lines = new; fault = result_err answer }
@@ -143,8 +127,8 @@ last_answer new draft (Err fault) = refl
 
 -- what is answered for the last line of the text gives what the whole gives
 pub last_step : (kind : Kind) (heads : Bool) (n : ℕ) (kept : List Logical) (l : Logical) (rest : List ℕ) (new : List Logical) (draft : Logical) (answer : Reads Bool) (total : Front)
-    → None ≡ first_lf rest → after_kept kept (front_from kind heads l n (physical rest)) ≡ total
-    → state_of answer new draft ≡ ended kind heads n kept (extended l rest) → OnErr answer (new ≡ kept)
+    → list_any is_newline rest ≡ false → after_kept kept (front_from kind heads l n (lines_of (ended rest))) ≡ total
+    → state_of answer new draft ≡ ended_draft kind heads n kept (extended l rest) → OnErr answer (new ≡ kept)
     → record { lines = new; fault = result_err answer } ≡ total
-last_step kind heads n kept l rest new draft answer total none so_far e same =
-    sym (last_answer new draft answer) ∙ answer_step kept new draft answer _ kept_lines _ total (last_is kind heads n kept l rest none) so_far e same
+last_step kind heads n kept l rest new draft answer total bare so_far e same =
+    sym (last_answer new draft answer) ∙ answer_step kept new draft answer _ kept_lines _ total (last_is kind heads n kept l rest bare) so_far e same

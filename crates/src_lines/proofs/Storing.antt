@@ -5,7 +5,7 @@ use Rattle.std.proofs.lemmas.List.{drop-append-le, take-append-le, drop-take, ta
 use Rattle.std.proofs.lemmas.List.Elements.{All-head, All-tail}
 use Rattle.src_lines.specs.declared.store.Join.{Join}
 use Rattle.src_lines.specs.declared.store.Span.{Span}
-use Rattle.src_lines.specs.Stored.{marked, IsWithin}
+use Rattle.src_lines.specs.Stored.{line_in, IsWithin}
 
 pub range-append : {A : Type 0} (xs ys : List A) (a b : ℕ) → a ≤ b → b ≤ length xs → slice_range (xs ++ ys) a b ≡ slice_range xs a b
 range-append xs ys a b h k =
@@ -27,16 +27,16 @@ map_same f g P same (x ∷ xs) h =
     cc
 
 -- the lines stay where bytes are added
-pub kept-bytes : (bytes more : List ℕ) (joins : List Join) (spans : List Span) (start first : ℕ) → start ≤ length bytes → All (IsWithin start first) spans → map (marked (bytes ++ more) joins) spans ≡ map (marked bytes joins) spans
+pub kept-bytes : (bytes more : List ℕ) (joins : List Join) (spans : List Span) (start first : ℕ) → start ≤ length bytes → All (IsWithin start first) spans → map (line_in (bytes ++ more) joins) spans ≡ map (line_in bytes joins) spans
 kept-bytes bytes more joins spans start first before within =
-    map_same (marked (bytes ++ more) joins) (marked bytes joins) (IsWithin start first) (λ s w. rw (range-append bytes more s.start s.«end» w.bytes_in_order (omega (arith, w.bytes_end))) refl) spans within
+    map_same (line_in (bytes ++ more) joins) (line_in bytes joins) (IsWithin start first) (λ s w. rw (range-append bytes more s.start s.«end» w.bytes_in_order (omega (arith, w.bytes_end))) refl) spans within
 
 -- the lines stay where joins are added
-pub kept-joins : (bytes : List ℕ) (joins more : List Join) (spans : List Span) (start first : ℕ) → first ≤ length joins → All (IsWithin start first) spans → map (marked bytes (joins ++ more)) spans ≡ map (marked bytes joins) spans
+pub kept-joins : (bytes : List ℕ) (joins more : List Join) (spans : List Span) (start first : ℕ) → first ≤ length joins → All (IsWithin start first) spans → map (line_in bytes (joins ++ more)) spans ≡ map (line_in bytes joins) spans
 kept-joins bytes joins more spans start first before within =
-    map_same (marked bytes (joins ++ more)) (marked bytes joins) (IsWithin start first) (λ s w. rw (range-append joins more s.first s.last w.joins_in_order (omega (arith, w.joins_end))) refl) spans within
+    map_same (line_in bytes (joins ++ more)) (line_in bytes joins) (IsWithin start first) (λ s w. rw (range-append joins more s.first s.last w.joins_in_order (omega (arith, w.joins_end))) refl) spans within
 
 -- the lines stay where the draft goes
-pub kept-take : (bytes : List ℕ) (joins : List Join) (spans : List Span) (start first : ℕ) → All (IsWithin start first) spans → map (marked (take start bytes) (take first joins)) spans ≡ map (marked bytes joins) spans
+pub kept-take : (bytes : List ℕ) (joins : List Join) (spans : List Span) (start first : ℕ) → All (IsWithin start first) spans → map (line_in (take start bytes) (take first joins)) spans ≡ map (line_in bytes joins) spans
 kept-take bytes joins spans start first within =
-    map_same (marked (take start bytes) (take first joins)) (marked bytes joins) (IsWithin start first) (λ s w. rw (range-take bytes start s.start s.«end» w.bytes_in_order w.bytes_end, range-take joins first s.first s.last w.joins_in_order w.joins_end) refl) spans within
+    map_same (line_in (take start bytes) (take first joins)) (line_in bytes joins) (IsWithin start first) (λ s w. rw (range-take bytes start s.start s.«end» w.bytes_in_order w.bytes_end, range-take joins first s.first s.last w.joins_in_order w.joins_end) refl) spans within

@@ -6,21 +6,13 @@ use Rattle.std.specs.List.{starts_with}
 use Rattle.lc_base.specs.declared.place.Place.{Place}
 use Rattle.lc_base.specs.declared.reason.Reason.{Reason}
 use Rattle.lc_base.specs.declared.reason.Reason.TheVariants.{WrongOperand, BadHeader}
+use Rattle.lc_base.specs.Lines.{lines_of, ended}
 use Rattle.lc_base.specs.Reading.{Reads, ◌>>=◌}
 use Rattle.src_lines.specs.declared.signs.Kind.{Kind}
 use Rattle.src_lines.specs.declared.signs.Kind.TheVariants.{Locale, Charmap}
 use Rattle.src_lines.specs.declared.head.Fate.{Fate}
 use Rattle.src_lines.specs.Words.{next_word, blanks}
 use Rattle.src_lines.specs.Places.{Logical, fresh, extended, continued, place_at}
-
--- the lines of a text, cut at LF; the last one, perhaps empty, has none
-abbrev pub with_first : ℕ → List (List ℕ) → List (List ℕ)
-with_first b [] = []
-with_first b (l ∷ ls) = (b ∷ l) ∷ ls
-
-abbrev pub physical : List ℕ → List (List ℕ)
-physical [] = [] ∷ []
-physical (b ∷ bs) = if b == 10 then [] ∷ physical bs else with_first b (physical bs)
 
 -- whether a line's last byte is the escape character, so that the next line is joined to it
 abbrev pub takes_next : ℕ → List ℕ → Bool
@@ -109,9 +101,10 @@ front_from kind heads l n (p ∷ q ∷ ps) =
     if takes_next l.signs.escape p then front_from kind heads (continued (extended l (take (length p - 1) p)) (n + 1)) (n + 1) (q ∷ ps)
     else after_fate (extended l p) (λ f. front_from kind f.heads (fresh f.signs (n + 1)) (n + 1) (q ∷ ps)) (fate kind heads (extended l p))
 
--- the lines of a text whose first line has this number; the signs are \ and # at first
+-- the lines of a text whose first line has this number; the signs are \ and # at first. What follows the last LF is a
+-- line, too, perhaps empty: the lines are those of the text with one more LF
 unfoldable pub front : List ℕ → ℕ → Kind → Front
-front text first kind = front_from kind true (fresh (record { escape = 92; comment = 35 }) first) first (physical text)
+front text first kind = front_from kind true (fresh (record { escape = 92; comment = 35 }) first) first (lines_of (ended text))
 
 -- lines, if there is no fault
 abbrev pub unless_fault : List Logical → Option (Place × Reason) → Reads (List Logical)

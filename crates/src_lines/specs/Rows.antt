@@ -2,5 +2,5 @@
 use Rattle.src_lines.specs.declared.row.Row.{Row}
 use Rattle.src_lines.specs.Places.{Logical}
 
-abbrev pub seen : Row → Logical
-seen r = record { signs = r.signs; line = r.line; bytes = r.bytes.now; joins = r.joins.now }
+abbrev pub line_of : Row → Logical
+line_of r = record { signs = r.signs; line = r.line; bytes = r.bytes.now; joins = r.joins.now }

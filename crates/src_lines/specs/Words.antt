@@ -1,5 +1,6 @@
 -- Words of a line: what stands between blanks.
-use Rattle.std.specs.Prelude.{ℕ, ◌+◌, Bool, ◌||◌, ◌==◌, List, [], ◌∷◌, take, drop, if◌then◌else◌}
+use Rattle.std.specs.Prelude.{ℕ, ◌+◌, Bool, ◌||◌, ◌&&◌, ◌==◌, List, [], ◌∷◌, length, take, drop, codes, if◌then◌else◌}
+use Rattle.std.specs.Str.{bytes_eq}
 
 -- a space or a tab
 abbrev pub is_blank : ℕ → Bool
@@ -33,3 +34,10 @@ first_word bs = (next_word bs).text
 
 abbrev pub second_word : List ℕ → List ℕ
 second_word bs = (next_word (next_word bs).rest).text
+
+-- whether a line closes what has this name: just the two words END and the name
+abbrev pub closes : List ℕ → List ℕ → Bool
+closes name bs =
+    let first = next_word bs in
+    let second = next_word first.rest in
+    bytes_eq first.text (codes "END") && bytes_eq second.text name && (length (next_word second.rest).text == 0)

@@ -2,15 +2,15 @@
 
 ghost use Rattle.std.specs.Prelude.{◌≡◌, ◌≤◌, length, IfOk};
 ghost use Rattle.lc_base.specs.Reading.{Gives};
-ghost use Rattle.src_lines.specs.Rows.{seen};
+ghost use Rattle.src_lines.specs.Rows.{line_of};
 ghost use Rattle.src_lines.specs.Atoms.{items_from};
 ghost use Rattle.src_lines.specs.Fields.{field, fields};
 
-use crate::atom::Atom;
+use crate::cells::Atoms;
 use crate::operand::skip_blanks;
 use crate::row::Row;
-use crate::text::run;
-use lc_base::{List, Place, TextFault};
+use crate::text::{RunEnd, run};
+use lc_base::{Place, TextFault};
 use std::alloc::Global;
 
 /// A part of a line up to a bare blank, or the line's end.
@@ -18,27 +18,27 @@ use std::alloc::Global;
 pub struct Field {
     /// The place of its first byte. An empty field stands at the line's end.
     pub place: Place,
-    pub atoms: List<Atom>,
+    pub atoms: Atoms,
 }
 
 /// The next field from a byte of a line on, and where it ends.
 fn field_at(alloc: Global, row: &Row<'_>, at: usize) -> Result<(Field, usize), TextFault>
     requires { at ≤ length row.now.bytes.now }
-    ensures is { Gives (λ x. (x.0, items_from (seen row.now) x.1)) result (field (seen row.now) (items_from (seen row.now) at)) }
+    ensures is { Gives (λ x. (x.0, items_from (line_of row.now) x.1)) result (field (line_of row.now) (items_from (line_of row.now) at)) }
     ensures within { IfOk result (λ x. x.1 ≤ length row.now.bytes.now) }
 {
     let start = skip_blanks(row, at);
-    let (atoms, end) = run(alloc, row, false, start)?;
+    let (atoms, end) = run(alloc, row, RunEnd::AtBlank, start)?;
     let field = Field {
         place: row.place_at(start),
-        atoms: List::of(atoms),
+        atoms,
     };
     Ok((field, end))
 }
 
 /// The first two fields of a line.
 pub fn fields_of(alloc: Global, row: &Row<'_>) -> Result<(Field, Field), TextFault>
-    ensures { Gives (λ x. x) result (fields (seen row.now)) }
+    ensures { Gives (λ x. x) result (fields (line_of row.now)) }
 {
     let (first, end) = field_at(alloc, row, 0)?;
     let (second, _) = field_at(alloc, row, end)?;

@@ -3,7 +3,7 @@
 ghost use Rattle.std.specs.Prelude.{◌≡◌, ◌≤◌, ℕ, length};
 ghost use Rattle.lc_base.specs.Reading.{Gives, Fails};
 ghost use Rattle.src_lines.specs.Logical.{is_dropped, sign_of, escape_word, comment_word, bad_head, head_sign, ends_head, fate};
-ghost use Rattle.src_lines.specs.Rows.{seen};
+ghost use Rattle.src_lines.specs.Rows.{line_of};
 
 use crate::row::Row;
 use crate::signs::{Kind, Signs};
@@ -64,7 +64,7 @@ fn comment_word(kind: Kind) -> &'static [u8]
 /// The fault of a head line that is wrong at its byte `k`.
 fn bad_head(kind: Kind, row: &Row<'_>, k: usize) -> TextFault
     requires { k ≤ length row.now.bytes.now }
-    ensures { Fails result (bad_head {A = ℕ} kind (seen row.now) k) }
+    ensures { Fails result (bad_head {A = ℕ} kind (line_of row.now) k) }
 {
     match kind {
         Kind::Locale => TextFault::At(row.place_at(k), Reason::WrongOperand),
@@ -74,7 +74,7 @@ fn bad_head(kind: Kind, row: &Row<'_>, k: usize) -> TextFault
 
 /// The sign that a head line gives.
 fn head_sign(kind: Kind, row: &Row<'_>, other: u8) -> Result<u8, TextFault>
-    ensures { Gives (λ sign. sign) result (head_sign kind (seen row.now) other) }
+    ensures { Gives (λ sign. sign) result (head_sign kind (line_of row.now) other) }
 {
     let first = next_word(row.bytes);
     let second = next_word(first.rest);
@@ -96,8 +96,9 @@ fn head_sign(kind: Kind, row: &Row<'_>, other: u8) -> Result<u8, TextFault>
     }
 }
 
-/// Whether the head lines end at a line with these words.
-fn ends_head(kind: Kind, first: &[u8], second: &[u8]) -> bool
+/// Whether the head lines end at a line with these first two words: `CHARMAP` alone in a charmap, and
+/// in a locale source one word that begins with `LC_`.
+pub fn ends_head(kind: Kind, first: &[u8], second: &[u8]) -> bool
     ensures { result ≡ ends_head kind first.now second.now }
 {
     match kind {
@@ -108,7 +109,7 @@ fn ends_head(kind: Kind, first: &[u8], second: &[u8]) -> bool
 
 /// What becomes of a line, where head lines may still come or not.
 pub fn fate_of(kind: Kind, heads: bool, row: &Row<'_>) -> Result<Fate, TextFault>
-    ensures { Gives (λ f. f) result (fate kind heads (seen row.now)) }
+    ensures { Gives (λ f. f) result (fate kind heads (line_of row.now)) }
 {
     let Signs { escape, comment } = row.signs;
     if is_dropped(comment, row.bytes) {

@@ -2,24 +2,31 @@
 #![tactic(auto)]
 
 mod atom;
+mod cells;
 mod fields;
 mod head;
 mod line;
 mod lines;
 mod operand;
+mod pieces;
 mod row;
 mod shape;
 mod signs;
+mod spelling;
 mod store;
 mod text;
 mod words;
 
 pub use atom::Atom;
+pub use cells::Atoms;
 pub use fields::Field;
+pub use head::ends_head;
 pub use line::{Line, Operand, Piece};
 pub use lines::{Lines, split, split_front};
+pub use pieces::{PieceRef, Pieces, Walk};
 pub use signs::{Kind, Signs};
-pub use words::{Word, next_word};
+pub use spelling::have_spellings;
+pub use words::{Word, closes, next_word};
 
 #[cfg(test)]
 mod tests;

@@ -1,5 +1,6 @@
 //! What a logical line says.
 
+use crate::pieces::Pieces;
 use lc_base::{ByteText, List, Place};
 
 /// A part of an operand.
@@ -15,13 +16,13 @@ pub enum Piece {
 #[derive(Debug, Drop)]
 pub enum Operand {
     /// A run of bytes, perhaps empty, with names and escapes.
-    Plain(List<Piece>),
+    Plain(Pieces),
     /// A text in quotes.
-    Quoted(List<Piece>),
+    Quoted(Pieces),
     /// `...`
     Dots,
     /// `(a,b)`
-    Pair(List<Piece>, List<Piece>),
+    Pair(Pieces, Pieces),
 }
 
 /// A logical line, read.

@@ -1,13 +1,13 @@
 //! The logical lines of a text (XBD 7.3).
 
-ghost use Rattle.std.specs.Prelude.{◌≡◌, ◌+◌, ◌^◌, ◌<◌, ◌≤◌, ◌↔◌, [], length, IfOk, OnOk, OnErr, IfSome, IsTrue};
+ghost use Rattle.std.specs.Prelude.{◌≡◌, ◌+◌, ◌^◌, ◌<◌, ◌≤◌, ◌↔◌, [], length, IfOk, OnOk, OnErr, IsTrue};
 ghost use Rattle.lc_base.specs.Reading.{Gives};
 ghost use Rattle.src_lines.specs.Places.{Logical, line_at, start};
 ghost use Rattle.src_lines.specs.Words.{first_word, second_word};
 ghost use Rattle.src_lines.specs.Logical.{front, logical, takes_next};
 ghost use Rattle.src_lines.specs.Tokens.{tokens};
 ghost use Rattle.src_lines.specs.Fields.{fields};
-ghost use Rattle.src_lines.specs.Steps.{first_lf, state_of, ended, taken};
+ghost use Rattle.src_lines.specs.Steps.{state_of, ended_draft, taken};
 
 use crate::fields::{Field, fields_of};
 use crate::head::fate_of;
@@ -16,7 +16,7 @@ use crate::operand::tokens_of;
 use crate::signs::{Kind, Signs};
 use crate::store::Store;
 use crate::words::{blanks, next_word};
-use lc_base::{Place, Reason, TextFault};
+use lc_base::{Place, Reason, TextFault, ended_line};
 use std::alloc::{AllocError, Global};
 use std::marker::Model;
 
@@ -116,30 +116,17 @@ const AT_FIRST: Signs = Signs {
     comment: b'#',
 };
 
-/// Where the first LF stands.
-fn first_lf(bytes: &[u8]) -> Option<usize>
-    ensures is { result ≡ first_lf bytes.now }
-    ensures within { IfSome result (λ k. k < length bytes.now) }
-{
-    for (i, byte) in bytes.iter().enumerate() {
-        if *byte == b'\n' {
-            return Some(i);
-        }
-    }
-    None
-}
-
 /// Ends the draft as a logical line, where the next one begins at the line `next` of the text.
 ///
 /// Where it is a wrong head line, its fault is given and no line is lost.
-#[tactic(auto, unfolding(crate::specs::Steps::ended))]
+#[tactic(auto, unfolding(crate::specs::Steps::ended_draft))]
 fn end_line(
     store: &mut Store,
     kind: Kind,
     heads: bool,
     next: u32,
 ) -> Result<Result<bool, (Place, Reason)>, AllocError>
-    ensures is { IfOk result (λ r. state_of r store.new.kept store.new.draft ≡ ended kind heads next store.old.kept store.old.draft) }
+    ensures is { IfOk result (λ r. state_of r store.new.kept store.new.draft ≡ ended_draft kind heads next store.old.kept store.old.draft) }
     ensures kept { IfOk result (λ r. OnErr r (store.new.kept ≡ store.old.kept)) }
     ensures room { OnOk result (store.new.room ≤ store.old.room) }
 {
@@ -202,9 +189,7 @@ pub fn split_front(
     let mut heads = true;
     let mut line = first_line;
     let mut rest = text;
-    while let Some(end) = first_lf(rest) {
-        let (part, _) = rest.split_at(end);
-        let (_, after) = rest.split_at(end + 1);
+    while let Some((part, after)) = ended_line(rest) {
         line += 1;
         match take_line(&mut store, kind, heads, part, line)? {
             Ok(more) => heads = more,

@@ -1,9 +1,9 @@
 //! Operands (XBD 7.3.1).
 
-ghost use Rattle.std.specs.Prelude.{◌≡◌, ℕ, ◌+◌, ◌<◌, ◌≤◌, ◌∷◌, length, drop, option_map, IfOk, IfSome, IsTrue};
+ghost use Rattle.std.specs.Prelude.{◌≡◌, ℕ, ◌+◌, ◌<◌, ◌≤◌, ◌∷◌, Ok, length, drop, option_map, IfOk, IfSome, IsTrue};
 ghost use Rattle.lc_base.specs.Reading.{Gives, Fails};
 ghost use Rattle.src_lines.specs.Places.{place_at, place_from};
-ghost use Rattle.src_lines.specs.Rows.{seen};
+ghost use Rattle.src_lines.specs.Rows.{line_of};
 ghost use Rattle.src_lines.specs.Atoms.{items_from};
 ghost use Rattle.src_lines.specs.declared.atom.Atom.TheVariants.{Bare};
 ghost use Rattle.src_lines.specs.Tokens.{skip, opens, operand, separated, too_many, operands, operands_after, tokens};
@@ -12,18 +12,18 @@ use crate::atom::next_atom;
 use crate::line::{Line, Operand};
 use crate::row::{Mark, Row, advanced};
 use crate::shape::shape_of;
-use crate::text::{is_bare, run, text};
+use crate::text::{RunEnd, has_bare, run, text};
 use crate::words::{blanks, next_word};
 use lc_base::{ByteText, Limit, List, Place, Reason, TextFault};
 use std::alloc::Global;
 
 /// How many operands a line has at most.
-const LIMIT: u32 = 65536;
+pub const MAX_OPERANDS: u32 = 65536;
 
 /// Where the blanks from a byte of a line on end.
 pub fn skip_blanks(row: &Row<'_>, at: usize) -> usize
     requires { at ≤ length row.now.bytes.now }
-    ensures is { items_from (seen row.now) result ≡ skip (items_from (seen row.now) at) }
+    ensures is { items_from (line_of row.now) result ≡ skip (items_from (line_of row.now) at) }
     ensures forward { at ≤ result }
     ensures within { result ≤ length row.now.bytes.now }
 {
@@ -34,8 +34,8 @@ pub fn skip_blanks(row: &Row<'_>, at: usize) -> usize
 /// Whether a text in quotes begins at a byte of a line.
 fn opens(row: &Row<'_>, at: usize) -> bool
     requires { at ≤ length row.now.bytes.now }
-    ensures is { result ≡ opens (items_from (seen row.now) at) }
-    ensures next { IsTrue result → items_from (seen row.now) at ≡ record { place = place_at (seen row.now) at; atom = Bare 34 } ∷ items_from (seen row.now) (at + 1) }
+    ensures is { result ≡ opens (items_from (line_of row.now) at) }
+    ensures next { IsTrue result → items_from (line_of row.now) at ≡ record { place = place_at (line_of row.now) at; atom = Ok (Bare 34) } ∷ items_from (line_of row.now) (at + 1) }
     ensures within { IsTrue result → at < length row.now.bytes.now }
 {
     if at == row.bytes.len() {
@@ -50,31 +50,31 @@ fn opens(row: &Row<'_>, at: usize) -> bool
 /// The operand at a byte of a line, and where it ends.
 fn operand_at(alloc: Global, row: &Row<'_>, at: usize) -> Result<(Operand, usize), TextFault>
     requires { at ≤ length row.now.bytes.now }
-    ensures is { Gives (λ x. (x.0, items_from (seen row.now) x.1)) result (operand (items_from (seen row.now) at)) }
+    ensures is { Gives (λ x. (x.0, items_from (line_of row.now) x.1)) result (operand (items_from (line_of row.now) at)) }
     ensures within { IfOk result (λ x. x.1 ≤ length row.now.bytes.now) }
     ensures forward { IfOk result (λ x. at ≤ x.1) }
 {
     if opens(row, at) {
         let (pieces, end) = text(alloc, row, at, at + 1)?;
-        return Ok((Operand::Quoted(List::of(pieces)), end));
+        return Ok((Operand::Quoted(pieces), end));
     }
-    let (atoms, end) = run(alloc, row, true, at)?;
+    let (atoms, end) = run(alloc, row, RunEnd::AtSeparator, at)?;
     Ok((shape_of(alloc, atoms)?, end))
 }
 
 /// The operand at a byte of a line, and where the next one is to come, if `;` follows.
 fn separated(alloc: Global, row: &Row<'_>, at: usize) -> Result<(Operand, Option<usize>), TextFault>
     requires { at ≤ length row.now.bytes.now }
-    ensures is { Gives (λ x. (x.0, option_map (items_from (seen row.now)) x.1)) result (separated (items_from (seen row.now) at)) }
+    ensures is { Gives (λ x. (x.0, option_map (items_from (line_of row.now)) x.1)) result (separated (items_from (line_of row.now) at)) }
     ensures within { IfOk result (λ x. IfSome x.1 (λ k. k ≤ length row.now.bytes.now)) }
     ensures forward { IfOk result (λ x. IfSome x.1 (λ k. at ≤ k)) }
 {
     let (operand, end) = operand_at(alloc, row, at)?;
     let end = skip_blanks(row, end);
-    let Some((atom, next)) = next_atom(alloc, row, end)? else {
+    let Some((read, next)) = next_atom(alloc, row, end)? else {
         return Ok((operand, None));
     };
-    if !is_bare(b';', &atom) {
+    if !has_bare(b';', &read) {
         return Err(TextFault::At(row.place_at(end), Reason::WrongOperand));
     }
     Ok((operand, Some(next)))
@@ -83,7 +83,7 @@ fn separated(alloc: Global, row: &Row<'_>, at: usize) -> Result<(Operand, Option
 /// The fault of one operand too many, at this byte: a fault at its very place goes before that.
 fn too_many(alloc: Global, row: &Row<'_>, at: usize) -> TextFault
     requires { at ≤ length row.now.bytes.now }
-    ensures { Fails result (too_many (place_at (seen row.now) at) (operand (items_from (seen row.now) at))) }
+    ensures { Fails result (too_many (place_at (line_of row.now) at) (operand (items_from (line_of row.now) at))) }
 {
     let place = row.place_at(at);
     match operand_at(alloc, row, at) {
@@ -100,7 +100,7 @@ fn operands_at(
     start: usize,
 ) -> Result<Vec<(Place, Operand)>, TextFault>
     requires { start ≤ length row.now.bytes.now }
-    ensures { Gives (λ v. v.items) result (operands 65536 (place_at (seen row.now) (length row.now.bytes.now)) (items_from (seen row.now) start)) }
+    ensures { Gives (λ v. v.items) result (operands MAX_OPERANDS (place_at (line_of row.now) (length row.now.bytes.now)) (items_from (line_of row.now) start)) }
 {
     let mut found = Vec::new(alloc);
     let mut mark = Mark {
@@ -109,7 +109,7 @@ fn operands_at(
         next: 0,
     };
     let mut at = start;
-    for _ in 0..LIMIT {
+    for _ in 0..MAX_OPERANDS {
         at = skip_blanks(row, at);
         mark = advanced(row.joins, mark, at);
         let (operand, next) = separated(alloc, row, at)?;
@@ -129,7 +129,7 @@ fn operands_after(
     at: usize,
 ) -> Result<Vec<(Place, Operand)>, TextFault>
     requires { at ≤ length row.now.bytes.now }
-    ensures { Gives (λ v. v.items) result (operands_after (place_at (seen row.now) (length row.now.bytes.now)) (skip (items_from (seen row.now) at))) }
+    ensures { Gives (λ v. v.items) result (operands_after (place_at (line_of row.now) (length row.now.bytes.now)) (skip (items_from (line_of row.now) at))) }
 {
     let start = skip_blanks(row, at);
     if start == row.bytes.len() {
@@ -141,7 +141,7 @@ fn operands_after(
 /// The keyword and the operands of a line.
 #[tactic(auto, unfolding(crate::specs::Tokens::tokens))]
 pub fn tokens_of(alloc: Global, row: &Row<'_>) -> Result<Line, TextFault>
-    ensures { Gives (λ line. line) result (tokens (seen row.now)) }
+    ensures { Gives (λ line. line) result (tokens (line_of row.now)) }
 {
     let keyword = next_word(row.bytes);
     let end = keyword.skipped + keyword.text.len();

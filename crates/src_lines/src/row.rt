@@ -20,21 +20,21 @@ pub struct Row<'a> {
 impl Row<'_> {
     ghost use Rattle.std.specs.Prelude.{◌≡◌, ◌≤◌, length};
     ghost use Rattle.src_lines.specs.Places.{place_at};
-    ghost use Rattle.src_lines.specs.Rows.{seen};
+    ghost use Rattle.src_lines.specs.Rows.{line_of};
 
     /// The place of a byte, or of the end.
     pub fn place_at(&self, k: usize) -> Place
         requires { k ≤ length self.now.bytes.now }
-        ensures { result ≡ place_at (seen self.now) k }
+        ensures { result ≡ place_at (line_of self.now) k }
     {
         let mut line = self.line;
         let mut at = 0;
         for join in self.joins {
-            if k < join.at {
+            if k < join.at as usize {
                 break;
             }
             line = join.line;
-            at = join.at;
+            at = join.at as usize;
         }
         Place {
             line,
@@ -60,11 +60,11 @@ pub fn advanced(joins: &[Join], mark: Mark, k: usize) -> Mark
     ensures reached { result.at ≤ k }
 {
     let mut mark = mark;
-    while mark.next < joins.len() && joins[mark.next].at <= k {
+    while mark.next < joins.len() && joins[mark.next].at as usize <= k {
         let join = joins[mark.next];
         mark = Mark {
             line: join.line,
-            at: join.at,
+            at: join.at as usize,
             next: mark.next + 1,
         };
     }

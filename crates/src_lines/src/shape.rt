@@ -1,111 +1,138 @@
 //! What a whole run is: dots, a pair or plain.
 
-ghost use Rattle.std.specs.Prelude.{◌≡◌, ◌+◌, ◌<◌, ◌≤◌, length, map, drop, take, count_by, position, vec_len, IfOk, IfSome};
-ghost use Rattle.src_lines.specs.Tokens.{is_bare, piece_of, is_dots, starts, stops, comma, shape, pair_or_plain};
+ghost use Rattle.std.specs.Prelude.{◌≡◌, ◌==◌, ◌∷◌, true, count_by, IfOk, IsTrue};
+ghost use Rattle.src_lines.specs.declared.atom.Atom.TheVariants.{Bare};
+ghost use Rattle.src_lines.specs.Atoms.{is_bare};
+ghost use Rattle.src_lines.specs.Cells.{atom_seen};
+ghost use Rattle.src_lines.specs.Shapes.{is_dots, starts, stops, is_pair, before_bare, behind_bare, without_last, pair, shape};
 
-use crate::atom::Atom;
-use crate::line::{Operand, Piece};
-use crate::text::is_bare;
-use lc_base::List;
+use crate::cells::{AtomRef, AtomWalk, Atoms};
+use crate::line::Operand;
+use crate::pieces::Pieces;
 use std::alloc::{AllocError, Global};
 
-/// An atom's piece.
-fn piece_of(atom: Atom) -> Piece
-    ensures { result ≡ piece_of atom }
+/// Whether an atom is this byte, bare.
+fn is_bare(byte: u8, atom: AtomRef<'_>) -> bool
+    ensures { result ≡ is_bare byte (atom_seen atom.entry) }
 {
     match atom {
-        Atom::Bare(byte) | Atom::Number(byte) => Piece::Byte(byte),
-        Atom::Made(piece) => piece,
-        Atom::Wrong(_) => Piece::Byte(0),
+        AtomRef::Bare(bare) => bare == byte,
+        AtomRef::Number(_) | AtomRef::Escaped(_) | AtomRef::Name(_) => false,
     }
 }
 
-/// The pieces of atoms.
-fn pieces_of(alloc: Global, atoms: Vec<Atom>) -> Result<List<Piece>, AllocError>
-    ensures { IfOk result (λ pieces. pieces ≡ map piece_of atoms.items) }
+/// Whether the next atom is this byte, bare.
+fn takes(byte: u8, walk: &mut AtomWalk<'_>) -> bool
+    ensures is { result ≡ starts byte walk.old }
+    ensures next { IsTrue result → walk.old ≡ Bare byte ∷ walk.new }
 {
-    Ok(List::of(atoms.into_iter().map(|atom| piece_of(atom)).collect(alloc)?))
+    match walk.next() {
+        Some(atom) => is_bare(byte, atom),
+        None => false,
+    }
 }
 
 /// Whether a run is three bare dots.
-fn is_dots(atoms: &[Atom]) -> bool
+fn is_dots(atoms: &Atoms) -> bool
     ensures { result ≡ is_dots atoms.now }
 {
-    match atoms {
-        [a, b, c] => is_bare(b'.', a) && is_bare(b'.', b) && is_bare(b'.', c),
-        _ => false,
+    let mut walk = atoms.walk();
+    for _ in 0..3u32 {
+        if !takes(b'.', &mut walk) {
+            return false;
+        }
     }
-}
-
-/// Whether the first atom is this byte, bare.
-fn starts(byte: u8, atoms: &[Atom]) -> bool
-    ensures { result ≡ starts byte atoms.now }
-{
-    match atoms {
-        [] => false,
-        [first, ..] => is_bare(byte, first),
-    }
+    walk.next().is_none()
 }
 
 /// Whether the last atom is this byte, bare.
-fn stops(byte: u8, atoms: &[Atom]) -> bool
+fn stops(byte: u8, atoms: &Atoms) -> bool
     ensures { result ≡ stops byte atoms.now }
 {
-    match atoms {
-        [] => false,
-        [.., last] => is_bare(byte, last),
+    let mut stops = false;
+    let mut walk = atoms.walk();
+    while let Some(atom) = walk.next() {
+        stops = is_bare(byte, atom);
     }
+    stops
 }
 
-/// How many bare commas a run has.
-fn commas(atoms: &[Atom]) -> usize
-    ensures { result ≡ count_by (is_bare 44) atoms.now }
+/// Whether just one atom is this byte, bare.
+fn stands_once(byte: u8, atoms: &Atoms) -> bool
+    ensures { result ≡ (count_by (is_bare byte) atoms.now == 1) }
 {
-    atoms.iter().filter(|atom| is_bare(b',', atom)).count()
-}
-
-/// The place of the first bare comma.
-fn first_comma(atoms: &[Atom]) -> Option<usize>
-    ensures { result ≡ position (is_bare 44) atoms.now }
-{
-    atoms.iter().position(|atom| is_bare(b',', atom))
-}
-
-/// The place of the comma, where a run is a pair.
-fn comma(atoms: &[Atom]) -> Option<usize>
-    ensures is { result ≡ comma atoms.now }
-    ensures opens { IfSome result (λ k. 0 < k) }
-    ensures closes { IfSome result (λ k. k + 1 < length atoms.now) }
-{
-    if starts(b'(', atoms) && stops(b')', atoms) && commas(atoms) == 1 {
-        return first_comma(atoms);
+    let mut stands = false;
+    let mut walk = atoms.walk();
+    while let Some(atom) = walk.next() {
+        if is_bare(byte, atom) {
+            if stands {
+                return false;
+            }
+            stands = true;
+        }
     }
-    None
+    stands
 }
 
-/// The pair that a run is, with its comma at this place.
-fn pair(alloc: Global, atoms: Vec<Atom>, comma: usize) -> Result<Operand, AllocError>
-    requires opens { 0 < comma }
-    requires closes { comma + 1 < vec_len atoms }
-    ensures { IfOk result (λ operand. operand ≡ pair_or_plain atoms.items (Some comma)) }
+/// Whether a run is a pair.
+fn is_pair(atoms: &Atoms) -> bool
+    ensures { result ≡ is_pair atoms.now }
 {
-    let mut left = atoms;
-    let mut right = left.split_off(comma)?;
-    right.truncate(right.len() - 1);
-    right.remove(0);
-    left.remove(0);
-    Ok(Operand::Pair(pieces_of(alloc, left)?, pieces_of(alloc, right)?))
+    takes(b'(', &mut atoms.walk()) && stops(b')', atoms) && stands_once(b',', atoms)
+}
+
+/// The atoms before the first one that is this byte, bare. The walk goes on behind that one.
+fn take_before(alloc: Global, byte: u8, walk: &mut AtomWalk<'_>) -> Result<Atoms, AllocError>
+    ensures taken { IfOk result (λ atoms. atoms ≡ before_bare byte walk.old) }
+    ensures rest { IfOk result (λ _. walk.new ≡ behind_bare byte walk.old) }
+{
+    let mut taken = Atoms::new(alloc);
+    while let Some(atom) = walk.next() {
+        if is_bare(byte, atom) {
+            return Ok(taken);
+        }
+        taken = taken.with(atom.to_atom(alloc)?)?;
+    }
+    Ok(taken)
+}
+
+/// All atoms but the last.
+fn take_front(alloc: Global, walk: AtomWalk<'_>) -> Result<Atoms, AllocError>
+    ensures { IfOk result (λ atoms. atoms ≡ without_last walk.entry) }
+{
+    let mut walk = walk;
+    let mut taken = Atoms::new(alloc);
+    let Some(mut last) = walk.next() else {
+        return Ok(taken);
+    };
+    while let Some(atom) = walk.next() {
+        taken = taken.with(last.to_atom(alloc)?)?;
+        last = atom;
+    }
+    Ok(taken)
+}
+
+/// The pair that a run is.
+fn pair(alloc: Global, atoms: &Atoms) -> Result<Operand, AllocError>
+    requires { is_pair atoms.now ≡ true }
+    ensures { IfOk result (λ operand. operand ≡ pair atoms.now) }
+{
+    let mut walk = atoms.walk();
+    walk.next();
+    let left = take_before(alloc, b',', &mut walk)?;
+    let right = take_front(alloc, walk)?;
+    Ok(Operand::Pair(Pieces::of(left), Pieces::of(right)))
 }
 
 /// What a whole run is.
-pub fn shape_of(alloc: Global, atoms: Vec<Atom>) -> Result<Operand, AllocError>
-    ensures { IfOk result (λ operand. operand ≡ shape atoms.items) }
+pub fn shape_of(alloc: Global, atoms: Atoms) -> Result<Operand, AllocError>
+    ensures { IfOk result (λ operand. operand ≡ shape atoms) }
 {
     if is_dots(&atoms) {
         return Ok(Operand::Dots);
     }
-    match comma(&atoms) {
-        Some(k) => pair(alloc, atoms, k),
-        None => Ok(Operand::Plain(pieces_of(alloc, atoms)?)),
+    if is_pair(&atoms) {
+        return pair(alloc, &atoms);
     }
+    Ok(Operand::Plain(Pieces::of(atoms)))
 }

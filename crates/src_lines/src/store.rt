@@ -3,7 +3,7 @@
 ghost use Rattle.std.specs.Prelude.{◌≡◌, ◌+◌, ◌-◌, ◌^◌, ◌<◌, ◌≤◌, ◌++◌, ◌∷◌, [], length, OnOk, OnErr};
 ghost use Rattle.src_lines.specs.Held.{Held};
 ghost use Rattle.src_lines.specs.Places.{fresh, extended, continued, line_at};
-ghost use Rattle.src_lines.specs.Rows.{seen};
+ghost use Rattle.src_lines.specs.Rows.{line_of};
 
 use crate::row::Row;
 use crate::signs::Signs;
@@ -13,7 +13,7 @@ use std::marker::Model;
 /// From this byte of a logical line on its bytes stand in this line of the text.
 #[derive(Clone, Copy, Debug, PartialEq, Eq)]
 pub struct Join {
-    pub at: usize,
+    pub at: u32,
     pub line: u32,
 }
 
@@ -22,10 +22,10 @@ pub struct Join {
 struct Span {
     signs: Signs,
     line: u32,
-    start: usize,
-    end: usize,
-    first: usize,
-    last: usize,
+    start: u32,
+    end: u32,
+    first: u32,
+    last: u32,
 }
 
 /// Logical lines, and behind them the one that is being joined, the draft.
@@ -81,9 +81,10 @@ impl Store {
 
     /// Lets the draft go on in this line of the text.
     pub fn join(&mut self, line: u32) -> Result<(), AllocError>
-        ensures ok { OnOk result (self.new ≡ record self.old { draft = continued self.old.draft line }) }
+        requires { self.old.room + 1 < 2 ^ 31 }
+        ensures ok { OnOk result (self.new ≡ record self.old { draft = continued self.old.draft line; room = self.old.room + 1 }) }
     {
-        let at = self.bytes.len() - self.start;
+        let at = (self.bytes.len() - self.start) as u32;
         self.joins.push(Join { at, line })?;
         Ok(())
     }
@@ -97,10 +98,10 @@ impl Store {
         self.spans.push(Span {
             signs: self.signs,
             line: self.line,
-            start: self.start,
-            end,
-            first: self.first,
-            last,
+            start: self.start as u32,
+            end: end as u32,
+            first: self.first as u32,
+            last: last as u32,
         })?;
         self.signs = signs;
         self.line = line;
@@ -123,7 +124,7 @@ impl Store {
 
     /// The draft.
     pub fn draft(&self) -> Row<'_>
-        ensures { seen result ≡ self.now.draft }
+        ensures { line_of result ≡ self.now.draft }
     {
         Row {
             signs: self.signs,
@@ -143,14 +144,14 @@ impl Store {
     /// The line with this number, counted from 0.
     pub fn row(&self, i: usize) -> Row<'_>
         requires { i < length self.now.kept }
-        ensures { seen result ≡ line_at self.now.kept i }
+        ensures { line_of result ≡ line_at self.now.kept i }
     {
         let span = self.spans[i];
         Row {
             signs: span.signs,
             line: span.line,
-            bytes: &self.bytes[span.start..span.end],
-            joins: &self.joins[span.first..span.last],
+            bytes: &self.bytes[span.start as usize..span.end as usize],
+            joins: &self.joins[span.first as usize..span.last as usize],
         }
     }
 }

@@ -5,13 +5,17 @@ use lc_base::{Place, Reason, TextFault};
 use std::alloc::Global;
 use std::test::Fail;
 
-fn push_pieces(text: &mut String, pieces: &[Piece]) -> Result<(), Fail> {
-    for piece in pieces {
+fn push_pieces(text: &mut String, pieces: &Pieces) -> Result<(), Fail> {
+    let mut walk = pieces.walk();
+    for _ in 0..pieces.len() {
+        let Some(piece) = walk.next() else {
+            break;
+        };
         match piece {
-            Piece::Byte(byte) => text.push(char::from(*byte))?,
-            Piece::Name(name) => {
+            PieceRef::Byte(byte) => text.push(char::from(byte))?,
+            PieceRef::Name(name) => {
                 text.push('<')?;
-                for byte in name.as_bytes() {
+                for byte in name {
                     text.push(char::from(*byte))?;
                 }
                 text.push('>')?;
@@ -25,11 +29,11 @@ fn push_operand(text: &mut String, operand: &Operand) -> Result<(), Fail> {
     match operand {
         Operand::Plain(pieces) => {
             text.push_str("P ")?;
-            push_pieces(text, pieces.as_slice())
+            push_pieces(text, pieces)
         }
         Operand::Quoted(pieces) => {
             text.push_str("Q ")?;
-            push_pieces(text, pieces.as_slice())
+            push_pieces(text, pieces)
         }
         Operand::Dots => {
             text.push_str("D")?;
@@ -37,9 +41,9 @@ fn push_operand(text: &mut String, operand: &Operand) -> Result<(), Fail> {
         }
         Operand::Pair(left, right) => {
             text.push_str("R ")?;
-            push_pieces(text, left.as_slice())?;
+            push_pieces(text, left)?;
             text.push_str(" and ")?;
-            push_pieces(text, right.as_slice())
+            push_pieces(text, right)
         }
     }
 }
@@ -238,39 +242,82 @@ fn lines_and_words(rt: HostRuntime) -> Result<(), Fail> {
     Ok(())
 }
 
+fn push_atom(alloc: Global, text: &mut String, atom: &Atom) -> Result<(), Fail> {
+    match atom {
+        Atom::Bare(byte) => text.push(char::from(*byte))?,
+        Atom::Number(byte) => {
+            let number = format!(in alloc; "#{byte}#")?;
+            text.push_str(number.as_str())?;
+        }
+        Atom::Made(Piece::Byte(byte)) => {
+            text.push('!')?;
+            text.push(char::from(*byte))?;
+        }
+        Atom::Made(Piece::Name(name)) => {
+            text.push('<')?;
+            for byte in name.as_bytes() {
+                text.push(char::from(*byte))?;
+            }
+            text.push('>')?;
+        }
+    }
+    Ok(())
+}
+
+fn push_field(alloc: Global, text: &mut String, field: &Field) -> Result<(), Fail> {
+    push_place(alloc, text, field.place)?;
+    match field.atoms.up_to(alloc, 6)? {
+        Some(atoms) => {
+            for atom in atoms.as_slice() {
+                push_atom(alloc, text, atom)?;
+            }
+        }
+        None => text.push_str("more than 6")?,
+    }
+    Ok(())
+}
+
+/// The fields of a text's one line.
+fn shown_fields(alloc: Global, text: &[u8]) -> Result<String, Fail>
+    requires { length text.now < 100 }
+{
+    let mut shown = String::new(alloc);
+    let Ok(lines) = split(alloc, text, 1, Kind::Charmap) else {
+        return Err("the text has no head line".into());
+    };
+    if lines.len() != 1 {
+        return Err("the text has one line".into());
+    }
+    match lines.fields(alloc, 0) {
+        Ok((first, second)) => {
+            push_field(alloc, &mut shown, &first)?;
+            shown.push('|')?;
+            push_field(alloc, &mut shown, &second)?;
+        }
+        Err(fault) => push_fault(alloc, &mut shown, fault)?,
+    }
+    Ok(shown)
+}
+
+/// What the fields of a line show: an escaped byte after `!`, a number between `#`.
+const FIELDS: [(&[u8], &str); 7] = [
+    (
+        b" <a>...<c>\\x80\t\\d065\\; <d",
+        "1:2 <a>...<c>#128#|1:16 #65#!;",
+    ),
+    (b"a;\"b \"c;d e", "1:1 a;\"b|1:6 \"c;d"),
+    (b"<a;\\>\">\t;", "1:1 <a;>\">|1:9 ;"),
+    (b" a ", "1:2 a|1:4 "),
+    (b"1234567 123456", "1:1 more than 6|1:9 123456"),
+    (b"<e> \\4 <a", "1:5 BadEscape"),
+    (b"a;b<c d", "1:4 OpenName"),
+];
+
 #[test]
-fn fields_of_a_charmap_line(rt: HostRuntime) -> Result<(), Fail> {
-    let text = b"CHARMAP\n <a;b>...<c>\\x80\t\\d065\\; <d\n<e> \\4\n";
-    let Ok(lines) = split(rt.alloc(), text, 1, Kind::Charmap) else {
-        return Err("the text has no fault".into());
-    };
-    assert_eq!(rt; lines.len(), 3);
-    assert_eq!(rt; lines.bytes(0), b"CHARMAP".as_slice());
-    let Ok((first, second)) = lines.fields(rt.alloc(), 1) else {
-        return Err("the fields have no fault".into());
-    };
-    assert_eq!(rt; first.place, Place { line: 2, column: 2 });
-    assert_eq!(rt; first.atoms.len(), 6);
-    assert!(rt;
-        matches!(
-            first.atoms.as_slice(),
-            [Atom::Made(_), Atom::Bare(b'.'), .., Atom::Number(0x80)]
-        )
-    );
-    assert_eq!(rt;
-        second.place,
-        Place {
-            line: 2,
-            column: 18
-        }
-    );
-    assert!(rt; matches!(second.atoms.as_slice(), [Atom::Number(65), Atom::Made(_)]));
-    match lines.fields(rt.alloc(), 2) {
-        Err(TextFault::At(place, reason)) => {
-            assert_eq!(rt; place, Place { line: 3, column: 5 });
-            assert_eq!(rt; reason, Reason::BadEscape);
-        }
-        _ => return Err("the escape is wrong".into()),
+fn fields_of_charmap_lines(rt: HostRuntime) -> Result<(), Fail> {
+    for (text, expected) in FIELDS {
+        assert!(rt; text.len() < 100);
+        assert_eq!(rt; shown_fields(rt.alloc(), text)?.as_str(), expected);
     }
     Ok(())
 }

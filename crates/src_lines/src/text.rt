@@ -5,92 +5,84 @@ ghost use Rattle.lc_base.specs.declared.fault.TextFault.TheVariants.{At};
 ghost use Rattle.lc_base.specs.declared.reason.Reason.TheVariants.{OpenString};
 ghost use Rattle.lc_base.specs.Reading.{Gives, Fails};
 ghost use Rattle.src_lines.specs.Places.{place_at};
-ghost use Rattle.src_lines.specs.Rows.{seen};
+ghost use Rattle.src_lines.specs.Rows.{line_of};
 ghost use Rattle.src_lines.specs.Atoms.{items_from};
-ghost use Rattle.src_lines.specs.Tokens.{is_bare, ends_run, piece, checked, closes, run, text};
+ghost use Rattle.src_lines.specs.Tokens.{has_bare, ends_run, is_closed, run, text};
 
 use crate::atom::{Atom, next_atom};
-use crate::line::Piece;
+use crate::cells::Atoms;
+use crate::pieces::Pieces;
 use crate::row::Row;
 use crate::words::is_blank;
 use lc_base::{Reason, TextFault};
 use std::alloc::{AllocError, Global};
 
-/// Whether an atom is this byte, bare.
-pub fn is_bare(byte: u8, atom: &Atom) -> bool
-    ensures { result ≡ is_bare byte atom.now }
-{
-    match atom {
-        Atom::Bare(bare) => *bare == byte,
-        Atom::Number(_) | Atom::Made(_) | Atom::Wrong(_) => false,
-    }
+/// What ends a run.
+#[derive(Clone, Copy)]
+pub enum RunEnd {
+    /// A bare blank, as in a field.
+    AtBlank,
+    /// A bare blank or a bare `;`, as among operands.
+    AtSeparator,
 }
 
 /// Whether an atom ends a run.
-fn ends_run(operands: bool, atom: &Atom) -> bool
-    ensures { result ≡ ends_run operands atom.now }
+fn ends_run(end: RunEnd, atom: &Atom) -> bool
+    ensures { result ≡ ends_run end atom.now }
 {
-    match atom {
-        Atom::Bare(bare) => is_blank(*bare) || (operands && *bare == b';'),
-        Atom::Number(_) | Atom::Made(_) | Atom::Wrong(_) => false,
+    match (end, atom) {
+        (RunEnd::AtBlank, Atom::Bare(byte)) => is_blank(*byte),
+        (RunEnd::AtSeparator, Atom::Bare(byte)) => is_blank(*byte) || *byte == b';',
+        (_, Atom::Number(_) | Atom::Made(_)) => false,
     }
 }
 
-/// The atom at a byte of a line, where it is no fault.
-fn checked(row: &Row<'_>, at: usize, atom: Atom) -> Result<Atom, TextFault>
-    requires { at ≤ length row.now.bytes.now }
-    ensures { Gives (λ u. u) result (checked (place_at (seen row.now) at) atom) }
+/// Whether what was read is this byte, bare.
+pub fn has_bare(byte: u8, read: &Result<Atom, Reason>) -> bool
+    ensures { result ≡ has_bare byte read.now }
 {
-    match atom {
-        Atom::Wrong(reason) => Err(TextFault::At(row.place_at(at), reason)),
-        atom => Ok(atom),
+    match read {
+        Ok(atom) => atom.is_bare(byte),
+        Err(_) => false,
     }
 }
 
-/// An atom as a piece, or why it is none.
-fn piece(atom: Atom) -> Result<Piece, Reason>
-    ensures { result ≡ piece atom }
-{
-    match atom {
-        Atom::Bare(byte) | Atom::Number(byte) => Ok(Piece::Byte(byte)),
-        Atom::Made(piece) => Ok(piece),
-        Atom::Wrong(reason) => Err(reason),
-    }
-}
-
-/// A run from a byte of a line on: its atoms up to a bare blank, and among operands up to a bare
-/// `;`, and where it ends.
+/// A run from a byte of a line on: its atoms, and where it ends.
 pub fn run(
     alloc: Global,
     row: &Row<'_>,
-    operands: bool,
+    run_end: RunEnd,
     at: usize,
-) -> Result<(Vec<Atom>, usize), TextFault>
+) -> Result<(Atoms, usize), TextFault>
     requires { at ≤ length row.now.bytes.now }
-    ensures is { Gives (λ x. (x.0.items, items_from (seen row.now) x.1)) result (run operands (items_from (seen row.now) at)) }
+    ensures is { Gives (λ x. (x.0, items_from (line_of row.now) x.1)) result (run run_end (items_from (line_of row.now) at)) }
     ensures within { IfOk result (λ x. x.1 ≤ length row.now.bytes.now) }
     ensures forward { IfOk result (λ x. at ≤ x.1) }
 {
-    let mut atoms = Vec::new(alloc);
+    let mut atoms = Atoms::new(alloc);
     let mut end = at;
-    while let Some((atom, next)) = next_atom(alloc, row, end)? {
-        if ends_run(operands, &atom) {
+    while let Some((read, next)) = next_atom(alloc, row, end)? {
+        let atom = match read {
+            Ok(atom) => atom,
+            Err(reason) => return Err(TextFault::At(row.place_at(end), reason)),
+        };
+        if ends_run(run_end, &atom) {
             return Ok((atoms, end));
         }
-        atoms.push(checked(row, end, atom)?)?;
+        atoms = atoms.with(atom)?;
         end = next;
     }
     Ok((atoms, end))
 }
 
 /// Whether a closing quote comes.
-fn closes(alloc: Global, row: &Row<'_>, at: usize) -> Result<bool, AllocError>
+fn is_closed(alloc: Global, row: &Row<'_>, at: usize) -> Result<bool, AllocError>
     requires { at ≤ length row.now.bytes.now }
-    ensures { IfOk result (λ b. b ≡ closes (items_from (seen row.now) at)) }
+    ensures { IfOk result (λ b. b ≡ is_closed (items_from (line_of row.now) at)) }
 {
     let mut end = at;
-    while let Some((atom, next)) = next_atom(alloc, row, end)? {
-        if is_bare(b'"', &atom) {
+    while let Some((read, next)) = next_atom(alloc, row, end)? {
+        if has_bare(b'"', &read) {
             return Ok(true);
         }
         end = next;
@@ -105,23 +97,24 @@ pub fn text(
     row: &Row<'_>,
     quote: usize,
     at: usize,
-) -> Result<(Vec<Piece>, usize), TextFault>
+) -> Result<(Pieces, usize), TextFault>
     requires quote { quote ≤ length row.now.bytes.now }
     requires at { at ≤ length row.now.bytes.now }
-    ensures is { Gives (λ x. (x.0.items, items_from (seen row.now) x.1)) result (text (place_at (seen row.now) quote) (items_from (seen row.now) at)) }
+    ensures is { Gives (λ x. (x.0, items_from (line_of row.now) x.1)) result (text (place_at (line_of row.now) quote) (items_from (line_of row.now) at)) }
     ensures within { IfOk result (λ x. x.1 ≤ length row.now.bytes.now) }
     ensures forward { IfOk result (λ x. at ≤ x.1) }
 {
-    let mut pieces = Vec::new(alloc);
+    let mut atoms = Atoms::new(alloc);
     let mut end = at;
-    while let Some((atom, next)) = next_atom(alloc, row, end)? {
-        if is_bare(b'"', &atom) {
-            return Ok((pieces, next));
-        }
-        match piece(atom) {
-            Ok(piece) => pieces.push(piece)?,
+    while let Some((read, next)) = next_atom(alloc, row, end)? {
+        let atom = match read {
+            Ok(atom) => atom,
             Err(reason) => return Err(fault_in_text(alloc, row, quote, end, next, reason)?),
+        };
+        if atom.is_bare(b'"') {
+            return Ok((Pieces::of(atoms), next));
         }
+        atoms = atoms.with(atom)?;
         end = next;
     }
     Err(TextFault::At(row.place_at(quote), Reason::OpenString))
@@ -140,9 +133,9 @@ fn fault_in_text(
     requires quote { quote ≤ length row.now.bytes.now }
     requires at { at ≤ length row.now.bytes.now }
     requires next { next ≤ length row.now.bytes.now }
-    ensures { IfOk result (λ e. e ≡ (if closes (items_from (seen row.now) next) then At (place_at (seen row.now) at) reason else At (place_at (seen row.now) quote) OpenString)) }
+    ensures { IfOk result (λ e. e ≡ (if is_closed (items_from (line_of row.now) next) then At (place_at (line_of row.now) at) reason else At (place_at (line_of row.now) quote) OpenString)) }
 {
-    if closes(alloc, row, next)? {
+    if is_closed(alloc, row, next)? {
         Ok(TextFault::At(row.place_at(at), reason))
     } else {
         Ok(TextFault::At(row.place_at(quote), Reason::OpenString))

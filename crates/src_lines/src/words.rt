@@ -1,7 +1,7 @@
 //! Words of a line: what stands between blanks.
 
 ghost use Rattle.std.specs.Prelude.{◌≡◌, ◌+◌, ◌≤◌, length};
-ghost use Rattle.src_lines.specs.Words.{is_blank, blanks, solid, next_word};
+ghost use Rattle.src_lines.specs.Words.{is_blank, blanks, solid, next_word, closes};
 
 /// The next word of a text.
 #[derive(Clone, Copy)]
@@ -62,4 +62,13 @@ pub fn next_word(bytes: &[u8]) -> Word<'_>
         text,
         rest,
     }
+}
+
+/// Whether a line closes what has this name: just the two words `END` and the name.
+pub fn closes(name: &[u8], line: &[u8]) -> bool
+    ensures { result ≡ closes name.now line.now }
+{
+    let first = next_word(line);
+    let second = next_word(first.rest);
+    first.text == b"END".as_slice() && second.text == name && next_word(second.rest).text.is_empty()
 }

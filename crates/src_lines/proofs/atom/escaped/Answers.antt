@@ -1,9 +1,9 @@
-use Rattle.std.proofs.Common.{◌≡◌, ℕ, ◌<◌, ◌≤◌, true, List, [], ◌∷◌, length, get_or, refl, arith}
+use Rattle.std.proofs.Common.{◌≡◌, ℕ, ◌<◌, ◌≤◌, List, [], ◌∷◌, length, get_or, refl, arith}
 use Rattle.std.proofs.lemmas.Bool.{ne_eqb, lt-ltb}
-use Rattle.src_lines.specs.Atoms.{digit, number, number_atom, escaped}
+use Rattle.src_lines.specs.Atoms.{digit, octal, number, number_atom, escaped}
 use Rattle.src_lines.proofs.atom.escaped.Goals as goal
 
-octal_is : (bytes : List ℕ) → 1 ≤ length bytes → (get_or bytes 0 0 ≡ 100 → ⊥) → (get_or bytes 0 0 ≡ 120 → ⊥) → digit (get_or bytes 0 0) < 8 → number_atom 1 (number 8 true bytes) ≡ escaped bytes
+octal_is : (bytes : List ℕ) → 1 ≤ length bytes → (get_or bytes 0 0 ≡ 100 → ⊥) → (get_or bytes 0 0 ≡ 120 → ⊥) → digit (get_or bytes 0 0) < 8 → number_atom 1 (number octal bytes) ≡ escaped bytes
 octal_is [] long d x lt = absurd (omega arith)
 octal_is (b ∷ bs) long d x lt = rw (ne_eqb b 100 d, ne_eqb b 120 x, lt-ltb (digit b) 8 lt) refl
 

@@ -1,5 +1,5 @@
 use Rattle.std.proofs.Common.{◌≡◌, ℕ, ◌-◌, ◌≤◌, length, drop}
-use Rattle.src_lines.specs.Rows.{seen}
+use Rattle.src_lines.specs.Rows.{line_of}
 use Rattle.src_lines.specs.Places.{place_at, place_from}
 use Rattle.src_lines.specs.Atoms.{items_from}
 use Rattle.src_lines.specs.Tokens.{operands}
@@ -10,6 +10,6 @@ abbrev pub invariant-loop : goal.invariant-loop
 invariant-loop l = record {
   within : l.at ≤ length l.row.bytes.now;
   reached : l.mark.at ≤ l.at;
-  same : (m : ℕ) → l.at ≤ m → place_from l.mark.line l.mark.at (drop l.mark.next l.row.joins.now) m ≡ place_at (seen l.row) m;
-  is : listed l.found.items (operands (65536 - l.counter) (place_at (seen l.row) (length l.row.bytes.now)) (items_from (seen l.row) l.at)) ≡ operands 65536 (place_at (seen l.row) (length l.row.bytes.now)) (items_from (seen l.row) l.start);
+  same : (m : ℕ) → l.at ≤ m → place_from l.mark.line l.mark.at (drop l.mark.next l.row.joins.now) m ≡ place_at (line_of l.row) m;
+  is : listed l.found.items (operands (65536 - l.counter) (place_at (line_of l.row) (length l.row.bytes.now)) (items_from (line_of l.row) l.at)) ≡ operands 65536 (place_at (line_of l.row) (length l.row.bytes.now)) (items_from (line_of l.row) l.start);
 }

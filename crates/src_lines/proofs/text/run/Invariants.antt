@@ -1,5 +1,5 @@
 use Rattle.std.proofs.Common.{◌≡◌, ◌-◌, ◌≤◌, length}
-use Rattle.src_lines.specs.Rows.{seen}
+use Rattle.src_lines.specs.Rows.{line_of}
 use Rattle.src_lines.specs.Atoms.{items_from}
 use Rattle.src_lines.specs.Tokens.{run}
 use Rattle.src_lines.proofs.Runs.{after}
@@ -9,7 +9,7 @@ abbrev pub invariant-loop-atoms : goal.invariant-loop-atoms
 invariant-loop-atoms l = record {
   within : l.end ≤ length l.row.bytes.now;
   forward : l.at ≤ l.end;
-  is : after l.atoms.items (run l.operands (items_from (seen l.row) l.end)) ≡ run l.operands (items_from (seen l.row) l.at);
+  is : after l.atoms (run l.run_end (items_from (line_of l.row) l.end)) ≡ run l.run_end (items_from (line_of l.row) l.at);
 }
 
 abbrev pub decreases-loop-atoms : goal.decreases-loop-atoms

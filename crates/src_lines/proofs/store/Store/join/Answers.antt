@@ -1,4 +1,4 @@
-use Rattle.std.proofs.Common.{◌≡◌, ◌-◌, length, drop, refl, arith, length-drop, ◌∷◌, []}
+use Rattle.std.proofs.Common.{◌≡◌, ◌+◌, ◌-◌, length, drop, refl, arith, length-append, length-drop, ◌∷◌, []}
 use Rattle.std.proofs.lemmas.List.{drop-append-le}
 use Rattle.src_lines.specs.declared.store.Join.{Join}
 use Rattle.src_lines.proofs.Storing.{kept-joins}
@@ -11,4 +11,5 @@ returns c =
     let added : Join = record { at = length (drop s.start s.bytes.items); line = c.args.line } in
     let kept = kept-joins s.bytes.items s.joins.items (added ∷ []) s.spans.items s.start s.first c.self.invariant.joins_before c.self.invariant.spans_before in
     let draft = drop-append-le s.first s.joins.items (added ∷ []) c.self.invariant.joins_before in
-    record { ok = rw (c.in_ok-push.ensures.items, at, ← c.self.view_is, kept, draft) refl }
+    let room : length s.bytes.items + (length s.joins.items + 1) ≡ length s.bytes.items + length s.joins.items + 1 = omega arith in
+    record { ok = rw (c.in_ok-push.ensures.items, at, ← c.self.view_is, kept, draft, length-append s.joins.items (added ∷ []), room) refl }
