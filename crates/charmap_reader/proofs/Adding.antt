@@ -1,75 +1,121 @@
--- Names that are added one by one.
-use Rattle.std.proofs.Common.{◌≡◌, ℕ, suc, ◌+◌, ◌-◌, ◌<◌, ◌≤◌, Bool, true, false, cond, List, [], ◌∷◌, ◌++◌, map, Option, Some, None, Ok, Err, refl, sym, ap, ◌∙◌, arith}
-use Rattle.std.specs.Prelude.{is_some}
+-- Names that are added, a list at a time.
+use Rattle.std.proofs.Common.{◌≡◌, ◌≢◌, ℕ, zero, suc, ◌+◌, ◌-◌, ◌<◌, ◌≤◌, Bool, true, false, cond, List, [], ◌∷◌, ◌++◌, map, Option, Some, None, Ok, Err, refl, sym, ap, ◌∙◌, arith}
+use Rattle.std.specs.Option.{is_some, IsSome, option_or}
 use Rattle.std.specs.List.{list_any, range_with_len}
+use Rattle.std.specs.Str.{bytes_eq}
+use Rattle.std.proofs.lemmas.Bool.{false_from_ne_true}
+use Rattle.std.proofs.lemmas.List.{append_assoc, append-nil}
+use Rattle.std.proofs.lemmas.Slice.Eq.{bytes_eq-Decides}
 use Rattle.lc_base.specs.declared.place.Place.{Place}
 use Rattle.lc_base.specs.declared.reason.Reason.TheVariants.{NameTwice, PortableMoved}
-use Rattle.charmap_reader.specs.Portable.{first_named}
+use Rattle.charmap_reader.specs.Portable.{Name, first_named}
 use Rattle.charmap_reader.specs.Charmap.{Entry, added, is_moved, listed_with, listed_at}
 use Rattle.charmap_reader.specs.Names.{IsAdded}
 
--- a new name is added before the others
-either_step : (b : Bool) (given new : List Entry) (e : Entry) (es : List Entry) → cond b None (Some (given ++ e ∷ [])) ≡ Some new → cond b None (added (given ++ e ∷ []) es) ≡ added new es
-either_step true given new e es h = cc
-either_step false given new e es h = let same : given ++ e ∷ [] ≡ new = cc in ap (λ (xs : List Entry). added xs es) same
+-- ---- what names give
 
--- a name that was given before is refused before the others
-either_none : (b : Bool) (given : List Entry) (e : Entry) (es : List Entry) → cond b None (Some (given ++ e ∷ [])) ≡ None → cond b None (added (given ++ e ∷ []) es) ≡ None
-either_none true given e es h = refl
-either_none false given e es h = cc
+-- entries after others, if those are there
+abbrev pub after : Option (List Entry) → List Entry → Option (List Entry)
+after None es = None
+after (Some given) es = added given es
 
--- after a new name the others are left
-pub added_step : (given new : List Entry) (e : Entry) (es : List Entry) → added given (e ∷ []) ≡ Some new → added given (e ∷ es) ≡ added new es
-added_step given new e es h = either_step (is_some (first_named given e.0)) given new e es h
+-- entries are added one after another
+pub added-append : (given es fs : List Entry) → added given (es ++ fs) ≡ after (added given es) fs
+added-append given [] fs = refl
+added-append given (e ∷ es) fs =
+    let P : Bool → Type 0 = λ b. cond b None (added (given ++ e ∷ []) (es ++ fs)) ≡ after (cond b None (added (given ++ e ∷ []) es)) fs in
+    elim (is_some (first_named given e.0)) as P [ true ↦ refl | false ↦ added-append (given ++ e ∷ []) es fs ]
 
--- a name that is there already is refused, whatever comes after it
-pub added_none : (given : List Entry) (e : Entry) (es : List Entry) → added given (e ∷ []) ≡ None → added given (e ∷ es) ≡ None
-added_none given e es h = either_none (is_some (first_named given e.0)) given e es h
+-- a name is found in the first of two lists, or in the second
+pub first_named-append : {A : Type 0} (es fs : List (Name × A)) (name : Name) → first_named (es ++ fs) name ≡ option_or (first_named es name) (first_named fs name)
+first_named-append [] fs name = refl
+first_named-append {A} (e ∷ es) fs name =
+    let P : Bool → Type 0 = λ b. cond b (Some e.1) (first_named (es ++ fs) name) ≡ option_or (cond b (Some e.1) (first_named es name)) (first_named fs name) in
+    elim (bytes_eq e.0 name) as P [ true ↦ refl | false ↦ first_named-append es fs name ]
 
--- the entries that are still to come
-pub range_more : (f : ℕ → Entry) (n k : ℕ) → k < n → map f (range_with_len k (n - k)) ≡ f k ∷ map f (range_with_len (k + 1) (n - (k + 1)))
-range_more f n k lt =
-    let count : n - k ≡ suc (n - (k + 1)) = omega arith in
-    ap (λ (m : ℕ). map f (range_with_len k m)) count
+-- ---- names that count up
 
--- one more entry of a range
-pub range_added : (f : ℕ → Entry) (n k : ℕ) (given new : List Entry) (total : Option (List Entry)) → k < n → added given (map f (range_with_len k (n - k))) ≡ total → added given (f k ∷ []) ≡ Some new
-    → added new (map f (range_with_len (k + 1) (n - (k + 1)))) ≡ total
-range_added f n k given new total lt so_far one =
-    sym (added_step given new (f k) _ one) ∙ sym (ap (added given) (range_more f n k lt)) ∙ so_far
+-- names that none of these are
+pub named-none : {A : Type 0} (f : ℕ → Name × A) (start n : ℕ) (name : Name) → ((k : ℕ) → start ≤ k → k < start + n → (f k).0 ≢ name) → first_named (map f (range_with_len start n)) name ≡ None
+named-none f start zero name others = refl
+named-none f start (suc n) name others =
+    let other : bytes_eq (f start).0 name ≡ false = false_from_ne_true (bytes_eq (f start).0 name) (λ e. others start (omega arith) (omega arith) ((bytes_eq-Decides (f start).0 name).0 e)) in
+    rw other (named-none f (start + 1) n name (λ k low high. others k (omega arith) (omega arith)))
 
--- a name of a range that was given before refuses the range
-pub range_refused : (f : ℕ → Entry) (n k : ℕ) (given : List Entry) (total : Option (List Entry)) → k < n → added given (map f (range_with_len k (n - k))) ≡ total → added given (f k ∷ []) ≡ None → total ≡ None
-range_refused f n k given total lt so_far one =
-    sym so_far ∙ ap (added given) (range_more f n k lt) ∙ added_none given (f k) _ one
+-- a name that just one of these is
+pub named-one : {A : Type 0} (f : ℕ → Name × A) (start n : ℕ) (name : Name) (k : ℕ) → start ≤ k → k < start + n → (f k).0 ≡ name → ((j : ℕ) → start ≤ j → j < start + n → (f j).0 ≡ name → j ≡ k)
+    → first_named (map f (range_with_len start n)) name ≡ Some (f k).1
+named-one f start zero name k low high is one = absurd (omega arith)
+named-one {A} f start (suc n) name k low high is one =
+    let P : Bool → Type 0 = λ b. bytes_eq (f start).0 name ≡ b → cond b (Some (f start).1) (first_named (map f (range_with_len (start + 1) n)) name) ≡ Some (f k).1 in
+    (
+    elim (bytes_eq (f start).0 name) as P [
+      | true ↦ λ same.
+          let at : start ≡ k = one start (omega arith) (omega arith) ((bytes_eq-Decides (f start).0 name).0 same) in
+          ap (λ (j : ℕ). Some (f j).1) at
+      | false ↦ λ other.
+          let apart : start ≢ k = λ e.
+          let same : bytes_eq (f start).0 name ≡ true = (bytes_eq-Decides (f start).0 name).1 (ap (λ (j : ℕ). (f j).0) e ∙ is) in
+          absurd (cc)
+          in
+          let later : start + 1 ≤ k = omega arith in
+          named-one f (start + 1) n name k later (omega arith) is (λ j low_j high_j e. one j (omega arith) (omega arith) e)
+    ]
+    )
+    refl
 
--- after its last name a range is added
-pub range_over : (f : ℕ → Entry) (n k : ℕ) (given : List Entry) (total : Option (List Entry)) → n ≤ k → added given (map f (range_with_len k (n - k))) ≡ total → total ≡ Some given
-range_over f n k given total le so_far =
-    let none : n - k ≡ 0 = omega arith in
-    sym so_far ∙ ap (λ (m : ℕ). added given (map f (range_with_len k m))) none
+-- names that are all new, and differ, are added
+pub added-new : (f : ℕ → Entry) (start n : ℕ) (given : List Entry) → ((k : ℕ) → start ≤ k → k < start + n → first_named given (f k).0 ≡ None) → ((j k : ℕ) → start ≤ j → j < k → k < start + n → (f j).0 ≢ (f k).0)
+    → added given (map f (range_with_len start n)) ≡ Some (given ++ map f (range_with_len start n))
+added-new f start zero given new apart = ap Some (sym (append-nil given))
+added-new f start (suc n) given new apart =
+    let e : Entry = f start in
+    let rest : List Entry = map f (range_with_len (start + 1) n) in
+    let first : first_named given e.0 ≡ None = new start (omega arith) (omega arith) in
+    let still : (k : ℕ) → start + 1 ≤ k → k < start + 1 + n → first_named (given ++ e ∷ []) (f k).0 ≡ None = λ k low high.
+    let other : bytes_eq e.0 (f k).0 ≡ false = false_from_ne_true (bytes_eq e.0 (f k).0) (λ t. apart start k (omega arith) (omega arith) (omega arith) ((bytes_eq-Decides e.0 (f k).0).0 t)) in
+    let alone : first_named (e ∷ []) (f k).0 ≡ None = rw other refl in
+    first_named-append given (e ∷ []) (f k).0 ∙ ap (λ o. option_or o (first_named (e ∷ []) (f k).0)) (new k (omega arith) (omega arith)) ∙ alone
+    in
+    let more : added (given ++ e ∷ []) rest ≡ Some ((given ++ e ∷ []) ++ rest) = added-new f (start + 1) n (given ++ e ∷ []) still (λ j k low between high. apart j k (omega arith) between (omega arith)) in
+    ap (λ o. cond (is_some o) None (added (given ++ e ∷ []) rest)) first ∙ more ∙ ap (λ (es : List Entry). Some es) (append_assoc given (e ∷ []) rest)
 
--- a name made of its stem and its digits
-pub name_built : (empty front whole stem_is digits_is stem_text digits_text : List ℕ) → empty ≡ [] → front ≡ empty ++ stem_text → whole ≡ front ++ digits_text → stem_text ≡ stem_is → digits_text ≡ digits_is → whole ≡ stem_is ++ digits_is
-name_built empty front whole stem_is digits_is stem_text digits_text a b c d e = rw (c, b, a, d, e) refl
+-- what is there stays before something else
+some_or : {A : Type 0} (a b : Option A) → IsSome a → is_some (option_or a b) ≡ true
+some_or None b some = cc
+some_or (Some x) b some = refl
 
--- whether the name with this place was new, said of its entry
-pub added_as : (given new : List Entry) (name : List ℕ) (bytes : List ℕ) (e : Entry) (b : Bool) → name ≡ e.0 → bytes ≡ e.1 → IsAdded given ((name, bytes) ∷ []) new b → IsAdded given (e ∷ []) new b
-added_as given new name bytes e true n m h = rw (n, m) at h
-added_as given new name bytes e false n m h = rw (n, m) at h
+-- a name that is there already refuses them
+pub added-met : (f : ℕ → Entry) (start n : ℕ) (given : List Entry) (k : ℕ) → start ≤ k → k < start + n → IsSome (first_named given (f k).0) → added given (map f (range_with_len start n)) ≡ None
+added-met f start zero given k low high there = absurd (omega arith)
+added-met f start (suc n) given k low high there =
+    let e : Entry = f start in
+    let rest : List Entry = map f (range_with_len (start + 1) n) in
+    let P : Bool → Type 0 = λ b. is_some (first_named given e.0) ≡ b → cond b None (added (given ++ e ∷ []) rest) ≡ None in
+    (
+    elim (is_some (first_named given e.0)) as P [
+      | true ↦ λ own. refl
+      | false ↦ λ own.
+          let apart : start ≢ k = λ same.
+          let here : is_some (first_named given e.0) ≡ true = ap (λ (j : ℕ). is_some (first_named given (f j).0)) same ∙ there in
+          absurd (cc)
+          in
+          let later : start + 1 ≤ k = omega arith in
+          added-met f (start + 1) n (given ++ e ∷ []) k later (omega arith) (ap is_some (first_named-append given (e ∷ []) (f k).0) ∙ some_or (first_named given (f k).0) (first_named (e ∷ []) (f k).0) there)
+    ]
+    )
+    refl
 
--- at first all entries of a range are still to come
-pub range_start : (f : ℕ → Entry) (n : ℕ) (given : List Entry) → added given (map f (range_with_len 0 (n - 0))) ≡ added given (map f (range_with_len 0 n))
-range_start f n given = let all : n - 0 ≡ n = omega arith in ap (λ (m : ℕ). added given (map f (range_with_len 0 m))) all
+-- ---- what a line gives
 
--- what a line with further names gives
+-- with names that are not all new
 pub listed_twice : (place : Place) (given new all : List Entry) → IsAdded given new all false → listed_at place given new ≡ Err (place, NameTwice)
 listed_twice place given new all h = ap (listed_with place new) h
 
--- the same with a portable name that is moved
+-- with a portable name that is moved
 pub listed_moved : (place : Place) (given new all : List Entry) → IsAdded given new all true → list_any is_moved new ≡ true → listed_at place given new ≡ Err (place, PortableMoved)
 listed_moved place given new all h moved = ap (listed_with place new) h ∙ rw moved refl
 
--- and with new names of which none is moved
+-- with new names of which none is moved
 pub listed_all : (place : Place) (given new all : List Entry) → IsAdded given new all true → list_any is_moved new ≡ false → listed_at place given new ≡ Ok all
 listed_all place given new all h moved = ap (listed_with place new) h ∙ rw moved refl

@@ -1,12 +1,12 @@
 -- Runs of values in order: what they cover, and what stands next in them.
-use Rattle.std.proofs.Common.{◌≡◌, ℕ, ◌+◌, ◌<◌, ◌≤◌, max, Bool, true, false, ◌||◌, ◌⊎◌, inl, inr, ⊎_elim, List, [], ◌∷◌, ◌++◌, length, get_or, take, All, refl, sym, ◌∙◌, arith, ltb, ltb-true, ltb-false, length-append, take_all}
+use Rattle.std.proofs.Common.{◌≡◌, ℕ, ◌+◌, ◌<◌, ◌≤◌, max, Bool, true, false, ◌||◌, ◌⊎◌, inl, inr, ⊎_elim, List, [], ◌∷◌, ◌++◌, length, get_or, take, All, refl, sym, ap, ◌∙◌, arith, ltb, ltb-true, ltb-false, length-append, take_all}
 use Rattle.std.specs.Bool.{◌==◌}
 use Rattle.std.specs.Int.{is_in_range}
-use Rattle.std.specs.List.{list_any}
 use Rattle.std.proofs.Math.ListN.{get_or-append}
 use Rattle.std.proofs.Math.Seq.{get_or-append_seam}
 use Rattle.std.proofs.lemmas.Bool.{cases_order}
 use Rattle.std.proofs.lemmas.Bool.Decides.{nat_tests}
+use Rattle.std.proofs.lemmas.List.{get_or_default}
 use Rattle.std.proofs.lemmas.List.Elements.{All-push, at_read}
 use Rattle.std.proofs.lemmas.List.Folds.{list_any_at, list_any_none, list_any-append, list_any_more}
 use Rattle.std.proofs.lemmas.List.Quantifiers.{all_pairs_push}
@@ -128,13 +128,9 @@ gap_past runs last value order gap k d within =
     let upto : (get_or (runs ++ last ∷ []) k d).1 ≤ last.1 = rw back at (ends_rise (runs ++ last ∷ []) order k (length runs) d (omega arith) (omega arith)) in
     omega arith
 
--- a run of one value has that value
-run_alone : (value w : ℕ) → is_in_range value value w ≡ (value == w)
-run_alone value w = grind (arith, nat_tests)
-
--- a run that is lengthened by a value has that value more
-run_longer : (first last value w : ℕ) → first ≤ last → last ≤ value → value ≤ last + 1 → is_in_range first value w ≡ (is_in_range first last w || (value == w))
-run_longer first last value w forward above near = grind (arith, nat_tests)
+-- a run that is lengthened by one which it meets has the values of both
+run_longer : (first last start end w : ℕ) → first ≤ last → first ≤ start → start ≤ last + 1 → start ≤ end → is_in_range first (max last end) w ≡ (is_in_range first last w || is_in_range start end w)
+run_longer first last start end w forward behind near part = grind (arith, nat_tests)
 
 -- a test more on one side of an equation of tests, and on the other
 or_step : (a b c s : Bool) → a ≡ (b || c) → (a || (s || false)) ≡ (b || (c || s))
@@ -149,53 +145,65 @@ or_more true r s b c h = or_step true b c s h
 or_more false true s b c h = or_step true b c s h
 or_more false false s b c h = or_step false b c s h
 
--- what the loop that joins values keeps: the runs that are closed and the open one cover 0 and the values so far, and end before the others
-pub record IsJoined (runs : List (ℕ × ℕ)) (first last : ℕ) (values : List ℕ) (index : ℕ) : Type 0 where
+-- what the loop that joins runs keeps: those that are closed and the open one cover 0 and the runs so far, and the open one begins before the others
+pub record IsJoined (runs : List (ℕ × ℕ)) (first last : ℕ) (parts : List (ℕ × ℕ)) (index : ℕ) : Type 0 where
   pub forward : first ≤ last
   pub order : IsApart (runs ++ (first, last) ∷ [])
-  pub covered : (w : ℕ) → covers (runs ++ (first, last) ∷ []) w ≡ ((w == 0) || list_any (λ v. v == w) (take index values))
-  pub behind : (k : ℕ) → index ≤ k → k < length values → last ≤ get_or values k 0
+  pub covered : (w : ℕ) → covers (runs ++ (first, last) ∷ []) w ≡ ((w == 0) || covers (take index parts) w)
+  pub behind : (k : ℕ) (d : ℕ × ℕ) → index ≤ k → k < length parts → first ≤ (get_or parts k d).0
 
 -- at first that is 0 alone
-pub joined_none : (values : List ℕ) → IsJoined [] 0 0 values 0
-joined_none values = record {
+pub joined_none : (parts : List (ℕ × ℕ)) → IsJoined [] 0 0 parts 0
+joined_none parts = record {
   forward = omega arith;
   order = order_push [] (0, 0) (record { forward = λ k d within. absurd (omega arith); apart = λ i j d earlier within. absurd (omega arith) }) (omega arith) (λ k d within. absurd (omega arith));
   covered = λ w. grind (arith, nat_tests);
-  behind = λ k from within. omega arith;
+  behind = λ k d from within. omega arith;
 }
 
--- a value past a gap closes the open run and opens the next
-pub joined_apart : (runs : List (ℕ × ℕ)) (first last : ℕ) (values : List ℕ) (index value : ℕ) → IsNonDecreasingBy (λ (v : ℕ). v) values
-    → index < length values → value ≡ get_or values index 0 → last + 1 < value
-    → IsJoined runs first last values index → IsJoined (runs ++ (first, last) ∷ []) value value values (index + 1)
-joined_apart runs first last values index value sorted within is gap before = record {
-  forward = omega arith;
-  order = order_push (runs ++ (first, last) ∷ []) (value, value) before.order (omega arith) (gap_past runs (first, last) value before.order gap);
+-- the values of one more run
+covers_more : (parts : List (ℕ × ℕ)) (index : ℕ) (part : ℕ × ℕ) (d : ℕ × ℕ) (w : ℕ) → index < length parts → part ≡ get_or parts index d → covers (take (index + 1) parts) w ≡ (covers (take index parts) w || is_in_range part.0 part.1 w)
+covers_more parts index part d w within is =
+    list_any_more (λ (run : ℕ × ℕ). is_in_range run.0 run.1 w) parts index d within ∙ ap (λ (run : ℕ × ℕ). covers (take index parts) w || is_in_range run.0 run.1 w) (sym is)
+
+-- runs in order of their first values: those behind one begin no earlier
+starts_behind : (parts : List (ℕ × ℕ)) (index : ℕ) (part : ℕ × ℕ) (e : ℕ × ℕ) → IsNonDecreasingBy (λ (run : ℕ × ℕ). run.0) parts → index < length parts → part ≡ get_or parts index e → (k : ℕ) (d : ℕ × ℕ) → index + 1 ≤ k → k < length parts → part.0 ≤ (get_or parts k d).0
+starts_behind parts index part e sorted within is k d from in_parts =
+    let here : get_or parts index d ≡ part = get_or_default parts index d e within ∙ sym is in
+    omega (arith, sorted index k d (omega arith) in_parts, ap (λ (run : ℕ × ℕ). run.0) here)
+
+-- a run past a gap closes the open one and is the next
+pub joined_apart : (runs : List (ℕ × ℕ)) (first last : ℕ) (parts : List (ℕ × ℕ)) (index : ℕ) (part e : ℕ × ℕ) → IsNonDecreasingBy (λ (run : ℕ × ℕ). run.0) parts
+    → index < length parts → part ≡ get_or parts index e → part.0 ≤ part.1 → last + 1 < part.0
+    → IsJoined runs first last parts index → IsJoined (runs ++ (first, last) ∷ []) part.0 part.1 parts (index + 1)
+joined_apart runs first last parts index part e sorted within is whole gap before = record {
+  forward = whole;
+  order = order_push (runs ++ (first, last) ∷ []) part before.order whole (gap_past runs (first, last) part.0 before.order gap);
   covered = λ w.
-      let pushed = list_any-append (λ (run : ℕ × ℕ). is_in_range run.0 run.1 w) (runs ++ (first, last) ∷ []) ((value, value) ∷ []) in
-      let taken = list_any_more (λ (v : ℕ). v == w) values index 0 within in
-      rw (pushed, taken, ← is, run_alone value w) (or_step (covers (runs ++ (first, last) ∷ []) w) (w == 0) (list_any (λ v. v == w) (take index values)) (value == w) (before.covered w));
-  behind = λ k from in_values. omega (arith, sorted index k 0 (omega arith) in_values);
+      let pushed = list_any-append (λ (run : ℕ × ℕ). is_in_range run.0 run.1 w) (runs ++ (first, last) ∷ []) (part ∷ []) in
+      rw (pushed, covers_more parts index part e w within is) (or_step (covers (runs ++ (first, last) ∷ []) w) (w == 0) (covers (take index parts) w) (is_in_range part.0 part.1 w) (before.covered w));
+  behind = starts_behind parts index part e sorted within is;
 }
 
--- a value that is the last one or the next lengthens the open run
-pub joined_near : (runs : List (ℕ × ℕ)) (first last : ℕ) (values : List ℕ) (index value : ℕ) → IsNonDecreasingBy (λ (v : ℕ). v) values
-    → index < length values → value ≡ get_or values index 0 → last ≤ value → value ≤ last + 1
-    → IsJoined runs first last values index → IsJoined runs first value values (index + 1)
-joined_near runs first last values index value sorted within is above near before = record {
-  forward = omega (arith, before.forward);
-  order = order_push runs (first, value) (order_front runs (first, last) before.order) (omega (arith, before.forward)) (gap_last runs (first, last) before.order);
-  covered = λ w.
-      let pushed = list_any-append (λ (run : ℕ × ℕ). is_in_range run.0 run.1 w) runs ((first, value) ∷ []) in
-      let taken = list_any_more (λ (v : ℕ). v == w) values index 0 within in
-      let old : (covers runs w || (is_in_range first last w || false)) ≡ ((w == 0) || list_any (λ v. v == w) (take index values)) =
-      sym (list_any-append (λ (run : ℕ × ℕ). is_in_range run.0 run.1 w) runs ((first, last) ∷ [])) ∙ before.covered w in
-      rw (pushed, taken, ← is, run_longer first last value w before.forward above near) (or_more (covers runs w) (is_in_range first last w) (value == w) (w == 0) (list_any (λ v. v == w) (take index values)) old);
-  behind = λ k from in_values. omega (arith, sorted index k 0 (omega arith) in_values);
-}
+-- a run that meets the open one lengthens it
+pub joined_near : (runs : List (ℕ × ℕ)) (first last : ℕ) (parts : List (ℕ × ℕ)) (index : ℕ) (part e : ℕ × ℕ) → IsNonDecreasingBy (λ (run : ℕ × ℕ). run.0) parts
+    → index < length parts → part ≡ get_or parts index e → part.0 ≤ part.1 → part.0 ≤ last + 1
+    → IsJoined runs first last parts index → IsJoined runs first (max last part.1) parts (index + 1)
+joined_near runs first last parts index part e sorted within is whole near before =
+    let begun : first ≤ part.0 = rw (← is) at (before.behind index e (omega arith) within) in
+    record {
+      forward = omega (arith, before.forward);
+      order = order_push runs (first, max last part.1) (order_front runs (first, last) before.order) (omega (arith, before.forward)) (gap_last runs (first, last) before.order);
+      covered = λ w.
+          let pushed = list_any-append (λ (run : ℕ × ℕ). is_in_range run.0 run.1 w) runs ((first, max last part.1) ∷ []) in
+          let old : (covers runs w || (is_in_range first last w || false)) ≡ ((w == 0) || covers (take index parts) w) =
+          sym (list_any-append (λ (run : ℕ × ℕ). is_in_range run.0 run.1 w) runs ((first, last) ∷ [])) ∙ before.covered w in
+          rw (pushed, covers_more parts index part e w within is, run_longer first last part.0 part.1 w before.forward begun near whole)
+          (or_more (covers runs w) (is_in_range first last w) (is_in_range part.0 part.1 w) (w == 0) (covers (take index parts) w) old);
+      behind = λ k d from in_parts. omega (arith, starts_behind parts index part e sorted within is k d from in_parts);
+    }
 
--- at the end the runs cover 0 and all values
-pub joined_all : (runs : List (ℕ × ℕ)) (first last : ℕ) (values : List ℕ) (index : ℕ) → length values ≤ index → IsJoined runs first last values index
-    → (w : ℕ) → covers (runs ++ (first, last) ∷ []) w ≡ ((w == 0) || list_any (λ v. v == w) values)
-joined_all runs first last values index end joined w = rw (take_all index values end) at (joined.covered w)
+-- at the end the runs cover 0 and all those
+pub joined_all : (runs : List (ℕ × ℕ)) (first last : ℕ) (parts : List (ℕ × ℕ)) (index : ℕ) → length parts ≤ index → IsJoined runs first last parts index
+    → (w : ℕ) → covers (runs ++ (first, last) ∷ []) w ≡ ((w == 0) || covers parts w)
+joined_all runs first last parts index end joined w = rw (take_all index parts end) at (joined.covered w)

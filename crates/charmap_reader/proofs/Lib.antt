@@ -5,14 +5,19 @@ pub mod DigitLemmas
 pub mod Padding
 pub mod ShortBytes
 pub mod NameLemmas
+pub mod ValueLemmas
 pub mod ListedLemmas
+mod FrontLemmas
+mod TailLemmas
+mod BlockLemmas
+mod SpanLemmas
 pub mod Adding
 pub mod Moving
 mod Examples
 pub mod Positions
 pub mod Headers
-pub mod ReadingSteps
 pub mod Bodies
 pub mod Intervals
 pub mod Shortest
 mod CharmapExamples
+mod LimitExamples

@@ -1,5 +1,6 @@
 -- Portable names with another encoding than their own.
-use Rattle.std.proofs.Common.{◌≡◌, ℕ, zero, suc, ◌+◌, ◌<◌, Bool, true, false, not, cond, eqb, List, [], ◌∷◌, ◌++◌, length, map, Option, Some, None, ◌||◌, refl, ap, ◌∙◌, inl, inr, arith}
+use Rattle.std.proofs.Math.Bool.{or-false}
+use Rattle.std.proofs.Common.{◌≡◌, ℕ, zero, suc, ◌+◌, ◌<◌, Bool, true, false, not, cond, eqb, List, [], ◌∷◌, ◌++◌, length, map, Option, Some, None, refl, ap, ◌∙◌, inl, inr, arith}
 use Rattle.std.specs.Option.{option_or}
 use Rattle.std.specs.List.{list_all, list_any, range_with_len}
 use Rattle.std.specs.Char.{is_ascii_digit}
@@ -78,7 +79,7 @@ none_moved f each start zero = refl
 none_moved f each start (suc n) = rw (each start) (none_moved f each (start + 1) n)
 
 -- a name of a range
-at_range : (s : Subject) (last : List ℕ) (k : ℕ) → s.last ≡ Some last → name_at s k ≡ name_after s.first k
+pub at_range : (s : Subject) (last : List ℕ) (k : ℕ) → s.last ≡ Some last → name_at s k ≡ name_after s.first k
 at_range s last k h = rw h refl
 
 -- the ends of a range have digits
@@ -101,17 +102,12 @@ range_not_moved s last code more is some =
     0 (more + 1)
 
 -- one name has one entry
-single_more : (s : Subject) (more : ℕ) → s.last ≡ None → more_names s ≡ Some more → more ≡ 0
+pub single_more : (s : Subject) (more : ℕ) → s.last ≡ None → more_names s ≡ Some more → more ≡ 0
 single_more s more is h = let none : Some 0 ≡ Some more = rw is at h in cc
 
 -- one name is at the place 0
-single_name : (s : Subject) → s.last ≡ None → name_at s 0 ≡ s.first
+pub single_name : (s : Subject) → s.last ≡ None → name_at s 0 ≡ s.first
 single_name s is = rw is refl
-
--- a test or nothing
-or_false : (b : Bool) → (b || false) ≡ b
-or_false true = refl
-or_false false = refl
 
 -- its one entry tells whether it is moved
 pub single_moved : (s : Subject) (code : List ℕ) (more : ℕ) → s.last ≡ None → more_names s ≡ Some more → bytes_of (length code) (big_endian code) ≡ code → list_any is_moved (entries s code more) ≡ is_moved (s.first, code)
@@ -120,7 +116,7 @@ single_moved s code more is h back =
     let first : big_endian code + 0 ≡ big_endian code = omega arith in
     let same : bytes_of (length code) (big_endian code + 0) ≡ code = ap (bytes_of (length code)) first ∙ back in
     let entry : (name_at s 0, bytes_of (length code) (big_endian code + 0)) ≡ (s.first, code) = ap {B = Entry} (λ (n : Name). (n, bytes_of (length code) (big_endian code + 0))) (single_name s is) ∙ ap {B = Entry} (λ (bs : List ℕ). (s.first, bs)) same in
-    ap (λ (m : ℕ). list_any is_moved (entries s code m)) none ∙ or_false (is_moved (name_at s 0, bytes_of (length code) (big_endian code + 0))) ∙ ap is_moved entry
+    ap (λ (m : ℕ). list_any is_moved (entries s code m)) none ∙ or-false (is_moved (name_at s 0, bytes_of (length code) (big_endian code + 0))) ∙ ap is_moved entry
 
 -- a portable name is moved where its bytes are not just its code
 moved_is : (e : Entry) (own : ℕ) → portable_code e.0 ≡ Some own → is_moved e ≡ not (bytes_eq e.1 (own ∷ []))

@@ -50,7 +50,7 @@ padded_step width (suc m) some =
     ap (λ ds. ds ++ (48 + suc m % 10) ∷ []) (sym (padded_is (width - 1) (suc m / 10)))
 
 -- 48 and a digit is a decimal digit
-digit_byte : (d : ℕ) → d < 10 → (is_ascii_digit (48 + d) ≡ true) × (digit_value (48 + d) < 10)
+pub digit_byte : (d : ℕ) → d < 10 → (is_ascii_digit (48 + d) ≡ true) × (digit_value (48 + d) < 10)
 digit_byte d small = (grind (arith, nat_tests), grind (arith, nat_tests))
 
 -- a number of some digits ends in a digit
@@ -58,7 +58,7 @@ pub padded_ends : (width n : ℕ) → 0 < width → (front : List ℕ) × (c : �
 padded_ends width n some = (padded (width - 1) (n / 10), 48 + n % 10, padded_step width n (omega arith), (digit_byte (n % 10) (omega arith)).0)
 
 -- the digits of a number are decimal digits, by how large it is
-digits_by : (turns width n : ℕ) → width + n ≤ turns → AllDigits 10 (padded width n)
+pub digits_by : (turns width n : ℕ) → width + n ≤ turns → AllDigits 10 (padded width n)
 digits_by zero width n within =
     let none : width ≡ 0 = omega arith in
     let nothing : n ≡ 0 = omega arith in
@@ -89,7 +89,7 @@ pub padded_own : (ds : List ℕ) → AllDigits 10 ds → padded (length ds) (dig
 padded_own ds all = rw (take_all (length ds) ds (omega arith)) at (own_front ds all (length ds) (omega arith))
 
 -- a number with a digit, as its digits in front and the last
-last_digit : (width n : ℕ) (front : List ℕ) (c : ℕ) → padded width n ≡ front ++ c ∷ [] → (0 < width + n) × (padded (width - 1) (n / 10) ≡ front) × (48 + n % 10 ≡ c)
+pub last_digit : (width n : ℕ) (front : List ℕ) (c : ℕ) → padded width n ≡ front ++ c ∷ [] → (0 < width + n) × (padded (width - 1) (n / 10) ≡ front) × (48 + n % 10 ≡ c)
 last_digit width n front c e = ⊎_elim
     (λ some. let parts = same_from_push (padded (width - 1) (n / 10)) front (48 + n % 10) c (sym (padded_step width n some) ∙ e) in (some, parts.0, parts.1))
     (λ none.

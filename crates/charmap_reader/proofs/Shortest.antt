@@ -2,17 +2,19 @@
 use Rattle.std.specs.List.{range_with_len}
 use Rattle.std.specs.Int.{w32, to_be_bytes}
 use Rattle.std.specs.Int.Count.{count_leading_zeros}
-use Rattle.std.proofs.Common.{◌≡◌, ℕ, zero, suc, ◌+◌, ◌-◌, min, ◌*◌, ◌/◌, ◌%◌, ◌^◌, ◌<◌, ◌≤◌, true, cond, ◌⊎◌, inl, inr, ⊎_elim, List, [], ◌∷◌, ◌++◌, length, map, drop, Option, Some, None, refl, sym, ◌∙◌, ap, arith}
+use Rattle.std.proofs.Common.{◌≡◌, ℕ, zero, suc, ◌+◌, ◌-◌, min, ◌*◌, ◌/◌, ◌%◌, ◌^◌, ◌<◌, ◌≤◌, Bool, true, false, leb, cond, ◌⊎◌, inl, inr, ⊎_elim, List, [], ◌∷◌, ◌++◌, length, map, drop, Option, Some, None, refl, sym, ◌∙◌, ap, arith}
 use Rattle.std.proofs.Math.Nat.{pow-suc, pow-le-pow_right}
 use Rattle.std.proofs.lemmas.Bool.{lt-ltb, le-ltb}
 use Rattle.std.proofs.lemmas.Bool.Decides.{nat_tests}
 use Rattle.std.proofs.lemmas.Nat.{leading_length, mul-le}
 use Rattle.src_lines.specs.declared.atom.Atom.{Atom}
+use Rattle.src_lines.specs.Atoms.{up_to}
 use Rattle.charmap_reader.specs.CodedSet.{big_endian, big_endian_after}
 use Rattle.charmap_reader.specs.Encoding.{atom_number, and_bytes, numbers, is_encoding, encoding, bytes_of, short_bytes, shortest}
-use Rattle.charmap_reader.specs.Charmap.{entries}
+use Rattle.charmap_reader.specs.Charmap.{Entry, entries}
 use Rattle.charmap_reader.specs.Names.{valued_names}
-use Rattle.charmap_reader.specs.Subject.{Subject, name_at}
+use Rattle.charmap_reader.specs.Subject.{Subject, name_at, more_names}
+use Rattle.charmap_reader.proofs.BlockLemmas.{name_at_after}
 
 -- ---- the encoding that a field is
 
@@ -108,13 +110,14 @@ map_range-same f g a (suc n) same =
     cc
 
 -- the entries of a range are its names with their wide values
-pub entries_valued : (s : Subject) (code : List ℕ) (more : ℕ) → is_encoding code ≡ true → big_endian code + more < 256 ^ length code → entries s code more ≡ valued_names s (big_endian code) more
-entries_valued s code more h below =
+pub entries_valued : (s : Subject) (code : List ℕ) (more : ℕ) → more_names s ≡ Some more → is_encoding code ≡ true → big_endian code + more < 256 ^ length code → entries s code more ≡ valued_names s.first (big_endian code) more
+entries_valued s code more is h below =
     let lengths : (1 ≤ length code) × (length code ≤ 4) = length-encoding code h in
-    map_range-same _ _ 0 (more + 1) (λ k low high. ap (λ (bs : List ℕ). (name_at s k, bs)) (
+    map_range-same _ _ 0 (more + 1) (λ k low high.
+    ap {B = Entry} (λ (bs : List ℕ). (name_at s k, bs)) (
     bytes_of-shortest (length code) (big_endian code + k) lengths.0 lengths.1 (omega arith)
-    (⊎_elim (λ e. inl e) (λ e. inr (omega arith)) (least_value code h))
-    ))
+    (⊎_elim (λ e. inl e) (λ e. inr (omega arith)) (least_value code h)))
+    ∙ ap {B = Entry} (λ (name : List ℕ). (name, shortest (big_endian code + k))) (name_at_after s more k is (omega arith)))
 
 -- ---- reading bytes, one after another
 
@@ -162,3 +165,9 @@ drop-to_be_bytes-shortest w front fits zeros =
     let lead : (m : ℕ) × (count_leading_zeros 32 w + m ≡ 32) × (w < 2 ^ m) × (2 ^ m ≤ 2 * w + 1) = leading_length 32 w fits in
     let size : (w < 256 ^ (4 - front)) × ((4 - front ≡ 1) ⊎ (256 ^ (4 - front - 1) ≤ w)) = leading-bytes w (count_leading_zeros 32 w) lead.0 front lead.1 lead.2 lead.3 zeros in
     drop-to_be_bytes w front (omega arith) ∙ bytes_of-shortest (4 - front) w (omega arith) (omega arith) size.0 size.1
+
+-- atoms that are not few enough are more
+pub long_up_to : (most : ℕ) (atoms : List Atom) → None ≡ up_to most atoms → most < length atoms
+long_up_to most atoms none =
+    let P : Bool → Type 0 = λ b. leb (length atoms) most ≡ b → None ≡ cond b (Some atoms) None → most < length atoms in
+    (elim (leb (length atoms) most) as P [ true ↦ λ own e. absurd (cc) | false ↦ λ own e. grind (arith, nat_tests) ]) refl none

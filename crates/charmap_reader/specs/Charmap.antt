@@ -1,5 +1,5 @@
 -- Charmaps: the charset of a text, or its first broken rule (XBD 6.4).
-use Rattle.std.specs.Prelude.{ℕ, ◌+◌, ◌^◌, Bool, false, ◌==◌, ◌||◌, ◌&&◌, not, nat_lt, nat_le, List, [], ◌∷◌, ◌++◌, length, take, drop, map, codes, Option, Some, None, option_map, is_some, position, Ok, Err, if◌then◌else◌}
+use Rattle.std.specs.Prelude.{ℕ, ◌+◌, ◌^◌, Bool, false, ◌==◌, ◌||◌, not, nat_lt, nat_le, List, [], ◌∷◌, ◌++◌, length, take, drop, map, codes, Option, Some, None, is_some, position, Ok, Err, if◌then◌else◌}
 use Rattle.std.specs.List.{list_any, range_with_len}
 use Rattle.std.specs.Int.{is_in_range}
 use Rattle.std.specs.Str.{bytes_eq}
@@ -9,16 +9,16 @@ use Rattle.lc_base.specs.declared.reason.Reason.TheVariants.{NoEnd, BadHeader, B
 use Rattle.lc_base.specs.declared.reason.Limit.TheVariants.{Names}
 use Rattle.lc_base.specs.Reading.{Reads, ◌>>=◌}
 use Rattle.src_lines.specs.declared.signs.Kind.TheVariants.{Charmap}
-use Rattle.src_lines.specs.declared.line.Piece.{Piece}
-use Rattle.src_lines.specs.declared.line.Piece.TheVariants.{Byte, Name as Named}
 use Rattle.src_lines.specs.declared.line.Operand.{Operand}
 use Rattle.src_lines.specs.declared.line.Operand.TheVariants.{Plain, Quoted, Dots, Pair}
 use Rattle.src_lines.specs.declared.fields.Field.{Field}
-use Rattle.src_lines.specs.Words.{blanks, next_word, first_word, second_word}
+use Rattle.src_lines.specs.Words.{blanks, first_word, second_word, closes}
 use Rattle.src_lines.specs.Places.{Logical, start, line_at}
-use Rattle.src_lines.specs.Logical.{front}
+use Rattle.src_lines.specs.Logical.{ends_head, front}
+use Rattle.src_lines.specs.Pieces.{only_bytes}
 use Rattle.src_lines.specs.Tokens.{tokens}
 use Rattle.src_lines.specs.Fields.{fields}
+use Rattle.charmap_reader.specs.declared.names.TheConstants.{NAME_LIMIT}
 use Rattle.charmap_reader.specs.Portable.{Name, first_named, portable_code}
 use Rattle.charmap_reader.specs.CodedSet.{CodedSet, listed, big_endian}
 use Rattle.charmap_reader.specs.Subject.{Subject, subject, more_names, name_at}
@@ -31,11 +31,6 @@ Entry = Name × List ℕ
 -- ---- header lines
 
 -- the bytes of an operand that has no name in it
-abbrev pub only_bytes : List Piece → Option (List ℕ)
-only_bytes [] = Some []
-only_bytes (Byte b ∷ pieces) = option_map (λ bs. b ∷ bs) (only_bytes pieces)
-only_bytes (Named name ∷ pieces) = None
-
 abbrev pub operand_bytes : Operand → Option (List ℕ)
 operand_bytes (Plain pieces) = only_bytes pieces
 operand_bytes (Quoted pieces) = only_bytes pieces
@@ -44,8 +39,9 @@ operand_bytes (Pair left right) = None
 
 -- the bytes of a header line's one operand
 abbrev pub header_bytes : List (Place × Operand) → Option (List ℕ)
+header_bytes [] = None
 header_bytes (operand ∷ []) = operand_bytes operand.1
-header_bytes _ = None
+header_bytes (operand ∷ other ∷ more) = None
 
 abbrev pub line_bytes : Logical → Reads (Option (List ℕ))
 line_bytes l = tokens l >>= λ line. Ok (header_bytes line.operands)
@@ -119,7 +115,7 @@ listed_at place given new = listed_with place new (added given new)
 abbrev pub counted_at : Place → Place → List Entry → Subject → List ℕ → ℕ → Reads (List Entry)
 counted_at place code_place given s code more =
     if nat_le (256 ^ length code) (big_endian code + more) then Err (code_place, BadEncoding)
-    else (if nat_lt 65536 (length given + (more + 1)) then Err (place, OverLimit Names)
+    else (if nat_lt NAME_LIMIT (length given + (more + 1)) then Err (place, OverLimit Names)
     else listed_at place given (entries s code more))
 
 -- a missing encoding is at fault at the line's first word
@@ -151,14 +147,11 @@ mappings given (l ∷ ls) = mapping given l >>= λ more. mappings more ls
 
 -- the line before the body: just this word
 abbrev pub opens_body : Logical → Bool
-opens_body l = bytes_eq (first_word l.bytes) (codes "CHARMAP") && (length (second_word l.bytes) == 0)
+opens_body l = ends_head Charmap (first_word l.bytes) (second_word l.bytes)
 
 -- the line after the body: just these two words
 abbrev pub closes_body : Logical → Bool
-closes_body l =
-    let first = next_word l.bytes in
-    let second = next_word first.rest in
-    bytes_eq first.text (codes "END") && bytes_eq second.text (codes "CHARMAP") && (length (next_word second.rest).text == 0)
+closes_body l = closes (codes "CHARMAP") l.bytes
 
 -- the entries of a body of so many lines, behind a line of this place
 abbrev pub body_of : Place → List Logical → Option ℕ → Reads (List Entry)

@@ -8,6 +8,10 @@ pub mod Distances
 pub mod Subject
 pub mod Seen
 pub mod Encoding
+pub mod Tails
+pub mod Fronts
+pub mod Spans
+pub mod Blocks
 pub mod Names
 pub mod Listing
 pub mod Charmap

@@ -1,14 +1,15 @@
 -- What the charset of a charmap keeps beside its names.
-use Rattle.std.specs.Prelude.{◌≡◌, ℕ, ◌==◌, ◌||◌, List}
-use Rattle.std.specs.List.{list_any}
-use Rattle.charmap_reader.specs.Portable.{is_portable}
-use Rattle.charmap_reader.specs.CodedSet.{CodedSet, has}
+use Rattle.std.specs.Prelude.{◌≡◌, ℕ, List, All}
+use Rattle.charmap_reader.specs.Charmap.{Entry}
+use Rattle.charmap_reader.specs.CodedSet.{listed, has, big_endian}
+use Rattle.charmap_reader.specs.Encoding.{shortest}
 use Rattle.charmap_reader.specs.Runs.{covers}
 
--- runs that have just the values of a set's characters
-abbrev pub HasRuns : CodedSet → List (ℕ × ℕ) → Type 0
-HasRuns set runs = (w : ℕ) → covers runs w ≡ has set w
+-- an entry has the one encoding that its wide value may have
+abbrev pub IsShort : Entry → Type 0
+IsShort e = shortest (big_endian e.1) ≡ e.1
 
--- values with those of the portable characters added, but for 0
-abbrev pub HasPortable : List ℕ → List ℕ → Type 0
-HasPortable old new = (w : ℕ) → ((w == 0) || list_any (λ v. v == w) new) ≡ (is_portable w || list_any (λ v. v == w) old)
+-- runs that have just the values of the charset with these names, and encodings that their values give back
+pub record IsListing (name : List ℕ) (entries : List Entry) (runs : List (ℕ × ℕ)) : Type 0 where
+  pub covered : (w : ℕ) → covers runs w ≡ has (listed name entries) w
+  pub short : All IsShort entries

@@ -1,32 +1,53 @@
--- The names of a charmap as they are kept: with their wide values.
-use Rattle.std.specs.Prelude.{◌≡◌, ℕ, ◌+◌, Bool, true, false, List, map, Some, None}
+-- The names of a charmap as they are kept: fronts, and spans of tails.
+use Rattle.std.specs.Prelude.{◌≡◌, ℕ, ◌+◌, ◌^◌, ◌<◌, ◌≤◌, Bool, true, false, List, [], ◌++◌, length, get_or, map, flat_map, All, Some, None}
 use Rattle.std.specs.List.{range_with_len}
-use Rattle.std.specs.HashMap.{HashMap}
-use Rattle.std.specs.declared.vec.Vec.{Vec}
+use Rattle.charmap_reader.specs.declared.names.TheConstants.{NAME_LIMIT}
+use Rattle.charmap_reader.specs.declared.spans.Block.{Block}
+use Rattle.charmap_reader.specs.declared.spans.Span.{Span}
 use Rattle.charmap_reader.specs.Portable.{Name}
-use Rattle.charmap_reader.specs.Subject.{Subject, name_at, name_after}
+use Rattle.charmap_reader.specs.Numbering.{padded}
+use Rattle.charmap_reader.specs.Subject.{name_after}
+use Rattle.charmap_reader.specs.Tails.{IsFront}
 use Rattle.charmap_reader.specs.Encoding.{shortest}
 use Rattle.charmap_reader.specs.Charmap.{Entry, added}
 
--- a name with the bytes of its character
-abbrev pub entry_of : {A : Type 0} → Vec ℕ A × ℕ → Entry
-entry_of e = (e.0.items, shortest e.1)
+-- the name of a front with the tail that has this place in a block, and its encoding
+abbrev pub block_entry : Name → Block → ℕ → Entry
+block_entry front b k = (front ++ padded b.width (b.first + k), shortest (b.value + k))
 
--- the names with the bytes of their characters, in order
-abbrev pub entries_of : {A S : Type 0} → HashMap (Vec ℕ A) ℕ S → List Entry
-entries_of names = map entry_of names.entries
+-- all of them
+abbrev pub block_entries : Name → Block → List Entry
+block_entries front b = map (block_entry front b) (range_with_len 0 (b.more + 1))
 
--- the name with this place in a subject, where the first one has this wide value
-abbrev pub valued_at : Subject → ℕ → ℕ → Entry
-valued_at s value k = (name_at s k, shortest (value + k))
+-- the names of a span
+abbrev pub span_entries : List Name → Span → List Entry
+span_entries fronts s = block_entries (get_or fronts s.front []) s.block
 
--- the same for a range from this name on
+-- the names of spans, in order
+abbrev pub all_entries : List Name → List Span → List Entry
+all_entries fronts spans = flat_map (span_entries fronts) spans
+
+-- the numbers of a block have no more digits than its width, which is that of the tails behind a front, and its values fit 32 bits
+abbrev pub IsBlockOf : Name → Block → Type 0
+IsBlockOf front b = IsFront front b.width × (b.first + b.more < 10 ^ b.width) × (b.value + b.more < 2 ^ 32)
+
+-- the front of a span is there, and its names are formed
+abbrev pub IsFormed : List Name → Span → Type 0
+IsFormed fronts s = (s.front < length fronts) × IsBlockOf (get_or fronts s.front []) s.block
+
+-- so are those of all spans, and their names are counted
+pub record IsKept (fronts : List Name) (spans : List Span) (len : ℕ) : Type 0 where
+  pub counted : len ≡ length (all_entries fronts spans)
+  pub few : len ≤ NAME_LIMIT
+  pub formed : All (IsFormed fronts) spans
+
+-- the names of a range from this name on, with the wide values from this one on
 abbrev pub valued_after : Name → ℕ → ℕ → Entry
 valued_after first value k = (name_after first k, shortest (value + k))
 
--- so many names of a subject and one more, with their encodings
-abbrev pub valued_names : Subject → ℕ → ℕ → List Entry
-valued_names s value more = map (valued_at s value) (range_with_len 0 (more + 1))
+-- so many of them and one more
+abbrev pub valued_names : Name → ℕ → ℕ → List Entry
+valued_names first value more = map (valued_after first value) (range_with_len 0 (more + 1))
 
 -- whether each of these entries has a new name, and the entries with them where that is so
 abbrev pub IsAdded : List Entry → List Entry → List Entry → Bool → Type 0

@@ -4,7 +4,7 @@ use Rattle.std.specs.Str.{bytes_eq}
 use Rattle.src_lines.specs.declared.line.Piece.TheVariants.{Name as Named}
 use Rattle.src_lines.specs.declared.atom.Atom.{Atom}
 use Rattle.src_lines.specs.declared.atom.Atom.TheVariants.{Made}
-use Rattle.src_lines.specs.Tokens.{is_dots}
+use Rattle.src_lines.specs.Shapes.{is_dots}
 use Rattle.charmap_reader.specs.Portable.{Name}
 use Rattle.charmap_reader.specs.Numbering.{stem, digits, number, padded}
 

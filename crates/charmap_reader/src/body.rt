@@ -1,74 +1,85 @@
 //! Lines of a charmap's body (XBD 6.4).
 
-ghost use Rattle.std.specs.Prelude.{◌≡◌, ◌+◌, ◌^◌, ◌<◌, ◌≤◌, ℕ, IfOk, Some, true, length, map};
-ghost use Rattle.std.specs.List.{list_any, range_with_len};
+ghost use Rattle.std.specs.Prelude.{◌≡◌, ◌+◌, ◌^◌, ◌<◌, ◌≤◌, ◌++◌, ℕ, IfOk, Some, true, length, min, option_map};
+ghost use Rattle.std.specs.List.{list_any};
 ghost use Rattle.lc_base.specs.Reading.{Gives};
 ghost use Rattle.charmap_reader.specs.CodedSet.{big_endian};
 ghost use Rattle.charmap_reader.specs.Code.{code_bytes};
-ghost use Rattle.charmap_reader.specs.Names.{entries_of, valued_after, valued_names, IsAdded};
-ghost use Rattle.charmap_reader.specs.Numbering.{digits};
+ghost use Rattle.charmap_reader.specs.Names.{valued_names, IsAdded};
+ghost use Rattle.charmap_reader.specs.Blocks.{block_from};
+ghost use Rattle.std.specs.Str.Parse.{AllDigits};
 ghost use Rattle.charmap_reader.specs.Subject.{more_names};
 ghost use Rattle.charmap_reader.specs.Encoding.{is_encoding};
 ghost use Rattle.charmap_reader.specs.Seen.{seen};
-ghost use Rattle.charmap_reader.specs.Charmap.{entries, is_moved, listed_at, mapped};
+ghost use Rattle.charmap_reader.specs.Charmap.{entries, is_moved, listed_at, counted_at, mapped};
 
 use crate::code::Code;
-use crate::encoding::encoding_of;
-use crate::names::{Names, add_name};
-use crate::numbering::{next_number, split_number};
+use crate::encoding::encoding_in;
+use crate::names::{NAME_LIMIT, Names};
+use crate::numbering::{next_block, split_number};
 use crate::portable::portable_code;
-use crate::subject::{Subject, more_names, subject_of};
+use crate::spans::Block;
+use crate::subject::{SUBJECT_ATOMS, Subject, more_names, subject_in};
+use crate::tail::{number_of, split_tail};
 use lc_base::{Limit, Place, Reason, TextFault};
 use src_lines::Field;
 use std::alloc::{AllocError, Global};
 
-/// How many names a charmap has at most.
-const LIMIT: u64 = 65536;
+/// Two parts of a name as one.
+fn joined(alloc: Global, front: &[u8], back: &[u8]) -> Result<Vec<u8>, AllocError>
+    ensures { IfOk result (λ name. name.items ≡ front.now ++ back.now) }
+{
+    let mut name = Vec::with_capacity(alloc, front.len() + back.len())?;
+    name.extend_from_slice(front)?;
+    name.extend_from_slice(back)?;
+    Ok(name)
+}
 
-/// Adds the names of a range: the first one and so many more. Tells whether each was new.
-fn add_range(
+/// The tails from this one on, with so many more or as far as their width goes.
+fn block_from(tail: &[u8], more: u32, value: u32) -> Block
+    requires all_digits { AllDigits 10 tail.now }
+    requires few { length tail.now ≤ 9 }
+    ensures { result ≡ block_from tail.now more value }
+{
+    let width = tail.len() as u32;
+    let first = number_of(tail);
+    let last = 10u32.pow(width) - 1;
+    let more = more.min(last - first);
+    Block {
+        width,
+        first,
+        more,
+        value,
+    }
+}
+
+/// Adds names that count up: the first one and so many more. Tells whether all are new.
+fn add_names(
     alloc: Global,
     names: &mut Names,
     first: &[u8],
     more: u32,
     value: u32,
 ) -> Result<bool, AllocError>
-    requires digits { 0 < length (digits first.now) }
-    requires few { more < 65536 }
+    requires few { length names.old + more < NAME_LIMIT }
     requires fits { value + more < 2 ^ 32 }
-    ensures { IfOk result (IsAdded (entries_of names.old) (map (valued_after first.now value) (range_with_len 0 (more + 1))) (entries_of names.new)) }
+    ensures { IfOk result (IsAdded names.old (valued_names first.now value more) names.new) }
 {
     let (stem, digits) = split_number(first);
     let mut digits = Vec::from_slice(alloc, digits)?;
-    for k in 0..more + 1 {
-        let mut name = Vec::with_capacity(alloc, stem.len() + digits.len())?;
-        name.extend_from_slice(stem)?;
-        name.extend_from_slice(&digits)?;
-        let is_new = add_name(names, name, value + k)?;
-        if !is_new {
+    let mut done = 0;
+    loop {
+        let (head, tail) = split_tail(&digits);
+        let block = block_from(tail, more - done, value + done);
+        let front = joined(alloc, stem, head)?;
+        if !names.add(alloc, &front, block)? {
             return Ok(false);
         }
-        digits = next_number(alloc, &digits)?;
-    }
-    Ok(true)
-}
-
-/// Adds the names of a subject. Tells whether each was new.
-fn add_names(
-    alloc: Global,
-    names: &mut Names,
-    subject: &Subject<'_>,
-    more: u32,
-    value: u32,
-) -> Result<bool, AllocError>
-    requires names { more_names (seen subject.now) ≡ Some more }
-    requires few { more < 65536 }
-    requires fits { value + more < 2 ^ 32 }
-    ensures { IfOk result (IsAdded (entries_of names.old) (valued_names (seen subject.now) value more) (entries_of names.new)) }
-{
-    match subject.last {
-        Some(_) => add_range(alloc, names, subject.first, more, value),
-        None => Ok(add_name(names, Vec::from_slice(alloc, subject.first)?, value)?),
+        if done + block.more == more {
+            return Ok(true);
+        }
+        done += block.more + 1;
+        digits = next_block(alloc, head, tail.len())?;
     }
 }
 
@@ -107,18 +118,42 @@ fn add_subject(
     code: &Code,
 ) -> Result<(), TextFault>
     requires names { more_names (seen subject.now) ≡ Some more }
-    requires few { more < 65536 }
+    requires few { length names.old + more < NAME_LIMIT }
     requires encoding { is_encoding (code_bytes code.now) ≡ true }
     requires fits { big_endian (code_bytes code.now) + more < 256 ^ length (code_bytes code.now) }
-    ensures { Gives (λ _. entries_of names.new) result (listed_at place (entries_of names.old) (entries (seen subject.now) (code_bytes code.now) more)) }
+    ensures { Gives (λ _. names.new) result (listed_at place names.old (entries (seen subject.now) (code_bytes code.now) more)) }
 {
-    if !add_names(alloc, names, subject, more, code.value())? {
+    if !add_names(alloc, names, subject.first, more, code.value())? {
         return Err(TextFault::At(place, Reason::NameTwice));
     }
     if is_moved(subject, code) {
         return Err(TextFault::At(place, Reason::PortableMoved));
     }
     Ok(())
+}
+
+/// Adds the names of a line with these two fields, which begin with this subject and this encoding,
+/// unless the encodings or the names would be too many.
+fn add_counted(
+    alloc: Global,
+    names: &mut Names,
+    name: &Field,
+    code: &Field,
+    subject: &Subject<'_>,
+    more: u64,
+    first: &Code,
+) -> Result<(), TextFault>
+    requires names { option_map (λ n. min n 4294967296) (more_names (seen subject.now)) ≡ Some more }
+    requires encoding { is_encoding (code_bytes first.now) ≡ true }
+    ensures { (m : ℕ) → more_names (seen subject.now) ≡ Some m → Gives (λ _. names.new) result (counted_at name.now.place code.now.place names.old (seen subject.now) (code_bytes first.now) m) }
+{
+    if u64::from(first.value()) + more >= past(first) {
+        return Err(TextFault::At(code.place, Reason::BadEncoding));
+    }
+    if names.len() as u64 + more >= NAME_LIMIT as u64 {
+        return Err(TextFault::At(name.place, Reason::OverLimit(Limit::Names)));
+    }
+    add_subject(alloc, names, name.place, subject, more as u32, first)
 }
 
 /// Adds the names of a line with these two fields.
@@ -128,24 +163,19 @@ pub fn add_line(
     name: &Field,
     code: &Field,
 ) -> Result<(), TextFault>
-    ensures { Gives (λ _. entries_of names.new) result (mapped (entries_of names.old) name.now code.now) }
+    ensures { Gives (λ _. names.new) result (mapped names.old name.now code.now) }
 {
-    let Some(subject) = subject_of(name.atoms.as_slice()) else {
+    let atoms = name.atoms.up_to(alloc, SUBJECT_ATOMS)?;
+    let Some(subject) = subject_in(&atoms) else {
         return Err(TextFault::At(name.place, Reason::BadEncoding));
     };
     let Some(more) = more_names(&subject) else {
         return Err(TextFault::At(name.place, Reason::RangeBackward));
     };
-    let Some(first) = encoding_of(code.atoms.as_slice()) else {
+    let Some(first) = encoding_in(alloc, &code.atoms)? else {
         let missing = code.atoms.is_empty();
         let place = if missing { name.place } else { code.place };
         return Err(TextFault::At(place, Reason::BadEncoding));
     };
-    if u64::from(first.value()) + more >= past(&first) {
-        return Err(TextFault::At(code.place, Reason::BadEncoding));
-    }
-    if names.len() as u64 + more >= LIMIT {
-        return Err(TextFault::At(name.place, Reason::OverLimit(Limit::Names)));
-    }
-    add_subject(alloc, names, name.place, &subject, more as u32, &first)
+    add_counted(alloc, names, name, code, &subject, more, &first)
 }

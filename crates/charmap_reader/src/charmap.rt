@@ -3,7 +3,6 @@
 ghost use Rattle.std.specs.Prelude.{◌≡◌, ◌+◌, ◌-◌, ◌^◌, [], ◌<◌, ◌≤◌, length, IfSome, position, take, drop, option_map, Some};
 ghost use Rattle.lc_base.specs.Reading.{Gives};
 ghost use Rattle.src_lines.specs.Places.{line_at};
-ghost use Rattle.charmap_reader.specs.Names.{entries_of};
 ghost use Rattle.charmap_reader.specs.Charmap.{opens_body, closes_body, headers, mapping, mappings, text_start, charset_of, front_charset, charmap};
 
 use crate::body::add_line;
@@ -11,12 +10,8 @@ use crate::charset::Charset;
 use crate::header::read_header;
 use crate::names::Names;
 use lc_base::{ByteText, Place, Reason, TextFault};
-use src_lines::{Kind, Lines, next_word, split_front};
+use src_lines::{Kind, Lines, closes, ends_head, next_word, split_front};
 use std::alloc::Global;
-
-const CHARMAP: &[u8] = b"CHARMAP";
-
-const END: &[u8] = b"END";
 
 /// Whether a line is the one before the body.
 fn opens_body(lines: &Lines, i: usize) -> bool
@@ -24,7 +19,7 @@ fn opens_body(lines: &Lines, i: usize) -> bool
     ensures { result ≡ opens_body (line_at lines.now i) }
 {
     let (first, second) = lines.first_words(i);
-    first == CHARMAP && second.is_empty()
+    ends_head(Kind::Charmap, first, second)
 }
 
 /// Whether a line is the one after the body.
@@ -32,9 +27,7 @@ fn closes_body(lines: &Lines, i: usize) -> bool
     requires { i < length lines.now }
     ensures { result ≡ closes_body (line_at lines.now i) }
 {
-    let first = next_word(lines.bytes(i));
-    let second = next_word(first.rest);
-    first.text == END && second.text == CHARMAP && next_word(second.rest).text.is_empty()
+    closes(b"CHARMAP", lines.bytes(i))
 }
 
 /// The number of the line before the body.
@@ -86,7 +79,7 @@ fn read_headers(
 #[tactic(auto, unfolding(crate::specs::Charmap::mapping))]
 fn read_line(alloc: Global, names: &mut Names, lines: &Lines, i: usize) -> Result<(), TextFault>
     requires { i < length lines.now }
-    ensures { Gives (λ _. entries_of names.new) result (mapping (entries_of names.old) (line_at lines.now i)) }
+    ensures { Gives (λ _. names.new) result (mapping names.old (line_at lines.now i)) }
 {
     let (name, code) = lines.fields(alloc, i)?;
     add_line(alloc, names, &name, &code)
@@ -96,7 +89,7 @@ fn read_line(alloc: Global, names: &mut Names, lines: &Lines, i: usize) -> Resul
 fn read_body(alloc: Global, lines: &Lines, start: usize, end: usize) -> Result<Names, TextFault>
     requires order { start ≤ end }
     requires within { end ≤ length lines.now }
-    ensures { Gives (λ names. entries_of names) result (mappings [] (take (end - start) (drop start lines.now))) }
+    ensures { Gives (λ names. names) result (mappings [] (take (end - start) (drop start lines.now))) }
 {
     let mut names = Names::new(alloc);
     for i in start..end {

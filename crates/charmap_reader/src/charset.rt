@@ -5,7 +5,6 @@ ghost use Rattle.std.specs.Option.{option_map};
 ghost use Rattle.charmap_reader.specs.CodedSet.{utf8, posix, listed, set_name, has, named, named_beside, encoded, Decodes, valued};
 ghost use Rattle.charmap_reader.specs.Code.{code_bytes, IsPadded};
 ghost use Rattle.charmap_reader.specs.Runs.{IsNextRun};
-ghost use Rattle.charmap_reader.specs.Names.{entries_of};
 
 use crate::code::Code;
 use crate::kind::Kind;
@@ -50,7 +49,7 @@ impl Charset {
 
     /// The charset of a charmap with this code set name and these names.
     pub(crate) fn listed(alloc: Global, name: ByteText, names: Names) -> Result<Charset, AllocError>
-        ensures { IfOk result (λ c. c ≡ listed name (entries_of names)) }
+        ensures { IfOk result (λ c. c ≡ listed name names) }
     {
         Ok(Charset {
             kind: Kind::Listed(Listed::of(alloc, name, names)?),

@@ -1,11 +1,12 @@
 //! Encodings in a charmap (XBD 6.4).
 
-ghost use Rattle.std.specs.Prelude.{◌≡◌, ◌<◌, ◌≤◌, length, option_map, if◌then◌else◌, Some, None};
+ghost use Rattle.std.specs.Prelude.{◌≡◌, ◌<◌, ◌≤◌, length, option_map, if◌then◌else◌, IfOk, Some, None};
 ghost use Rattle.charmap_reader.specs.Code.{code_bytes};
 ghost use Rattle.charmap_reader.specs.Encoding.{atom_number, is_encoding, encoding};
 
 use crate::code::Code;
-use src_lines::Atom;
+use src_lines::{Atom, Atoms};
+use std::alloc::{AllocError, Global};
 
 /// The byte of an atom that is a number.
 fn number(atom: &Atom) -> Option<u8>
@@ -30,7 +31,7 @@ fn coded(bytes: &[u8]) -> Option<Code>
 }
 
 /// The encoding that a whole field is: one to four numbers, of which the first of several is not 0.
-pub fn encoding_of(atoms: &[Atom]) -> Option<Code>
+fn encoding_of(atoms: &[Atom]) -> Option<Code>
     ensures { option_map code_bytes result ≡ encoding atoms.now }
 {
     match atoms {
@@ -39,5 +40,15 @@ pub fn encoding_of(atoms: &[Atom]) -> Option<Code>
         [a, b, c] => coded(&[number(a)?, number(b)?, number(c)?]),
         [a, b, c, d] => coded(&[number(a)?, number(b)?, number(c)?, number(d)?]),
         _ => None,
+    }
+}
+
+/// The encoding that a field's atoms are, all of them.
+pub fn encoding_in(alloc: Global, atoms: &Atoms) -> Result<Option<Code>, AllocError>
+    ensures { IfOk result (λ o. option_map code_bytes o ≡ encoding atoms.now) }
+{
+    match atoms.up_to(alloc, 4)? {
+        Some(atoms) => Ok(encoding_of(atoms.as_slice())),
+        None => Ok(None),
     }
 }

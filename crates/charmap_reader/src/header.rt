@@ -1,13 +1,13 @@
 //! Header lines of a charmap (XBD 6.4).
 
-ghost use Rattle.std.specs.Prelude.{◌≡◌, ◌<◌, length, IfOk, option_map};
+ghost use Rattle.std.specs.Prelude.{◌≡◌, ◌<◌, length, option_map};
 ghost use Rattle.lc_base.specs.Reading.{Gives};
 ghost use Rattle.src_lines.specs.Places.{line_at};
-ghost use Rattle.charmap_reader.specs.Charmap.{only_bytes, header_bytes, line_bytes, is_count, named_by, counted_by, gives_name, gives_count, header};
+ghost use Rattle.charmap_reader.specs.Charmap.{header_bytes, line_bytes, is_count, named_by, counted_by, gives_name, gives_count, header};
 
 use lc_base::{ByteText, Place, Reason, TextFault};
-use src_lines::{Lines, Operand, Piece};
-use std::alloc::{AllocError, Global};
+use src_lines::{Lines, Operand};
+use std::alloc::Global;
 
 const CODE_SET_NAME: &[u8] = b"<code_set_name>";
 
@@ -15,32 +15,13 @@ const MB_CUR_MAX: &[u8] = b"<mb_cur_max>";
 
 const MB_CUR_MIN: &[u8] = b"<mb_cur_min>";
 
-/// The bytes of an operand, unless there is a name in it.
-fn only_bytes(alloc: Global, pieces: &[Piece]) -> Result<Option<ByteText>, AllocError>
-    ensures { IfOk result (λ o. o ≡ only_bytes pieces.now) }
-{
-    let mut bytes = Vec::with_capacity(alloc, pieces.len())?;
-    for piece in pieces {
-        match piece {
-            Piece::Byte(byte) => bytes.push(*byte)?,
-            Piece::Name(_) => return Ok(None),
-        }
-    }
-    Ok(Some(ByteText::from_vec(bytes)))
-}
-
 /// The bytes of a header line's one operand.
-fn header_bytes(
-    alloc: Global,
-    operands: &[(Place, Operand)],
-) -> Result<Option<ByteText>, AllocError>
-    ensures { IfOk result (λ o. o ≡ header_bytes operands.now) }
+fn header_bytes(operands: &[(Place, Operand)]) -> Option<&[u8]>
+    ensures { option_map (λ bytes. bytes.now) result ≡ header_bytes operands.now }
 {
     match operands {
-        [(_, Operand::Plain(pieces))] | [(_, Operand::Quoted(pieces))] => {
-            only_bytes(alloc, pieces.as_slice())
-        }
-        _ => Ok(None),
+        [(_, Operand::Plain(pieces))] | [(_, Operand::Quoted(pieces))] => pieces.as_bytes(),
+        _ => None,
     }
 }
 
@@ -50,7 +31,10 @@ fn operand_bytes(alloc: Global, lines: &Lines, i: usize) -> Result<Option<ByteTe
     ensures { Gives (λ o. o) result (line_bytes (line_at lines.now i)) }
 {
     let line = lines.tokens(alloc, i)?;
-    Ok(header_bytes(alloc, line.operands.as_slice())?)
+    match header_bytes(line.operands.as_slice()) {
+        Some(bytes) => Ok(Some(ByteText::of(alloc, bytes)?)),
+        None => Ok(None),
+    }
 }
 
 /// Whether an operand is a count of bytes: one digit from 1 to 4.

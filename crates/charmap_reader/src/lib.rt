@@ -7,6 +7,7 @@ mod charmap;
 mod charset;
 mod code;
 mod encoding;
+mod fronts;
 mod header;
 mod hex;
 mod kind;
@@ -15,7 +16,9 @@ mod names;
 mod numbering;
 mod portable;
 mod runs;
+mod spans;
 mod subject;
+mod tail;
 #[cfg(test)]
 mod tests;
 mod unicode;

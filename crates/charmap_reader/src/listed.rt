@@ -1,18 +1,22 @@
 //! The charset of a charmap.
 
-ghost use Rattle.std.specs.Prelude.{◌≡◌, ◌≤◌, IfOk, OnOk, IfSome, option_map};
+ghost use Rattle.std.specs.Prelude.{◌≡◌, ◌≤◌, IfOk, IfSome, option_map};
 ghost use Rattle.charmap_reader.specs.CodedSet.{listed, set_name, has, named_beside, encoded, Decodes};
 ghost use Rattle.charmap_reader.specs.Code.{code_bytes, IsPadded};
 ghost use Rattle.charmap_reader.specs.Runs.{IsNextRun};
-ghost use Rattle.charmap_reader.specs.Names.{entries_of};
-ghost use Rattle.charmap_reader.specs.Listing.{HasPortable};
 
 use crate::code::Code;
-use crate::names::{Names, value_named, values_of};
+use crate::names::Names;
 use crate::runs::Runs;
 use lc_base::ByteText;
 use std::alloc::{AllocError, Global};
 use std::marker::Model;
+
+/// The codes of the portable control characters but 0.
+const CONTROLS: (u32, u32) = (7, 13);
+
+/// The codes of the other portable characters.
+const VISIBLE: (u32, u32) = (32, 126);
 
 /// A code set name, names with their wide values, and all wide values as runs.
 #[derive(Debug, Drop)]
@@ -24,37 +28,24 @@ pub struct Listed {
 
 impl Model for Listed {
     ghost use Rattle.charmap_reader.specs.CodedSet.{CodedSet, listed};
-    ghost use Rattle.charmap_reader.specs.Names.{entries_of};
-    ghost use Rattle.charmap_reader.specs.Listing.{HasRuns};
+    ghost use Rattle.charmap_reader.specs.Listing.{IsListing};
 
     ghost Value = { CodedSet };
 
-    ghost view = { λ l. listed l.name (entries_of l.names) };
+    ghost view = { λ l. listed l.name l.names };
 
-    ghost invariant = { λ l. HasRuns (listed l.name (entries_of l.names)) l.runs };
-}
-
-/// Adds the codes of the portable characters but 0.
-fn add_portable(values: &mut Vec<u32>) -> Result<(), AllocError>
-    ensures { OnOk result (HasPortable values.old.items values.new.items) }
-{
-    for control in 7..14 {
-        values.push(control)?;
-    }
-    for visible in 32..127 {
-        values.push(visible)?;
-    }
-    Ok(())
+    ghost invariant = { λ l. IsListing l.name l.names l.runs };
 }
 
 impl Listed {
     /// The charset with this code set name and these names.
     pub fn of(alloc: Global, name: ByteText, names: Names) -> Result<Listed, AllocError>
-        ensures { IfOk result (λ l. l ≡ listed name (entries_of names)) }
+        ensures { IfOk result (λ l. l ≡ listed name names) }
     {
-        let mut values = values_of(alloc, &names)?;
-        add_portable(&mut values)?;
-        let runs = Runs::of(alloc, values)?;
+        let mut parts = names.runs(alloc)?;
+        parts.push(CONTROLS)?;
+        parts.push(VISIBLE)?;
+        let runs = Runs::of(alloc, parts)?;
         Ok(Listed { name, names, runs })
     }
 
@@ -76,7 +67,7 @@ impl Listed {
     pub fn named(&self, name: &[u8]) -> Option<u32>
         ensures { result ≡ named_beside self.now name.now }
     {
-        value_named(&self.names, name)
+        self.names.value(name)
     }
 
     /// The encoding of a character.

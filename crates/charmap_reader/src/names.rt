@@ -1,39 +1,98 @@
 //! The names of a charmap with their wide values, in the order of the text.
 
-ghost use Rattle.std.specs.Prelude.{◌≡◌, ◌∷◌, [], IfOk, map, option_map};
+ghost use Rattle.std.specs.Prelude.{◌≡◌, ℕ, ◌+◌, ◌<◌, ◌≤◌, [], All, length, IfOk, option_map};
+ghost use Rattle.std.specs.List.{list_any};
 ghost use Rattle.charmap_reader.specs.Portable.{first_named};
-ghost use Rattle.charmap_reader.specs.CodedSet.{big_endian};
-ghost use Rattle.charmap_reader.specs.Encoding.{shortest};
-ghost use Rattle.charmap_reader.specs.Names.{entries_of, IsAdded};
+ghost use Rattle.charmap_reader.specs.CodedSet.{big_endian, has_value};
+ghost use Rattle.charmap_reader.specs.Runs.{covers};
+ghost use Rattle.charmap_reader.specs.Listing.{IsShort};
+ghost use Rattle.charmap_reader.specs.Names.{block_entries, IsBlockOf, IsAdded};
 
-use indexmap::IndexMap;
-use std::alloc::{AllocError, AllocFailed, Global};
+use crate::fronts::Fronts;
+use crate::spans::{Block, Span, Spans};
+use crate::tail::{number_of, split_tail};
+use std::alloc::{AllocError, Global};
+use std::marker::Model;
 
-/// Names with the wide values of their characters, looked up by hash.
-pub type Names = IndexMap<Vec<u8>, u32>;
+/// The most names of a charmap (our own rule).
+pub const NAME_LIMIT: usize = 65536;
 
-/// Adds a name, and tells whether it is new.
-pub fn add_name(
-    names: &mut Names,
-    name: Vec<u8>,
-    value: u32,
-) -> Result<bool, AllocFailed<(Vec<u8>, u32)>>
-    ensures { IfOk result (λ is_new. IsAdded (entries_of names.old) ((name.items, shortest value) ∷ []) (entries_of names.new) is_new) }
-{
-    let old = names.insert(name, value)?;
-    Ok(old.is_none())
+/// Names with wide values. Names that count up are one entry.
+#[derive(Debug, Drop)]
+pub struct Names {
+    fronts: Fronts,
+    spans: Spans,
+    len: usize,
 }
 
-/// The wide value of a name.
-pub fn value_named(names: &Names, name: &[u8]) -> Option<u32>
-    ensures { result ≡ option_map big_endian (first_named (entries_of names.now) name.now) }
-{
-    names.get(name).copied()
+impl Model for Names {
+    ghost use Rattle.std.specs.Prelude.{List};
+    ghost use Rattle.charmap_reader.specs.Charmap.{Entry};
+
+    ghost Value = { List Entry };
+
+    ghost use Rattle.charmap_reader.specs.Names.{all_entries, IsKept};
+
+    ghost view = { λ n. all_entries n.fronts n.spans };
+
+    ghost invariant = { λ n. IsKept n.fronts n.spans n.len };
 }
 
-/// The wide values, in the order of the names.
-pub fn values_of(alloc: Global, names: &Names) -> Result<Vec<u32>, AllocError>
-    ensures { IfOk result (λ v. v.items ≡ map (λ e. big_endian e.1) (entries_of names.now)) }
-{
-    names.values().copied().collect(alloc)
+impl Names {
+    pub fn new(alloc: Global) -> Names
+        ensures { result ≡ [] }
+    {
+        Names {
+            fronts: Fronts::new(alloc),
+            spans: Spans::new(alloc),
+            len: 0,
+        }
+    }
+
+    pub fn len(&self) -> usize
+        ensures is { result ≡ length self.now }
+        ensures few { result ≤ NAME_LIMIT }
+    {
+        self.len
+    }
+
+    /// The wide value of a name.
+    pub fn value(&self, name: &[u8]) -> Option<u32>
+        ensures { result ≡ option_map big_endian (first_named self.now name.now) }
+    {
+        let (front, tail) = split_tail(name);
+        let front = self.fronts.find(front)?;
+        let number = number_of(tail);
+        let span = self.spans.find((front, tail.len() as u32, number))?;
+        Some(span.block.value + (number - span.block.first))
+    }
+
+    /// Adds the names of a front with the tails of a block, and tells whether all are new.
+    pub fn add(&mut self, alloc: Global, front: &[u8], block: Block) -> Result<bool, AllocError>
+        requires formed { IsBlockOf front.now block }
+        requires few { length self.old + block.more < NAME_LIMIT }
+        ensures { IfOk result (IsAdded self.old (block_entries front.now block) self.new) }
+    {
+        let front = self.fronts.number(alloc, front)?;
+        let is_new = self.spans.add(Span { front, block })?;
+        if is_new {
+            self.len += block.more as usize + 1;
+        }
+        Ok(is_new)
+    }
+
+    /// The wide values of the names, as runs in the order of the text.
+    pub fn runs(&self, alloc: Global) -> Result<Vec<(u32, u32)>, AllocError>
+        ensures covered { IfOk result (λ runs. (w : ℕ) → covers runs.items w ≡ list_any (has_value w) self.now) }
+        ensures forward { IfOk result (λ runs. All (λ run. run.0 ≤ run.1) runs.items) }
+        ensures short { IfOk result (λ _. All IsShort self.now) }
+    {
+        let spans = self.spans.as_slice();
+        let mut runs = Vec::with_capacity(alloc, spans.len() + 2)?;
+        for span in spans {
+            let Block { value, more, .. } = span.block;
+            runs.push((value, value + more))?;
+        }
+        Ok(runs)
+    }
 }

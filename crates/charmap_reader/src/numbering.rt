@@ -1,6 +1,6 @@
 //! The numbers at the ends of names, by which a range of names counts (XBD 6.4).
 
-ghost use Rattle.std.specs.Prelude.{◌≡◌, ℕ, ◌+◌, ◌-◌, ◌^◌, ◌<◌, ◌≤◌, ◌==◌, min, length, reverse, IfOk, MatchOption};
+ghost use Rattle.std.specs.Prelude.{◌≡◌, ℕ, ◌+◌, ◌-◌, ◌^◌, ◌<◌, ◌≤◌, ◌==◌, ◌++◌, min, length, replicate, reverse, IfOk, MatchOption};
 ghost use Rattle.std.specs.List.{take_while};
 ghost use Rattle.std.specs.Option.{ForSome};
 ghost use Rattle.std.specs.Str.Parse.{AllDigits, digits_value};
@@ -10,7 +10,7 @@ ghost use Rattle.charmap_reader.specs.Distances.{digit_at, distance_after};
 use std::alloc::{AllocError, Global};
 
 /// How many digits a name ends in.
-fn digit_count(name: &[u8]) -> usize
+pub fn digit_count(name: &[u8]) -> usize
     ensures { result ≡ digit_count name.now }
 {
     name.iter()
@@ -88,9 +88,9 @@ fn nines(digits: &[u8]) -> usize
 }
 
 /// The digits of the next number: as many, or one more where all are nines.
-pub fn next_number(alloc: Global, digits: &[u8]) -> Result<Vec<u8>, AllocError>
+fn next_number(alloc: Global, digits: &[u8]) -> Result<Vec<u8>, AllocError>
     requires digits { AllDigits 10 digits.now }
-    ensures next { (width n : ℕ) → 0 < width → digits.now ≡ padded width n → IfOk result (λ v. v.items ≡ padded width (n + 1)) }
+    ensures next { (width n : ℕ) → digits.now ≡ padded width n → IfOk result (λ v. v.items ≡ padded width (n + 1)) }
     ensures digits { IfOk result (λ v. AllDigits 10 v.items) }
 {
     let nines = nines(digits);
@@ -103,6 +103,18 @@ pub fn next_number(alloc: Global, digits: &[u8]) -> Result<Vec<u8>, AllocError>
             next.push(last + 1)?;
         }
     }
+    for _ in 0..nines {
+        next.push(b'0')?;
+    }
+    Ok(next)
+}
+
+/// The digits of the number after these digits with so many nines behind them.
+pub fn next_block(alloc: Global, digits: &[u8], nines: usize) -> Result<Vec<u8>, AllocError>
+    requires { AllDigits 10 digits.now }
+    ensures { (width n : ℕ) → padded width n ≡ digits.now ++ replicate nines 57 → IfOk result (λ v. v.items ≡ padded width (n + 1)) }
+{
+    let mut next = next_number(alloc, digits)?;
     for _ in 0..nines {
         next.push(b'0')?;
     }

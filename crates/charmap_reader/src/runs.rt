@@ -1,7 +1,6 @@
 //! Unbroken runs of wide values.
 
-ghost use Rattle.std.specs.Prelude.{◌≡◌, ℕ, ◌==◌, ◌||◌, IfOk};
-ghost use Rattle.std.specs.List.{list_any};
+ghost use Rattle.std.specs.Prelude.{◌≡◌, ℕ, ◌≤◌, ◌==◌, ◌||◌, All, IfOk};
 ghost use Rattle.charmap_reader.specs.Runs.{IsRunOf, covers};
 
 use std::alloc::{AllocError, Global};
@@ -25,21 +24,24 @@ impl Model for Runs {
 }
 
 impl Runs {
-    /// The runs of these values and 0.
-    pub fn of(alloc: Global, values: Vec<u32>) -> Result<Runs, AllocError>
-        ensures { IfOk result (λ r. (w : ℕ) → covers r w ≡ ((w == 0) || list_any (λ v. v == w) values.items)) }
+    /// The runs of the values of these runs, in any order, and of 0.
+    pub fn of(alloc: Global, parts: Vec<(u32, u32)>) -> Result<Runs, AllocError>
+        requires { All (λ part. part.0 ≤ part.1) parts.items }
+        ensures { IfOk result (λ r. (w : ℕ) → covers r w ≡ ((w == 0) || covers parts.items w)) }
     {
-        let mut values = values;
-        values.sort_unstable();
+        let mut parts = parts;
+        parts.sort_unstable_by_key(|part| part.0);
         let mut runs = Vec::new(alloc);
         let mut first = 0;
         let mut last = 0;
-        for value in &values {
-            if *value - last > 1 {
+        for part in &parts {
+            if part.0.saturating_sub(last) > 1 {
                 runs.push((first, last))?;
-                first = *value;
+                first = part.0;
+                last = part.1;
+            } else {
+                last = last.max(part.1);
             }
-            last = *value;
         }
         runs.push((first, last))?;
         Ok(Runs { runs })

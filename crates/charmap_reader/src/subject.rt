@@ -1,12 +1,19 @@
 //! What a line of a charmap's body speaks of (XBD 6.4).
 
-ghost use Rattle.std.specs.Prelude.{◌≡◌, ◌-◌, min, MatchOption, option_map, None, Some};
-ghost use Rattle.src_lines.specs.Tokens.{is_bare};
+ghost use Rattle.std.specs.Prelude.{◌≡◌, ◌∷◌, [], min, MatchOption, option_map, None, Some};
+ghost use Rattle.std.specs.Prelude.{List as AllOf};
+ghost use Rattle.src_lines.specs.declared.atom.Atom.{Atom as AtomValue};
+ghost use Rattle.src_lines.specs.Atoms.{up_to};
+ghost use Rattle.src_lines.specs.Shapes.{is_dots};
 ghost use Rattle.charmap_reader.specs.Subject.{atom_name, subject, more_between, more_names};
 ghost use Rattle.charmap_reader.specs.Seen.{seen};
 
 use crate::numbering::{distance, split_number};
+use lc_base::List;
 use src_lines::{Atom, Piece};
+
+/// The most atoms of a subject: two names, with three dots between them.
+pub const SUBJECT_ATOMS: usize = 5;
 
 /// The characters that a line gives an encoding: one name, or with a last name a range.
 #[derive(Clone, Copy)]
@@ -25,18 +32,15 @@ fn atom_name(atom: &Atom) -> Option<&[u8]>
     }
 }
 
-/// Whether an atom is a bare dot.
-fn is_dot(atom: &Atom) -> bool
-    ensures { result ≡ is_bare 46 atom.now }
+/// Whether atoms are three bare dots.
+fn are_dots(first: &Atom, second: &Atom, third: &Atom) -> bool
+    ensures { result ≡ is_dots (first.now ∷ second.now ∷ third.now ∷ []) }
 {
-    match atom {
-        Atom::Bare(byte) => *byte == b'.',
-        _ => false,
-    }
+    first.is_bare(b'.') && second.is_bare(b'.') && third.is_bare(b'.')
 }
 
 /// The subject that a whole field is.
-pub fn subject_of(atoms: &[Atom]) -> Option<Subject<'_>>
+fn subject_of(atoms: &[Atom]) -> Option<Subject<'_>>
     ensures { option_map seen result ≡ subject atoms.now }
 {
     match atoms {
@@ -44,11 +48,21 @@ pub fn subject_of(atoms: &[Atom]) -> Option<Subject<'_>>
             first: atom_name(name)?,
             last: None,
         }),
-        [first, a, b, c, last] if is_dot(a) && is_dot(b) && is_dot(c) => Some(Subject {
+        [first, a, b, c, last] if are_dots(a, b, c) => Some(Subject {
             first: atom_name(first)?,
             last: Some(atom_name(last)?),
         }),
         _ => None,
+    }
+}
+
+/// The subject that a field is which has these atoms, or more than a subject has.
+pub fn subject_in(atoms: &Option<List<Atom>>) -> Option<Subject<'_>>
+    ensures { (all : AllOf AtomValue) → atoms.now ≡ up_to SUBJECT_ATOMS all → option_map seen result ≡ subject all }
+{
+    match atoms {
+        Some(atoms) => subject_of(atoms.as_slice()),
+        None => None,
     }
 }
 

@@ -1,6 +1,6 @@
 use Rattle.std.proofs.Common.{◌∙◌}
 use Rattle.std.proofs.lemmas.Result.{err_from_is_err_and}
-use Rattle.charmap_reader.proofs.ReadingSteps.{fails_first}
+use Rattle.lc_base.proofs.ReadingLemmas.{fails_first}
 use Rattle.charmap_reader.proofs.Bodies.{charset_bare, charset_opened, rest_open, rest_closed}
 use Rattle.charmap_reader.proofs.charmap.read_lines.Goals as goal
 

@@ -1,6 +1,6 @@
 use Rattle.std.proofs.Common.{sym, ◌∙◌}
 use Rattle.std.proofs.lemmas.Result.{err_from_is_err_and}
-use Rattle.charmap_reader.proofs.ReadingSteps.{fails_first, gives_rest}
+use Rattle.lc_base.proofs.ReadingLemmas.{fails_first, gives_rest}
 use Rattle.charmap_reader.proofs.Headers.{header_named, header_counted, header_unknown}
 use Rattle.charmap_reader.proofs.header.read_header.Goals as goal
 

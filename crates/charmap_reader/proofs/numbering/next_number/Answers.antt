@@ -17,7 +17,7 @@ raised_by_match c =
     ]
 
 pub returns-clause-next : goal.returns-clause-next
-returns-clause-next c width n some own =
+returns-clause-next c width n own =
     let k = c.nines-nines.result in
     let all_turns : c.loop.counter ≡ k = omega arith in
     c.loop.invariant ∙ ap (λ m. c.if-front-lt1.next.items ++ replicate m 48) all_turns ∙
