@@ -2,3 +2,11 @@ pub use Rattle.lc_base.specs.Lines
 pub use Rattle.lc_base.specs.Reading
 pub mod Texts
 pub mod NumericSection
+pub mod Keywords
+pub mod Values
+pub mod Steps
+pub mod Opened
+pub mod Section
+pub mod Source
+pub mod Words
+pub mod Kept

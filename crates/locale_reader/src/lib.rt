@@ -1,8 +1,20 @@
 //! Locale sources as keyword lists (XBD 7.3).
 #![tactic(auto)]
 
+mod character;
+mod keyword_line;
+mod keywords;
+mod locale;
+mod number;
 mod numeric;
+mod opened;
 mod source;
+#[cfg(test)]
+mod tests;
+mod text;
+mod value;
+mod words;
 
+pub use locale::read_locale;
 pub use numeric::read_numeric;
 pub use source::{Body, Entry, LocaleSource, Section, Value};

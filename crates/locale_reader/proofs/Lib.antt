@@ -1,0 +1,7 @@
+mod SourceExamples
+pub mod WordLemmas
+pub mod Lists
+pub mod LineSteps
+pub mod Sections
+pub mod NumberLemmas
+mod Examples

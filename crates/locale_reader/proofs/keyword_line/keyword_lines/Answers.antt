@@ -1,0 +1,17 @@
+use Rattle.std.proofs.Common.{sym, ◌∙◌, arith}
+use Rattle.std.proofs.lemmas.Result.{err_from_is_err_and}
+use Rattle.lc_base.proofs.ReadingLemmas.{fails_first}
+use Rattle.charmap_reader.proofs.Positions.{part_more}
+use Rattle.locale_reader.proofs.LineSteps.{lines_more, lines_step}
+use Rattle.locale_reader.proofs.keyword_line.keyword_lines.Goals as goal
+
+pub returns-in_err-opened : goal.returns-in_err-opened
+returns-in_err-opened c =
+    let p = err_from_is_err_and c.from_residual.result c.from_residual.ensures.1 in
+    let more = part_more c.args.lines.now c.args.start c.args.«end» c.loop-i.i _ (omega arith) (omega arith) c.requires.within in
+    rw (p.1, p.2) (fails_first c.in_err-opened.field-0.0 _ _ _ (sym c.loop-i.invariant ∙ lines_more _ _ _ _ _ _ _ more) c.in_err-opened.ensures)
+
+pub loop-i-preserved : goal.loop-i-preserved
+loop-i-preserved c =
+    let more = part_more c.args.lines.now c.args.start c.args.«end» c.loop-i.i _ (omega arith) (omega arith) c.requires.within in
+    lines_step _ _ _ _ _ _ _ _ _ more c.in_ok-opened.ensures c.loop-i.invariant
