@@ -1,10 +1,13 @@
 -- The definitions at worked examples: sessions of a few calls with the replies that are wanted.
 use Rattle.std.specs.Prelude.{◌≡◌, ℕ, List, [], ◌∷◌, None, Some, refl}
+use Rattle.lc_base.specs.declared.category.Category.TheVariants as categories
 use Rattle.mask_compose.specs.Parts.{Parts}
+use Rattle.mask_compose.specs.Offer.{Offered}
 use Rattle.handle_table.specs.declared.handle.Handle.{Handle}
 use Rattle.handle_table.specs.declared.handle.Named.TheVariants.{Global, Of}
-use Rattle.handle_table.specs.Entry.{Op, New, Dup, Free, Use, Hold, Release, SetGlobal, Post, Fetch, Pins, End, GlobalHandle, NeverMade, Stale, TooMany, AlreadyHeld, NotHeld, EmptyCell, Reply, Made, Freed, Was, Held, Released, Set, Posted, Got, Pinned, Ended, Refused, History, Setting}
-use Rattle.handle_table.specs.History.{global_at}
+use Rattle.handle_table.specs.Entry.{Op, New, Dup, Free, Use, Hold, Release, SetGlobal, Install, Post, Fetch, Pins, End, NoData, GlobalHandle, NeverMade, Stale, TooMany, AlreadyHeld, NotHeld, EmptyCell, Reply, Made, Freed, Was, Held, Released, Set, Installed, Posted, Got, Pinned, Ended, Refused, History, Setting}
+use Rattle.handle_table.specs.Shelf.{lacking}
+use Rattle.handle_table.specs.History.{global_at, holders, Selects, Holds, free_row}
 use Rattle.handle_table.specs.Answer.{answer, entry, own}
 
 -- the history after some calls, given oldest first
@@ -17,48 +20,68 @@ abbrev replies : Setting → History → List (ℕ × Op) → List Reply
 replies c H [] = []
 replies c H ((t, op) ∷ calls) = answer c H t op ∷ replies c (entry c H t op ∷ H) calls
 
+-- the object of one part in each category
 abbrev all_of : ℕ → Parts
 all_of n = record { ctype = n; numeric = n; monetary = n; time = n; messages = n }
 
+-- an object of part n for LC_NUMERIC, over that of part m
+abbrev numeric_of : ℕ → ℕ → Parts
+numeric_of n m = record { ctype = m; numeric = n; monetary = m; time = m; messages = m }
+
+-- an object of part n for LC_TIME, over that of part m
+abbrev time_of : ℕ → ℕ → Parts
+time_of n m = record { ctype = m; numeric = m; monetary = m; time = n; messages = m }
+
+-- the names 0 to 4: the POSIX locale, two locales with all categories, one with LC_NUMERIC alone, and
+-- one that only an Install gives anything
+abbrev offers : List Offered
+offers =
+    record { object = all_of 0; available = 31 } ∷ record { object = all_of 1; available = 31 } ∷ record { object = all_of 2; available = 31 }
+    ∷ record { object = numeric_of 3 0; available = 2 } ∷ record { object = all_of 0; available = 0 } ∷ []
+
 abbrev usual : Setting
-usual = record { threads = 2; rows = 16; generations = 65535; posix = all_of 0 }
+usual = record { threads = 2; rows = 16; generations = 65535; opening = offers }
 
 -- one row with two generations
 abbrev narrow : Setting
-narrow = record { threads = 2; rows = 1; generations = 2; posix = all_of 0 }
+narrow = record { threads = 2; rows = 1; generations = 2; opening = offers }
 
 abbrev handle : ℕ → ℕ → ℕ → Handle
 handle t r g = record { owner = t; row = r; generation = g }
 
--- an object of locale 1 for LC_NUMERIC, over the POSIX locale
-abbrev numeric_one : Parts
-numeric_one = record { ctype = 0; numeric = 1; monetary = 0; time = 0; messages = 0 }
+-- one name for each category
+abbrev all : ℕ → List ℕ
+all n = n ∷ n ∷ n ∷ n ∷ n ∷ []
 
+-- a new object of a name in each category
 abbrev make : ℕ → Op
-make n = New 31 (all_of n) None
+make n = New 31 (all n) None
 
 -- an object that is freed while its thread has it selected stays the thread's own until the next Use
 abbrev freed_while_selected : List (ℕ × Op)
 freed_while_selected =
-    (0, New 2 (all_of 1) None) ∷ (0, Use (Of (handle 0 0 1))) ∷ (0, Free (Of (handle 0 0 1)))
+    (0, New 2 (all 1) None) ∷ (0, Use (Of (handle 0 0 1))) ∷ (0, Free (Of (handle 0 0 1)))
     ∷ (0, Use (Of (handle 0 0 1))) ∷ (0, Use Global) ∷ (0, End) ∷ []
 
 freed_while_selected-replies : replies usual [] freed_while_selected
-    ≡ Made (handle 0 0 1) ∷ Was Global (Some numeric_one) ∷ Freed ∷ Refused Stale ∷ Was (Of (handle 0 0 1)) None ∷ Ended ∷ []
+    ≡ Made (handle 0 0 1) ∷ Was Global (Some (numeric_of 1 0)) ∷ Freed ∷ Refused Stale ∷ Was (Of (handle 0 0 1)) None ∷ Ended ∷ []
 freed_while_selected-replies = refl
 
 freed_while_selected-own : own (played usual [] (
-    (0, New 2 (all_of 1) None) ∷ (0, Use (Of (handle 0 0 1))) ∷ (0, Free (Of (handle 0 0 1)))
-    ∷ (0, Use (Of (handle 0 0 1))) ∷ [])) 0 ≡ Some numeric_one
+    (0, New 2 (all 1) None) ∷ (0, Use (Of (handle 0 0 1))) ∷ (0, Free (Of (handle 0 0 1)))
+    ∷ (0, Use (Of (handle 0 0 1))) ∷ [])) 0 ≡ Some (numeric_of 1 0)
 freed_while_selected-own = refl
 
--- a row is not used again while a thread selects its freed object, and then with the next generation
-row_again : replies usual [] (
-    (0, make 1) ∷ (1, Use (Of (handle 0 0 1))) ∷ (0, Free (Of (handle 0 0 1))) ∷ (0, make 2)
-    ∷ (1, Pins (Of (handle 0 0 1))) ∷ (1, Use Global) ∷ (0, make 1) ∷ (1, Use (Of (handle 0 0 1))) ∷ [])
-    ≡ Made (handle 0 0 1) ∷ Was Global (Some (all_of 1)) ∷ Freed ∷ Made (handle 0 1 1)
-    ∷ Pinned 1 ∷ Was (Of (handle 0 0 1)) None ∷ Made (handle 0 0 2) ∷ Refused Stale ∷ []
-row_again = refl
+-- a thread frees an object that another has selected: the row is not used again until the pin goes, and
+-- then with the next generation
+freed_while_in_use : replies usual [] (
+    (0, make 1) ∷ (0, Post 0 (Of (handle 0 0 1))) ∷ (1, Fetch 0 0) ∷ (1, Use (Of (handle 0 0 1)))
+    ∷ (0, Free (Of (handle 0 0 1))) ∷ (0, make 2) ∷ (1, Pins (Of (handle 0 0 1))) ∷ (1, Use Global)
+    ∷ (0, make 1) ∷ (1, Use (Of (handle 0 0 1))) ∷ (0, End) ∷ (1, End) ∷ [])
+    ≡ Made (handle 0 0 1) ∷ Posted ∷ Got (handle 0 0 1) ∷ Was Global (Some (all_of 1))
+    ∷ Freed ∷ Made (handle 0 1 1) ∷ Pinned 1 ∷ Was (Of (handle 0 0 1)) None
+    ∷ Made (handle 0 0 2) ∷ Refused Stale ∷ Ended ∷ Ended ∷ []
+freed_while_in_use = refl
 
 -- sixteen rows give sixteen objects, and the seventeenth is refused
 seventeen_makes : replies usual [] (
@@ -72,41 +95,118 @@ seventeen_makes : replies usual [] (
     ∷ Refused TooMany ∷ []
 seventeen_makes = refl
 
--- with one row a New with a base finds no row, and the base stays as it was; other threads have rows of their own
+-- with one row a New with a base needs none, one without is refused, and other threads have rows of their own
 one_row : replies narrow [] (
-    (0, make 1) ∷ (0, New 8 (all_of 2) (Some (Of (handle 0 0 1)))) ∷ (0, Use (Of (handle 0 0 1))) ∷ (1, make 2) ∷ [])
-    ≡ Made (handle 0 0 1) ∷ Refused TooMany ∷ Was Global (Some (all_of 1)) ∷ Made (handle 1 0 1) ∷ []
+    (0, make 1) ∷ (0, New 8 (all 2) (Some (Of (handle 0 0 1)))) ∷ (0, make 1) ∷ (0, Use (Of (handle 0 0 1))) ∷ (1, make 2) ∷ [])
+    ≡ Made (handle 0 0 1) ∷ Made (handle 0 0 1) ∷ Refused TooMany ∷ Was Global (Some (time_of 2 1)) ∷ Made (handle 1 0 1) ∷ []
 one_row = refl
 
--- a row that has made all its generations is never free again
+-- a row that has made all its generations is never free again; a base that is changed makes none
 spent_row : replies narrow [] (
-    (0, make 1) ∷ (0, Free (Of (handle 0 0 1))) ∷ (0, make 1) ∷ (0, Free (Of (handle 0 0 2))) ∷ (0, make 1) ∷ [])
-    ≡ Made (handle 0 0 1) ∷ Freed ∷ Made (handle 0 0 2) ∷ Freed ∷ Refused TooMany ∷ []
+    (0, make 1) ∷ (0, New 8 (all 2) (Some (Of (handle 0 0 1)))) ∷ (0, Free (Of (handle 0 0 1)))
+    ∷ (0, make 1) ∷ (0, Free (Of (handle 0 0 2))) ∷ (0, make 1) ∷ [])
+    ≡ Made (handle 0 0 1) ∷ Made (handle 0 0 1) ∷ Freed ∷ Made (handle 0 0 2) ∷ Freed ∷ Refused TooMany ∷ []
 spent_row = refl
 
--- a base gives the parts outside the mask, and is freed by the New that uses it
-based : List (ℕ × Op)
-based =
-    (0, make 1) ∷ (0, New 8 (all_of 2) (Some (Of (handle 0 0 1)))) ∷ (0, Use (Of (handle 0 1 1)))
-    ∷ (0, Free (Of (handle 0 0 1))) ∷ (0, New 31 (all_of 2) (Some Global)) ∷ (0, New 31 (all_of 2) (Some (Of (handle 0 0 1)))) ∷ []
+-- a base keeps its handle and gets the new categories; a thread that has it selected or held keeps what it
+-- took up; a refused New leaves the base as it was
+base_keeps_handle : replies usual [] (
+    (0, make 1) ∷ (0, Use (Of (handle 0 0 1))) ∷ (0, Hold (Of (handle 0 0 1)))
+    ∷ (0, New 2 (all 2) (Some (Of (handle 0 0 1)))) ∷ (0, Use (Of (handle 0 0 1))) ∷ (0, Release (Of (handle 0 0 1)))
+    ∷ (0, Hold (Of (handle 0 0 1))) ∷ (0, Release (Of (handle 0 0 1))) ∷ (0, New 8 (all 3) (Some (Of (handle 0 0 1))))
+    ∷ (0, Hold (Of (handle 0 0 1))) ∷ (0, Release (Of (handle 0 0 1))) ∷ (0, Free (Of (handle 0 0 1)))
+    ∷ (0, New 31 (all 1) (Some (Of (handle 0 0 1)))) ∷ (0, End) ∷ [])
+    ≡ Made (handle 0 0 1) ∷ Was Global (Some (all_of 1)) ∷ Held (all_of 1)
+    ∷ Made (handle 0 0 1) ∷ Was (Of (handle 0 0 1)) (Some (numeric_of 2 1)) ∷ Released
+    ∷ Held (numeric_of 2 1) ∷ Released ∷ Refused (NoData categories.Time)
+    ∷ Held (numeric_of 2 1) ∷ Released ∷ Freed
+    ∷ Refused Stale ∷ Ended ∷ []
+base_keeps_handle = refl
 
-based-replies : replies usual [] based
-    ≡ Made (handle 0 0 1) ∷ Made (handle 0 1 1)
-    ∷ Was Global (Some (record { ctype = 1; numeric = 1; monetary = 1; time = 2; messages = 1 }))
-    ∷ Refused Stale ∷ Refused GlobalHandle ∷ Refused Stale ∷ []
-unfolding based
-based-replies = refl
+base_keeps_handle-own : own (played usual [] (
+    (0, make 1) ∷ (0, Use (Of (handle 0 0 1))) ∷ (0, New 2 (all 2) (Some (Of (handle 0 0 1)))) ∷ [])) 0 ≡ Some (all_of 1)
+base_keeps_handle-own = refl
 
--- the versions of the global locale, and a copy of one that later calls do not change
-versions : replies usual [] (
-    (0, SetGlobal 8 (all_of 2)) ∷ (1, Dup Global) ∷ (1, SetGlobal 31 (all_of 1)) ∷ (0, Use (Of (handle 1 0 1))) ∷ [])
-    ≡ Set 1 (record { ctype = 0; numeric = 0; monetary = 0; time = 2; messages = 0 }) ∷ Made (handle 1 0 1) ∷ Set 2 (all_of 1)
-    ∷ Was Global (Some (record { ctype = 0; numeric = 0; monetary = 0; time = 2; messages = 0 })) ∷ []
-versions = refl
+-- any thread may build on a live handle, and its owner keeps it; there is no base in the global locale, in
+-- a handle that was freed, and in one that no one made
+bases : replies usual [] (
+    (0, make 1) ∷ (1, New 8 (all 2) (Some (Of (handle 0 0 1)))) ∷ (1, make 1) ∷ (0, Use (Of (handle 0 0 1)))
+    ∷ (0, New 31 (all 2) (Some Global)) ∷ (0, New 31 (all 2) (Some (Of (handle 0 1 1))))
+    ∷ (1, Free (Of (handle 0 0 1))) ∷ (0, New 31 (all 2) (Some (Of (handle 0 0 1)))) ∷ [])
+    ≡ Made (handle 0 0 1) ∷ Made (handle 0 0 1) ∷ Made (handle 1 0 1) ∷ Was Global (Some (time_of 2 1))
+    ∷ Refused GlobalHandle ∷ Refused NeverMade ∷ Freed ∷ Refused Stale ∷ []
+bases = refl
 
-version_one : global_at usual (played usual [] ((0, SetGlobal 8 (all_of 2)) ∷ (1, SetGlobal 31 (all_of 1)) ∷ [])) 1
-    ≡ record { ctype = 0; numeric = 0; monetary = 0; time = 2; messages = 0 }
+-- an Install changes what its name stands for from then on, and no object; the name has then just the
+-- categories of the new offer
+install_later : replies usual [] (
+    (0, New 2 (all 2) None) ∷ (0, Use (Of (handle 0 0 1))) ∷ (1, Install 2 (record { object = numeric_of 5 0; available = 2 }))
+    ∷ (1, New 2 (all 2) None) ∷ (1, Use (Of (handle 1 0 1))) ∷ (1, New 8 (all 2) None) ∷ (0, Use (Of (handle 0 0 1)))
+    ∷ (0, End) ∷ (1, End) ∷ [])
+    ≡ Made (handle 0 0 1) ∷ Was Global (Some (numeric_of 2 0)) ∷ Installed 1
+    ∷ Made (handle 1 0 1) ∷ Was Global (Some (numeric_of 5 0)) ∷ Refused (NoData categories.Time) ∷ Was (Of (handle 0 0 1)) (Some (numeric_of 2 0))
+    ∷ Ended ∷ Ended ∷ []
+install_later = refl
+
+-- a name that only an Install gives something; the last Install counts, and one of another name does not
+installs : replies usual [] (
+    (0, make 4) ∷ (1, Install 4 (record { object = all_of 6; available = 31 })) ∷ (0, make 4)
+    ∷ (1, Install 4 (record { object = all_of 7; available = 31 })) ∷ (1, Install 3 (record { object = all_of 8; available = 31 }))
+    ∷ (0, SetGlobal 31 (all 4)) ∷ (0, Use (Of (handle 0 0 1))) ∷ [])
+    ≡ Refused (NoData categories.Ctype) ∷ Installed 1 ∷ Made (handle 0 0 1)
+    ∷ Installed 2 ∷ Installed 3
+    ∷ Set 1 (all_of 7) ∷ Was Global (Some (all_of 6)) ∷ []
+installs = refl
+
+-- each category takes the part of its own name; where the mask has no category the name is not looked at
+several_names : replies usual [] (
+    (0, New 31 (1 ∷ 3 ∷ 2 ∷ 0 ∷ 1 ∷ []) None) ∷ (0, Use (Of (handle 0 0 1)))
+    ∷ (0, New 19 (2 ∷ 3 ∷ 4 ∷ 4 ∷ 1 ∷ []) None) ∷ (0, Use (Of (handle 0 1 1))) ∷ (0, New 0 (all 4) None) ∷ (0, Use (Of (handle 0 2 1))) ∷ [])
+    ≡ Made (handle 0 0 1) ∷ Was Global (Some (record { ctype = 1; numeric = 3; monetary = 2; time = 0; messages = 1 }))
+    ∷ Made (handle 0 1 1) ∷ Was (Of (handle 0 0 1)) (Some (record { ctype = 2; numeric = 3; monetary = 0; time = 0; messages = 1 }))
+    ∷ Made (handle 0 2 1) ∷ Was (Of (handle 0 1 1)) (Some (all_of 0)) ∷ []
+several_names = refl
+
+-- the first category that is lacking, in the order of the categories, and within the mask
+first_lacking : lacking usual [] 31 (3 ∷ 3 ∷ 4 ∷ 1 ∷ 1 ∷ []) ≡ Some categories.Ctype
+first_lacking = refl
+
+lacking_within_the_mask : lacking usual [] 30 (3 ∷ 3 ∷ 4 ∷ 1 ∷ 4 ∷ []) ≡ Some categories.Monetary
+lacking_within_the_mask = refl
+
+nothing_lacking : lacking usual [] 11 (1 ∷ 3 ∷ 4 ∷ 0 ∷ 4 ∷ []) ≡ None
+nothing_lacking = refl
+
+-- a category that is lacking goes before each other reason
+no_data_first : replies narrow [] (
+    (0, New 8 (all 3) (Some Global)) ∷ (0, New 8 (all 3) (Some (Of (handle 0 0 1)))) ∷ (0, make 1)
+    ∷ (0, Free (Of (handle 0 0 1))) ∷ (0, New 8 (all 3) (Some (Of (handle 0 0 1)))) ∷ (0, make 1)
+    ∷ (0, New 8 (all 3) None) ∷ (0, New 2 (all 3) None) ∷ (0, SetGlobal 10 (all 3)) ∷ [])
+    ≡ Refused (NoData categories.Time) ∷ Refused (NoData categories.Time) ∷ Made (handle 0 0 1)
+    ∷ Freed ∷ Refused (NoData categories.Time) ∷ Made (handle 0 0 2)
+    ∷ Refused (NoData categories.Time) ∷ Refused TooMany ∷ Refused (NoData categories.Time) ∷ []
+no_data_first = refl
+
+-- the versions of the global locale, of which a refused SetGlobal makes none, and a copy of one that later calls do not change
+copy_of_global : replies usual [] (
+    (0, SetGlobal 8 (all 2)) ∷ (1, Dup Global) ∷ (1, SetGlobal 31 (all 3)) ∷ (1, SetGlobal 31 (all 1)) ∷ (0, Use (Of (handle 1 0 1))) ∷ [])
+    ≡ Set 1 (time_of 2 0) ∷ Made (handle 1 0 1) ∷ Refused (NoData categories.Ctype) ∷ Set 2 (all_of 1)
+    ∷ Was Global (Some (time_of 2 0)) ∷ []
+copy_of_global = refl
+
+-- a copy of an object that is held and selected, and its base changed afterwards; none of one that is freed
+copies : replies usual [] (
+    (0, make 1) ∷ (0, Hold (Of (handle 0 0 1))) ∷ (1, Dup (Of (handle 0 0 1))) ∷ (0, New 8 (all 2) (Some (Of (handle 0 0 1))))
+    ∷ (1, Use (Of (handle 1 0 1))) ∷ (0, Free (Of (handle 0 0 1))) ∷ (1, Dup (Of (handle 0 0 1))) ∷ (0, Dup (Of (handle 1 5 1))) ∷ [])
+    ≡ Made (handle 0 0 1) ∷ Held (all_of 1) ∷ Made (handle 1 0 1) ∷ Made (handle 0 0 1)
+    ∷ Was Global (Some (all_of 1)) ∷ Freed ∷ Refused Stale ∷ Refused NeverMade ∷ []
+copies = refl
+
+version_one : global_at usual (played usual [] ((0, SetGlobal 8 (all 2)) ∷ (1, SetGlobal 31 (all 1)) ∷ (1, End) ∷ [])) 1 ≡ time_of 2 0
 version_one = refl
+
+version_two : global_at usual (played usual [] ((0, SetGlobal 8 (all 2)) ∷ (1, SetGlobal 31 (all 1)) ∷ (1, End) ∷ [])) 2 ≡ all_of 1
+version_two = refl
 
 -- a held object keeps its row, also where its thread selects it too
 held : replies narrow [] (
@@ -118,20 +218,44 @@ held : replies narrow [] (
     ∷ Refused NotHeld ∷ Ended ∷ Pinned 0 ∷ Made (handle 0 0 2) ∷ []
 held = refl
 
--- cells are a thread's own, and the last accepted Post to one counts
+-- pins are counted once a thread and manner; a thread that does not hold the handle cannot release it, and an
+-- End gives up what its thread holds and selects, and nothing of others
+holders_of_one : holders usual (played usual [] (
+    (0, make 1) ∷ (0, Hold (Of (handle 0 0 1))) ∷ (0, Use (Of (handle 0 0 1))) ∷ (0, Use (Of (handle 0 0 1)))
+    ∷ (1, Release (Of (handle 0 0 1))) ∷ (1, Hold (Of (handle 0 0 1))) ∷ [])) (handle 0 0 1)
+    ≡ (0, Selects) ∷ (0, Holds) ∷ (1, Holds) ∷ []
+holders_of_one = refl
+
+holders_after_end : holders usual (played usual [] (
+    (0, make 1) ∷ (0, Hold (Of (handle 0 0 1))) ∷ (0, Use (Of (handle 0 0 1))) ∷ (1, Hold (Of (handle 0 0 1)))
+    ∷ (0, End) ∷ [])) (handle 0 0 1) ≡ (1, Holds) ∷ []
+holders_after_end = refl
+
+-- the least free row: below a live handle's, and none where each row has a live handle or a pin
+least_row : free_row usual (played usual [] ((0, make 1) ∷ (0, make 1) ∷ (0, Free (Of (handle 0 0 1))) ∷ [])) 0 ≡ Some 0
+least_row = refl
+
+no_row : free_row narrow (played narrow [] ((0, make 1) ∷ (1, Use (Of (handle 0 0 1))) ∷ (0, Free (Of (handle 0 0 1))) ∷ [])) 0 ≡ None
+no_row = refl
+
+-- cells are a thread's own, and the last accepted Post to one counts; a posted handle may be freed
 cells : replies usual [] (
     (1, Fetch 0 3) ∷ (0, make 1) ∷ (0, Post 3 (Of (handle 0 0 1))) ∷ (0, Post 3 (Of (handle 0 7 1))) ∷ (1, Post 3 Global)
-    ∷ (1, Fetch 0 3) ∷ (1, Fetch 1 3) ∷ (1, Fetch 0 4) ∷ [])
+    ∷ (1, Fetch 0 3) ∷ (1, Fetch 1 3) ∷ (1, Fetch 0 4) ∷ (0, Free (Of (handle 0 0 1))) ∷ (1, Fetch 0 3)
+    ∷ (1, Use (Of (handle 0 0 1))) ∷ (0, Post 3 (Of (handle 0 0 1))) ∷ [])
     ≡ Refused EmptyCell ∷ Made (handle 0 0 1) ∷ Posted ∷ Refused NeverMade ∷ Refused GlobalHandle
-    ∷ Got (handle 0 0 1) ∷ Refused EmptyCell ∷ Refused EmptyCell ∷ []
+    ∷ Got (handle 0 0 1) ∷ Refused EmptyCell ∷ Refused EmptyCell ∷ Freed ∷ Got (handle 0 0 1)
+    ∷ Refused Stale ∷ Refused Stale ∷ []
 cells = refl
 
 -- what names the global locale, or a handle that no one made, is refused as that
 no_object : replies usual [] (
     (0, Free Global) ∷ (0, Use (Of (handle 0 5 1))) ∷ (0, Free (Of (handle 0 5 1))) ∷ (0, Hold Global) ∷ (0, Pins Global)
-    ∷ (0, Pins (Of (handle 0 5 1))) ∷ (0, Dup (Of (handle 0 5 1))) ∷ (0, Use Global) ∷ [])
+    ∷ (0, Pins (Of (handle 0 5 1))) ∷ (0, Dup (Of (handle 0 5 1))) ∷ (0, Use Global) ∷ (0, Release Global)
+    ∷ (0, Release (Of (handle 0 5 1))) ∷ [])
     ≡ Refused GlobalHandle ∷ Refused NeverMade ∷ Refused NeverMade ∷ Refused GlobalHandle ∷ Refused GlobalHandle
-    ∷ Refused NeverMade ∷ Refused NeverMade ∷ Was Global None ∷ []
+    ∷ Refused NeverMade ∷ Refused NeverMade ∷ Was Global None ∷ Refused GlobalHandle
+    ∷ Refused NotHeld ∷ []
 no_object = refl
 
 -- an End leaves the objects of its thread live, and gives up what it selected and held

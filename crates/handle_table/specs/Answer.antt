@@ -1,56 +1,80 @@
 -- What the table replies to an op after a history, and the histories that it makes.
-use Rattle.std.specs.Prelude.{◌≡◌, ℕ, ◌+◌, ◌==◌, if◌then◌else◌, [], ◌∷◌, Option, None, Some}
+use Rattle.std.specs.Prelude.{◌≡◌, ℕ, ◌+◌, ◌==◌, not, ◌&&◌, if◌then◌else◌, List, [], ◌∷◌, Option, None, Some}
+use Rattle.std.specs.Option.{option_map}
 use Rattle.mask_compose.specs.Parts.{Parts, composed}
 use Rattle.handle_table.specs.declared.handle.Handle.{Handle}
 use Rattle.handle_table.specs.declared.handle.Named.{Named}
 use Rattle.handle_table.specs.declared.handle.Named.TheVariants.{Global, Of}
-use Rattle.handle_table.specs.Entry.{Op, New, Dup, Free, Use, Hold, Release, SetGlobal, Post, Fetch, Pins, End, Refusal, GlobalHandle, NeverMade, Stale, TooMany, AlreadyHeld, NotHeld, EmptyCell, Reply, Made, Freed, Was, Held, Released, Set, Posted, Got, Pinned, Ended, Refused, Entry, History, Setting}
+use Rattle.handle_table.specs.Entry.{Op, New, Dup, Free, Use, Hold, Release, SetGlobal, Install, Post, Fetch, Pins, End, Refusal, NoData, GlobalHandle, NeverMade, Stale, TooMany, AlreadyHeld, NotHeld, EmptyCell, Reply, Made, Freed, Was, Held, Released, Set, Installed, Posted, Got, Pinned, Ended, Refused, Entry, History, Setting}
+use Rattle.handle_table.specs.Shelf.{from_shelf, lacking, installs}
 use Rattle.handle_table.specs.History.{made, live, makes, sets, global, object, selection, holding, pins, free_row, posted}
 
--- why a handle is refused: it was never made, or it was freed
-abbrev pub handle_refusal : History → Handle → Option Refusal
-handle_refusal H h = if made H h then (if live H h then None else Some Stale) else Some NeverMade
+-- ---- reasons against an op: each is there exactly where its condition holds
 
--- why a name is refused where an object is wanted
-abbrev pub object_refusal : History → Named → Option Refusal
-object_refusal H Global = Some GlobalHandle
-object_refusal H (Of h) = handle_refusal H h
+-- the offer of a name lacks a category of the mask
+abbrev pub no_data : Setting → History → ℕ → List ℕ → Option Refusal
+no_data c H mask numbers = option_map NoData (lacking c H mask numbers)
 
--- why a name is refused where the global locale may stand, too
-abbrev pub target_refusal : History → Named → Option Refusal
-target_refusal H Global = None
-target_refusal H (Of h) = handle_refusal H h
+-- the op needs an object, and names the global locale
+abbrev pub global_handle : Named → Option Refusal
+global_handle Global = Some GlobalHandle
+global_handle (Of h) = None
 
--- why a base is refused; having none is no fault
-abbrev pub base_refusal : History → Option Named → Option Refusal
-base_refusal H None = None
-base_refusal H (Some n) = object_refusal H n
+-- no entry made the handle
+abbrev pub never_made : History → Named → Option Refusal
+never_made H Global = None
+never_made H (Of h) = if made H h then None else Some NeverMade
 
--- why a name is refused where a freed handle serves as well
-abbrev pub made_refusal : History → Named → Option Refusal
-made_refusal H Global = Some GlobalHandle
-made_refusal H (Of h) = if made H h then None else Some NeverMade
+-- the handle was made, and is not live
+abbrev pub stale : History → Named → Option Refusal
+stale H Global = None
+stale H (Of h) = if made H h && not (live H h) then Some Stale else None
 
--- why a name is refused where any handle serves
-abbrev pub global_refusal : Named → Option Refusal
-global_refusal Global = Some GlobalHandle
-global_refusal (Of h) = None
+-- the thread has no free row
+abbrev pub too_many : Option ℕ → Option Refusal
+too_many None = Some TooMany
+too_many (Some row) = None
 
--- the first reason against what an op names
-abbrev pub name_refusal : History → Op → Option Refusal
-name_refusal H (New mask picks base) = base_refusal H base
-name_refusal H (Dup n) = target_refusal H n
-name_refusal H (Free n) = object_refusal H n
-name_refusal H (Use n) = target_refusal H n
-name_refusal H (Hold n) = object_refusal H n
-name_refusal H (Release n) = global_refusal n
-name_refusal H (SetGlobal mask picks) = None
-name_refusal H (Post k n) = object_refusal H n
-name_refusal H (Fetch owner k) = None
-name_refusal H (Pins n) = made_refusal H n
-name_refusal H End = None
+-- the thread has an open Hold of the handle
+abbrev pub already_held : History → ℕ → Named → Option Refusal
+already_held H t Global = None
+already_held H t (Of h) = if holding H t h then Some AlreadyHeld else None
 
--- a new object stands in the least free row, if there is one
+-- the thread has no open Hold of the handle
+abbrev pub not_held : History → ℕ → Named → Option Refusal
+not_held H t Global = None
+not_held H t (Of h) = if holding H t h then None else Some NotHeld
+
+-- the cell has no accepted Post
+abbrev pub empty_cell : Option Handle → Option Refusal
+empty_cell None = Some EmptyCell
+empty_cell (Some h) = None
+
+-- the reasons that can stand against each op, in their order
+abbrev pub reasons : Setting → History → ℕ → Op → List (Option Refusal)
+reasons c H t (New mask numbers None) = no_data c H mask numbers ∷ too_many (free_row c H t) ∷ []
+reasons c H t (New mask numbers (Some n)) = no_data c H mask numbers ∷ global_handle n ∷ never_made H n ∷ stale H n ∷ []
+reasons c H t (Dup n) = never_made H n ∷ stale H n ∷ too_many (free_row c H t) ∷ []
+reasons c H t (Free n) = global_handle n ∷ never_made H n ∷ stale H n ∷ []
+reasons c H t (Use n) = never_made H n ∷ stale H n ∷ []
+reasons c H t (Hold n) = global_handle n ∷ never_made H n ∷ stale H n ∷ already_held H t n ∷ []
+reasons c H t (Release n) = global_handle n ∷ not_held H t n ∷ []
+reasons c H t (SetGlobal mask numbers) = no_data c H mask numbers ∷ []
+reasons c H t (Install m offer) = []
+reasons c H t (Post k n) = global_handle n ∷ never_made H n ∷ stale H n ∷ []
+reasons c H t (Fetch owner k) = empty_cell (posted H owner k) ∷ []
+reasons c H t (Pins n) = global_handle n ∷ never_made H n ∷ []
+reasons c H t End = []
+
+-- the first that is there
+abbrev pub first_reason : List (Option Refusal) → Option Refusal
+first_reason [] = None
+first_reason (Some refusal ∷ others) = Some refusal
+first_reason (None ∷ others) = first_reason others
+
+-- ---- replies to an op with nothing against it
+
+-- a new handle of the thread in its free row, with the next generation of the row
 abbrev pub made_in : History → ℕ → Option ℕ → Reply
 made_in H t None = Refused TooMany
 made_in H t (Some r) = Made (record { owner = t; row = r; generation = makes H t r + 1 })
@@ -60,37 +84,33 @@ abbrev pub target_object : Setting → History → Named → Option Parts
 target_object c H Global = None
 target_object c H (Of h) = Some (object c H h)
 
--- the reply to a Hold, a Release or a Pins of a handle that has nothing against it
-abbrev pub held_reply : Setting → History → ℕ → Named → Reply
-held_reply c H t Global = Refused GlobalHandle
-held_reply c H t (Of h) = if holding H t h then Refused AlreadyHeld else Held (object c H h)
+-- a reply that speaks of the handle that was named
+abbrev pub of_handle : Named → (Handle → Reply) → Reply
+of_handle Global reply = Refused GlobalHandle
+of_handle (Of h) reply = reply h
 
-abbrev pub released_reply : History → ℕ → Named → Reply
-released_reply H t Global = Refused GlobalHandle
-released_reply H t (Of h) = if holding H t h then Released else Refused NotHeld
+-- what stands in a cell
+abbrev pub got : Option Handle → Reply
+got None = Refused EmptyCell
+got (Some h) = Got h
 
-abbrev pub pins_reply : Setting → History → Named → Reply
-pins_reply c H Global = Refused GlobalHandle
-pins_reply c H (Of h) = Pinned (pins c H h)
-
--- the reply to a Fetch, by what stands in the cell
-abbrev pub fetched_reply : Option Handle → Reply
-fetched_reply None = Refused EmptyCell
-fetched_reply (Some h) = Got h
-
--- the reply to an op where nothing is against what it names
+-- what each op asks for
 abbrev pub reply_to : Setting → History → ℕ → Op → Reply
-reply_to c H t (New mask picks base) = made_in H t (free_row c H t)
+reply_to c H t (New mask numbers None) = made_in H t (free_row c H t)
+reply_to c H t (New mask numbers (Some n)) = of_handle n (λ h. Made h)
 reply_to c H t (Dup n) = made_in H t (free_row c H t)
 reply_to c H t (Free n) = Freed
 reply_to c H t (Use n) = Was (selection H t) (target_object c H n)
-reply_to c H t (Hold n) = held_reply c H t n
-reply_to c H t (Release n) = released_reply H t n
-reply_to c H t (SetGlobal mask picks) = Set (sets H + 1) (composed mask picks (global c H))
+reply_to c H t (Hold n) = of_handle n (λ h. Held (object c H h))
+reply_to c H t (Release n) = Released
+reply_to c H t (SetGlobal mask numbers) = Set (sets H + 1) (composed mask (from_shelf c H mask numbers) (global c H))
+reply_to c H t (Install m offer) = Installed (installs H + 1)
 reply_to c H t (Post k n) = Posted
-reply_to c H t (Fetch owner k) = fetched_reply (posted H owner k)
-reply_to c H t (Pins n) = pins_reply c H n
+reply_to c H t (Fetch owner k) = got (posted H owner k)
+reply_to c H t (Pins n) = of_handle n (λ h. Pinned (pins c H h))
 reply_to c H t End = Ended
+
+-- ---- answers and legal histories
 
 -- the refusal where there is one, else the reply
 abbrev pub unless : Option Refusal → Reply → Reply
@@ -99,7 +119,7 @@ unless None reply = reply
 
 -- the answer to thread t's op after the history: the first reason against it, else what it asks for
 abbrev pub answer : Setting → History → ℕ → Op → Reply
-answer c H t op = unless (name_refusal H op) (reply_to c H t op)
+answer c H t op = unless (first_reason (reasons c H t op)) (reply_to c H t op)
 
 -- the entry of a call, with the reply that it gets
 abbrev pub entry : Setting → History → ℕ → Op → Entry

@@ -1,19 +1,23 @@
 -- One entry of a history: who called, what was asked and what was replied, as plain data.
 use Rattle.std.specs.Prelude.{ℕ, List, Option, Bool, true, false, ◌==◌, ◌&&◌}
+use Rattle.lc_base.specs.declared.category.Category.{Category}
 use Rattle.mask_compose.specs.Parts.{Parts}
+use Rattle.mask_compose.specs.Offer.{Offered}
 use Rattle.handle_table.specs.declared.handle.Handle.{Handle}
 use Rattle.handle_table.specs.declared.handle.Named.{Named}
 use Rattle.handle_table.specs.declared.handle.Named.TheVariants.{Global, Of}
 
--- what a thread asks of the table; masks are bits, objects are their five parts
+-- what a thread asks of the table; masks are bits, and the five numbers of a New or a SetGlobal are
+-- those of locale names, one for each category in their order
 pub data Op : Type 0 where
-  New : ℕ → Parts → Option Named → Op
+  New : ℕ → List ℕ → Option Named → Op
   Dup : Named → Op
   Free : Named → Op
   Use : Named → Op
   Hold : Named → Op
   Release : Named → Op
-  SetGlobal : ℕ → Parts → Op
+  SetGlobal : ℕ → List ℕ → Op
+  Install : ℕ → Offered → Op
   Post : ℕ → Named → Op
   Fetch : ℕ → ℕ → Op
   Pins : Named → Op
@@ -21,6 +25,7 @@ pub data Op : Type 0 where
 
 -- why an op is refused
 pub data Refusal : Type 0 where
+  NoData : Category → Refusal
   GlobalHandle : Refusal
   NeverMade : Refusal
   Stale : Refusal
@@ -37,6 +42,7 @@ pub data Reply : Type 0 where
   Held : Parts → Reply
   Released : Reply
   Set : ℕ → Parts → Reply
+  Installed : ℕ → Reply
   Posted : Reply
   Got : Handle → Reply
   Pinned : ℕ → Reply
@@ -54,12 +60,13 @@ pub record Entry : Type 0 where
 abbrev pub History : Type 0
 History = List Entry
 
--- what a table is made for: threads, rows a thread, generations a row, and the POSIX locale's object
+-- what a table is made for: threads, rows a thread, generations a row, and the offers of the locale
+-- names before any Install, of which the first is the POSIX locale's
 pub record Setting : Type 0 where
   pub threads : ℕ
   pub rows : ℕ
   pub generations : ℕ
-  pub posix : Parts
+  pub opening : List Offered
 
 -- whether two handles are one
 abbrev pub same_handle : Handle → Handle → Bool
@@ -72,5 +79,5 @@ names (Of g) h = same_handle g h
 
 -- an entry is accepted where its reply is not a refusal
 abbrev pub is_accepted : Reply → Bool
-is_accepted (Refused _) = false
+is_accepted (Refused refusal) = false
 is_accepted _ = true

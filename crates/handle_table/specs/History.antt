@@ -1,18 +1,27 @@
 -- What a history says. Each is a search from the newest entry to the oldest; no entry's effect is stored.
--- How an answer changes when an entry is added is the second equation of its search.
-use Rattle.std.specs.Prelude.{ℕ, zero, suc, ◌+◌, Bool, false, ◌==◌, nat_lt, nat_le, not, ◌&&◌, ◌||◌, if◌then◌else◌, List, [], ◌∷◌, ◌++◌, length, Option, None, Some}
+-- How an answer changes when an entry is added is the second equation of its search. An op that a search
+-- does not name leaves what it searches for as it was.
+use Rattle.std.specs.Prelude.{ℕ, zero, suc, Bool, false, ◌==◌, nat_lt, nat_le, not, ◌&&◌, ◌||◌, if◌then◌else◌, List, [], ◌∷◌, ◌++◌, length, Option, None, Some}
 use Rattle.std.specs.List.{list_any}
 use Rattle.std.specs.Option.{option_or}
 use Rattle.mask_compose.specs.Parts.{Parts, composed}
 use Rattle.handle_table.specs.declared.handle.Handle.{Handle}
 use Rattle.handle_table.specs.declared.handle.Named.{Named}
 use Rattle.handle_table.specs.declared.handle.Named.TheVariants.{Global, Of}
-use Rattle.handle_table.specs.Entry.{Op, New, Dup, Free, Use, Hold, Release, SetGlobal, Post, End, Reply, Made, Entry, History, Setting, same_handle, names, is_accepted}
+use Rattle.handle_table.specs.Entry.{Op, New, Dup, Free, Use, Hold, Release, SetGlobal, Install, Post, Fetch, Pins, End, Reply, Made, Entry, History, Setting, same_handle, names, is_accepted}
+use Rattle.handle_table.specs.Shelf.{posix, from_shelf}
 
--- the handle that a reply made: an accepted New or Dup has this reply, and no other op has it
-abbrev pub handle_made : Reply → Option Handle
-handle_made (Made h) = Some h
-handle_made _ = None
+-- the handle in a reply
+abbrev pub handle_in : Reply → Option Handle
+handle_in (Made h) = Some h
+handle_in _ = None
+
+-- the handle that an op made, by its reply: a New without a base or a Dup makes one, and no other op does
+abbrev pub handle_made : Op → Reply → Option Handle
+handle_made (New mask numbers None) reply = handle_in reply
+handle_made (New mask numbers (Some n)) reply = None
+handle_made (Dup n) reply = handle_in reply
+handle_made _ reply = None
 
 -- whether there is a handle, and it is this one
 abbrev pub is_handle : Option Handle → Handle → Bool
@@ -21,17 +30,16 @@ is_handle (Some g) h = same_handle g h
 
 -- whether the entry made the handle
 abbrev pub makes_handle : Entry → Handle → Bool
-makes_handle e h = is_handle (handle_made e.reply) h
+makes_handle e h = is_handle (handle_made e.op e.reply) h
 
 -- whether an entry made the handle
 abbrev pub made : History → Handle → Bool
 made [] h = false
 made (e ∷ H) h = makes_handle e h || made H h
 
--- whether the op, once accepted, frees the handle: a Free names it, or a New has it as its base
+-- whether the op, once accepted, frees the handle
 abbrev pub op_frees : Op → Handle → Bool
 op_frees (Free n) h = names n h
-op_frees (New mask picks (Some n)) h = names n h
 op_frees _ h = false
 
 -- whether the entry freed the handle
@@ -55,35 +63,36 @@ with_handle t r (Some h) hs = if is_in_row t r h then h ∷ hs else hs
 -- the handles that were made for a thread in a row, the newest first
 abbrev pub handles : History → ℕ → ℕ → List Handle
 handles [] t r = []
-handles (e ∷ H) t r = with_handle t r (handle_made e.reply) (handles H t r)
+handles (e ∷ H) t r = with_handle t r (handle_made e.op e.reply) (handles H t r)
 
 -- how many handles were made for a thread in a row
 abbrev pub makes : History → ℕ → ℕ → ℕ
 makes H t r = length (handles H t r)
 
--- how many times the global locale was set
-abbrev pub sets_of : Op → ℕ
-sets_of (SetGlobal mask picks) = 1
-sets_of _ = 0
+-- the number of changes of the global locale after an accepted op
+abbrev pub sets_after : Op → ℕ → ℕ
+sets_after (SetGlobal mask numbers) before = suc before
+sets_after _ before = before
 
--- the version of the global locale: the number of SetGlobal entries
+-- the version of the global locale: the number of accepted SetGlobals
 abbrev pub sets : History → ℕ
 sets [] = 0
-sets (e ∷ H) = sets_of e.op + sets H
+sets (e ∷ H) = if is_accepted e.reply then sets_after e.op (sets H) else sets H
 
--- the global object after the op
-abbrev pub global_after : Op → Parts → Parts
-global_after (SetGlobal mask picks) object = composed mask picks object
-global_after _ object = object
+-- the global object after an accepted op, with the shelf as it stood before the op
+abbrev pub global_after : Setting → History → Op → Parts → Parts
+global_after c H (SetGlobal mask numbers) before = composed mask (from_shelf c H mask numbers) before
+global_after c H _ before = before
 
--- the global object: the POSIX locale's, and each SetGlobal composes its picks with the object before
+-- the global object: the POSIX locale's, and each accepted SetGlobal composes what it takes from the
+-- shelf with the object before
 abbrev pub global : Setting → History → Parts
-global c [] = c.posix
-global c (e ∷ H) = global_after e.op (global c H)
+global c [] = posix c
+global c (e ∷ H) = if is_accepted e.reply then global_after c H e.op (global c H) else global c H
 
--- the global object of a version: the one after that many SetGlobal entries
+-- the global object of a version: the one after that many accepted SetGlobals
 abbrev pub global_at : Setting → History → ℕ → Parts
-global_at c [] k = c.posix
+global_at c [] k = posix c
 global_at c (e ∷ H) k = if nat_le k (sets H) then global_at c H k else global c (e ∷ H)
 
 -- the object of a name, by the objects of handles and the global one
@@ -91,21 +100,32 @@ abbrev pub object_named : (Handle → Parts) → Parts → Named → Parts
 object_named objects all Global = all
 object_named objects all (Of h) = objects h
 
--- the object that a New goes by outside its mask: its base's, or the POSIX locale's where it has no base
-abbrev pub object_below : Setting → (Handle → Parts) → Parts → Option Named → Parts
-object_below c objects all None = c.posix
-object_below c objects all (Some n) = object_named objects all n
+-- the object of a handle after an op that answered with it, by the objects and the shelf before: a New
+-- composes what it takes from the shelf with the object of its base, which is the handle, or with the
+-- POSIX locale's where it has no base; a Dup copies what it names; no other op gives a handle an object
+abbrev pub object_after : Setting → History → (Handle → Parts) → Op → Handle → Parts
+object_after c H objects (New mask numbers None) h = composed mask (from_shelf c H mask numbers) (posix c)
+object_after c H objects (New mask numbers (Some n)) h = composed mask (from_shelf c H mask numbers) (objects h)
+object_after c H objects (Dup n) h = object_named objects (global c H) n
+object_after c H objects (Free n) h = objects h
+object_after c H objects (Use n) h = objects h
+object_after c H objects (Hold n) h = objects h
+object_after c H objects (Release n) h = objects h
+object_after c H objects (SetGlobal mask numbers) h = objects h
+object_after c H objects (Install m offer) h = objects h
+object_after c H objects (Post k n) h = objects h
+object_after c H objects (Fetch owner k) h = objects h
+object_after c H objects (Pins n) h = objects h
+object_after c H objects End h = objects h
 
--- the object that a New or a Dup makes, by the objects before it: New composes, and Dup copies
-abbrev pub object_by : Setting → (Handle → Parts) → Parts → Op → Parts
-object_by c objects all (New mask picks base) = composed mask picks (object_below c objects all base)
-object_by c objects all (Dup n) = object_named objects all n
-object_by c objects all _ = c.posix
+-- whether the reply is the handle
+abbrev pub replies_with : Reply → Handle → Bool
+replies_with reply h = is_handle (handle_in reply) h
 
--- the object that a handle was made with
+-- the object of a handle: what the last accepted New or Dup that answered with it gave it
 abbrev pub object : Setting → History → Handle → Parts
-object c [] h = c.posix
-object c (e ∷ H) h = if makes_handle e h then object_by c (object c H) (global c H) e.op else object c H h
+object c [] h = posix c
+object c (e ∷ H) h = if replies_with e.reply h then object_after c H (object c H) e.op h else object c H h
 
 -- what a thread has selected after its accepted op
 abbrev pub selection_after : Op → Named → Named

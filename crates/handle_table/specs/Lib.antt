@@ -1,5 +1,12 @@
 pub mod Entry
+pub mod Shelf
 pub mod History
 pub mod Answer
 pub mod Seen
 pub mod Table
+pub mod Grid
+pub mod Row
+pub mod Rows
+pub mod Kept
+pub mod Effects
+pub mod Accepted

@@ -1,12 +1,17 @@
-//! The table of locale objects: handles, selections and the global locale.
+//! The table of locale objects: handles, selections, holds, cells, the shelf of locale names and the
+//! global locale.
 #![tactic(auto)]
 
-mod answer;
-mod entry;
+mod accept;
+mod checks;
+mod grid;
 mod handle;
-mod history;
+mod kept;
 mod op;
+mod row;
+mod rows;
 mod setting;
+mod shelf;
 mod table;
 #[cfg(test)]
 mod tests;

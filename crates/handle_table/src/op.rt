@@ -1,23 +1,29 @@
 //! What threads ask of the table, and what it replies.
 
-ghost use Rattle.std.specs.Prelude.{◌≡◌};
-
 use crate::handle::{Handle, Named};
-use lc_base::Mask;
-use mask_compose::{Object, Part};
+use lc_base::{Category, Mask};
+use mask_compose::{Object, Offer, Part};
 
 /// What a thread asks of the table.
+///
+/// Locale names are numbers of the table's shelf, of which 0 is the POSIX locale. Five names stand
+/// in the order of the categories, and those outside the mask are not looked at.
 #[derive(Drop)]
 pub enum Op<P: Part> {
-    /// Make an object: the parts of `picks` in the categories of the mask, and in the others those of
-    /// the base, or of the POSIX locale where there is none (XSH newlocale).
+    /// Make an object, or change one: in the categories of the mask the parts of the named locales,
+    /// in the others those of the base, or of the POSIX locale where there is none (XSH newlocale).
     New {
-        /// The categories that are taken from `picks`.
+        /// The categories that are taken from the named locales.
         mask: Mask,
-        /// The parts of the named locale.
-        picks: Object<P>,
-        /// The object that gives the other categories, and is freed by this op.
+        /// The name for each category.
+        names: [u32; 5],
+        /// The object that is changed. It keeps its handle.
         base: Option<Named>,
+    },
+    /// Make a copy of an object, or of the global locale (XSH duplocale).
+    Dup {
+        /// What is copied.
+        from: Named,
     },
     /// Free an object (XSH freelocale).
     Free {
@@ -29,21 +35,57 @@ pub enum Op<P: Part> {
         /// What is selected.
         to: Named,
     },
+    /// Hold on to an object, so that its row is not used again.
+    Hold {
+        /// The object.
+        h: Named,
+    },
+    /// Give up a hold.
+    Release {
+        /// The object that is held.
+        h: Named,
+    },
     /// Change the global locale in the categories of the mask (XSH setlocale).
     SetGlobal {
         /// The categories that change.
         mask: Mask,
-        /// The parts of the named locale.
-        picks: Object<P>,
+        /// The name for each category.
+        names: [u32; 5],
     },
-    /// End the thread: it selects nothing any more. Its objects stay.
+    /// Let a locale name stand for something else from now on. Objects stay as they are.
+    Install {
+        /// The name, which is not 0.
+        name: u32,
+        /// What it stands for.
+        offer: Offer<P>,
+    },
+    /// Put a handle into a cell of the thread.
+    Post {
+        /// The cell, from 0 to 7.
+        cell: u32,
+        /// The object.
+        h: Named,
+    },
+    /// Take the handle that stands in a thread's cell. It stays there.
+    Fetch {
+        /// The thread.
+        owner: u32,
+        /// The cell, from 0 to 7.
+        cell: u32,
+    },
+    /// Count who selects or holds an object, which may be freed.
+    Pins {
+        /// The object.
+        h: Named,
+    },
+    /// End the thread: it selects and holds nothing any more. Its objects stay.
     End,
 }
 
 /// What the table replies to an op.
 #[derive(Drop)]
 pub enum Reply<P: Part> {
-    /// The handle of the object that was made.
+    /// The handle of the object that was made or changed.
     Made(Handle),
     /// The object was freed.
     Freed,
@@ -54,6 +96,10 @@ pub enum Reply<P: Part> {
         /// The object that it has selected now; `None` for the global locale.
         now: Option<Object<P>>,
     },
+    /// The object that is held from now on.
+    Held(Object<P>),
+    /// The hold was given up.
+    Released,
     /// The global locale was changed.
     Set {
         /// The number of changes so far, this one included.
@@ -61,6 +107,14 @@ pub enum Reply<P: Part> {
         /// The global object from now on.
         object: Object<P>,
     },
+    /// The number of installs so far, this one included.
+    Installed(u32),
+    /// The handle was posted.
+    Posted,
+    /// The handle that stands in the cell.
+    Got(Handle),
+    /// The number of pins: each thread counts once for selecting the object, and once for holding it.
+    Pins(u32),
     /// The thread has ended.
     Ended,
     /// The op was refused and changed nothing.
@@ -70,6 +124,8 @@ pub enum Reply<P: Part> {
 /// Why an op is refused.
 #[derive(Clone, Copy, Debug, PartialEq, Eq)]
 pub enum Refusal {
+    /// The locale that is named for this category of the mask lacks it; it is the first such.
+    NoData(Category),
     /// The op needs an object, and names the global locale.
     GlobalHandle,
     /// No thread made the named object.
@@ -78,28 +134,10 @@ pub enum Refusal {
     Stale,
     /// The thread has no free row.
     TooMany,
-}
-
-impl<P: Part> Reply<P> {
-    ghost use Rattle.handle_table.specs.Seen.{reply_of};
-
-    /// The same reply once more, without taking memory.
-    pub fn share(&self) -> Reply<P>
-        ensures { reply_of result ≡ reply_of self.now }
-    {
-        match self {
-            Reply::Made(h) => Reply::Made(*h),
-            Reply::Freed => Reply::Freed,
-            Reply::Was { former, now } => Reply::Was {
-                former: *former,
-                now: now.as_ref().map(|object| object.share()),
-            },
-            Reply::Set { version, object } => Reply::Set {
-                version: *version,
-                object: object.share(),
-            },
-            Reply::Ended => Reply::Ended,
-            Reply::Refused(refusal) => Reply::Refused(*refusal),
-        }
-    }
+    /// The thread holds the object already.
+    AlreadyHeld,
+    /// The thread does not hold the object.
+    NotHeld,
+    /// Nothing was posted to the cell.
+    EmptyCell,
 }

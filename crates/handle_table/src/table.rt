@@ -1,59 +1,55 @@
-//! The table, which keeps its history.
+//! The table.
 
-ghost use Rattle.std.specs.Prelude.{◌≡◌, ◌+◌, ◌<◌, ◌≤◌, [], ◌∷◌, true, false, IfOk};
+ghost use Rattle.std.specs.Prelude.{◌≡◌, ◌≢◌, ℕ, ◌+◌, ◌<◌, ◌≤◌, [], ◌∷◌, length, true, false, IfOk};
 
-use crate::answer::answer;
-use crate::entry::Entry;
+use crate::accept::answer;
+use crate::kept::Kept;
 use crate::op::{Op, Reply};
 use crate::setting::Setting;
-use mask_compose::{Object, Part};
+use global_locale::Global as GlobalLocale;
+use lc_base::List;
+use mask_compose::{Offer, Part};
 use std::alloc::{AllocError, Global};
 use std::marker::Model;
 
-/// The objects, selections and global locale of some threads.
+/// The objects, selections, holds and cells of some threads, the shelf of locale names, and the
+/// global locale.
 ///
-/// It keeps all calls with their replies, and answers by searching them.
+/// A step takes no memory, and no longer than the rows and threads ask for.
 #[derive(Drop)]
 pub struct Table<P: Part> {
     setting: Setting<P>,
-    room: u32,
-    entries: Vec<Entry<P>>,
+    kept: Kept<P>,
+    steps: u32,
 }
 
 impl<P: Part> Model for Table<P> {
-    ghost use Rattle.std.specs.Prelude.{◌≤◌};
-    ghost use Rattle.std.specs.Vec.{vec_capacity};
-    ghost use Rattle.handle_table.specs.Table.{TableData};
-    ghost use Rattle.handle_table.specs.Seen.{setting_of, history_of};
+    ghost use Rattle.handle_table.specs.Table.{TableData, IsTable};
 
     ghost Value = { TableData };
 
-    ghost view = { λ t. record {
-      setting = setting_of t.setting;
-      room = t.room;
-      kept = history_of t.entries.items;
-    } };
+    ghost view = { λ t. record { setting = t.setting; kept = t.kept; count = t.steps } };
 
-    ghost invariant = { λ t. t.room ≤ vec_capacity t.entries };
+    ghost invariant = { λ t. IsTable t.setting t.kept t.steps };
 }
 
 impl<P: Part> Table<P> {
-    ghost use Rattle.handle_table.specs.Entry.{History};
+    ghost use Rattle.handle_table.specs.Entry.{History, is_accepted};
     ghost use Rattle.handle_table.specs.declared.handle.Handle.{Handle};
-    ghost use Rattle.handle_table.specs.History.{made, live, object};
-    ghost use Rattle.handle_table.specs.Answer.{answer, entry};
+    ghost use Rattle.handle_table.specs.History.{made, live, object, sets, global, global_at};
+    ghost use Rattle.handle_table.specs.Answer.{answer, entry, own};
     ghost use Rattle.handle_table.specs.Seen.{op_of, reply_of};
-    ghost use Rattle.handle_table.specs.Table.{StandsFor, steps};
+    ghost use Rattle.handle_table.specs.Table.{StandsFor, SaysTheSame, IsOpening, Fits, has_base, steps};
 
     /// A table without objects, for 1 to 16 threads of 1 to 64 rows with 1 to 2147483647
-    /// generations each. It takes the memory for `room` steps at once.
+    /// generations each. The shelf has the offers of the locale names by number, and begins with the
+    /// POSIX locale's, which offers all. All memory is taken here.
     pub fn new(
         alloc: Global,
         threads: u32,
         rows: u32,
         generations: u32,
-        posix: Object<P>,
-        room: u32,
+        shelf: List<Offer<P>>,
     ) -> Result<Table<P>, AllocError>
         requires some_thread { 1 ≤ threads }
         requires threads { threads ≤ 16 }
@@ -61,23 +57,23 @@ impl<P: Part> Table<P> {
         requires rows { rows ≤ 64 }
         requires some_generation { 1 ≤ generations }
         requires generations { generations ≤ 2147483647 }
+        requires shelf { IsOpening shelf }
         ensures setting { IfOk result (λ table. table.setting ≡
-            record { threads = threads; rows = rows; generations = generations; posix = posix }) }
-        ensures room { IfOk result (λ table. table.room ≡ room) }
+            record { threads = threads; rows = rows; generations = generations; opening = shelf }) }
         ensures stands { IfOk result (λ table. StandsFor table []) }
         ensures steps { IfOk result (λ table. steps table ≡ 0) }
     {
-        let entries = Vec::with_capacity(alloc, room as usize)?;
         let setting = Setting {
             threads,
             rows,
             generations,
-            posix,
+            opening: shelf,
         };
+        let kept = Kept::new(alloc, &setting)?;
         Ok(Table {
             setting,
-            room,
-            entries,
+            kept,
+            steps: 0,
         })
     }
 
@@ -86,31 +82,47 @@ impl<P: Part> Table<P> {
     /// A refused op stands in the history, and changes nothing else.
     pub fn step(&mut self, who: u32, op: Op<P>) -> Reply<P>
         requires who { who < self.old.setting.threads }
-        requires room { steps self.old < self.old.room }
+        requires op { Fits self.old.setting (op_of op) }
+        requires steps { steps self.old < 2147483647 }
         ensures answers { (H : History) → StandsFor self.old H →
             reply_of result ≡ answer self.old.setting H who (op_of op) }
         ensures stands { (H : History) → StandsFor self.old H →
             StandsFor self.new (entry self.old.setting H who (op_of op) ∷ H) }
 
-        // Whatever the op is: a freed handle is never live again, and a handle keeps its object.
+        // What a step leaves.
+        ensures refused { (H : History) → StandsFor self.old H → is_accepted (reply_of result) ≡ false →
+            SaysTheSame self.old.setting (entry self.old.setting H who (op_of op) ∷ H) H }
         ensures freed_stays { (H : History) (h : Handle) → StandsFor self.old H → made H h ≡ true → live H h ≡ false →
             live (entry self.old.setting H who (op_of op) ∷ H) h ≡ false }
-        ensures object_stays { (H : History) (h : Handle) → StandsFor self.old H → made H h ≡ true →
+        ensures object_stays { (H : History) (h : Handle) → StandsFor self.old H → made H h ≡ true → has_base (op_of op) h ≡ false →
             object self.old.setting (entry self.old.setting H who (op_of op) ∷ H) h ≡ object self.old.setting H h }
+        ensures own_stays { (H : History) (t : ℕ) → StandsFor self.old H → t ≢ who →
+            own (entry self.old.setting H who (op_of op) ∷ H) t ≡ own H t }
+        ensures versions_stay { (H : History) (k : ℕ) → StandsFor self.old H → k ≤ sets H →
+            global_at self.old.setting (entry self.old.setting H who (op_of op) ∷ H) k ≡ global_at self.old.setting H k }
 
         ensures setting { self.new.setting ≡ self.old.setting }
-        ensures room { self.new.room ≡ self.old.room }
         ensures steps { steps self.new ≡ steps self.old + 1 }
     {
-        let reply = answer(&self.setting, self.entries.as_slice(), who, &op);
-        let kept = reply.share();
-        self.entries
-            .push(Entry {
-                who,
-                op,
-                reply: kept,
-            })
-            .unwrap();
+        let reply = answer(&self.setting, &mut self.kept, who, op);
+        self.steps += 1;
         reply
+    }
+
+    /// How many steps were made.
+    pub fn steps(&self) -> u32
+        ensures steps { result ≡ steps self.now }
+        ensures history { (H : History) → StandsFor self.now H → result ≡ length H }
+    {
+        self.steps
+    }
+
+    /// The global locale as it is now.
+    pub fn global(&self) -> &GlobalLocale<P>
+        ensures version { (H : History) → StandsFor self.now H → result.now.version ≡ sets H }
+        ensures object { (H : History) → StandsFor self.now H → result.now.object ≡ global self.now.setting H }
+        ensures newest { (H : History) → StandsFor self.now H → result.now.object ≡ global_at self.now.setting H (sets H) }
+    {
+        self.kept.global()
     }
 }

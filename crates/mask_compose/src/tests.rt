@@ -1,4 +1,4 @@
-use crate::{Object, Part, compose};
+use crate::{Object, Part, compose, join_names, read_names};
 use lc_base::{Category, Mask};
 use std::test::Fail;
 
@@ -47,6 +47,33 @@ fn composes_by_the_mask(rt: HostRuntime) -> Result<(), Fail> {
         let made = compose(mask, &picks, &base);
         assert_eq!(rt; parts(&made), want);
         assert_eq!(rt; parts(&made.share()), want);
+    }
+    Ok(())
+}
+
+const MIXED: &[u8] = b"LC_CTYPE=C;LC_NUMERIC=POSIX;LC_MONETARY=us;LC_TIME=fr;LC_MESSAGES=C";
+
+/// A mixed name is written and read; the expected places are counted by hand.
+#[test]
+fn writes_and_reads_mixed_names(rt: HostRuntime) -> Result<(), Fail> {
+    let name = join_names(rt.alloc(), b"C", b"POSIX", b"us", b"fr", b"C")?;
+    assert_eq!(rt; name.as_bytes(), MIXED);
+    let table: [(&[u8], Option<[(usize, usize); 5]>); 6] = [
+        (MIXED, Some([(9, 1), (22, 5), (40, 2), (51, 2), (66, 1)])),
+        (b"fr", None),
+        (
+            b"LC_CTYPE=a;LC_NUMERIC=b;LC_MONETARY=;LC_TIME=d;LC_MESSAGES=e",
+            None,
+        ),
+        (b"LC_CTYPE=a;LC_NUMERIC=b;LC_TIME=d;LC_MESSAGES=e", None),
+        (
+            b"LC_CTYPE=a;LC_NUMERIC=b;LC_MONETARY=c;LC_TIME=d;LC_MESSAGES=e;f",
+            None,
+        ),
+        (b"", None),
+    ];
+    for (text, want) in table {
+        assert_eq!(rt; read_names(text), want);
     }
     Ok(())
 }

@@ -1,65 +1,41 @@
-use Rattle.std.proofs.Common.{◌≡◌, ◌∷◌, length, ap, sym, subst, ◌∙◌, arith}
-use Rattle.handle_table.specs.Entry.{History, Setting}
-use Rattle.handle_table.specs.Answer.{answer, entry, IsLegal}
-use Rattle.handle_table.specs.Seen.{setting_of, op_of, reply_of, history_of}
+use Rattle.std.proofs.Common.{◌≡◌, ap, refl, sym, subst, ◌∙◌, arith}
+use Rattle.handle_table.specs.Entry.{is_accepted}
+use Rattle.handle_table.specs.Answer.{answer, entry}
+use Rattle.handle_table.specs.Seen.{op_of, reply_of}
+use Rattle.handle_table.specs.Kept.{Keeps}
 use Rattle.handle_table.specs.Table.{TableData}
-use Rattle.handle_table.proofs.Kept.{length-history_of, history_of_pushed}
-use Rattle.handle_table.proofs.Laws.{freed_stays, object_stays}
+use Rattle.handle_table.proofs.Gone.{freed_stays}
+use Rattle.handle_table.proofs.Changes.{object_stays, own_of_other}
+use Rattle.handle_table.proofs.Laws.{refused_changes_nothing, version_stays}
 use Rattle.handle_table.proofs.table.Table.step.Goals as goal
 
-pub answer-reply-requires : goal.answer-reply-requires
-answer-reply-requires g c =
-    let es = c.self.inside.entries.items in
-    let kept : length es ≡ length c.args.self.now.kept =
-    sym (length-history_of es) ∙ ap (λ (v : TableData). length v.kept) c.self.view_is
-    in
-    let room : c.self.inside.room ≡ c.args.self.now.room = ap (λ (v : TableData). v.room) c.self.view_is in
-    let slice : length c.as_slice.result.now ≡ length es = ap length c.as_slice.ensures.value in
-    omega arith
+pub answer-reply-requires-clause-few : goal.answer-reply-requires-clause-few
+answer-reply-requires-clause-few g c =
+    let setting_is = ap (λ (v : TableData). v.setting.threads) c.self.view_is in
+    let few = c.self.invariant.few in
+    omega (arith, c.requires.who)
 
-pub unwrap-requires : goal.unwrap-requires
-unwrap-requires g c =
-    let es = c.self.inside.entries.items in
-    let kept : length es ≡ length c.args.self.now.kept =
-    sym (length-history_of es) ∙ ap (λ (v : TableData). length v.kept) c.self.view_is
+pub returns-clause-refused : goal.returns-clause-refused
+returns-clause-refused g c = λ H s refused.
+    let op = op_of c.args.op in
+    let keeps = subst (λ (v : TableData). Keeps v.setting H v.kept) (sym c.self.view_is) s.keeps in
+    let answered : reply_of c.answer-reply.result ≡ answer c.args.self.now.setting H c.args.who op =
+    c.answer-reply.ensures.replies H keeps ∙ ap (λ (v : TableData). answer v.setting H c.args.who op) c.self.view_is
     in
-    let room : c.self.inside.room ≡ c.args.self.now.room = ap (λ (v : TableData). v.room) c.self.view_is in
-    let count = c.self.inside.entries.ok.0 in
-    c.push.ensures.succeeds (omega (arith, c.self.invariant))
-
-pub returns-clause-stands : goal.returns-clause-stands
-returns-clause-stands g c = λ H s.
-    let setting_is : setting_of c.self.inside.setting ≡ c.args.self.now.setting = ap (λ (v : TableData). v.setting) c.self.view_is in
-    let kept_is : history_of c.self.inside.entries.items ≡ H = ap (λ (v : TableData). v.kept) c.self.view_is ∙ s.kept in
-    let reply_is : reply_of c.share-kept.result ≡ answer c.args.self.now.setting H c.args.who (op_of c.args.op) =
-    c.share-kept.ensures ∙ c.answer-reply.ensures
-    ∙ ap (λ (v : Setting). answer v (history_of c.as_slice.result.now) c.args.who (op_of c.args.op)) setting_is
-    ∙ ap (λ (K : History). answer c.args.self.now.setting K c.args.who (op_of c.args.op)) (ap history_of c.as_slice.ensures.value ∙ kept_is)
-    in
-    record {
-      legal = (
-        ap (λ (v : Setting). answer v H c.args.who (op_of c.args.op)) (sym setting_is),
-        subst (λ (v : Setting). IsLegal v H) (sym setting_is) s.legal,
-      );
-      kept = history_of_pushed c.self.inside.entries.items c.push.new.self.items
-          (record { who = c.args.who; op = c.args.op; reply = c.share-kept.result }) (rw c.unwrap.ensures at c.push.ensures.items)
-          ∙ ap (λ r. record { who = c.args.who; op = op_of c.args.op; reply = r } ∷ history_of c.self.inside.entries.items) reply_is
-          ∙ ap (λ (K : History). entry c.args.self.now.setting H c.args.who (op_of c.args.op) ∷ K) kept_is;
-    }
-
-pub returns-clause-steps : goal.returns-clause-steps
-returns-clause-steps g c =
-    let before : length (history_of c.self.inside.entries.items) ≡ length c.args.self.now.kept =
-    ap (λ (v : TableData). length v.kept) c.self.view_is
-    in
-    let after = ap length (history_of_pushed c.self.inside.entries.items c.push.new.self.items
-    (record { who = c.args.who; op = c.args.op; reply = c.share-kept.result }) (rw c.unwrap.ensures at c.push.ensures.items)) in
-    omega arith
+    refused_changes_nothing c.args.self.now.setting (entry c.args.self.now.setting H c.args.who op) H (sym (ap is_accepted answered) ∙ refused)
 
 pub returns-clause-freed_stays : goal.returns-clause-freed_stays
 returns-clause-freed_stays g c = λ H h s before freed.
-    freed_stays c.args.self.now.setting H c.args.who (op_of c.args.op) h s.legal before freed
+    freed_stays c.args.self.now.setting (entry c.args.self.now.setting H c.args.who (op_of c.args.op)) H h (refl, s.keeps.legal) before freed
 
 pub returns-clause-object_stays : goal.returns-clause-object_stays
-returns-clause-object_stays g c = λ H h s before.
-    object_stays c.args.self.now.setting H c.args.who (op_of c.args.op) h s.legal before
+returns-clause-object_stays g c = λ H h s before other.
+    object_stays c.args.self.now.setting (entry c.args.self.now.setting H c.args.who (op_of c.args.op)) H h (refl, s.keeps.legal) before other
+
+pub returns-clause-own_stays : goal.returns-clause-own_stays
+returns-clause-own_stays g c = λ H t s other.
+    own_of_other (entry c.args.self.now.setting H c.args.who (op_of c.args.op)) H t (λ same. other (sym same))
+
+pub returns-clause-versions_stay : goal.returns-clause-versions_stay
+returns-clause-versions_stay g c = λ H k s below.
+    version_stays c.args.self.now.setting (entry c.args.self.now.setting H c.args.who (op_of c.args.op)) H k below

@@ -1,0 +1,143 @@
+//! What the locale names stand for.
+
+ghost use Rattle.std.specs.Prelude.{◌≡◌, ◌<◌};
+ghost use Rattle.std.specs.List.{find};
+ghost use Rattle.lc_base.specs.declared.category.Category.{Category};
+ghost use Rattle.handle_table.specs.Entry.{History};
+ghost use Rattle.handle_table.specs.Shelf.{category_index, number_for, shelf, part_from_shelf, from_shelf, is_lacking, lacking};
+ghost use Rattle.handle_table.specs.Table.{AreOnShelf};
+ghost use Rattle.handle_table.specs.Kept.{Keeps};
+
+use crate::kept::Kept;
+use crate::setting::Setting;
+use lc_base::{Category, Mask};
+use mask_compose::{Object, Offer, Part};
+
+/// The categories in their order.
+const CATEGORIES: [Category; 5] = [
+    Category::Ctype,
+    Category::Numeric,
+    Category::Monetary,
+    Category::Time,
+    Category::Messages,
+];
+
+/// The object that a mask and names take from the shelf.
+pub fn from_shelf<P: Part>(
+    setting: &Setting<P>,
+    kept: &Kept<P>,
+    mask: Mask,
+    names: &[u32; 5],
+) -> Object<P>
+    ensures { (H : History) → Keeps setting.now H kept.now → AreOnShelf setting.now names.now →
+        result ≡ from_shelf setting.now H mask names.now }
+{
+    Object::of(
+        part_from_shelf(setting, kept, mask, names, Category::Ctype),
+        part_from_shelf(setting, kept, mask, names, Category::Numeric),
+        part_from_shelf(setting, kept, mask, names, Category::Monetary),
+        part_from_shelf(setting, kept, mask, names, Category::Time),
+        part_from_shelf(setting, kept, mask, names, Category::Messages),
+    )
+}
+
+/// The part that a mask and names take from the shelf for a category.
+fn part_from_shelf<P: Part>(
+    setting: &Setting<P>,
+    kept: &Kept<P>,
+    mask: Mask,
+    names: &[u32; 5],
+    category: Category,
+) -> P
+    ensures { (H : History) → Keeps setting.now H kept.now → AreOnShelf setting.now names.now →
+        P.number result ≡ part_from_shelf setting.now H mask names.now category }
+{
+    if !mask.has(category) {
+        return setting.posix().object.part(category).share();
+    }
+    offer_for(setting, kept, names, category)
+        .object
+        .part(category)
+        .share()
+}
+
+/// The offer of the name for a category.
+fn offer_for<P: Part>(
+    setting: &Setting<P>,
+    kept: &Kept<P>,
+    names: &[u32; 5],
+    category: Category,
+) -> Offer<P>
+    ensures { (H : History) → Keeps setting.now H kept.now → AreOnShelf setting.now names.now →
+        result ≡ shelf setting.now H (number_for names.now category) }
+{
+    kept.offer(setting, number_for(names, category))
+}
+
+/// The first category of the mask that the offer of its name lacks.
+pub fn lacking<P: Part>(
+    setting: &Setting<P>,
+    kept: &Kept<P>,
+    mask: Mask,
+    names: &[u32; 5],
+) -> Option<Category>
+    ensures { (H : History) → Keeps setting.now H kept.now → AreOnShelf setting.now names.now →
+        result ≡ lacking setting.now H mask names.now }
+{
+    first_lacking(setting, kept, mask, names, &CATEGORIES)
+}
+
+/// The first of the categories that the mask has and the offer of its name lacks.
+fn first_lacking<P: Part>(
+    setting: &Setting<P>,
+    kept: &Kept<P>,
+    mask: Mask,
+    names: &[u32; 5],
+    categories: &[Category],
+) -> Option<Category>
+    ensures { (H : History) → Keeps setting.now H kept.now → AreOnShelf setting.now names.now →
+        result ≡ find (is_lacking setting.now H mask names.now) categories.now }
+{
+    for category in categories {
+        if is_lacking(setting, kept, mask, names, *category) {
+            return Some(*category);
+        }
+    }
+    None
+}
+
+/// Whether the mask has the category, and the offer of its name lacks it.
+fn is_lacking<P: Part>(
+    setting: &Setting<P>,
+    kept: &Kept<P>,
+    mask: Mask,
+    names: &[u32; 5],
+    category: Category,
+) -> bool
+    ensures { (H : History) → Keeps setting.now H kept.now → AreOnShelf setting.now names.now →
+        result ≡ is_lacking setting.now H mask names.now category }
+{
+    let offer = offer_for(setting, kept, names, category);
+    mask.has(category) && !offer.available.has(category)
+}
+
+/// The name for a category.
+fn number_for(names: &[u32; 5], category: Category) -> u32
+    ensures { result ≡ number_for names.now category }
+{
+    names[category_index(category)]
+}
+
+/// The place of a category in their order.
+fn category_index(category: Category) -> usize
+    ensures index { result ≡ category_index category }
+    ensures small { result < 5 }
+{
+    match category {
+        Category::Ctype => 0,
+        Category::Numeric => 1,
+        Category::Monetary => 2,
+        Category::Time => 3,
+        Category::Messages => 4,
+    }
+}
