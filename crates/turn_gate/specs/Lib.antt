@@ -1,0 +1,5 @@
+pub mod History
+pub mod Rule
+pub mod Callers
+pub mod Ends
+pub mod Register
