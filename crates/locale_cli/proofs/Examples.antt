@@ -1,16 +1,18 @@
 -- The definitions on small inputs.
-use Rattle.std.proofs.Common.{◌≡◌, ℕ, List, [], ◌∷◌, ◌++◌, None, Some, refl, lit<}
+use Rattle.std.proofs.Common.{◌≡◌, ℕ, length, List, [], ◌∷◌, ◌++◌, None, Some, refl, lit<}
 use Rattle.std.specs.Prelude.{codes}
 use Rattle.std.specs.Fmt.{decimal}
 use Rattle.std.proofs.lemmas.Fmt.{decimal_digit}
 use Rattle.locale_reader.specs.NumericSection.{numeric_texts}
-use Rattle.locale_cli.specs.declared.answer.Status.TheVariants.{Done, Refused}
+use Rattle.locale_cli.specs.declared.answer.Status.TheVariants.{Done, Refused, TooLarge}
 use Rattle.locale_cli.specs.declared.answer.Answer.{Answer}
 use Rattle.locale_cli.specs.declared.words.Mode.TheVariants.{Serial}
 use Rattle.script_lang.specs.Accepted.{bundle_reading}
 use Rattle.locale_cli.specs.Answer.{answer_of}
 use Rattle.script_lang.specs.Bundle.{parts_of}
 use Rattle.script_run.specs.Plan.{plan_of}
+use Rattle.locale_cli.specs.declared.top.TheConstants.{INPUT_LIMIT}
+use Rattle.locale_cli.specs.Status.{due_status}
 use Rattle.locale_cli.specs.Words.{mode_of}
 
 digit0 : decimal 0 ≡ codes "0"
@@ -121,3 +123,14 @@ serial_word = refl
 
 a_word_more : mode_of (codes "serial" ∷ codes "rows=0" ∷ []) ≡ None
 a_word_more = refl
+
+-- ---- the input's limit
+
+most_bytes : INPUT_LIMIT ≡ 16777216
+most_bytes = refl
+
+due_at_the_limit : (input : List ℕ) → length input ≡ 16777216 → due_status input ≡ (answer_of input).status
+due_at_the_limit input many = rw many refl
+
+due_past_the_limit : (input : List ℕ) → length input ≡ 16777217 → due_status input ≡ TooLarge
+due_past_the_limit input many = rw many refl

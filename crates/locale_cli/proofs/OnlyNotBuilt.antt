@@ -1,6 +1,6 @@
 -- A bundle of the form that is read so far has one fault alone: it is not built.
 use Rattle.std.proofs.Common.{◌≡◌, ℕ, Bool, true, false, not, cond, eqb, List, [], ◌∷◌, length, Option, Some, None, Ok, Err, refl, sym, ap, subst, ◌∙◌, inl, inr, lit<}
-use Rattle.std.specs.Prelude.{◌⊎◌, codes, is_some}
+use Rattle.std.specs.Prelude.{codes, is_some}
 use Rattle.std.specs.Fmt.{decimal}
 use Rattle.std.specs.Io.KnownBytes.{Appends}
 use Rattle.std.proofs.lemmas.Fmt.{decimal_digit}
@@ -10,6 +10,7 @@ use Rattle.lc_base.specs.declared.reason.Reason.TheVariants.{NotBuilt}
 use Rattle.lc_base.specs.Lines as lines
 use Rattle.lc_base.specs.Lines.{lines_of, first_of}
 use Rattle.lc_base.specs.Reading.{Reads, ◌>>=◌}
+use Rattle.lc_base.proofs.ReadingLemmas.{fault_of, value_of}
 use Rattle.locale_reader.specs.Texts.{quoted_after}
 use Rattle.locale_reader.specs.NumericSection.{place_at, frames, numeric_texts, numeric_list, numeric_source, numeric_reading, if_built}
 use Rattle.numeric_cat.specs.Numeric.{numeric_values}
@@ -23,21 +24,6 @@ use Rattle.locale_cli.specs.Status.{IsRefused, not_built_line}
 
 abbrev the_fault : Place × Reason
 the_fault = (place_at 1 1, NotBuilt)
-
-abbrev failed : {A : Type 0} → Place × Reason → Reads A
-failed f = Err f
-
-failed_is : {A : Type 0} (g f : Place × Reason) → failed {A = A} g ≡ Err f → g ≡ f
-failed_is g f e = cc
-
--- where a step fails, or the next one does
-bind_err : {A B : Type 0} (r : Reads A) (k : A → Reads B) (f : Place × Reason) → (r >>= k) ≡ Err f → (r ≡ Err f) ⊎ ((x : A) × (r ≡ Ok x) × (k x ≡ Err f))
-bind_err (Ok x) k f e = inr (x, refl, e)
-bind_err {A} {B} (Err g) k f e = inl (ap (failed {A = A}) (failed_is {A = B} g f e))
-
-bind_ok : {A B : Type 0} (r : Reads A) (k : A → Reads B) (y : B) → (r >>= k) ≡ Ok y → (x : A) × (r ≡ Ok x) × (k x ≡ Ok y)
-bind_ok (Ok x) k y e = (x, refl, e)
-bind_ok (Err g) k y e = absurd cc
 
 -- the value of a part that is there
 part_some : {A B : Type 0} (o : Option A) (k : A → Option B) (y : B) → lines.◌>>=◌ o k ≡ Some y → (x : A) × (k x ≡ Some y)
@@ -92,13 +78,13 @@ made_of parts = numeric_reading parts.block >>= λ source. if_built (commands_of
 bundle_fault : (ls : List (List ℕ)) (f : Place × Reason) → bundle_reading ls ≡ Err f → f ≡ the_fault
 unfolding bundle_reading
 bundle_fault ls f e =
-    elim (bind_err (if_built (parts_of ls)) made_of f e) [
+    elim (fault_of (if_built (parts_of ls)) made_of f e) [
       | inl p ↦ built_err (parts_of ls) f p
       | inr x ↦
-          elim (bind_err (numeric_reading x.0.block) (λ source. if_built (commands_of x.0.name x.0.script) >>= λ commands. Ok (record { name = x.0.name; source = source; thread = x.0.thread; commands = commands })) f x.2) [
+          elim (fault_of (numeric_reading x.0.block) (λ source. if_built (commands_of x.0.name x.0.script) >>= λ commands. Ok (record { name = x.0.name; source = source; thread = x.0.thread; commands = commands })) f x.2) [
             | inl p ↦ built_err (lines.◌>>=◌ (numeric_texts x.0.block) (λ texts. Some (numeric_source texts))) f p
             | inr y ↦
-                elim (bind_err (if_built (commands_of x.0.name x.0.script)) (λ commands. Ok (record { name = x.0.name; source = y.0; thread = x.0.thread; commands = commands })) f y.2) [
+                elim (fault_of (if_built (commands_of x.0.name x.0.script)) (λ commands. Ok (record { name = x.0.name; source = y.0; thread = x.0.thread; commands = commands })) f y.2) [
                   | inl p ↦ built_err (commands_of x.0.name x.0.script) f p
                   | inr z ↦ absurd (never_err (record { name = x.0.name; source = y.0; thread = x.0.thread; commands = z.0 }) f z.2)
                 ]
@@ -116,9 +102,9 @@ source_is (Some texts) source e = (texts, refl, cc)
 bundle_source : (ls : List (List ℕ)) (b : Bundle) → bundle_reading ls ≡ Ok b → (texts : List ℕ × List ℕ) × (b.source ≡ numeric_source texts) × (eqb (length texts.0) 0 ≡ false)
 unfolding bundle_reading
 bundle_source ls b e =
-    let x = bind_ok (if_built (parts_of ls)) made_of b e in
-    let y = bind_ok (numeric_reading x.0.block) (λ source. if_built (commands_of x.0.name x.0.script) >>= λ commands. Ok (record { name = x.0.name; source = source; thread = x.0.thread; commands = commands })) b x.2 in
-    let z = bind_ok (if_built (commands_of x.0.name x.0.script)) (λ commands. Ok (record { name = x.0.name; source = y.0; thread = x.0.thread; commands = commands })) b y.2 in
+    let x = value_of (if_built (parts_of ls)) made_of b e in
+    let y = value_of (numeric_reading x.0.block) (λ source. if_built (commands_of x.0.name x.0.script) >>= λ commands. Ok (record { name = x.0.name; source = source; thread = x.0.thread; commands = commands })) b x.2 in
+    let z = value_of (if_built (commands_of x.0.name x.0.script)) (λ commands. Ok (record { name = x.0.name; source = y.0; thread = x.0.thread; commands = commands })) b y.2 in
     let is : record { name = x.0.name; source = y.0; thread = x.0.thread; commands = z.0 } ≡ b = ok_is (record { name = x.0.name; source = y.0; thread = x.0.thread; commands = z.0 }) b z.2 in
     let s = source_is (numeric_texts x.0.block) y.0 (built_ok (some_source (numeric_texts x.0.block)) y.0 y.1) in
     (s.0, sym (ap (λ (c : Bundle). c.source) is) ∙ s.2, radix_is_there x.0.block s.0 s.1)
@@ -127,11 +113,11 @@ bundle_source ls b e =
 pub plan_fault : (text : List ℕ) (f : Place × Reason) → plan_of text ≡ Err f → f ≡ the_fault
 unfolding plan_of
 plan_fault text f e =
-    elim (bind_err (bundle_of text) (λ bundle. numeric_values (entries_of bundle.source.sections) >>= λ values. Ok (record { bundle = bundle; numeric = values })) f e) [
+    elim (fault_of (bundle_of text) (λ bundle. numeric_values (entries_of bundle.source.sections) >>= λ values. Ok (record { bundle = bundle; numeric = values })) f e) [
       | inl p ↦ bundle_fault (lines_of text) f p
       | inr x ↦
           let s = bundle_source (lines_of text) x.0 x.1 in
-          elim (bind_err (numeric_values (entries_of x.0.source.sections)) (λ values. Ok (record { bundle = x.0; numeric = values })) f x.2) [
+          elim (fault_of (numeric_values (entries_of x.0.source.sections)) (λ values. Ok (record { bundle = x.0; numeric = values })) f x.2) [
             | inl p ↦ absurd (no_empty_radix s.0.0 s.0.1 f s.2 (ap (λ (source : LocaleSource). numeric_values (entries_of source.sections)) (sym s.1) ∙ p))
             | inr y ↦ absurd (never_err (record { bundle = x.0; numeric = y.0 }) f y.2)
           ]

@@ -5,16 +5,13 @@ use Rattle.lc_base.specs.declared.place.Place.{Place}
 use Rattle.lc_base.specs.declared.reason.Reason.{Reason}
 use Rattle.lc_base.specs.Bytes.{CameExactly, AddsPrefix}
 use Rattle.script_run.specs.declared.plan.Plan.{Plan}
+use Rattle.locale_cli.specs.declared.top.TheConstants.{INPUT_LIMIT}
 use Rattle.locale_cli.specs.declared.answer.Status.{Status}
 use Rattle.locale_cli.specs.declared.answer.Status.TheVariants.{Done, Usage, Refused, ReadFault, WriteFault, Memory, TooLarge}
 use Rattle.locale_cli.specs.Answer.{answer_of, serial_text}
 use Rattle.script_lang.specs.Output.{newline}
 use Rattle.script_run.specs.Plan.{plan_of}
 use Rattle.script_lang.specs.Refusal.{refusal_line}
-
--- the most bytes of an input
-abbrev pub input_limit : ℕ
-input_limit = 16777216
 
 -- what is written for wrong words
 abbrev pub usage_line : List ℕ
@@ -32,7 +29,7 @@ not_built_line = codes "refused: 1:1 NotBuilt" ++ newline
 pub record WholeInput (old new : Option (List ℕ)) (input : List ℕ) : Type 0 where
   pub came : Consumes old new input
   pub ended : IsAtEnd new
-  pub within : length input ≤ input_limit
+  pub within : length input ≤ INPUT_LIMIT
 
 -- status 0: the whole input is an accepted bundle, and its lines were written
 abbrev pub IsDone : Option (List ℕ) → Option (List ℕ) → Option (List ℕ) → Option (List ℕ) → Type 0
@@ -44,17 +41,17 @@ IsRefused left left' written written' = (input : List ℕ) × (fault : Place × 
 
 -- status 7: one byte more than the limit came, and the line for that was written
 abbrev pub IsTooLarge : Option (List ℕ) → Option (List ℕ) → Option (List ℕ) → Option (List ℕ) → Type 0
-IsTooLarge left left' written written' = CameExactly left left' (input_limit + 1) × Appends written written' too_large_line
+IsTooLarge left left' written written' = CameExactly left left' (INPUT_LIMIT + 1) × Appends written written' too_large_line
 
 -- status 5, for right words: the front of what was to be written was written
 abbrev pub IsCutShort : Option (List ℕ) → Option (List ℕ) → Option (List ℕ) → Option (List ℕ) → Type 0
 IsCutShort left left' written written' =
     ((input : List ℕ) × WholeInput left left' input × AddsPrefix written written' (answer_of input).text)
-    ⊎ (CameExactly left left' (input_limit + 1) × AddsPrefix written written' too_large_line)
+    ⊎ (CameExactly left left' (INPUT_LIMIT + 1) × AddsPrefix written written' too_large_line)
 
 -- the status for an input, whatever its length
 abbrev pub due_status : List ℕ → Status
-due_status input = if nat_lt input_limit (length input) then TooLarge else (answer_of input).status
+due_status input = if nat_lt INPUT_LIMIT (length input) then TooLarge else (answer_of input).status
 
 -- the status is the one that is due, unless the source or the sink failed or memory was wanting
 abbrev pub IsDue : Status → Status → Type 0

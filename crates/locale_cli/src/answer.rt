@@ -25,7 +25,7 @@ pub enum Status {
     WriteFault,
     /// 6: memory was wanting.
     Memory,
-    /// 7: more than 16777216 bytes came.
+    /// 7: more bytes came than the limit allows.
     TooLarge,
 }
 

@@ -1,12 +1,12 @@
 //! The program as a function of words, a source and a sink.
 
-ghost use Rattle.std.specs.Prelude.{◌≡◌, ◌+◌, ◌↔◌, ◌⊎◌, IsSome, IfSome, None};
+ghost use Rattle.std.specs.Prelude.{◌≡◌, ◌≢◌, ◌+◌, ◌↔◌, ◌⊎◌, IsSome, IfSome, None};
 ghost use Rattle.std.specs.Io.KnownBytes.{Appends};
 ghost use Rattle.lc_base.specs.Faults.{Rose};
 ghost use Rattle.lc_base.specs.Bytes.{CameAtMost, AddsPrefix};
 ghost use Rattle.locale_cli.specs.Words.{mode_of};
 ghost use Rattle.locale_cli.specs.Run.{Told, Ran};
-ghost use Rattle.locale_cli.specs.Status.{input_limit, usage_line, not_built_line, IsDone, IsRefused, IsTooLarge, IsCutShort, due_status, IsDue, StayedSound};
+ghost use Rattle.locale_cli.specs.Status.{usage_line, not_built_line, IsDone, IsRefused, IsTooLarge, IsCutShort, due_status, IsDue, StayedSound};
 
 use crate::answer::{Status, answer_to};
 use crate::words::{Mode, mode_of};
@@ -14,7 +14,7 @@ use lc_base::{ByteText, ReadRefusal, Sink, Source, read_all, write_all};
 use std::alloc::Global;
 
 /// The most bytes of an input.
-const INPUT_LIMIT: usize = 16_777_216;
+pub const INPUT_LIMIT: usize = 16_777_216;
 
 /// Reads the whole source, runs it as the words say, and writes the whole answer to the sink.
 pub fn top<S: Source, K: Sink>(
@@ -35,10 +35,12 @@ pub fn top<S: Source, K: Sink>(
 
     ensures too_large { result ≡ Status.TooLarge → IsTooLarge (S.left source.old) (S.left source.new) (K.written sink.old) (K.written sink.new) }
 
-    // A fault comes only where its count rose.
+    // A fault comes just where its count rose.
     ensures read_fault { result ≡ Status.ReadFault → Rose (S.faults source.old) (S.faults source.new) }
-    ensures read_short { result ≡ Status.ReadFault → CameAtMost (S.left source.old) (S.left source.new) input_limit }
+    ensures read_sound { result ≢ Status.ReadFault → S.faults source.new ≡ S.faults source.old }
+    ensures read_short { result ≡ Status.ReadFault → CameAtMost (S.left source.old) (S.left source.new) INPUT_LIMIT }
     ensures write_fault { result ≡ Status.WriteFault → Rose (K.faults sink.old) (K.faults sink.new) }
+    ensures write_sound { result ≢ Status.WriteFault → K.faults sink.new ≡ K.faults sink.old }
     ensures cut_short { result ≡ Status.WriteFault → IsSome (mode_of words.now) → IsCutShort (S.left source.old) (S.left source.new) (K.written sink.old) (K.written sink.new) }
     ensures usage_cut { result ≡ Status.WriteFault → mode_of words.now ≡ None → AddsPrefix (K.written sink.old) (K.written sink.new) usage_line }
     ensures unwritten { (result ≡ Status.ReadFault) ⊎ (result ≡ Status.Memory) → sink.new ≡ sink.old }

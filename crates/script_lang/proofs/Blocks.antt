@@ -1,12 +1,13 @@
 -- A block of a bundle, line after line.
 use Rattle.std.proofs.Common.{◌≡◌, ℕ, ◌-◌, ◌<◌, Bool, true, false, List, [], ◌∷◌, ◌++◌, length, take, Option, Some, None, refl, sym, ap, ◌∙◌, append_assoc, arith, inl, inr, length-append}
-use Rattle.std.specs.Prelude.{codes, ◌||◌}
+use Rattle.std.specs.Prelude.{codes}
 use Rattle.std.specs.List.{list_any, AllByRecursion}
 use Rattle.std.proofs.Math.Seq.{take-append_seam}
 use Rattle.std.specs.Option.{option_map}
 use Rattle.std.specs.Str.{bytes_eq}
 use Rattle.std.proofs.lemmas.List.{append-nil}
 use Rattle.lc_base.specs.Lines.{is_newline, lines_of, ended, CutsLine}
+use Rattle.lc_base.proofs.LineLemmas.{lines_of-ended}
 use Rattle.script_lang.specs.Bundle.{block_of}
 
 -- the text of whole lines
@@ -17,17 +18,6 @@ text_of (line ∷ lines) = ended line ++ text_of lines
 -- the lines before, and what is still found
 abbrev pub with_lines : List (List ℕ) → Option (List (List ℕ) × List (List ℕ)) → Option (List (List ℕ) × List (List ℕ))
 with_lines front found = option_map (λ b. (front ++ b.0, b.1)) found
-
-either_false : (b c : Bool) → (b || c) ≡ false → (b ≡ false) × (c ≡ false)
-either_false true c e = absurd cc
-either_false false c e = (refl, e)
-
--- a whole line is the first line, whatever follows it
-pub lines_of-ended : (line more : List ℕ) → list_any is_newline line ≡ false → lines_of (ended line ++ more) ≡ line ∷ lines_of more
-lines_of-ended [] more bare = refl
-lines_of-ended (c ∷ cs) more bare =
-    let b = either_false (is_newline c) (list_any is_newline cs) bare in
-    rw (b.0, lines_of-ended cs more b.1) refl
 
 -- the lines of whole lines
 pub lines_of-text_of : (front : List (List ℕ)) → AllByRecursion (λ line. list_any is_newline line ≡ false) front → lines_of (text_of front) ≡ front

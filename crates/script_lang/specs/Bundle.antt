@@ -7,6 +7,7 @@ use Rattle.lc_base.specs.Lines.{after, first_of, ◌>>=◌}
 use Rattle.script_lang.specs.declared.bundle.Item.TheVariants.{Radixchar, Thousep}
 use Rattle.script_lang.specs.declared.bundle.Target.{Target}
 use Rattle.script_lang.specs.declared.bundle.Target.TheVariants.{Global, Variable}
+use Rattle.script_lang.specs.declared.bundle.TheConstants.{COMMAND_LIMIT}
 use Rattle.script_lang.specs.declared.bundle.Command.{Command}
 use Rattle.script_lang.specs.declared.bundle.Command.TheVariants.{Info, Setlocale, New, Free, Use}
 use Rattle.script_lang.specs.Names.{is_locale_name, is_thread_name}
@@ -109,9 +110,9 @@ abbrev pub script_of : List ℕ → List (List ℕ) → Option (List Command)
 script_of name [] = Some []
 script_of name (line ∷ lines) = command_of name line >>= λ c. script_of name lines >>= λ cs. Some (c ∷ cs)
 
--- at most 20000 commands
+-- the commands, where they are not too many
 abbrev pub within_limit : List Command → Option (List Command)
-within_limit commands = if nat_lt 20000 (length commands) then None else Some commands
+within_limit commands = if nat_lt COMMAND_LIMIT (length commands) then None else Some commands
 
 -- the commands of a script, where each line is one and they are not too many
 abbrev pub commands_of : List ℕ → List (List ℕ) → Option (List Command)

@@ -2,6 +2,7 @@
 use Rattle.std.specs.Prelude.{ℕ, ◌==◌, nat_lt, nat_le, Bool, not, ◌&&◌, ◌||◌, List, length, slice_index, codes}
 use Rattle.std.specs.List.{list_all}
 use Rattle.std.specs.Str.{bytes_eq}
+use Rattle.script_lang.specs.declared.names.TheConstants.{LOCALE_NAME_LIMIT, THREAD_NAME_LIMIT}
 
 -- `A` to `Z` or `a` to `z`
 abbrev pub is_letter : ℕ → Bool
@@ -21,8 +22,8 @@ is_name_byte c = is_letter_or_digit c || (c == 95) || (c == 46) || (c == 45) || 
 
 -- 1 to 64 bytes of a name, and neither `C` nor `POSIX`
 abbrev pub is_locale_name : List ℕ → Bool
-is_locale_name name = nat_lt 0 (length name) && nat_le (length name) 64 && list_all is_name_byte name && not (bytes_eq name (codes "C")) && not (bytes_eq name (codes "POSIX"))
+is_locale_name name = nat_lt 0 (length name) && nat_le (length name) LOCALE_NAME_LIMIT && list_all is_name_byte name && not (bytes_eq name (codes "C")) && not (bytes_eq name (codes "POSIX"))
 
 -- a letter and up to 15 letters and digits, and not `GLOBAL`
 abbrev pub is_thread_name : List ℕ → Bool
-is_thread_name name = nat_lt 0 (length name) && nat_le (length name) 16 && is_letter (slice_index name 0) && list_all is_letter_or_digit name && not (bytes_eq name (codes "GLOBAL"))
+is_thread_name name = nat_lt 0 (length name) && nat_le (length name) THREAD_NAME_LIMIT && is_letter (slice_index name 0) && list_all is_letter_or_digit name && not (bytes_eq name (codes "GLOBAL"))

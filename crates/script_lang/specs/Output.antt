@@ -2,6 +2,7 @@
 use Rattle.std.specs.Prelude.{ℕ, ◌+◌, ◌/◌, ◌%◌, ◌==◌, nat_lt, ◌||◌, List, [], ◌∷◌, ◌++◌, slice_index_or, codes, Option, Some, None, if◌then◌else◌}
 use Rattle.std.specs.List.{flat_map}
 use Rattle.std.specs.Fmt.{decimal}
+use Rattle.lc_base.specs.Categories.{category_name}
 use Rattle.script_lang.specs.declared.output.Places.{Places}
 use Rattle.script_lang.specs.declared.output.Places.TheVariants as places
 use Rattle.script_lang.specs.declared.output.Said.{Said}
@@ -55,26 +56,32 @@ abbrev pub named_text : List (List ℕ) → Named → List ℕ
 named_text names Global = codes "GLOBAL"
 named_text names (Of h) = handle_text names h
 
--- the word for why a command is refused
-abbrev pub why_word : Why → List ℕ
-why_word whys.Unset = codes "Unset"
-why_word whys.GlobalHandle = codes "GlobalHandle"
-why_word whys.NeverMade = codes "NeverMade"
-why_word whys.Stale = codes "Stale"
-why_word whys.TooMany = codes "TooMany"
-why_word whys.AlreadyHeld = codes "AlreadyHeld"
-why_word whys.NotHeld = codes "NotHeld"
-why_word whys.EmptyCell = codes "EmptyCell"
+-- why a command is refused
+abbrev pub why_text : Why → List ℕ
+why_text whys.Unset = codes "Unset"
+why_text (whys.NoData category) = codes "NoData " ++ category_name category
+why_text whys.GlobalHandle = codes "GlobalHandle"
+why_text whys.NeverMade = codes "NeverMade"
+why_text whys.Stale = codes "Stale"
+why_text whys.TooMany = codes "TooMany"
+why_text whys.AlreadyHeld = codes "AlreadyHeld"
+why_text whys.NotHeld = codes "NotHeld"
+why_text whys.EmptyCell = codes "EmptyCell"
 
 -- a reply, where the threads have these names
 abbrev pub reply_text : List (List ℕ) → Said → List ℕ
 reply_text names (said.Handle h) = codes "handle " ++ handle_text names h
 reply_text names said.Freed = codes "freed"
 reply_text names (said.Was former) = codes "was " ++ named_text names former
+reply_text names said.Held = codes "held"
+reply_text names said.Released = codes "released"
 reply_text names (said.Name name) = codes "name " ++ name
+reply_text names (said.Installed count) = codes "installed " ++ decimal count
+reply_text names said.Posted = codes "posted"
+reply_text names (said.Pins count) = codes "pins " ++ decimal count
 reply_text names (said.Text text) = codes "text " ++ quoted text
 reply_text names said.Ended = codes "ended"
-reply_text names (said.Refused why) = codes "refused " ++ why_word why
+reply_text names (said.Refused why) = codes "refused " ++ why_text why
 
 -- ROUND THREAD INDEX, each with a space after it
 abbrev pub caller_text : List ℕ → OutLine → List ℕ

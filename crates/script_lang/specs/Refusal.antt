@@ -1,5 +1,5 @@
 -- The line of a refused bundle (our own).
-use Rattle.std.specs.Prelude.{ℕ, List, [], ◌++◌, codes}
+use Rattle.std.specs.Prelude.{ℕ, List, ◌++◌, codes}
 use Rattle.std.specs.Fmt.{decimal}
 use Rattle.lc_base.specs.declared.place.Place.{Place}
 use Rattle.lc_base.specs.declared.reason.Reason.{Reason}
@@ -22,6 +22,7 @@ part_word parts.Thread = codes "thread"
 -- the word for a limit
 abbrev pub limit_word : Limit → List ℕ
 limit_word limits.Locales = codes "locales"
+limit_word limits.Later = codes "later"
 limit_word limits.Charmaps = codes "charmaps"
 limit_word limits.Threads = codes "threads"
 limit_word limits.Rounds = codes "rounds"
@@ -47,52 +48,45 @@ class_word classes.Graph = codes "graph"
 class_word classes.Print = codes "print"
 class_word classes.Xdigit = codes "xdigit"
 
--- the first word of a reason
-abbrev pub reason_word : Reason → List ℕ
-reason_word (reasons.BadLine part) = codes "BadLine"
-reason_word reasons.NoEnd = codes "NoEnd"
-reason_word (reasons.OverLimit limit) = codes "OverLimit"
-reason_word reasons.NameTwice = codes "NameTwice"
-reason_word reasons.NoCharmap = codes "NoCharmap"
-reason_word reasons.NoNative = codes "NoNative"
-reason_word reasons.NoThread = codes "NoThread"
-reason_word reasons.BadHeader = codes "BadHeader"
-reason_word reasons.BadEncoding = codes "BadEncoding"
-reason_word reasons.RangeBackward = codes "RangeBackward"
-reason_word reasons.PortableMoved = codes "PortableMoved"
-reason_word reasons.WrongOperand = codes "WrongOperand"
-reason_word reasons.BadEscape = codes "BadEscape"
-reason_word reasons.OpenString = codes "OpenString"
-reason_word reasons.OpenName = codes "OpenName"
-reason_word reasons.SectionTwice = codes "SectionTwice"
-reason_word reasons.UnknownKeyword = codes "UnknownKeyword"
-reason_word reasons.KeywordTwice = codes "KeywordTwice"
-reason_word reasons.CopyNotAlone = codes "CopyNotAlone"
-reason_word reasons.UnknownCharacter = codes "UnknownCharacter"
-reason_word reasons.CopyMissing = codes "CopyMissing"
-reason_word reasons.CopyCycle = codes "CopyCycle"
-reason_word reasons.BadClassName = codes "BadClassName"
-reason_word reasons.DigitsNotTen = codes "DigitsNotTen"
-reason_word reasons.NotCased = codes "NotCased"
-reason_word (reasons.Excluded a b w) = codes "Excluded"
-reason_word reasons.EmptyRadix = codes "EmptyRadix"
-reason_word reasons.BadCurrency = codes "BadCurrency"
-reason_word reasons.BadNumber = codes "BadNumber"
-reason_word reasons.WrongCount = codes "WrongCount"
-reason_word reasons.BadEra = codes "BadEra"
-reason_word (reasons.BadFormat at) = codes "BadFormat"
-reason_word reasons.FormatRank = codes "FormatRank"
-reason_word reasons.TooManyDigits = codes "TooManyDigits"
-reason_word reasons.NotBuilt = codes "NotBuilt"
-
--- what follows it, each word behind a space
-abbrev pub reason_detail : Reason → List ℕ
-reason_detail (reasons.BadLine part) = space ++ part_word part
-reason_detail (reasons.OverLimit limit) = space ++ limit_word limit
-reason_detail (reasons.Excluded a b w) = space ++ class_word a ++ space ++ class_word b ++ space ++ decimal w
-reason_detail (reasons.BadFormat at) = space ++ decimal at
-reason_detail _ = []
+-- a reason, and what it names, each behind a space
+abbrev pub reason_text : Reason → List ℕ
+reason_text (reasons.BadLine part) = codes "BadLine" ++ space ++ part_word part
+reason_text reasons.NoEnd = codes "NoEnd"
+reason_text (reasons.OverLimit limit) = codes "OverLimit" ++ space ++ limit_word limit
+reason_text reasons.NameTwice = codes "NameTwice"
+reason_text reasons.NoCharmap = codes "NoCharmap"
+reason_text reasons.NoNative = codes "NoNative"
+reason_text reasons.NoThread = codes "NoThread"
+reason_text reasons.NoLater = codes "NoLater"
+reason_text reasons.BadHeader = codes "BadHeader"
+reason_text reasons.BadEncoding = codes "BadEncoding"
+reason_text reasons.RangeBackward = codes "RangeBackward"
+reason_text reasons.PortableMoved = codes "PortableMoved"
+reason_text reasons.WrongOperand = codes "WrongOperand"
+reason_text reasons.BadEscape = codes "BadEscape"
+reason_text reasons.OpenString = codes "OpenString"
+reason_text reasons.OpenName = codes "OpenName"
+reason_text reasons.SectionTwice = codes "SectionTwice"
+reason_text reasons.UnknownKeyword = codes "UnknownKeyword"
+reason_text reasons.KeywordTwice = codes "KeywordTwice"
+reason_text reasons.CopyNotAlone = codes "CopyNotAlone"
+reason_text reasons.UnknownCharacter = codes "UnknownCharacter"
+reason_text reasons.CopyMissing = codes "CopyMissing"
+reason_text reasons.CopyCycle = codes "CopyCycle"
+reason_text reasons.BadClassName = codes "BadClassName"
+reason_text reasons.DigitsNotTen = codes "DigitsNotTen"
+reason_text reasons.NotCased = codes "NotCased"
+reason_text (reasons.Excluded first second value) = codes "Excluded" ++ space ++ class_word first ++ space ++ class_word second ++ space ++ decimal value
+reason_text reasons.EmptyRadix = codes "EmptyRadix"
+reason_text reasons.BadCurrency = codes "BadCurrency"
+reason_text reasons.BadNumber = codes "BadNumber"
+reason_text reasons.WrongCount = codes "WrongCount"
+reason_text reasons.BadEra = codes "BadEra"
+reason_text (reasons.BadFormat at) = codes "BadFormat" ++ space ++ decimal at
+reason_text reasons.FormatRank = codes "FormatRank"
+reason_text reasons.TooManyDigits = codes "TooManyDigits"
+reason_text reasons.NotBuilt = codes "NotBuilt"
 
 -- `refused: L:C REASON` and a newline
 abbrev pub refusal_line : Place → Reason → List ℕ
-refusal_line place reason = codes "refused: " ++ decimal place.line ++ codes ":" ++ decimal place.column ++ space ++ reason_word reason ++ reason_detail reason ++ newline
+refusal_line place reason = codes "refused: " ++ decimal place.line ++ codes ":" ++ decimal place.column ++ space ++ reason_text reason ++ newline

@@ -15,7 +15,7 @@ use std::alloc::{AllocError, Global};
 use std::marker::Model;
 
 /// The most commands of a bundle.
-const COMMAND_LIMIT: usize = 20000;
+pub const COMMAND_LIMIT: usize = 20000;
 
 /// An item of nl_langinfo (XSH nl_langinfo).
 #[derive(Clone, Copy, Debug, PartialEq, Eq)]
@@ -50,7 +50,7 @@ pub enum Command {
     Use(Target),
 }
 
-/// At most 20000 commands.
+/// Commands, at most `COMMAND_LIMIT` of them.
 #[derive(Debug, Drop)]
 pub struct Script {
     commands: Vec<Command>,
@@ -59,16 +59,17 @@ pub struct Script {
 impl Model for Script {
     ghost use Rattle.std.specs.Prelude.{List, ◌≤◌, length};
     ghost use Rattle.script_lang.specs.declared.bundle.Command.{Command};
+    ghost use Rattle.script_lang.specs.declared.bundle.TheConstants.{COMMAND_LIMIT};
 
     ghost Value = { List Command };
 
     ghost view = { λ s. s.commands.items };
 
-    ghost invariant = { λ s. length s.commands.items ≤ 20000 };
+    ghost invariant = { λ s. length s.commands.items ≤ COMMAND_LIMIT };
 }
 
 impl Script {
-    /// The script of these commands, or `None` where there are more than 20000.
+    /// The script of these commands, or `None` where there are too many.
     fn of(commands: Vec<Command>) -> Option<Script>
         ensures { result ≡ within_limit commands.items }
     {
@@ -81,7 +82,7 @@ impl Script {
     /// The commands, in order.
     pub fn as_slice(&self) -> &[Command]
         ensures commands { result.now ≡ self.now }
-        ensures few { length result.now ≤ 20000 }
+        ensures few { length result.now ≤ COMMAND_LIMIT }
     {
         self.commands.as_slice()
     }

@@ -6,6 +6,6 @@ mod names;
 mod output;
 mod refusal;
 
-pub use bundle::{Bundle, Command, Item, Script, Target, read_bundle};
+pub use bundle::{Bundle, COMMAND_LIMIT, Command, Item, Script, Target, read_bundle};
 pub use output::{OutLine, Places, Said, Why, print};
 pub use refusal::push_refusal;

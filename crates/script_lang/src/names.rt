@@ -4,13 +4,19 @@ ghost use Rattle.std.specs.Prelude.{◌≡◌};
 ghost use Rattle.std.specs.List.{list_all};
 ghost use Rattle.script_lang.specs.Names.{is_letter, is_letter_or_digit, is_name_byte, is_locale_name, is_thread_name};
 
+/// The most bytes of a locale's name.
+pub const LOCALE_NAME_LIMIT: usize = 64;
+
+/// The most bytes of a thread's name.
+pub const THREAD_NAME_LIMIT: usize = 16;
+
 /// Whether a locale may have this name: 1 to 64 letters, digits, `_`, `.`, `-` and `@`, and
 /// neither `C` nor `POSIX`.
 pub fn is_locale_name(name: &[u8]) -> bool
     ensures { result ≡ is_locale_name name.now }
 {
     !name.is_empty()
-        && name.len() <= 64
+        && name.len() <= LOCALE_NAME_LIMIT
         && are_name_bytes(name)
         && name != b"C".as_slice()
         && name != b"POSIX".as_slice()
@@ -21,7 +27,7 @@ pub fn is_thread_name(name: &[u8]) -> bool
     ensures { result ≡ is_thread_name name.now }
 {
     !name.is_empty()
-        && name.len() <= 16
+        && name.len() <= THREAD_NAME_LIMIT
         && is_letter(name[0])
         && are_letters_or_digits(name)
         && name != b"GLOBAL".as_slice()

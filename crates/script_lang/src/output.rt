@@ -3,11 +3,11 @@
 ghost use Rattle.std.specs.Prelude.{◌≡◌, ◌++◌, ◌<◌, [], slice_index_or, IfOk, OnOk};
 ghost use Rattle.std.specs.Fmt.{decimal};
 ghost use Rattle.std.specs.List.{flat_map};
-ghost use Rattle.script_lang.specs.Output.{hex_digit, escaped, quoted, places_text, version_text, handle_text, named_text, why_word, reply_text, caller_text, outcome_text, line_text, printed};
+ghost use Rattle.script_lang.specs.Output.{hex_digit, escaped, quoted, places_text, version_text, handle_text, named_text, why_text, reply_text, caller_text, outcome_text, line_text, printed};
 
 use handle_table::{Handle, Named};
 use itoa::Buffer;
-use lc_base::{ByteText, List};
+use lc_base::{ByteText, Category, List};
 use std::alloc::{AllocError, Global};
 
 /// The positions of a line's entries in the history.
@@ -23,6 +23,8 @@ pub enum Places {
 pub enum Why {
     /// The command names a variable that no earlier accepted command of the thread bound.
     Unset,
+    /// The locale that is named for this category lacks it.
+    NoData(Category),
     GlobalHandle,
     NeverMade,
     Stale,
@@ -35,14 +37,25 @@ pub enum Why {
 /// A printed reply.
 #[derive(Debug, Drop)]
 pub enum Said {
-    /// newlocale: the handle of the object that was made.
+    /// newlocale and duplocale: the handle of the object that was made or changed; fetch: the handle
+    /// in the cell.
     Handle(Handle),
     /// freelocale.
     Freed,
     /// uselocale: what was selected before.
     Was(Named),
+    /// hold.
+    Held,
+    /// release.
+    Released,
     /// setlocale: the name of the category.
     Name(ByteText),
+    /// install: the number of installs so far.
+    Installed(u32),
+    /// post.
+    Posted,
+    /// pins: their number.
+    Pins(u32),
     /// nl_langinfo.
     Text(ByteText),
     /// The end of a thread.
@@ -170,10 +183,21 @@ fn push_reply(out: &mut Vec<u8>, reply: &Said, threads: &List<ByteText>) -> Resu
             out.extend_from_slice(b"text ")?;
             push_quoted(out, text.as_bytes())
         }
+        Said::Held => out.extend_from_slice(b"held"),
+        Said::Released => out.extend_from_slice(b"released"),
+        Said::Installed(count) => {
+            out.extend_from_slice(b"installed ")?;
+            push_number(out, u64::from(*count))
+        }
+        Said::Posted => out.extend_from_slice(b"posted"),
+        Said::Pins(count) => {
+            out.extend_from_slice(b"pins ")?;
+            push_number(out, u64::from(*count))
+        }
         Said::Ended => out.extend_from_slice(b"ended"),
         Said::Refused(why) => {
             out.extend_from_slice(b"refused ")?;
-            out.extend_from_slice(why_word(*why).as_bytes())
+            push_why(out, *why)
         }
     }
 }
@@ -202,18 +226,22 @@ fn push_handle(
     push_number(out, u64::from(handle.generation))
 }
 
-fn why_word(why: Why) -> &'static str
-    ensures { result.now ≡ why_word why }
+fn push_why(out: &mut Vec<u8>, why: Why) -> Result<(), AllocError>
+    ensures { OnOk result (out.new.items ≡ out.old.items ++ why_text why) }
 {
     match why {
-        Why::Unset => "Unset",
-        Why::GlobalHandle => "GlobalHandle",
-        Why::NeverMade => "NeverMade",
-        Why::Stale => "Stale",
-        Why::TooMany => "TooMany",
-        Why::AlreadyHeld => "AlreadyHeld",
-        Why::NotHeld => "NotHeld",
-        Why::EmptyCell => "EmptyCell",
+        Why::Unset => out.extend_from_slice(b"Unset"),
+        Why::NoData(category) => {
+            out.extend_from_slice(b"NoData ")?;
+            out.extend_from_slice(category.name())
+        }
+        Why::GlobalHandle => out.extend_from_slice(b"GlobalHandle"),
+        Why::NeverMade => out.extend_from_slice(b"NeverMade"),
+        Why::Stale => out.extend_from_slice(b"Stale"),
+        Why::TooMany => out.extend_from_slice(b"TooMany"),
+        Why::AlreadyHeld => out.extend_from_slice(b"AlreadyHeld"),
+        Why::NotHeld => out.extend_from_slice(b"NotHeld"),
+        Why::EmptyCell => out.extend_from_slice(b"EmptyCell"),
     }
 }
 

@@ -1,10 +1,12 @@
 -- A script after some of its commands.
-use Rattle.std.proofs.Common.{◌≡◌, ℕ, zero, suc, ◌+◌, ◌*◌, ◌<◌, ◌≤◌, List, [], ◌∷◌, ◌++◌, length, drop, get_or, Some, None, Result, Ok, Err, refl, sym, ap, ◌∙◌, append_assoc, add-one, arith}
+use Rattle.std.proofs.Common.{◌≡◌, ◌≢◌, ℕ, zero, suc, ◌+◌, ◌<◌, ◌≤◌, List, [], ◌∷◌, ◌++◌, length, drop, get_or, Some, None, Result, Ok, Err, refl, sym, ap, ◌∙◌, append_assoc, add-one, arith}
 use Rattle.std.specs.Prelude.{IfOk, OnOk}
 use Rattle.std.proofs.Math.Seq.{drop-cons}
 use Rattle.handle_table.specs.Entry.{Op, History}
 use Rattle.handle_table.specs.Table.{steps}
+use Rattle.script_lang.specs.declared.bundle.TheConstants.{COMMAND_LIMIT}
 use Rattle.script_lang.specs.declared.bundle.Command.{Command}
+use Rattle.script_lang.specs.declared.bundle.Item.{Item}
 use Rattle.script_lang.specs.declared.bundle.Command.TheVariants.{Info, Setlocale, New, Free, Use}
 use Rattle.script_lang.specs.declared.output.OutLine.{OutLine}
 use Rattle.script_run.specs.declared.plan.Plan.{Plan}
@@ -20,11 +22,18 @@ step_is plan H b index (Free target) op e = ap (op_step plan H b index None) e
 step_is plan H b index (Use target) op e = ap (op_step plan H b index None) e
 step_is plan H b index Setlocale op e = ap (op_step plan H b index None) e
 
+-- a command whose variable is not bound
+pub step_unset : (plan : Plan) (H : History) (b : Bindings) (index : ℕ) (command : Command) → ((item : Item) → command ≢ Info item) → op_of_command b command ≡ None → step plan H b index command ≡ op_step plan H b index (binds command) None
+step_unset plan H b index (Info item) other e = absurd (other item refl)
+step_unset plan H b index (New variable) other e = ap (op_step plan H b index (Some variable)) e
+step_unset plan H b index (Free target) other e = ap (op_step plan H b index None) e
+step_unset plan H b index (Use target) other e = ap (op_step plan H b index None) e
+step_unset plan H b index Setlocale other e = ap (op_step plan H b index None) e
+
 -- the thread's table after so many commands
 pub record IsSound (t : Thread) (commands : List Command) (i : ℕ) : Type 0 where
   pub setting : t.table.setting ≡ setting
-  pub room : t.table.room ≡ 2 * length commands + 1
-  pub entries : t.entries ≡ steps t.table
+  pub few : length commands ≤ COMMAND_LIMIT
   pub steps : steps t.table ≤ i
 
 -- the lines so far, and those of the commands that are left
@@ -32,20 +41,17 @@ pub record RunsOn (plan : Plan) (commands : List Command) (t : Thread) (lines : 
   pub at : IsAt t H b
   pub rest : lines ++ serial_from plan H b (i + 1) (drop i commands) ≡ serial_from plan [] [] 1 commands
 
--- there is memory for another step
-pub is_ready : (t : Thread) (commands : List Command) (i : ℕ) → IsSound t commands i → i ≤ length commands → length commands ≤ 20000 → IsReady t
-is_ready t commands i s le few = record {
+-- the table can make another step
+pub is_ready : (t : Thread) (commands : List Command) (i : ℕ) → IsSound t commands i → i ≤ length commands → IsReady t
+is_ready t commands i s le = record {
   setting = s.setting;
-  room = omega (arith, s.room, s.steps);
-  small = omega (arith, s.room);
-  entries = s.entries;
+  steps = omega (arith, s.few, s.steps);
 }
 
 pub still_sound : (t u : Thread) (commands : List Command) (i : ℕ) → IsSound t commands i → KeepsTable t u → IsSound u commands (i + 1)
 still_sound t u commands i s k = record {
   setting = k.setting ∙ s.setting;
-  room = k.room ∙ s.room;
-  entries = k.entries;
+  few = s.few;
   steps = omega (arith, k.steps, s.steps);
 }
 

@@ -5,6 +5,7 @@ use Rattle.std.specs.Str.{bytes_eq}
 use Rattle.lc_base.specs.declared.category.Category.TheVariants.{Numeric}
 use Rattle.lc_base.specs.Mask.{category_bit}
 use Rattle.mask_compose.specs.Parts.{Parts}
+use Rattle.mask_compose.specs.Offer.{Offered}
 use Rattle.handle_table.specs.declared.handle.Handle.{Handle}
 use Rattle.handle_table.specs.declared.handle.Named.{Named}
 use Rattle.handle_table.specs.declared.handle.Named.TheVariants as names
@@ -29,23 +30,31 @@ use Rattle.script_lang.specs.declared.output.Why.TheVariants as whys
 use Rattle.script_lang.specs.declared.output.Said.{Said}
 use Rattle.script_lang.specs.declared.output.Said.TheVariants as said
 
--- ---- parts: 0 is the POSIX locale, and any other number the bundle's locale
+-- ---- parts and names: 0 is the POSIX locale, and 1 the bundle's
 
 -- the POSIX locale in each category
 abbrev pub posix_parts : Parts
 posix_parts = record { ctype = 0; numeric = 0; monetary = 0; time = 0; messages = 0 }
 
 -- the LC_NUMERIC of the bundle's locale, and the POSIX locale's other categories
-abbrev pub picked_parts : Parts
-picked_parts = record { ctype = 0; numeric = 1; monetary = 0; time = 0; messages = 0 }
+abbrev pub locale_parts : Parts
+locale_parts = record { ctype = 0; numeric = 1; monetary = 0; time = 0; messages = 0 }
 
 -- the mask of LC_NUMERIC alone
 abbrev pub numeric_bit : ℕ
 numeric_bit = category_bit Numeric
 
+-- the POSIX locale has all categories, and the bundle's LC_NUMERIC alone
+abbrev pub opening : List Offered
+opening = record { object = posix_parts; available = 31 } ∷ record { object = locale_parts; available = numeric_bit } ∷ []
+
 -- one thread with 16 rows of 65535 generations
 abbrev pub setting : Setting
-setting = record { threads = 1; rows = 16; generations = 65535; posix = posix_parts }
+setting = record { threads = 1; rows = 16; generations = 65535; opening = opening }
+
+-- the bundle's locale for LC_NUMERIC
+abbrev pub numeric_names : List ℕ
+numeric_names = 0 ∷ 1 ∷ 0 ∷ 0 ∷ 0 ∷ []
 
 -- the values of a part
 abbrev pub values_of : Plan → ℕ → NumericValues
@@ -80,10 +89,10 @@ named bindings (Variable variable) = option_map (λ h. names.Of h) (bound bindin
 
 -- the op of a command, where its variable is bound
 abbrev pub op_of_command : Bindings → Command → Option table.Op
-op_of_command bindings (New variable) = Some (table.New numeric_bit picked_parts None)
+op_of_command bindings (New variable) = Some (table.New numeric_bit numeric_names None)
 op_of_command bindings (Free target) = option_map (λ n. table.Free n) (named bindings target)
 op_of_command bindings (Use target) = option_map (λ n. table.Use n) (named bindings target)
-op_of_command bindings Setlocale = Some (table.SetGlobal numeric_bit picked_parts)
+op_of_command bindings Setlocale = Some (table.SetGlobal numeric_bit numeric_names)
 op_of_command bindings (Info item) = None
 
 -- the variable that a command binds
@@ -103,6 +112,7 @@ bindings_after bindings _ _ = bindings
 
 -- the printed form of a refusal
 abbrev pub why_of : table.Refusal → Why
+why_of (table.NoData category) = whys.NoData category
 why_of table.GlobalHandle = whys.GlobalHandle
 why_of table.NeverMade = whys.NeverMade
 why_of table.Stale = whys.Stale
@@ -111,14 +121,20 @@ why_of table.AlreadyHeld = whys.AlreadyHeld
 why_of table.NotHeld = whys.NotHeld
 why_of table.EmptyCell = whys.EmptyCell
 
--- the printed form of a reply of the table; no command asks for a Hold, a Release, a Post, a Fetch or the pins so far
+-- the printed form of a reply of the table
 abbrev pub shown : Plan → table.Reply → Said
 shown plan (table.Made h) = said.Handle h
 shown plan table.Freed = said.Freed
 shown plan (table.Was former now) = said.Was former
+shown plan (table.Held object) = said.Held
+shown plan table.Released = said.Released
 shown plan (table.Set version object) = said.Name (part_name plan object.numeric)
+shown plan (table.Installed count) = said.Installed count
+shown plan table.Posted = said.Posted
+shown plan (table.Got h) = said.Handle h
+shown plan (table.Pinned count) = said.Pins count
+shown plan table.Ended = said.Ended
 shown plan (table.Refused refusal) = said.Refused (why_of refusal)
-shown plan _ = said.Ended
 
 -- the version that a reply prints
 abbrev pub version_made : table.Reply → Option ℕ

@@ -5,6 +5,7 @@ mod plan;
 mod script;
 mod share;
 mod thread;
+mod variables;
 
 pub use plan::{Plan, prepare};
 pub use script::serial;

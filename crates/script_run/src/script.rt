@@ -4,15 +4,19 @@ ghost use Rattle.std.specs.Prelude.{◌≡◌, ◌≤◌, [], length, IfOk, OnOk
 ghost use Rattle.numeric_cat.specs.Numeric.{posix_values};
 ghost use Rattle.handle_table.specs.Entry.{History};
 ghost use Rattle.handle_table.specs.Answer.{own};
+ghost use Rattle.handle_table.specs.Table.{Fits};
 ghost use Rattle.handle_table.specs.Seen.{op_of, reply_of, refusal_of};
+ghost use Rattle.script_lang.specs.declared.bundle.TheConstants.{COMMAND_LIMIT};
+ghost use Rattle.script_lang.specs.declared.output.Said.TheVariants.{Text};
 ghost use Rattle.script_run.specs.Thread.{IsAt, IsReady, KeepsTable};
-ghost use Rattle.script_run.specs.Serial.{Bindings, binds, bindings_after, item_text, values_of, part_name, why_of, shown, version_made, line, info_line, end_line, placed_line, op_step, step, serial_from, serial_lines};
+ghost use Rattle.script_run.specs.Serial.{setting, Bindings, binds, bindings_after, item_text, values_of, part_name, why_of, shown, version_made, line, info_line, end_line, placed_line, op_step, step, serial_from, serial_lines};
 
 use crate::plan::Plan;
 use crate::share::Share;
 use crate::thread::{Thread, bind, op_of_command, serve, start};
 use handle_table::{Op, Refusal, Reply};
 use lc_base::{ByteText, Category, List};
+use mask_compose::Object;
 use numeric_cat::Numeric;
 use script_lang::{Command, Item, OutLine, Places, Said, Why};
 use std::alloc::{AllocError, Global};
@@ -33,11 +37,11 @@ fn lines_of(
     posix: &Numeric,
     commands: &[Command],
 ) -> Result<Vec<OutLine>, AllocError>
-    requires few { length commands.now ≤ 20000 }
+    requires few { length commands.now ≤ COMMAND_LIMIT }
     requires posix { posix.now ≡ posix_values }
     ensures { IfOk result (λ lines. lines.items ≡ serial_from plan.now [] [] 1 commands.now) }
 {
-    let mut thread = start(alloc, 2 * commands.len() as u32 + 1)?;
+    let mut thread = start(alloc)?;
     let mut lines = Vec::new(alloc);
     for (i, command) in commands.iter().enumerate() {
         lines.push(command_line(alloc, plan, posix, &mut thread, i as u32 + 1, command)?)?;
@@ -64,13 +68,14 @@ fn command_line(
     if let Command::Info(item) = command {
         return info_line(alloc, plan, posix, thread, index, *item);
     }
-    match op_of_command(thread.bound.as_slice(), command) {
+    match op_of_command(&thread.bound, command) {
         None => Ok(line_with(index, Places::None, None, Said::Refused(Why::Unset))),
         Some(op) => op_line(alloc, plan, thread, index, command, op),
     }
 }
 
-/// The line of an info command.
+/// The line of an info command: it reads the thread's own object, or the global locale with its
+/// version.
 fn info_line(
     alloc: Global,
     plan: &Plan,
@@ -80,15 +85,31 @@ fn info_line(
     item: Item,
 ) -> Result<OutLine, AllocError>
     requires posix { posix.now ≡ posix_values }
+    requires setting { thread.now.table.setting ≡ setting }
     ensures { IfOk result (λ l. (H : History) (b : Bindings) → IsAt thread.now H b → l ≡ info_line plan.now H (own H 0) index item) }
 {
-    let (version, object) = match &thread.own {
-        Some(own) => (None, own),
-        None => (Some(thread.version), &thread.global),
-    };
+    if let Some(own) = &thread.own {
+        let text = text_of(alloc, plan, posix, own, item)?;
+        return Ok(line_with(index, Places::None, None, text));
+    }
+    let global = thread.table.global();
+    let text = text_of(alloc, plan, posix, global.peek(), item)?;
+    Ok(line_with(index, Places::None, Some(global.version()), text))
+}
+
+/// The text of an item of an object.
+fn text_of(
+    alloc: Global,
+    plan: &Plan,
+    posix: &Numeric,
+    object: &Object<Share>,
+    item: Item,
+) -> Result<Said, AllocError>
+    requires posix { posix.now ≡ posix_values }
+    ensures { IfOk result (λ said. said ≡ Text (item_text (values_of plan.now object.now.numeric) item)) }
+{
     let values = values_of(plan, posix, *object.part(Category::Numeric));
-    let text = ByteText::of(alloc, item_text(values, item))?;
-    Ok(line_with(index, Places::None, version, Said::Text(text)))
+    Ok(Said::Text(ByteText::of(alloc, item_text(values, item))?))
 }
 
 /// The line of a command that makes the entry of an op.
@@ -101,11 +122,12 @@ fn op_line(
     op: Op<Share>,
 ) -> Result<OutLine, AllocError>
     requires ready { IsReady thread.old }
+    requires op { Fits setting (op_of op) }
     ensures line { IfOk result (λ l. (H : History) (b : Bindings) → IsAt thread.old H b → l ≡ (op_step plan.now H b index (binds command.now) (Some (op_of op))).line) }
     ensures at { OnOk result ((H : History) (b : Bindings) → IsAt thread.old H b → IsAt thread.new (op_step plan.now H b index (binds command.now) (Some (op_of op))).history (op_step plan.now H b index (binds command.now) (Some (op_of op))).bindings) }
     ensures kept { OnOk result (KeepsTable thread.old thread.new) }
 {
-    let place = thread.entries;
+    let place = u64::from(thread.table.steps());
     let reply = serve(thread, op);
     let line = reply_line(alloc, plan, index, place, &reply)?;
     bind_made(thread, alloc, command, &reply)?;
@@ -135,7 +157,6 @@ fn bind_made(
 ) -> Result<(), AllocError>
     ensures at { OnOk result ((H : History) (b : Bindings) → IsAt thread.old H b → IsAt thread.new H (bindings_after b (binds command.now) (reply_of reply.now))) }
     ensures table { OnOk result (thread.new.table ≡ thread.old.table) }
-    ensures entries { OnOk result (thread.new.entries ≡ thread.old.entries) }
 {
     if let Command::New(variable) = command {
         if let Reply::Made(handle) = reply {
@@ -150,7 +171,7 @@ fn end_line(thread: &mut Thread, index: u32) -> OutLine
     requires ready { IsReady thread.old }
     ensures { (H : History) (b : Bindings) → IsAt thread.old H b → result ≡ end_line H index }
 {
-    let place = thread.entries;
+    let place = u64::from(thread.table.steps());
     let _ = serve(thread, Op::End);
     OutLine {
         round: 2,
@@ -200,26 +221,36 @@ fn said(alloc: Global, plan: &Plan, reply: &Reply<Share>) -> Result<Said, AllocE
     ensures { IfOk result (λ said. said ≡ shown plan.now (reply_of reply.now)) }
 {
     match reply {
-        Reply::Made(handle) => Ok(Said::Handle(*handle)),
+        Reply::Made(handle) | Reply::Got(handle) => Ok(Said::Handle(*handle)),
         Reply::Freed => Ok(Said::Freed),
         Reply::Was { former, .. } => Ok(Said::Was(*former)),
+        Reply::Held(_) => Ok(Said::Held),
+        Reply::Released => Ok(Said::Released),
         Reply::Set { object, .. } => {
             let name = part_name(plan, *object.part(Category::Numeric));
             Ok(Said::Name(ByteText::of(alloc, name)?))
         }
+        Reply::Installed(count) => Ok(Said::Installed(*count)),
+        Reply::Posted => Ok(Said::Posted),
+        Reply::Pins(count) => Ok(Said::Pins(*count)),
         Reply::Ended => Ok(Said::Ended),
         Reply::Refused(refusal) => Ok(Said::Refused(why_of(*refusal))),
     }
 }
 
+/// The printed form of a refusal of the table.
 fn why_of(refusal: Refusal) -> Why
     ensures { result ≡ why_of (refusal_of refusal) }
 {
     match refusal {
+        Refusal::NoData(category) => Why::NoData(category),
         Refusal::GlobalHandle => Why::GlobalHandle,
         Refusal::NeverMade => Why::NeverMade,
         Refusal::Stale => Why::Stale,
         Refusal::TooMany => Why::TooMany,
+        Refusal::AlreadyHeld => Why::AlreadyHeld,
+        Refusal::NotHeld => Why::NotHeld,
+        Refusal::EmptyCell => Why::EmptyCell,
     }
 }
 

@@ -1,64 +1,57 @@
 //! A thread that runs its commands on a table.
 
-ghost use Rattle.std.specs.Prelude.{◌≡◌, ◌+◌, ◌<◌, ◌++◌, ◌∷◌, [], ◌^◌, IfOk, OnOk, OnErr, Some};
+ghost use Rattle.std.specs.Prelude.{◌≡◌, ◌+◌, ◌<◌, ◌++◌, ◌∷◌, [], ◌^◌, IfOk, IfSome, OnOk, OnErr, Some};
 ghost use Rattle.std.specs.Option.{option_map};
 ghost use Rattle.handle_table.specs.Entry.{History};
 ghost use Rattle.handle_table.specs.Answer.{answer, entry, own_after};
-ghost use Rattle.handle_table.specs.Table.{steps};
+ghost use Rattle.handle_table.specs.Table.{Fits, steps};
 ghost use Rattle.handle_table.specs.Seen.{op_of, reply_of};
-ghost use Rattle.script_run.specs.Thread.{version_after, object_after, IsAt, IsReady, KeepsTable};
-ghost use Rattle.script_run.specs.Serial.{setting, Bindings, bound, named, op_of_command};
+ghost use Rattle.script_run.specs.Thread.{HoldsLast, IsAt, IsReady, KeepsTable};
+ghost use Rattle.script_run.specs.Serial.{setting, Bindings, named, op_of_command};
 
-use crate::share::{Share, picked_object, posix_object};
+use crate::share::{Share, opening};
+use crate::variables::Variables;
 use handle_table::{Handle, Named, Op, Reply, Table};
 use lc_base::{ByteText, Category, Mask};
 use mask_compose::Object;
 use script_lang::{Command, Target};
 use std::alloc::{AllocError, Global};
 
-/// A thread: the table, and what the thread knows of its history.
+/// The bundle's locale for `LC_NUMERIC`.
+const NUMERIC_NAMES: [u32; 5] = [0, 1, 0, 0, 0];
+
+/// A thread with its table.
 #[derive(Drop)]
 pub struct Thread {
     pub table: Table<Share>,
-    /// The number of entries in the history.
-    pub entries: u64,
     /// The thread's own object; `None` where it goes by the global locale.
     pub own: Option<Object<Share>>,
-    /// The version of the global locale.
-    pub version: u32,
-    pub global: Object<Share>,
-    /// What variables stand for, the oldest binding first.
-    pub bound: Vec<(ByteText, Handle)>,
+    pub bound: Variables,
 }
 
-/// A thread before its first command, with memory for so many entries.
-pub fn start(alloc: Global, room: u32) -> Result<Thread, AllocError>
+/// A thread before its first command.
+pub fn start(alloc: Global) -> Result<Thread, AllocError>
     ensures at { IfOk result (λ thread. IsAt thread [] []) }
-    ensures room { IfOk result (λ thread. thread.table.room ≡ room) }
     ensures setting { IfOk result (λ thread. thread.table.setting ≡ setting) }
     ensures steps { IfOk result (λ thread. steps thread.table ≡ 0) }
 {
     Ok(Thread {
-        table: Table::new(alloc, 1, 16, 65535, posix_object(), room)?,
-        entries: 0,
+        table: Table::new(alloc, 1, 16, 65535, opening(alloc)?)?,
         own: None,
-        version: 0,
-        global: posix_object(),
-        bound: Vec::new(alloc),
+        bound: Variables::new(alloc),
     })
 }
 
 /// Answers an op of the thread.
 pub fn serve(thread: &mut Thread, op: Op<Share>) -> Reply<Share>
     requires ready { IsReady thread.old }
+    requires op { Fits setting (op_of op) }
     ensures reply { (H : History) (b : Bindings) → IsAt thread.old H b → reply_of result ≡ answer setting H 0 (op_of op) }
     ensures at { (H : History) (b : Bindings) → IsAt thread.old H b → IsAt thread.new (entry setting H 0 (op_of op) ∷ H) b }
     ensures kept { KeepsTable thread.old thread.new }
 {
     let reply = thread.table.step(0, op);
-    thread.entries += 1;
     follow_own(&mut thread.own, &reply);
-    follow_global(&mut thread.version, &mut thread.global, &reply);
     reply
 }
 
@@ -73,21 +66,6 @@ fn follow_own(own: &mut Option<Object<Share>>, reply: &Reply<Share>)
     }
 }
 
-/// The version of the global locale and its object after a reply.
-fn follow_global(version: &mut u32, global: &mut Object<Share>, reply: &Reply<Share>)
-    ensures version { version.new ≡ version_after (reply_of reply.now) version.old }
-    ensures global { global.new ≡ object_after (reply_of reply.now) global.old }
-{
-    if let Reply::Set {
-        version: next,
-        object,
-    } = reply
-    {
-        *version = *next;
-        *global = object.share();
-    }
-}
-
 /// Binds a variable to a handle.
 pub fn bind(
     thread: &mut Thread,
@@ -97,26 +75,24 @@ pub fn bind(
 ) -> Result<(), AllocError>
     ensures at { OnOk result ((H : History) (b : Bindings) → IsAt thread.old H b → IsAt thread.new H (b ++ (variable.now, handle) ∷ [])) }
     ensures table { OnOk result (thread.new.table ≡ thread.old.table) }
-    ensures entries { OnOk result (thread.new.entries ≡ thread.old.entries) }
 {
-    let name = ByteText::of(alloc, variable.as_bytes())?;
-    thread.bound.push((name, handle))?;
-    Ok(())
+    thread.bound.bind(alloc, variable.as_bytes(), handle)
 }
 
 /// The op of a command that makes an entry, where its variable is bound.
-pub fn op_of_command(bound: &[(ByteText, Handle)], command: &Command) -> Option<Op<Share>>
-    ensures { option_map op_of result ≡ op_of_command bound.now command.now }
+pub fn op_of_command(bound: &Variables, command: &Command) -> Option<Op<Share>>
+    ensures op { (b : Bindings) → HoldsLast bound.now b → option_map op_of result ≡ op_of_command b command.now }
+    ensures fits { IfSome result (λ op. Fits setting (op_of op)) }
 {
     match command {
         Command::Info(_) => None,
         Command::Setlocale => Some(Op::SetGlobal {
             mask: Mask::one(Category::Numeric),
-            picks: picked_object(),
+            names: NUMERIC_NAMES,
         }),
         Command::New(_) => Some(Op::New {
             mask: Mask::one(Category::Numeric),
-            picks: picked_object(),
+            names: NUMERIC_NAMES,
             base: None,
         }),
         Command::Free(target) => Some(Op::Free {
@@ -129,24 +105,11 @@ pub fn op_of_command(bound: &[(ByteText, Handle)], command: &Command) -> Option<
 }
 
 /// What a command names, where its variable is bound.
-fn named(bound: &[(ByteText, Handle)], target: &Target) -> Option<Named>
-    ensures { result ≡ named bound.now target.now }
+fn named(bound: &Variables, target: &Target) -> Option<Named>
+    ensures { (b : Bindings) → HoldsLast bound.now b → result ≡ named b target.now }
 {
     match target {
         Target::Global => Some(Named::Global),
-        Target::Variable(variable) => Some(Named::Of(bound_handle(bound, variable.as_bytes())?)),
+        Target::Variable(variable) => Some(Named::Of(bound.get(variable.as_bytes())?)),
     }
-}
-
-/// What a variable stands for: its last binding.
-fn bound_handle(bindings: &[(ByteText, Handle)], variable: &[u8]) -> Option<Handle>
-    ensures { result ≡ bound bindings.now variable.now }
-{
-    let mut found = None;
-    for (name, handle) in bindings {
-        if name.as_bytes() == variable {
-            found = Some(*handle);
-        }
-    }
-    found
 }

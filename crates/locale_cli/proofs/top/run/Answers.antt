@@ -4,4 +4,5 @@ use Rattle.locale_cli.proofs.top.run.Goals as goal
 pub returns-in-Err-TooLarge : goal.returns-in-Err-TooLarge
 returns-in-Err-TooLarge g c =
     let came = rw c.in-Err-TooLarge.field-0-is at c.in-Err-TooLarge.ensures.too_large in
-    inl (inr (came refl, c.tell.ensures))
+    let sound = rw c.in-Err-TooLarge.field-0-is at c.in-Err-TooLarge.ensures.sound in
+    inl (inr (came refl, sound (λ e. cc), c.tell.ensures))

@@ -7,7 +7,7 @@ use Rattle.script_run.specs.Thread.{IsAt}
 use Rattle.script_run.proofs.script.op_line.Goals as goal
 
 pub returns-clause-line : goal.returns-clause-line
-returns-clause-line c = λ H b here. rw (← c.serve-reply.ensures.reply H b here, ← here.entries) c.in_ok-line.ensures
+returns-clause-line c = λ H b here. rw (← c.serve-reply.ensures.reply H b here, ← c.steps.ensures.history H here.stands, ← c.from-place.ensures) c.in_ok-line.ensures
 
 pub returns-clause-at : goal.returns-clause-at
 returns-clause-at c = λ H b here.
