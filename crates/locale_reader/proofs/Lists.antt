@@ -1,17 +1,26 @@
 -- Values that are read one by one.
-use Rattle.std.proofs.Common.{◌≡◌, ℕ, ◌<◌, Bool, true, false, cond, List, [], ◌∷◌, ◌++◌, length, take, drop, ◌-◌, get_or, Ok, Err, refl, sym, ap, ◌∙◌, append_assoc, arith}
+use Rattle.std.proofs.Common.{◌≡◌, ℕ, ◌+◌, ◌<◌, Bool, true, false, ◌||◌, cond, List, [], ◌∷◌, ◌++◌, length, take, drop, ◌-◌, get_or, Ok, Err, refl, sym, ap, ◌∙◌, append_assoc, arith}
 use Rattle.std.proofs.lemmas.Grind.{common_steps}
+use Rattle.std.proofs.lemmas.List.{drop_more}
+use Rattle.std.proofs.lemmas.List.Folds.{list_any-append}
+use Rattle.std.specs.List.{list_any}
 use Rattle.lc_base.specs.declared.place.Place.{Place}
 use Rattle.lc_base.specs.Reading.{Reads, ◌>>=◌}
 use Rattle.charmap_reader.specs.CodedSet.{CodedSet}
 use Rattle.locale_reader.specs.declared.source.Value.{Value}
 use Rattle.locale_reader.specs.declared.source.Value.TheVariants.{Chars}
-use Rattle.locale_reader.specs.Values.{Placed, one_character, is_dots, range_end, members, followed}
+use Rattle.locale_reader.specs.declared.keywords.Element.{Element}
+use Rattle.locale_reader.specs.Values.{Placed, one_character, is_dots, range_end, members, followed, element, several}
 use Rattle.locale_reader.specs.Steps.{member, first_member}
 
 -- values before those that are still read
 abbrev pub after : List (Place × Value) → Reads (List (Place × Value)) → Reads (List (Place × Value))
 after front later = later >>= λ vs. Ok (front ++ vs)
+
+-- no value yet
+pub after_none : (front : List (Place × Value)) (later : Reads (List (Place × Value))) → front ≡ [] → after front later ≡ later
+after_none front (Ok vs) e = rw e refl
+after_none front (Err f) e = refl
 
 -- one more value
 pub after_one : (front more : List (Place × Value)) (v : Place × Value) (later : Reads (List (Place × Value))) → more ≡ front ++ v ∷ [] → after front (followed v later) ≡ after more later
@@ -68,3 +77,25 @@ first_and_rest (y ∷ ys) x lt e =
     let count : length (y ∷ ys) - 1 ≡ length ys = omega arith in
     let all : take (length (y ∷ ys) - 1) ys ≡ ys = grind (arith, common_steps) in
     ap (λ z. z ∷ ys) (sym e) ∙ ap (λ zs. x ∷ zs) (sym all)
+
+-- after an operand that is read the others are left
+pub several_step : (set : CodedSet) (kind : Element) (os : List Placed) (i : ℕ) (o : Placed) (v : Value) (front more : List (Place × Value)) (total : Reads (List (Place × Value)))
+    → i < length os → o ≡ get_or os i o → element set kind o ≡ Ok v → more ≡ front ++ (o.0, v) ∷ [] → after front (several set kind (drop i os)) ≡ total → after more (several set kind (drop (i + 1) os)) ≡ total
+several_step set kind os i o v front more total lt is read added so_far =
+    let left : drop i os ≡ o ∷ drop (i + 1) os = drop_more os i o lt ∙ ap (λ (p : Placed). p ∷ drop (i + 1) os) (sym is) in
+    let one : several set kind (drop i os) ≡ followed (o.0, v) (several set kind (drop (i + 1) os)) = ap (several set kind) left ∙ rw read refl in
+    sym (after_one front more (o.0, v) (several set kind (drop (i + 1) os)) added) ∙ sym (ap (after front) one) ∙ so_far
+
+or_none : (a : Bool) → (a || false) ≡ a
+or_none true = refl
+or_none false = refl
+
+-- a test of one more
+pub any_push : {X : Type 0} (p : X → Bool) (xs more : List X) (x : X) → more ≡ xs ++ x ∷ [] → list_any p more ≡ (list_any p xs || p x)
+any_push p xs more x e = ap (list_any p) e ∙ list_any-append p xs (x ∷ []) ∙ ap (λ b. list_any p xs || b) (or_none (p x))
+
+pub or_other : (a b : Bool) → (a || b) ≡ (b || a)
+or_other true true = refl
+or_other true false = refl
+or_other false true = refl
+or_other false false = refl

@@ -4,6 +4,7 @@ pub mod Texts
 pub mod NumericSection
 pub mod Keywords
 pub mod Values
+pub mod Cells
 pub mod Steps
 pub mod Opened
 pub mod Section

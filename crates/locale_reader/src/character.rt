@@ -6,6 +6,7 @@ ghost use Rattle.lc_base.specs.Reading.{Gives};
 ghost use Rattle.locale_reader.specs.Values.{lone_name, spelled, character, one_character, case_pair, is_dots, range_end, members};
 ghost use Rattle.locale_reader.specs.Steps.{member, first_member};
 
+use crate::cells::Values;
 use crate::source::Value;
 use charmap_reader::Charset;
 use lc_base::{Place, Reason, TextFault};
@@ -148,14 +149,14 @@ pub fn members(
     alloc: Global,
     charset: &Charset,
     operands: &[(Place, Operand)],
-) -> Result<Vec<(Place, Value)>, TextFault>
-    ensures { Gives (λ v. v.items) result (members charset.now operands.now) }
+) -> Result<Values, TextFault>
+    ensures { Gives (λ v. v) result (members charset.now operands.now) }
 {
-    let mut values = Vec::with_capacity(alloc, operands.len())?;
+    let mut values = Values::with_capacity(alloc, operands.len())?;
     let mut left = operands;
     while let [operand, rest @ ..] = left {
         let (value, after) = first_member(charset, operand, rest)?;
-        values.push((operand.0, value))?;
+        values = values.with(operand.0, value)?;
         left = after;
     }
     Ok(values)

@@ -7,6 +7,7 @@ ghost use Rattle.src_lines.specs.Places.{line_at};
 ghost use Rattle.locale_reader.specs.Opened.{is_copy, nothing};
 ghost use Rattle.locale_reader.specs.Section.{operands_of, taken, allowed, is_passed_over, keyword_line, keyword_lines, copies_category, body};
 
+use crate::cells::Values;
 use crate::character::members;
 use crate::keywords::{Operands, keyword_operands};
 use crate::opened::{Opened, is_charclass, is_copy};
@@ -62,8 +63,9 @@ fn taken(
             Ok(opened.with_entry(alloc, line, values)?)
         }
         Operands::One(kind) => {
-            let value = one(alloc, charset, kind, line.place, given)?;
-            Ok(opened.with_entry(alloc, line, vec![in alloc; value]?)?)
+            let (place, value) = one(alloc, charset, kind, line.place, given)?;
+            let values = Values::new(alloc).with(place, value)?;
+            Ok(opened.with_entry(alloc, line, values)?)
         }
         Operands::Several(kind) => {
             let values = several(alloc, charset, kind, given)?;

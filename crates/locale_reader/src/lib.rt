@@ -1,6 +1,7 @@
 //! Locale sources as keyword lists (XBD 7.3).
 #![tactic(auto)]
 
+mod cells;
 mod character;
 mod keyword_line;
 mod keywords;
@@ -15,6 +16,7 @@ mod text;
 mod value;
 mod words;
 
+pub use cells::{ValueRef, ValueWalk, Values};
 pub use locale::read_locale;
 pub use numeric::read_numeric;
 pub use source::{Body, Entry, LocaleSource, Section, Value};

@@ -8,6 +8,7 @@ ghost use Rattle.lc_base.specs.Reading.{Gives};
 ghost use Rattle.locale_reader.specs.Texts.{closed, quoted_after, is_plain};
 ghost use Rattle.locale_reader.specs.NumericSection.{frames, numeric_texts, text_entry, numeric_list, numeric_source, numeric_reading};
 
+use crate::cells::Values;
 use crate::source::{Body, Entry, LocaleSource, Section, Value};
 use lc_base::{ByteText, Category, List, Place, Reason, TextFault, after, next_line};
 use std::alloc::{AllocError, Global};
@@ -123,14 +124,10 @@ fn text_entry(alloc: Global, line: u32, keyword: &[u8], text: &[u8]) -> Result<E
     ensures { IfOk result (λ entry. entry ≡ text_entry line keyword.now text.now) }
 {
     let column = keyword.len() as u32 + 2;
-    let mut values = Vec::new(alloc);
-    values.push((
-        Place { line, column },
-        Value::Text(ByteText::of(alloc, text)?),
-    ))?;
+    let value = Value::Text(ByteText::of(alloc, text)?);
     Ok(Entry {
         place: Place { line, column: 1 },
         keyword: ByteText::of(alloc, keyword)?,
-        values: List::of(values),
+        values: Values::new(alloc).with(Place { line, column }, value)?,
     })
 }

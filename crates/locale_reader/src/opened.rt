@@ -5,7 +5,8 @@ ghost use Rattle.std.specs.List.{list_any};
 ghost use Rattle.locale_reader.specs.Opened.{is_copy, is_charclass, is_text, nothing, is_given, is_begun, is_declared, with_entry, body_of};
 ghost use Rattle.locale_reader.specs.Words.{has_word};
 
-use crate::source::{Body, Entry, Value};
+use crate::cells::{ValueRef, Values};
+use crate::source::{Body, Entry};
 use crate::words::{Words, add_word, has_word};
 use lc_base::{ByteText, List, Place};
 use src_lines::Line;
@@ -55,13 +56,14 @@ pub fn is_charclass(keyword: &[u8]) -> bool
 }
 
 /// Adds the texts among values to the words.
-fn add_texts(alloc: Global, words: Words, values: &[(Place, Value)]) -> Result<Words, AllocError>
+fn add_texts(alloc: Global, words: Words, values: &Values) -> Result<Words, AllocError>
     ensures { IfOk result (λ all. (word : List ℕ) → has_word all word ≡ (has_word words word || list_any (λ v. is_text word v.1) values.now)) }
 {
     let mut words = words;
-    for (_, value) in values {
-        if let Value::Text(text) = value {
-            add_word(&mut words, Vec::from_slice(alloc, text.as_bytes())?)?;
+    let mut walk = values.walk();
+    while let Some((_, value)) = walk.next() {
+        if let ValueRef::Text(text) = value {
+            add_word(&mut words, Vec::from_slice(alloc, text)?)?;
         }
     }
     Ok(words)
@@ -72,7 +74,7 @@ fn add_declared(
     alloc: Global,
     words: Words,
     keyword: &[u8],
-    values: &[(Place, Value)],
+    values: &Values,
 ) -> Result<Words, AllocError>
     ensures { IfOk result (λ all. (word : List ℕ) → has_word all word ≡ (has_word words word || (is_charclass keyword.now && list_any (λ v. is_text word v.1) values.now))) }
 {
@@ -127,13 +129,8 @@ impl Opened {
     }
 
     /// With one more keyword line.
-    pub fn with_entry(
-        self,
-        alloc: Global,
-        line: Line,
-        values: Vec<(Place, Value)>,
-    ) -> Result<Opened, AllocError>
-        ensures { IfOk result (λ opened. opened ≡ with_entry self line values.items) }
+    pub fn with_entry(self, alloc: Global, line: Line, values: Values) -> Result<Opened, AllocError>
+        ensures { IfOk result (λ opened. opened ≡ with_entry self line values) }
     {
         let Opened {
             copy,
@@ -146,7 +143,7 @@ impl Opened {
         entries.push(Entry {
             place: line.place,
             keyword: line.keyword,
-            values: List::of(values),
+            values,
         })?;
         Ok(Opened {
             copy,

@@ -1,5 +1,6 @@
 //! What a locale source is read as.
 
+use crate::cells::Values;
 use lc_base::{ByteText, Category, List, Place};
 
 /// An operand of a keyword, decoded.
@@ -22,7 +23,7 @@ pub struct Entry {
     pub place: Place,
     pub keyword: ByteText,
     /// The operands, each with its place.
-    pub values: List<(Place, Value)>,
+    pub values: Values,
 }
 
 /// What a section says.

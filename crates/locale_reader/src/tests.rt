@@ -57,12 +57,12 @@ fn push_bytes(text: &mut String, bytes: &[u8]) -> Result<(), Fail> {
     Ok(())
 }
 
-fn push_value(alloc: Global, text: &mut String, value: &Value) -> Result<(), Fail> {
+fn push_value(alloc: Global, text: &mut String, value: ValueRef<'_>) -> Result<(), Fail> {
     let numbers = match value {
-        Value::Text(bytes) => return push_bytes(text, bytes.as_bytes()),
-        Value::Number(number) => format!(in alloc; "{number}")?,
-        Value::Chars(first, last) => format!(in alloc; "{first}-{last}")?,
-        Value::Pair(first, second) => format!(in alloc; "({first},{second})")?,
+        ValueRef::Text(bytes) => return push_bytes(text, bytes),
+        ValueRef::Number(number) => format!(in alloc; "{number}")?,
+        ValueRef::Chars(first, last) => format!(in alloc; "{first}-{last}")?,
+        ValueRef::Pair(first, second) => format!(in alloc; "({first},{second})")?,
     };
     text.push_str(numbers.as_str())?;
     Ok(())
@@ -73,9 +73,10 @@ fn push_entry(alloc: Global, text: &mut String, entry: &Entry) -> Result<(), Fai
     for byte in entry.keyword.as_bytes() {
         text.push(char::from(*byte))?;
     }
-    for (place, value) in entry.values.as_slice() {
+    let mut walk = entry.values.walk();
+    while let Some((place, value)) = walk.next() {
         text.push(' ')?;
-        push_place(alloc, text, *place)?;
+        push_place(alloc, text, place)?;
         push_value(alloc, text, value)?;
     }
     text.push('\n')?;

@@ -4,6 +4,7 @@ ghost use Rattle.std.specs.Prelude.{◌≡◌};
 ghost use Rattle.lc_base.specs.Reading.{Gives};
 ghost use Rattle.locale_reader.specs.Values.{word, element, one, several};
 
+use crate::cells::Values;
 use crate::character::case_pair;
 use crate::keywords::Element;
 use crate::number::number;
@@ -81,13 +82,13 @@ pub fn several(
     charset: &Charset,
     kind: Element,
     operands: &[(Place, Operand)],
-) -> Result<Vec<(Place, Value)>, TextFault>
-    ensures { Gives (λ v. v.items) result (several charset.now kind operands.now) }
+) -> Result<Values, TextFault>
+    ensures { Gives (λ v. v) result (several charset.now kind operands.now) }
 {
-    let mut values = Vec::with_capacity(alloc, operands.len())?;
+    let mut values = Values::with_capacity(alloc, operands.len())?;
     for operand in operands {
         let value = element(alloc, charset, kind, operand)?;
-        values.push((operand.0, value))?;
+        values = values.with(operand.0, value)?;
     }
     Ok(values)
 }

@@ -2,13 +2,14 @@
 #![tactic(auto)]
 
 ghost use Rattle.std.specs.Prelude.{◌≡◌, List, IfOk};
-ghost use Rattle.std.specs.Option.{option_copied};
+ghost use Rattle.std.specs.Option.{option_map};
 ghost use Rattle.lc_base.specs.Reading.{Gives};
+ghost use Rattle.locale_reader.specs.Cells.{seen};
 ghost use Rattle.numeric_cat.specs.Keywords.{operand, text_or};
 ghost use Rattle.numeric_cat.specs.Numeric.{radix_operand, separator_operand, numeric_values, posix_values};
 
 use lc_base::{ByteText, List, Place, Reason, TextFault};
-use locale_reader::{Entry, Value};
+use locale_reader::{Entry, ValueRef};
 use std::alloc::{AllocError, Global};
 use std::marker::Model;
 
@@ -35,9 +36,9 @@ impl Numeric {
         ensures { Gives (λ n. n) result (numeric_values entries.now) }
     {
         let radix = operand(entries, b"decimal_point");
-        if let Some((place, Value::Text(text))) = radix {
-            if text.as_bytes().is_empty() {
-                return Err(TextFault::At(*place, Reason::EmptyRadix));
+        if let Some((place, ValueRef::Text(text))) = radix {
+            if text.is_empty() {
+                return Err(TextFault::At(place, Reason::EmptyRadix));
             }
         }
         Ok(Numeric {
@@ -72,12 +73,12 @@ impl Numeric {
 }
 
 /// The first operand of the first line with this keyword.
-fn operand<'a>(entries: &'a List<Entry>, keyword: &[u8]) -> Option<&'a (Place, Value)>
-    ensures { option_copied result ≡ operand entries.now keyword.now }
+fn operand<'a>(entries: &'a List<Entry>, keyword: &[u8]) -> Option<(Place, ValueRef<'a>)>
+    ensures { option_map (λ x. (x.0, seen x.1)) result ≡ operand entries.now keyword.now }
 {
     for entry in entries.as_slice() {
         if entry.keyword.as_bytes() == keyword {
-            return entry.values.as_slice().first();
+            return entry.values.walk().next();
         }
     }
     None
@@ -86,13 +87,13 @@ fn operand<'a>(entries: &'a List<Entry>, keyword: &[u8]) -> Option<&'a (Place, V
 /// The text of an operand, or else `posix`.
 fn text_or(
     alloc: Global,
-    operand: Option<&(Place, Value)>,
+    operand: Option<(Place, ValueRef<'_>)>,
     posix: &[u8],
 ) -> Result<ByteText, AllocError>
-    ensures { IfOk result (λ t. t ≡ text_or posix.now (option_copied operand.entry)) }
+    ensures { IfOk result (λ t. t ≡ text_or posix.now (option_map (λ x. (x.0, seen x.1)) operand.entry)) }
 {
     match operand {
-        Some((_, Value::Text(text))) => ByteText::of(alloc, text.as_bytes()),
+        Some((_, ValueRef::Text(text))) => ByteText::of(alloc, text),
         _ => ByteText::of(alloc, posix),
     }
 }

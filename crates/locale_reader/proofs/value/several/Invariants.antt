@@ -4,4 +4,4 @@ use Rattle.locale_reader.proofs.Lists.{after}
 use Rattle.locale_reader.proofs.value.several.Given as goal
 
 abbrev pub invariant-loop-operand : goal.invariant-loop-operand
-invariant-loop-operand l = after l.values.items (several l.charset l.kind (drop l.operand-index l.operands)) ≡ several l.charset l.kind l.operands
+invariant-loop-operand l = after l.values (several l.charset l.kind (drop l.operand-index l.operands)) ≡ several l.charset l.kind l.operands
