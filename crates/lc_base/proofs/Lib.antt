@@ -2,3 +2,4 @@ pub mod Streams
 pub mod ReadingLemmas
 pub mod LineLemmas
 mod MemoryExamples
+mod Examples

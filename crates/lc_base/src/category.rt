@@ -22,6 +22,15 @@ pub enum Category {
     Messages,
 }
 
+/// The five categories, in the order of their bits.
+pub const CATEGORIES: [Category; 5] = [
+    Category::Ctype,
+    Category::Numeric,
+    Category::Monetary,
+    Category::Time,
+    Category::Messages,
+];
+
 impl Category {
     /// The bit of the category in a mask: 1, 2, 4, 8 and 16 in the order of the variants.
     pub fn bit(self) -> u32

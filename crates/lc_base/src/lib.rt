@@ -16,7 +16,7 @@ mod tests;
 mod whole;
 
 pub use block::{Block, Later};
-pub use category::{Category, Mask};
+pub use category::{CATEGORIES, Category, Mask};
 pub use fault::TextFault;
 pub use lines::{after, ended_line, next_line};
 pub use list::{ByteText, List};
