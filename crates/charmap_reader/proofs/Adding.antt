@@ -1,15 +1,19 @@
 -- Names that are added, a list at a time.
-use Rattle.std.proofs.Common.{◌≡◌, ◌≢◌, ℕ, zero, suc, ◌+◌, ◌-◌, ◌<◌, ◌≤◌, Bool, true, false, cond, List, [], ◌∷◌, ◌++◌, map, Option, Some, None, Ok, Err, refl, sym, ap, ◌∙◌, arith}
+use Rattle.std.proofs.Common.{◌≡◌, ◌≢◌, ℕ, zero, suc, ◌+◌, ◌^◌, ◌<◌, ◌≤◌, Bool, true, false, cond, List, [], ◌∷◌, ◌++◌, length, map, Option, Some, None, Ok, Err, refl, sym, ap, ◌∙◌, arith}
 use Rattle.std.specs.Option.{is_some, IsSome, option_or}
 use Rattle.std.specs.List.{list_any, range_with_len}
 use Rattle.std.specs.Str.{bytes_eq}
-use Rattle.std.proofs.lemmas.Bool.{false_from_ne_true}
+use Rattle.std.proofs.lemmas.Bool.{false_from_ne_true, lt-ltb, lt-leb}
 use Rattle.std.proofs.lemmas.List.{append_assoc, append-nil}
 use Rattle.std.proofs.lemmas.Slice.Eq.{bytes_eq-Decides}
 use Rattle.lc_base.specs.declared.place.Place.{Place}
-use Rattle.lc_base.specs.declared.reason.Reason.TheVariants.{NameTwice, PortableMoved}
+use Rattle.lc_base.specs.declared.reason.Reason.TheVariants.{NameTwice, PortableMoved, OverLimit}
+use Rattle.lc_base.specs.declared.reason.Limit.TheVariants.{Names}
 use Rattle.charmap_reader.specs.Portable.{Name, first_named}
-use Rattle.charmap_reader.specs.Charmap.{Entry, added, is_moved, listed_with, listed_at}
+use Rattle.charmap_reader.specs.declared.names.TheConstants.{NAME_LIMIT}
+use Rattle.charmap_reader.specs.CodedSet.{big_endian}
+use Rattle.charmap_reader.specs.Subject.{Subject}
+use Rattle.charmap_reader.specs.Charmap.{Entry, added, is_moved, listed_with, listed_at, counted_at}
 use Rattle.charmap_reader.specs.Names.{IsAdded}
 
 -- ---- what names give
@@ -119,3 +123,9 @@ listed_moved place given new all h moved = ap (listed_with place new) h ∙ rw m
 -- with new names of which none is moved
 pub listed_all : (place : Place) (given new all : List Entry) → IsAdded given new all true → list_any is_moved new ≡ false → listed_at place given new ≡ Ok all
 listed_all place given new all h moved = ap (listed_with place new) h ∙ rw moved refl
+
+-- with more names than the limit
+pub counted_over : (place code_place : Place) (given : List Entry) (s : Subject) (code : List ℕ) (more : ℕ) → big_endian code + more < 256 ^ length code → NAME_LIMIT < length given + (more + 1)
+    → counted_at place code_place given s code more ≡ Err (place, OverLimit Names)
+counted_over place code_place given s code more below over =
+    rw (lt-leb (256 ^ length code) (big_endian code + more) below, lt-ltb NAME_LIMIT (length given + (more + 1)) over) refl

@@ -14,7 +14,6 @@ mod SpanLemmas
 pub mod Adding
 pub mod Moving
 mod Examples
-pub mod Positions
 pub mod Headers
 pub mod Bodies
 pub mod Intervals

@@ -1,5 +1,5 @@
 -- Numbers of names, names that are given twice, runs of values and encodings, tried on small examples.
-use Rattle.std.proofs.Common.{◌≡◌, ℕ, ◌<◌, true, false, List, [], ◌∷◌, length, map, Some, None, Ok, Err, codes, refl, arith}
+use Rattle.std.proofs.Common.{◌≡◌, ℕ, true, false, List, [], ◌∷◌, length, map, Some, None, Ok, Err, codes, refl, arith}
 use Rattle.std.proofs.lemmas.Bool.Decides.{nat_tests}
 use Rattle.lc_base.specs.declared.place.Place.{Place}
 use Rattle.lc_base.specs.declared.reason.Reason.TheVariants.{NameTwice, OverLimit}
@@ -10,7 +10,8 @@ use Rattle.src_lines.specs.Tokens.{run}
 use Rattle.src_lines.specs.Fields.{field, fields}
 use Rattle.charmap_reader.specs.Portable.{portable_code}
 use Rattle.charmap_reader.specs.CodedSet.{utf8, posix}
-use Rattle.charmap_reader.specs.Encoding.{bytes_of, shortest}
+use Rattle.std.specs.Int.{bytes_high_first}
+use Rattle.charmap_reader.specs.Encoding.{shortest}
 use Rattle.charmap_reader.specs.Numbering.{padded}
 use Rattle.charmap_reader.specs.Runs.{IsNextRun}
 use Rattle.charmap_reader.specs.Charmap.{Entry, counted_at, listed_at, mapping}
@@ -67,7 +68,7 @@ fewest : map shortest (0 ∷ 65 ∷ 255 ∷ 256 ∷ 65535 ∷ 65536 ∷ 16777215
 fewest = refl
 
 -- just so many bytes
-counted : map (bytes_of 2) (0 ∷ 255 ∷ 256 ∷ 33280 ∷ []) ≡ (0 ∷ 0 ∷ []) ∷ (0 ∷ 255 ∷ []) ∷ (1 ∷ 0 ∷ []) ∷ (130 ∷ 0 ∷ []) ∷ []
+counted : map (bytes_high_first 2) (0 ∷ 255 ∷ 256 ∷ 33280 ∷ []) ≡ (0 ∷ 0 ∷ []) ∷ (0 ∷ 255 ∷ []) ∷ (1 ∷ 0 ∷ []) ∷ (130 ∷ 0 ∷ []) ∷ []
 counted = refl
 
 -- ---- runs

@@ -13,7 +13,7 @@ use Rattle.charmap_reader.specs.Portable.{Name, first_named, letter_code, portab
 use Rattle.charmap_reader.specs.CodedSet.{big_endian}
 use Rattle.charmap_reader.specs.Numbering.{stem, digits, number}
 use Rattle.charmap_reader.specs.Subject.{Subject, more_names, more_between, name_at, name_after}
-use Rattle.charmap_reader.specs.Encoding.{bytes_of}
+use Rattle.std.specs.Int.{bytes_high_first}
 use Rattle.charmap_reader.specs.Charmap.{Entry, moved_from, is_moved, entries}
 use Rattle.charmap_reader.proofs.Padding.{padded_ends}
 
@@ -97,8 +97,8 @@ range_digits s last more is h = let between : more_between s.first last ≡ Some
 -- no name of a range is moved
 pub range_not_moved : (s : Subject) (last code : List ℕ) (more : ℕ) → s.last ≡ Some last → 0 < length (digits s.first) → list_any is_moved (entries s code more) ≡ false
 range_not_moved s last code more is some =
-    none_moved (λ k. (name_at s k, bytes_of (length code) (big_endian code + k)))
-    (λ k. not_moved (name_at s k, bytes_of (length code) (big_endian code + k)) (ap portable_code (at_range s last k is) ∙ portable_code-digit (name_after s.first k) (name_after-digit s.first k some)))
+    none_moved (λ k. (name_at s k, bytes_high_first (length code) (big_endian code + k)))
+    (λ k. not_moved (name_at s k, bytes_high_first (length code) (big_endian code + k)) (ap portable_code (at_range s last k is) ∙ portable_code-digit (name_after s.first k) (name_after-digit s.first k some)))
     0 (more + 1)
 
 -- one name has one entry
@@ -110,13 +110,13 @@ pub single_name : (s : Subject) → s.last ≡ None → name_at s 0 ≡ s.first
 single_name s is = rw is refl
 
 -- its one entry tells whether it is moved
-pub single_moved : (s : Subject) (code : List ℕ) (more : ℕ) → s.last ≡ None → more_names s ≡ Some more → bytes_of (length code) (big_endian code) ≡ code → list_any is_moved (entries s code more) ≡ is_moved (s.first, code)
+pub single_moved : (s : Subject) (code : List ℕ) (more : ℕ) → s.last ≡ None → more_names s ≡ Some more → bytes_high_first (length code) (big_endian code) ≡ code → list_any is_moved (entries s code more) ≡ is_moved (s.first, code)
 single_moved s code more is h back =
     let none = single_more s more is h in
     let first : big_endian code + 0 ≡ big_endian code = omega arith in
-    let same : bytes_of (length code) (big_endian code + 0) ≡ code = ap (bytes_of (length code)) first ∙ back in
-    let entry : (name_at s 0, bytes_of (length code) (big_endian code + 0)) ≡ (s.first, code) = ap {B = Entry} (λ (n : Name). (n, bytes_of (length code) (big_endian code + 0))) (single_name s is) ∙ ap {B = Entry} (λ (bs : List ℕ). (s.first, bs)) same in
-    ap (λ (m : ℕ). list_any is_moved (entries s code m)) none ∙ or-false (is_moved (name_at s 0, bytes_of (length code) (big_endian code + 0))) ∙ ap is_moved entry
+    let same : bytes_high_first (length code) (big_endian code + 0) ≡ code = ap (bytes_high_first (length code)) first ∙ back in
+    let entry : (name_at s 0, bytes_high_first (length code) (big_endian code + 0)) ≡ (s.first, code) = ap {B = Entry} (λ (n : Name). (n, bytes_high_first (length code) (big_endian code + 0))) (single_name s is) ∙ ap {B = Entry} (λ (bs : List ℕ). (s.first, bs)) same in
+    ap (λ (m : ℕ). list_any is_moved (entries s code m)) none ∙ or-false (is_moved (name_at s 0, bytes_high_first (length code) (big_endian code + 0))) ∙ ap is_moved entry
 
 -- a portable name is moved where its bytes are not just its code
 moved_is : (e : Entry) (own : ℕ) → portable_code e.0 ≡ Some own → is_moved e ≡ not (bytes_eq e.1 (own ∷ []))
@@ -137,11 +137,11 @@ moved_one (a ∷ []) own h =
 moved_one (a ∷ b ∷ code) own h = absurd (omega arith)
 
 -- whether the one name of a subject is moved, by its bytes
-pub single_long : (s : Subject) (code : List ℕ) (more own : ℕ) → s.last ≡ None → more_names s ≡ Some more → bytes_of (length code) (big_endian code) ≡ code → portable_code s.first ≡ Some own → 1 < length code
+pub single_long : (s : Subject) (code : List ℕ) (more own : ℕ) → s.last ≡ None → more_names s ≡ Some more → bytes_high_first (length code) (big_endian code) ≡ code → portable_code s.first ≡ Some own → 1 < length code
     → list_any is_moved (entries s code more) ≡ true
 single_long s code more own is h back named long = single_moved s code more is h back ∙ moved_is (s.first, code) own named ∙ ap not (moved_long code own long)
 
 -- the same for one byte
-pub single_one : (s : Subject) (code : List ℕ) (more own : ℕ) → s.last ≡ None → more_names s ≡ Some more → bytes_of (length code) (big_endian code) ≡ code → portable_code s.first ≡ Some own → length code ≡ 1
+pub single_one : (s : Subject) (code : List ℕ) (more own : ℕ) → s.last ≡ None → more_names s ≡ Some more → bytes_high_first (length code) (big_endian code) ≡ code → portable_code s.first ≡ Some own → length code ≡ 1
     → list_any is_moved (entries s code more) ≡ not (eqb (big_endian code) own)
 single_one s code more own is h back named one = single_moved s code more is h back ∙ moved_is (s.first, code) own named ∙ ap not (moved_one code own one)

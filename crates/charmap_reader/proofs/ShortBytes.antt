@@ -1,21 +1,13 @@
 -- Numbers as bytes without zeros in front.
-use Rattle.std.proofs.Common.{◌≡◌, ℕ, zero, suc, ◌+◌, ◌*◌, ◌/◌, ◌%◌, ◌<◌, ◌≤◌, Bool, true, false, cond, List, [], ◌∷◌, ◌++◌, length, refl, ◌∙◌, arith, length-append}
+use Rattle.std.proofs.Common.{◌≡◌, ℕ, zero, suc, ◌+◌, ◌/◌, ◌%◌, ◌<◌, ◌≤◌, Bool, true, false, cond, [], ◌∷◌, ◌++◌, length, ◌∙◌, arith, length-append}
 use Rattle.std.specs.Bool.{nat_lt}
 use Rattle.std.proofs.lemmas.Bool.Decides.{nat_tests}
-use Rattle.charmap_reader.specs.CodedSet.{big_endian, big_endian_after}
+use Rattle.std.proofs.lemmas.Int.Digits.{number_push}
+use Rattle.charmap_reader.specs.CodedSet.{big_endian}
 use Rattle.charmap_reader.specs.Encoding.{short_bytes, shortest}
 
--- one more byte at the end of bytes that are read after a number
-big_endian_after-append : (n : ℕ) (bytes : List ℕ) (b : ℕ) → big_endian_after n (bytes ++ b ∷ []) ≡ 256 * big_endian_after n bytes + b
-big_endian_after-append n [] b = refl
-big_endian_after-append n (a ∷ bytes) b = big_endian_after-append (256 * n + a) bytes b
-
--- one more byte at the end
-pub big_endian-append : (bytes : List ℕ) (b : ℕ) → big_endian (bytes ++ b ∷ []) ≡ 256 * big_endian bytes + b
-big_endian-append bytes b = big_endian_after-append 0 bytes b
-
 -- one byte is read as itself
-pub big_endian-one : (n : ℕ) → big_endian (n ∷ []) ≡ n
+big_endian-one : (n : ℕ) → big_endian (n ∷ []) ≡ n
 big_endian-one n = omega arith
 
 -- the bytes of a number are read as the number
@@ -25,7 +17,7 @@ big_endian-short_bytes (suc more) n =
     let P : Bool → Type 0 = λ b. big_endian (cond b (n ∷ []) (short_bytes more (n / 256) ++ n % 256 ∷ [])) ≡ n in
     elim (nat_lt n 256) as P [
       | true ↦ big_endian-one n
-      | false ↦ big_endian-append (short_bytes more (n / 256)) (n % 256) ∙ omega (arith, big_endian-short_bytes more (n / 256))
+      | false ↦ number_push 256 (short_bytes more (n / 256)) (n % 256) ∙ omega (arith, big_endian-short_bytes more (n / 256))
     ]
 
 -- the one encoding that may have a wide value has it

@@ -1,16 +1,17 @@
 -- The bytes of a number: as many as are asked for, or as few as it needs.
 use Rattle.std.specs.List.{range_with_len}
-use Rattle.std.specs.Int.{w32, to_be_bytes}
+use Rattle.std.specs.Int.{w32, to_be_bytes, byte_at, bytes_high_first}
 use Rattle.std.specs.Int.Count.{count_leading_zeros}
 use Rattle.std.proofs.Common.{◌≡◌, ℕ, zero, suc, ◌+◌, ◌-◌, min, ◌*◌, ◌/◌, ◌%◌, ◌^◌, ◌<◌, ◌≤◌, Bool, true, false, leb, cond, ◌⊎◌, inl, inr, ⊎_elim, List, [], ◌∷◌, ◌++◌, length, map, drop, Option, Some, None, refl, sym, ◌∙◌, ap, arith}
-use Rattle.std.proofs.Math.Nat.{pow-suc, pow-le-pow_right}
+use Rattle.std.proofs.Math.Nat.{pow-suc, pow-le-pow_right, div-div-eq-div-mul}
 use Rattle.std.proofs.lemmas.Bool.{lt-ltb, le-ltb}
 use Rattle.std.proofs.lemmas.Bool.Decides.{nat_tests}
 use Rattle.std.proofs.lemmas.Nat.{leading_length, mul-le}
 use Rattle.src_lines.specs.declared.atom.Atom.{Atom}
 use Rattle.src_lines.specs.Atoms.{up_to}
-use Rattle.charmap_reader.specs.CodedSet.{big_endian, big_endian_after}
-use Rattle.charmap_reader.specs.Encoding.{atom_number, and_bytes, numbers, is_encoding, encoding, bytes_of, short_bytes, shortest}
+use Rattle.std.specs.Int.Digits.{number_from_digits_after}
+use Rattle.charmap_reader.specs.CodedSet.{big_endian}
+use Rattle.charmap_reader.specs.Encoding.{atom_number, and_bytes, numbers, is_encoding, encoding, short_bytes, shortest}
 use Rattle.charmap_reader.specs.Charmap.{Entry, entries}
 use Rattle.charmap_reader.specs.Names.{valued_names}
 use Rattle.charmap_reader.specs.Subject.{Subject, name_at, more_names}
@@ -55,12 +56,12 @@ first_byte-encoding b bs h = grind (arith, nat_tests)
 -- ---- the least value of so many bytes
 
 -- bytes after a number give at least that number, moved up
-big_endian_after-least : (n : ℕ) (bs : List ℕ) → n * 256 ^ length bs ≤ big_endian_after n bs
-big_endian_after-least n [] = omega arith
-big_endian_after-least n (b ∷ bs) =
-    let step : (256 * n + b) * 256 ^ length bs ≤ big_endian_after (256 * n + b) bs = big_endian_after-least (256 * n + b) bs in
+number_after-least : (n : ℕ) (bs : List ℕ) → n * 256 ^ length bs ≤ number_from_digits_after 256 n bs
+number_after-least n [] = omega arith
+number_after-least n (b ∷ bs) =
+    let step : (n * 256 + b) * 256 ^ length bs ≤ number_from_digits_after 256 (n * 256 + b) bs = number_after-least (n * 256 + b) bs in
     let power : 256 ^ suc (length bs) ≡ 256 ^ length bs * 256 = pow-suc 256 (length bs) in
-    let less : n * 256 * 256 ^ length bs ≤ (256 * n + b) * 256 ^ length bs = mul-le (n * 256) (256 ^ length bs) (256 * n + b) (256 ^ length bs) (omega arith) (omega arith) in
+    let less : n * 256 * 256 ^ length bs ≤ (n * 256 + b) * 256 ^ length bs = mul-le (n * 256) (256 ^ length bs) (n * 256 + b) (256 ^ length bs) (omega arith) (omega arith) in
     omega (arith, ap (λ (x : ℕ). n * x) power)
 
 -- an encoding has no fewer bytes than its value needs
@@ -69,7 +70,7 @@ least_value [] h = absurd (omega (arith, (length-encoding [] h).0))
 least_value (b ∷ bs) h =
     ⊎_elim (λ e. inl (ap suc e))
     (λ one. inr (
-    let after : b * 256 ^ length bs ≤ big_endian_after b bs = big_endian_after-least b bs in
+    let after : b * 256 ^ length bs ≤ number_from_digits_after 256 b bs = number_after-least b bs in
     let less : 1 * 256 ^ length bs ≤ b * 256 ^ length bs = mul-le 1 (256 ^ length bs) b (256 ^ length bs) one (omega arith) in
     let count : suc (length bs) - 1 ≡ length bs = omega arith in
     let byte : 0 + b ≡ b = omega arith in
@@ -79,25 +80,48 @@ least_value (b ∷ bs) h =
 
 -- ---- as many bytes as a number needs
 
+-- a byte of a number is a lower byte of what stands before its last
+byte_before : (k n : ℕ) → byte_at (suc k) n ≡ byte_at k (n / 256)
+byte_before zero n = refl
+byte_before (suc k) n =
+    let power : 256 ^ suc (suc k) ≡ 256 * 256 ^ suc k = omega (arith, pow-suc 256 (suc k)) in
+    ap (λ (m : ℕ). n / m % 256) power ∙ ap (λ (m : ℕ). m % 256) (sym (div-div-eq-div-mul n 256 (256 ^ suc k)))
+
+-- one byte more of a number
+pub high_first-more : (k n : ℕ) → bytes_high_first (suc k) n ≡ bytes_high_first k (n / 256) ++ n % 256 ∷ []
+high_first-more zero n = refl
+high_first-more (suc k) n =
+    let front : byte_at (suc k) n ≡ byte_at k (n / 256) = byte_before k n in
+    let rest : bytes_high_first (suc k) n ≡ bytes_high_first k (n / 256) ++ n % 256 ∷ [] = high_first-more k n in
+    cc
+
+-- the same of a number and a byte behind it
+pub high_first-push : (k n b : ℕ) → b < 256 → bytes_high_first (k + 1) (n * 256 + b) ≡ bytes_high_first k n ++ b ∷ []
+high_first-push k n b byte =
+    let count : k + 1 ≡ suc k = omega arith in
+    let front : (n * 256 + b) / 256 ≡ n = omega arith in
+    let last : (n * 256 + b) % 256 ≡ b = omega arith in
+    rw (count, high_first-more k (n * 256 + b), front, last) refl
+
 -- so many bytes of a number are its fewest, if the first is not zero or is the last
-bytes_of-short_bytes : (more len n : ℕ) → len ≤ more → n < 256 ^ suc len → (len ≡ 0) ⊎ (256 ^ len ≤ n) → bytes_of (suc len) n ≡ short_bytes more n
-bytes_of-short_bytes zero zero n few below least = ap (λ (x : ℕ). x ∷ []) (omega arith)
-bytes_of-short_bytes zero (suc len) n few below least = absurd (omega arith)
-bytes_of-short_bytes (suc more) zero n few below least =
+high_first-short_bytes : (more len n : ℕ) → len ≤ more → n < 256 ^ suc len → (len ≡ 0) ⊎ (256 ^ len ≤ n) → bytes_high_first (suc len) n ≡ short_bytes more n
+high_first-short_bytes zero zero n few below least = ap (λ (x : ℕ). x ∷ []) (omega arith)
+high_first-short_bytes zero (suc len) n few below least = absurd (omega arith)
+high_first-short_bytes (suc more) zero n few below least =
     let small : n < 256 = omega arith in
     rw (lt-ltb n 256 small) (ap (λ (x : ℕ). x ∷ []) (omega arith))
-bytes_of-short_bytes (suc more) (suc len) n few below least =
+high_first-short_bytes (suc more) (suc len) n few below least =
     let power : 256 ^ suc len ≡ 256 ^ len * 256 = pow-suc 256 len in
     let larger : 256 ^ suc (suc len) ≡ 256 ^ suc len * 256 = pow-suc 256 (suc len) in
     let some : 256 ^ 0 ≤ 256 ^ len = pow-le-pow_right {n = 256} (omega arith) {i = 0} {j = len} (omega arith) in
     let much : 256 ≤ n = omega arith in
-    let front : bytes_of (suc len) (n / 256) ≡ short_bytes more (n / 256) = bytes_of-short_bytes more len (n / 256) (omega arith) (omega arith) (inr (omega arith)) in
-    rw (le-ltb n 256 much) (ap (λ (bs : List ℕ). bs ++ n % 256 ∷ []) front)
+    let front : bytes_high_first (suc len) (n / 256) ≡ short_bytes more (n / 256) = high_first-short_bytes more len (n / 256) (omega arith) (omega arith) (inr (omega arith)) in
+    rw (le-ltb n 256 much) (high_first-more (suc len) n ∙ ap (λ (bs : List ℕ). bs ++ n % 256 ∷ []) front)
 
 -- the same of one to four bytes
-pub bytes_of-shortest : (len n : ℕ) → 1 ≤ len → len ≤ 4 → n < 256 ^ len → (len ≡ 1) ⊎ (256 ^ (len - 1) ≤ n) → bytes_of len n ≡ shortest n
-bytes_of-shortest zero n some few below least = absurd (omega arith)
-bytes_of-shortest (suc len) n some few below least = bytes_of-short_bytes 3 len n (omega arith) below (let count : suc len - 1 ≡ len = omega arith in ⊎_elim (λ e. inl (omega arith)) (λ e. inr (rw count at e)) least)
+pub high_first-shortest : (len n : ℕ) → 1 ≤ len → len ≤ 4 → n < 256 ^ len → (len ≡ 1) ⊎ (256 ^ (len - 1) ≤ n) → bytes_high_first len n ≡ shortest n
+high_first-shortest zero n some few below least = absurd (omega arith)
+high_first-shortest (suc len) n some few below least = high_first-short_bytes 3 len n (omega arith) below (let count : suc len - 1 ≡ len = omega arith in ⊎_elim (λ e. inl (omega arith)) (λ e. inr (rw count at e)) least)
 
 -- ---- the entries of a range
 
@@ -115,7 +139,7 @@ entries_valued s code more is h below =
     let lengths : (1 ≤ length code) × (length code ≤ 4) = length-encoding code h in
     map_range-same _ _ 0 (more + 1) (λ k low high.
     ap {B = Entry} (λ (bs : List ℕ). (name_at s k, bs)) (
-    bytes_of-shortest (length code) (big_endian code + k) lengths.0 lengths.1 (omega arith)
+    high_first-shortest (length code) (big_endian code + k) lengths.0 lengths.1 (omega arith)
     (⊎_elim (λ e. inl e) (λ e. inr (omega arith)) (least_value code h)))
     ∙ ap {B = Entry} (λ (name : List ℕ). (name, shortest (big_endian code + k))) (name_at_after s more k is (omega arith)))
 
@@ -134,14 +158,9 @@ byte_more-fits n i b below few byte = omega (arith, three_bytes n i below few)
 -- ---- the bytes of 32 bits without zeros in front
 
 -- the last bytes of 32 bits
-drop-to_be_bytes : (w front : ℕ) → front ≤ 4 → drop front (to_be_bytes w32 w) ≡ bytes_of (4 - front) w
-drop-to_be_bytes w zero few =
-    let third : w / 256 / 256 / 256 ≡ w / 16777216 = omega arith in
-    let second : w / 256 / 256 ≡ w / 65536 = omega arith in
-    rw (third, second) refl
-drop-to_be_bytes w (suc zero) few =
-    let second : w / 256 / 256 ≡ w / 65536 = omega arith in
-    rw second refl
+drop-to_be_bytes : (w front : ℕ) → front ≤ 4 → drop front (to_be_bytes w32 w) ≡ bytes_high_first (4 - front) w
+drop-to_be_bytes w zero few = refl
+drop-to_be_bytes w (suc zero) few = refl
 drop-to_be_bytes w (suc (suc zero)) few = refl
 drop-to_be_bytes w (suc (suc (suc zero))) few = refl
 drop-to_be_bytes w (suc (suc (suc (suc zero)))) few = refl
@@ -164,7 +183,7 @@ pub drop-to_be_bytes-shortest : (w front : ℕ) → w < 2 ^ 32 → front ≡ min
 drop-to_be_bytes-shortest w front fits zeros =
     let lead : (m : ℕ) × (count_leading_zeros 32 w + m ≡ 32) × (w < 2 ^ m) × (2 ^ m ≤ 2 * w + 1) = leading_length 32 w fits in
     let size : (w < 256 ^ (4 - front)) × ((4 - front ≡ 1) ⊎ (256 ^ (4 - front - 1) ≤ w)) = leading-bytes w (count_leading_zeros 32 w) lead.0 front lead.1 lead.2 lead.3 zeros in
-    drop-to_be_bytes w front (omega arith) ∙ bytes_of-shortest (4 - front) w (omega arith) (omega arith) size.0 size.1
+    drop-to_be_bytes w front (omega arith) ∙ high_first-shortest (4 - front) w (omega arith) (omega arith) size.0 size.1
 
 -- atoms that are not few enough are more
 pub long_up_to : (most : ℕ) (atoms : List Atom) → None ≡ up_to most atoms → most < length atoms

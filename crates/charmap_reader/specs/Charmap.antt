@@ -1,7 +1,7 @@
 -- Charmaps: the charset of a text, or its first broken rule (XBD 6.4).
 use Rattle.std.specs.Prelude.{ℕ, ◌+◌, ◌^◌, Bool, false, ◌==◌, ◌||◌, not, nat_lt, nat_le, List, [], ◌∷◌, ◌++◌, length, take, drop, map, codes, Option, Some, None, is_some, position, Ok, Err, if◌then◌else◌}
 use Rattle.std.specs.List.{list_any, range_with_len}
-use Rattle.std.specs.Int.{is_in_range}
+use Rattle.std.specs.Int.{is_in_range, bytes_high_first}
 use Rattle.std.specs.Str.{bytes_eq}
 use Rattle.lc_base.specs.declared.place.Place.{Place}
 use Rattle.lc_base.specs.declared.reason.Reason.{Reason}
@@ -12,8 +12,8 @@ use Rattle.src_lines.specs.declared.signs.Kind.TheVariants.{Charmap}
 use Rattle.src_lines.specs.declared.line.Operand.{Operand}
 use Rattle.src_lines.specs.declared.line.Operand.TheVariants.{Plain, Quoted, Dots, Pair}
 use Rattle.src_lines.specs.declared.fields.Field.{Field}
-use Rattle.src_lines.specs.Words.{blanks, first_word, second_word, closes}
-use Rattle.src_lines.specs.Places.{Logical, start, line_at}
+use Rattle.src_lines.specs.Words.{blanks, first_word, second_word}
+use Rattle.src_lines.specs.Places.{Logical, start, line_at, closes_line}
 use Rattle.src_lines.specs.Logical.{ends_head, front}
 use Rattle.src_lines.specs.Pieces.{only_bytes}
 use Rattle.src_lines.specs.Tokens.{tokens}
@@ -22,7 +22,7 @@ use Rattle.charmap_reader.specs.declared.names.TheConstants.{NAME_LIMIT}
 use Rattle.charmap_reader.specs.Portable.{Name, first_named, portable_code}
 use Rattle.charmap_reader.specs.CodedSet.{CodedSet, listed, big_endian}
 use Rattle.charmap_reader.specs.Subject.{Subject, subject, more_names, name_at}
-use Rattle.charmap_reader.specs.Encoding.{encoding, bytes_of}
+use Rattle.charmap_reader.specs.Encoding.{encoding}
 
 -- a name with its encoding
 abbrev pub Entry : Type 0
@@ -86,7 +86,7 @@ headers name (l ∷ ls) = header name l >>= λ next. headers next ls
 
 -- the encodings of a range go up by one from the first, in as many bytes
 abbrev pub entries : Subject → List ℕ → ℕ → List Entry
-entries s code more = map (λ k. (name_at s k, bytes_of (length code) (big_endian code + k))) (range_with_len 0 (more + 1))
+entries s code more = map (λ k. (name_at s k, bytes_high_first (length code) (big_endian code + k))) (range_with_len 0 (more + 1))
 
 -- entries with further ones, each of a name that was not given before
 abbrev pub added : List Entry → List Entry → Option (List Entry)
@@ -151,7 +151,7 @@ opens_body l = ends_head Charmap (first_word l.bytes) (second_word l.bytes)
 
 -- the line after the body: just these two words
 abbrev pub closes_body : Logical → Bool
-closes_body l = closes (codes "CHARMAP") l.bytes
+closes_body l = closes_line (codes "CHARMAP") l
 
 -- the entries of a body of so many lines, behind a line of this place
 abbrev pub body_of : Place → List Logical → Option ℕ → Reads (List Entry)

@@ -1,6 +1,7 @@
 -- Coded character sets: their names, characters, encodings and wide values (XBD 6.2 to 6.4).
-use Rattle.std.specs.Prelude.{◌≡◌, ◌≢◌, ℕ, ◌+◌, ◌*◌, Bool, false, ◌==◌, ◌||◌, nat_lt, List, [], ◌∷◌, slice_index, codes, encode_utf8, Option, Some, None, if◌then◌else◌}
+use Rattle.std.specs.Prelude.{◌≡◌, ◌≢◌, ℕ, Bool, false, ◌==◌, ◌||◌, nat_lt, List, [], ◌∷◌, slice_index, codes, encode_utf8, Option, Some, None, if◌then◌else◌}
 use Rattle.std.specs.Int.{is_in_range}
+use Rattle.std.specs.Int.Digits.{number_from_digits}
 use Rattle.std.specs.List.{list_any, find}
 use Rattle.std.specs.Option.{option_or, option_map}
 use Rattle.std.specs.Str.{bytes_eq, chars}
@@ -24,12 +25,8 @@ abbrev pub is_scalar : ℕ → Bool
 is_scalar w = nat_lt w 0xD800 || is_in_range 0xE000 0x10FFFF w
 
 -- bytes as a number, the first being the highest
-abbrev pub big_endian_after : ℕ → List ℕ → ℕ
-big_endian_after n [] = n
-big_endian_after n (b ∷ bytes) = big_endian_after (256 * n + b) bytes
-
 abbrev pub big_endian : List ℕ → ℕ
-big_endian bytes = big_endian_after 0 bytes
+big_endian bytes = number_from_digits 256 bytes
 
 -- whether an entry of a charmap has a wide value
 abbrev pub has_value : ℕ → Name × List ℕ → Bool

@@ -31,11 +31,6 @@ encoding atoms = elim (numbers atoms) [
   | Some bs ↦ if is_encoding bs then Some bs else None
 ]
 
--- a number as so many bytes, the first being the highest
-abbrev pub bytes_of : ℕ → ℕ → List ℕ
-bytes_of zero n = []
-bytes_of (suc len) n = bytes_of len (n / 256) ++ n % 256 ∷ []
-
 -- a number as bytes without zeros in front, of which there are at most so many before the last one
 abbrev pub short_bytes : ℕ → ℕ → List ℕ
 short_bytes zero n = n ∷ []

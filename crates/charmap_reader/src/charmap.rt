@@ -1,16 +1,16 @@
 //! Charmaps (XBD 6.4).
 
-ghost use Rattle.std.specs.Prelude.{◌≡◌, ◌+◌, ◌-◌, ◌^◌, [], ◌<◌, ◌≤◌, length, IfSome, position, take, drop, option_map, Some};
+ghost use Rattle.std.specs.Prelude.{◌≡◌, ◌+◌, ◌-◌, ◌^◌, [], ◌<◌, ◌≤◌, length, IfSome, position, take, drop, Some};
 ghost use Rattle.lc_base.specs.Reading.{Gives};
 ghost use Rattle.src_lines.specs.Places.{line_at};
-ghost use Rattle.charmap_reader.specs.Charmap.{opens_body, closes_body, headers, mapping, mappings, text_start, charset_of, front_charset, charmap};
+ghost use Rattle.charmap_reader.specs.Charmap.{opens_body, headers, mapping, mappings, text_start, charset_of, front_charset, charmap};
 
 use crate::body::add_line;
 use crate::charset::Charset;
 use crate::header::read_header;
 use crate::names::Names;
 use lc_base::{ByteText, Place, Reason, TextFault};
-use src_lines::{Kind, Lines, closes, ends_head, next_word, split_front};
+use src_lines::{Kind, Lines, ends_head, next_word, split_front};
 use std::alloc::Global;
 
 /// Whether a line is the one before the body.
@@ -22,14 +22,6 @@ fn opens_body(lines: &Lines, i: usize) -> bool
     ends_head(Kind::Charmap, first, second)
 }
 
-/// Whether a line is the one after the body.
-fn closes_body(lines: &Lines, i: usize) -> bool
-    requires { i < length lines.now }
-    ensures { result ≡ closes_body (line_at lines.now i) }
-{
-    closes(b"CHARMAP", lines.bytes(i))
-}
-
 /// The number of the line before the body.
 fn opening(lines: &Lines) -> Option<usize>
     ensures is { result ≡ position opens_body lines.now }
@@ -38,20 +30,6 @@ fn opening(lines: &Lines) -> Option<usize>
 {
     for i in 0..lines.len() {
         if opens_body(lines, i) {
-            return Some(i);
-        }
-    }
-    None
-}
-
-/// The number of the line after the body that begins at the line `start`.
-fn closing(lines: &Lines, start: usize) -> Option<usize>
-    requires { start ≤ length lines.now }
-    ensures is { result ≡ option_map (λ k. start + k) (position closes_body (drop start lines.now)) }
-    ensures within { IfSome result (λ k. (start ≤ k) × (k < length lines.now)) }
-{
-    for i in start..lines.len() {
-        if closes_body(lines, i) {
             return Some(i);
         }
     }
@@ -118,7 +96,7 @@ fn read_lines(alloc: Global, name: &[u8], begin: Place, lines: &Lines) -> Result
         return Err(TextFault::At(begin, Reason::NoEnd));
     };
     let set_name = read_headers(alloc, name, lines, k)?;
-    let Some(end) = closing(lines, k + 1) else {
+    let Some(end) = lines.closing(b"CHARMAP", k + 1) else {
         return Err(TextFault::At(lines.place(k), Reason::NoEnd));
     };
     let names = read_body(alloc, lines, k + 1, end)?;

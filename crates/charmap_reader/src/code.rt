@@ -14,7 +14,8 @@ pub struct Code {
 impl Code {
     ghost use Rattle.charmap_reader.specs.Code.{code_bytes, IsPadded};
     ghost use Rattle.charmap_reader.specs.CodedSet.{big_endian};
-    ghost use Rattle.charmap_reader.specs.Encoding.{bytes_of, shortest};
+    ghost use Rattle.charmap_reader.specs.Encoding.{shortest};
+    ghost use Rattle.std.specs.Int.{bytes_high_first};
 
     /// The bytes of the encoding.
     pub fn as_bytes(&self) -> &[u8]
@@ -51,7 +52,7 @@ impl Code {
     /// The wide value: the bytes as a number, the first being the highest.
     pub(crate) fn value(&self) -> u32
         ensures is { result ≡ big_endian (code_bytes self.now) }
-        ensures back { bytes_of self.now.len result ≡ code_bytes self.now }
+        ensures back { bytes_high_first self.now.len result ≡ code_bytes self.now }
         ensures bound { result < 256 ^ self.now.len }
         ensures len { length (code_bytes self.now) ≡ self.now.len }
     {

@@ -6,3 +6,4 @@ pub mod LineSteps
 pub mod Sections
 pub mod NumberLemmas
 mod Examples
+mod CellExamples

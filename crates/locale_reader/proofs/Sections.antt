@@ -5,11 +5,11 @@ use Rattle.std.proofs.lemmas.List.{drop_more, drop-drop}
 use Rattle.lc_base.specs.declared.reason.Reason.TheVariants.{NoEnd}
 use Rattle.lc_base.specs.Reading.{Reads, ◌>>=◌}
 use Rattle.src_lines.specs.Words.{first_word}
-use Rattle.src_lines.specs.Places.{Logical, start}
+use Rattle.src_lines.specs.Places.{Logical, start, closes_line}
 use Rattle.charmap_reader.specs.CodedSet.{CodedSet}
 use Rattle.locale_reader.specs.declared.source.Section.{Section}
 use Rattle.locale_reader.specs.Keywords.{category_named}
-use Rattle.locale_reader.specs.Source.{closes_section, with_section, closed_at, section_from, outside, sections_of}
+use Rattle.locale_reader.specs.Source.{with_section, closed_at, section_from, outside, sections_of}
 
 -- the place of an end, counted from the first line of the text
 none_from : (k : ℕ) (o : Option ℕ) → None ≡ option_map (λ (n : ℕ). k + n) o → o ≡ None
@@ -25,22 +25,22 @@ some_from k n (Some m) h =
     ap {B = Option ℕ} (λ (x : ℕ). Some x) count
 
 -- a section without an end
-pub section_open : (set : CodedSet) (ss : List Section) (l : Logical) (ls : List Logical) (name : List ℕ) (k : ℕ) → name ≡ first_word l.bytes → None ≡ option_map (λ (n : ℕ). k + n) (position (closes_section name) ls)
+pub section_open : (set : CodedSet) (ss : List Section) (l : Logical) (ls : List Logical) (name : List ℕ) (k : ℕ) → name ≡ first_word l.bytes → None ≡ option_map (λ (n : ℕ). k + n) (position (closes_line name) ls)
     → section_from set ss l ls ≡ Err (start l, NoEnd)
 unfolding section_from
 section_open set ss l ls name k e none =
-    ap (closed_at set ss l ls) (ap (λ (w : List ℕ). position (closes_section w) ls) (sym e) ∙ none_from k (position (closes_section name) ls) none)
+    ap (closed_at set ss l ls) (ap (λ (w : List ℕ). position (closes_line w) ls) (sym e) ∙ none_from k (position (closes_line name) ls) none)
 
 -- what follows the lines of a section
 abbrev pub behind : ℕ → List Section → Reads (List Section × ℕ)
 behind n more = Ok (more, n + 1)
 
 -- a section with an end
-pub section_closed : (set : CodedSet) (ss : List Section) (l : Logical) (ls : List Logical) (name : List ℕ) (k n : ℕ) → name ≡ first_word l.bytes → Some n ≡ option_map (λ (n : ℕ). k + n) (position (closes_section name) ls)
+pub section_closed : (set : CodedSet) (ss : List Section) (l : Logical) (ls : List Logical) (name : List ℕ) (k n : ℕ) → name ≡ first_word l.bytes → Some n ≡ option_map (λ (n : ℕ). k + n) (position (closes_line name) ls)
     → section_from set ss l ls ≡ (with_section set ss (start l) (take (n - k) ls) (category_named name) >>= behind (n - k))
 unfolding section_from
 section_closed set ss l ls name k n e some =
-    ap (closed_at set ss l ls) (ap (λ (w : List ℕ). position (closes_section w) ls) (sym e) ∙ some_from k n (position (closes_section name) ls) some)
+    ap (closed_at set ss l ls) (ap (λ (w : List ℕ). position (closes_line w) ls) (sym e) ∙ some_from k n (position (closes_line name) ls) some)
     ∙ ap (λ (w : List ℕ). with_section set ss (start l) (take (n - k) ls) (category_named w) >>= behind (n - k)) (sym e)
 
 -- lines that belong to the section before are skipped

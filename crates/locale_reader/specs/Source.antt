@@ -8,11 +8,10 @@ use Rattle.lc_base.specs.declared.reason.Reason.TheVariants.{NoEnd, SectionTwice
 use Rattle.lc_base.specs.Mask.{category_bit}
 use Rattle.lc_base.specs.Reading.{Reads, ◌>>=◌}
 use Rattle.src_lines.specs.declared.signs.Kind.TheVariants.{Locale}
-use Rattle.src_lines.specs.Words.{first_word, second_word, closes}
-use Rattle.src_lines.specs.Places.{Logical, start}
+use Rattle.src_lines.specs.Words.{first_word, second_word}
+use Rattle.src_lines.specs.Places.{Logical, start, closes_line}
 use Rattle.src_lines.specs.Logical.{ends_head, front}
 use Rattle.src_lines.specs.Tokens.{tokens}
-use Rattle.charmap_reader.specs.Portable.{Name}
 use Rattle.charmap_reader.specs.CodedSet.{CodedSet}
 use Rattle.locale_reader.specs.declared.source.Section.{Section}
 use Rattle.locale_reader.specs.declared.source.LocaleSource.{LocaleSource}
@@ -22,10 +21,6 @@ use Rattle.locale_reader.specs.Section.{body}
 -- whether a line opens a section: one word that begins with LC_
 abbrev pub opens_section : Logical → Bool
 opens_section l = ends_head Locale (first_word l.bytes) (second_word l.bytes)
-
--- whether a line closes the section of this name: just the two words END and the name
-abbrev pub closes_section : Name → Logical → Bool
-closes_section name l = closes name l.bytes
 
 -- whether sections of a category are among these
 abbrev pub has_section : List Section → Category → Bool
@@ -45,7 +40,7 @@ closed_at set sections l ls (Some n) =
     with_section set sections (start l) (take n ls) (category_named (first_word l.bytes)) >>= λ more. Ok (more, n + 1)
 
 unfoldable pub section_from : CodedSet → List Section → Logical → List Logical → Reads (List Section × ℕ)
-section_from set sections l ls = closed_at set sections l ls (position (closes_section (first_word l.bytes)) ls)
+section_from set sections l ls = closed_at set sections l ls (position (closes_line (first_word l.bytes)) ls)
 
 -- the sections after a line outside of sections, and how many of the lines behind it belong to it
 unfoldable pub outside : CodedSet → List Section → Logical → List Logical → Reads (List Section × ℕ)

@@ -2,18 +2,19 @@
 use Rattle.std.specs.Prelude.{ℕ, ◌-◌, ◌==◌, nat_lt, nat_le, Bool, not, ◌&&◌, List, length, take, slice_index, Option, Some, None, if◌then◌else◌}
 use Rattle.std.specs.List.{list_all}
 use Rattle.lc_base.specs.Lines.{after, ◌>>=◌}
+use Rattle.locale_reader.specs.declared.text.TheConstants.{TEXT_LIMIT}
 
 -- a byte that stands for itself in every text: printable, and neither a quote, a backslash nor `<`
 abbrev pub is_plain : ℕ → Bool
 is_plain c = nat_le 32 c && nat_le c 126 && not (c == 34) && not (c == 92) && not (c == 60)
 
--- the bytes before a quote that ends the line, where they are at most 256 and each is plain
+-- the bytes before a quote that ends the line, where they are no more than the limit and each is plain
 abbrev pub closed : List ℕ → Option (List ℕ)
 closed line =
     let end = length line - 1 in
     if length line == 0 then None else
     if not (slice_index line end == 34) then None else
-    if nat_lt 256 end then None else
+    if nat_lt TEXT_LIMIT end then None else
     if not (list_all is_plain (take end line)) then None else
     Some (take end line)
 

@@ -17,6 +17,7 @@ use Rattle.charmap_reader.specs.CodedSet.{CodedSet, named, encoded, valued}
 use Rattle.src_lines.specs.Pieces.{only_bytes}
 use Rattle.locale_reader.specs.declared.source.Value.{Value}
 use Rattle.locale_reader.specs.declared.source.Value.TheVariants.{Text, Number, Chars, Pair}
+use Rattle.locale_reader.specs.declared.text.TheConstants.{TEXT_LIMIT}
 use Rattle.locale_reader.specs.declared.keywords.Element.{Element}
 use Rattle.locale_reader.specs.declared.keywords.Element.TheVariants.{CasePair, Word, Quote, Whole}
 
@@ -82,9 +83,9 @@ abbrev pub decoded : CodedSet → List Piece → Option (List ℕ)
 decoded set [] = Some []
 decoded set (p ∷ ps) = joined (piece_bytes set p) (decoded set ps)
 
--- a text of at most 256 bytes
+-- a text of no more bytes than the limit
 abbrev pub within_limit : Place → List ℕ → Reads (List ℕ)
-within_limit place bs = if nat_lt 256 (length bs) then Err (place, OverLimit TextLimit) else Ok bs
+within_limit place bs = if nat_lt TEXT_LIMIT (length bs) then Err (place, OverLimit TextLimit) else Ok bs
 
 -- a text without its quotes
 abbrev pub quoted_text : CodedSet → Place → List Piece → Reads (List ℕ)

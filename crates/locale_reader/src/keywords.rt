@@ -4,7 +4,7 @@ ghost use Rattle.std.specs.Prelude.{◌≡◌, map};
 ghost use Rattle.charmap_reader.specs.Portable.{first_named};
 ghost use Rattle.locale_reader.specs.Keywords.{category_named, keywords};
 
-use lc_base::Category;
+use lc_base::{CATEGORIES, Category};
 
 /// What one operand is read as.
 #[derive(Clone, Copy, Debug, PartialEq, Eq)]
@@ -33,15 +33,6 @@ pub enum Operands {
     /// Operands that are not read.
     PassedOver,
 }
-
-/// The categories that are read.
-const CATEGORIES: [Category; 5] = [
-    Category::Ctype,
-    Category::Numeric,
-    Category::Monetary,
-    Category::Time,
-    Category::Messages,
-];
 
 const CTYPE: [(&[u8], Operands); 16] = [
     (b"copy", Operands::Copied),

@@ -1,17 +1,17 @@
 //! Locale sources (XBD 7.3).
 
-ghost use Rattle.std.specs.Prelude.{◌≡◌, [], ◌+◌, ◌-◌, ◌^◌, ◌<◌, ◌≤◌, length, take, drop, IfOk, IfSome, position, option_map, Some};
+ghost use Rattle.std.specs.Prelude.{◌≡◌, [], ◌+◌, ◌-◌, ◌^◌, ◌<◌, ◌≤◌, length, take, drop, IfOk};
 ghost use Rattle.lc_base.specs.Reading.{Gives};
 ghost use Rattle.src_lines.specs.Words.{first_word};
 ghost use Rattle.src_lines.specs.Places.{line_at};
-ghost use Rattle.locale_reader.specs.Source.{opens_section, closes_section, has_section, with_section, section_from, outside, sections_of, source};
+ghost use Rattle.locale_reader.specs.Source.{opens_section, has_section, with_section, section_from, outside, sections_of, source};
 
 use crate::keyword_line::read_body;
 use crate::keywords::category_named;
 use crate::source::{LocaleSource, Section};
 use charmap_reader::Charset;
 use lc_base::{Category, List, Place, Reason, TextFault};
-use src_lines::{Kind, Lines, closes, ends_head, split_front};
+use src_lines::{Kind, Lines, ends_head, split_front};
 use std::alloc::Global;
 
 /// Whether a line opens a section.
@@ -21,29 +21,6 @@ fn opens_section(lines: &Lines, i: usize) -> bool
 {
     let (first, second) = lines.first_words(i);
     ends_head(Kind::Locale, first, second)
-}
-
-/// Whether a line closes the section of this name.
-fn closes_section(name: &[u8], lines: &Lines, i: usize) -> bool
-    requires { i < length lines.now }
-    ensures { result ≡ closes_section name.now (line_at lines.now i) }
-{
-    closes(name, lines.bytes(i))
-}
-
-/// The number of the line that closes the section of this name, whose lines begin at `start`.
-fn closing(name: &[u8], lines: &Lines, start: usize) -> Option<usize>
-    requires { start ≤ length lines.now }
-    ensures is { result ≡ option_map (λ k. start + k) (position (closes_section name.now) (drop start lines.now)) }
-    ensures within { IfSome result (λ k. (start ≤ k) × (k < length lines.now)) }
-    ensures fits { IfSome result (λ k. k + 1 < 2 ^ 64) }
-{
-    for i in start..lines.len() {
-        if closes_section(name, lines, i) {
-            return Some(i);
-        }
-    }
-    None
 }
 
 /// Whether a section of this category is among these.
@@ -102,7 +79,7 @@ fn read_section(
     ensures within { IfOk result (λ x. (i < x.1) × (x.1 ≤ length lines.now)) }
 {
     let (name, _) = lines.first_words(i);
-    let Some(end) = closing(name, lines, i + 1) else {
+    let Some(end) = lines.closing(name, i + 1) else {
         return Err(TextFault::At(lines.place(i), Reason::NoEnd));
     };
     let category = category_named(name);

@@ -10,11 +10,9 @@ ghost use Rattle.locale_reader.specs.NumericSection.{frames, numeric_texts, text
 
 use crate::cells::Values;
 use crate::source::{Body, Entry, LocaleSource, Section, Value};
+use crate::text::TEXT_LIMIT;
 use lc_base::{ByteText, Category, List, Place, Reason, TextFault, after, next_line};
 use std::alloc::{AllocError, Global};
-
-/// The most bytes of a text.
-const TEXT_LIMIT: usize = 256;
 
 /// Reads the lines `LC_NUMERIC`, `decimal_point "T"`, `thousands_sep "T"` and `END LC_NUMERIC`,
 /// where each T has at most 256 printable bytes without `"`, `\` and `<`, and the first is not

@@ -13,8 +13,8 @@ use lc_base::{ByteText, Limit, Place, Reason, TextFault};
 use src_lines::{Operand, PieceRef, Pieces};
 use std::alloc::{AllocError, Global};
 
-/// The most bytes of a text.
-const LIMIT: usize = 256;
+/// The most bytes of a text (our own rule).
+pub const TEXT_LIMIT: usize = 256;
 
 /// The bytes of the character with a name.
 fn name_code(charset: &Charset, name: &[u8]) -> Option<Code>
@@ -71,7 +71,7 @@ fn quoted_text(
     let Some(text) = decoded(alloc, charset, pieces)? else {
         return Err(TextFault::At(place, Reason::UnknownCharacter));
     };
-    if text.as_bytes().len() > LIMIT {
+    if text.as_bytes().len() > TEXT_LIMIT {
         return Err(TextFault::At(place, Reason::OverLimit(Limit::Text)));
     }
     Ok(text)

@@ -1,5 +1,5 @@
 -- The definitions on worked examples.
-use Rattle.std.proofs.Common.{◌≡◌, ℕ, List, [], ◌∷◌, Option, Some, None, Ok, Err, refl}
+use Rattle.std.proofs.Common.{◌≡◌, ℕ, true, false, List, [], ◌∷◌, Option, Some, None, Ok, Err, refl}
 use Rattle.std.specs.Prelude.{codes, map}
 use Rattle.lc_base.specs.declared.place.Place.{Place}
 use Rattle.lc_base.specs.declared.reason.Reason.{Reason}
@@ -16,7 +16,7 @@ use Rattle.src_lines.specs.Logical.{front, front_from, logical}
 use Rattle.src_lines.specs.declared.atom.Atom.TheVariants.{Bare, Number, Made}
 use Rattle.src_lines.specs.declared.fields.Field.{Field}
 use Rattle.src_lines.specs.declared.operand.TheConstants.{MAX_OPERANDS}
-use Rattle.src_lines.specs.Words.{next_word, first_word, second_word}
+use Rattle.src_lines.specs.Words.{next_word, first_word, second_word, closes}
 use Rattle.src_lines.specs.Atoms.{items_from, up_to}
 use Rattle.src_lines.specs.Pieces.{only_bytes}
 use Rattle.src_lines.specs.Tokens.{tokens, operands, separated, operand, run, text}
@@ -192,3 +192,17 @@ spelling = refl
 
 most_operands : MAX_OPERANDS ≡ 65536
 most_operands = refl
+
+-- ---- the end of a part
+
+closing_line : closes (codes "LC_TIME") (codes " END\tLC_TIME ") ≡ true
+closing_line = refl
+
+other_name : closes (codes "LC_TIME") (codes "END LC_TIM") ≡ false
+other_name = refl
+
+word_behind : closes (codes "LC_TIME") (codes "END LC_TIME x") ≡ false
+word_behind = refl
+
+other_word : closes (codes "LC_TIME") (codes "END_ LC_TIME") ≡ false
+other_word = refl

@@ -9,5 +9,6 @@ pub mod Itemizing
 pub mod Naming
 pub mod Splitting
 pub mod Storing
+pub mod Positions
 pub mod Spelt
 pub mod Spellings

@@ -1,7 +1,7 @@
 -- Logical lines (XBD 7.3), and the places of their bytes.
-use Rattle.std.specs.Prelude.{ℕ, ◌+◌, ◌-◌, List, [], ◌∷◌, ◌++◌, length, nat_lt, slice_index_or, if◌then◌else◌}
+use Rattle.std.specs.Prelude.{ℕ, ◌+◌, ◌-◌, Bool, List, [], ◌∷◌, ◌++◌, length, nat_lt, slice_index_or, if◌then◌else◌}
 use Rattle.lc_base.specs.declared.place.Place.{Place}
-use Rattle.src_lines.specs.Words.{blanks}
+use Rattle.src_lines.specs.Words.{blanks, closes}
 use Rattle.src_lines.specs.declared.signs.Signs.{Signs}
 use Rattle.src_lines.specs.declared.store.Join.{Join}
 
@@ -38,6 +38,10 @@ place_at l k = place_from l.line 0 l.joins k
 -- the place of a logical line: that of its first word
 abbrev pub start : Logical → Place
 start l = place_at l (blanks l.bytes)
+
+-- whether a logical line closes what has this name
+abbrev pub closes_line : List ℕ → Logical → Bool
+closes_line name l = closes name l.bytes
 
 -- the line with this number, counted from 0
 abbrev pub line_at : List Logical → ℕ → Logical

@@ -1,8 +1,8 @@
 //! The logical lines of a text (XBD 7.3).
 
-ghost use Rattle.std.specs.Prelude.{◌≡◌, ◌+◌, ◌^◌, ◌<◌, ◌≤◌, ◌↔◌, [], length, IfOk, OnOk, OnErr, IsTrue};
+ghost use Rattle.std.specs.Prelude.{◌≡◌, ◌+◌, ◌^◌, ◌<◌, ◌≤◌, ◌↔◌, [], length, drop, position, option_map, IfOk, IfSome, OnOk, OnErr, IsTrue};
 ghost use Rattle.lc_base.specs.Reading.{Gives};
-ghost use Rattle.src_lines.specs.Places.{Logical, line_at, start};
+ghost use Rattle.src_lines.specs.Places.{Logical, line_at, start, closes_line};
 ghost use Rattle.src_lines.specs.Words.{first_word, second_word};
 ghost use Rattle.src_lines.specs.Logical.{front, logical, takes_next};
 ghost use Rattle.src_lines.specs.Tokens.{tokens};
@@ -15,7 +15,7 @@ use crate::line::Line;
 use crate::operand::tokens_of;
 use crate::signs::{Kind, Signs};
 use crate::store::Store;
-use crate::words::{blanks, next_word};
+use crate::words::{blanks, closes, next_word};
 use lc_base::{Place, Reason, TextFault, ended_line};
 use std::alloc::{AllocError, Global};
 use std::marker::Model;
@@ -99,6 +99,22 @@ impl Lines {
         ensures { result.now ≡ (line_at self.now i).bytes }
     {
         self.store.row(i).bytes
+    }
+
+    /// The number of the first line from `start` on that closes the part of this name: `END` and the
+    /// name alone.
+    pub fn closing(&self, name: &[u8], start: usize) -> Option<usize>
+        requires { start ≤ length self.now }
+        ensures is { result ≡ option_map (λ k. start + k) (position (closes_line name.now) (drop start self.now)) }
+        ensures within { IfSome result (λ k. (start ≤ k) × (k < length self.now)) }
+        ensures fits { IfSome result (λ k. k + 1 < 2 ^ 64) }
+    {
+        for i in start..self.len() {
+            if closes(name, self.bytes(i)) {
+                return Some(i);
+            }
+        }
+        None
     }
 
     /// The signs in force at the line.

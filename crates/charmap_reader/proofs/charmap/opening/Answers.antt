@@ -1,6 +1,6 @@
 use Rattle.std.proofs.Common.{sym, ◌∙◌, arith}
 use Rattle.charmap_reader.specs.Charmap.{opens_body}
-use Rattle.charmap_reader.proofs.Positions.{position_found, position_none}
+use Rattle.src_lines.proofs.Positions.{position_found, position_none}
 use Rattle.charmap_reader.proofs.charmap.opening.Goals as goal
 
 pub returns-then-opens_body-clause-is : goal.returns-then-opens_body-clause-is

@@ -1,7 +1,7 @@
 use Rattle.std.proofs.Common.{sym, ◌∙◌, arith}
 use Rattle.std.proofs.lemmas.Result.{err_from_is_err_and}
 use Rattle.lc_base.proofs.ReadingLemmas.{fails_first}
-use Rattle.charmap_reader.proofs.Positions.{part_more}
+use Rattle.src_lines.proofs.Positions.{part_more}
 use Rattle.charmap_reader.proofs.Bodies.{mappings_more, mappings_step}
 use Rattle.charmap_reader.proofs.charmap.read_body.Goals as goal
 

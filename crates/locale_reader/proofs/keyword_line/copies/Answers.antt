@@ -1,5 +1,5 @@
 use Rattle.std.proofs.Common.{sym, ◌∙◌, arith}
-use Rattle.charmap_reader.proofs.Positions.{part_more}
+use Rattle.src_lines.proofs.Positions.{part_more}
 use Rattle.locale_reader.specs.Section.{copies_category}
 use Rattle.locale_reader.proofs.LineSteps.{any_first, any_later}
 use Rattle.locale_reader.proofs.keyword_line.copies.Goals as goal

@@ -1,7 +1,7 @@
 use Rattle.std.proofs.Common.{sym, ◌∙◌, arith}
 use Rattle.std.proofs.lemmas.Result.{err_from_is_err_and}
 use Rattle.lc_base.proofs.ReadingLemmas.{fails_first}
-use Rattle.charmap_reader.proofs.Positions.{part_more}
+use Rattle.src_lines.proofs.Positions.{part_more}
 use Rattle.locale_reader.proofs.LineSteps.{lines_more, lines_step}
 use Rattle.locale_reader.proofs.keyword_line.keyword_lines.Goals as goal
 

@@ -1,4 +1,4 @@
-use Rattle.std.proofs.Common.{arith, ℕ, ◌+◌, ◌≤◌, All, refl, get_or, rules}
+use Rattle.std.proofs.Common.{arith, ℕ, ◌≤◌, All, refl, get_or, rules}
 use Rattle.std.specs.List.Sorted.{IsNonDecreasingBy}
 use Rattle.std.proofs.lemmas.List.Sorted.{IsNonDecreasingBy-from_sort_by_key, list_any-IsPermutation, All-permutation}
 use Rattle.std.specs.Int.{is_in_range}
