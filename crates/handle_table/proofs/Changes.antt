@@ -235,6 +235,10 @@ own_to c H t End before other = absurd (cc other)
 pub own_of_other : (e : Entry) (H : History) (t : ℕ) → (e.who ≡ t → ⊥) → own (e ∷ H) t ≡ own H t
 own_of_other e H t other = ap (λ b. if b then own_after e.reply (own H t) else own H t) (ne_eqb e.who t other)
 
+-- what a thread took up after its own entry is by the reply: a Use takes up its object, an End lets go, and any other reply leaves it
+pub own_of_caller : (e : Entry) (H : History) (t : ℕ) → e.who ≡ t → own (e ∷ H) t ≡ own_after e.reply (own H t)
+own_of_caller e H t same = ap (λ b. if b then own_after e.reply (own H t) else own H t) (eq-eqb e.who t same)
+
 -- what a thread took up stays as it was, whatever is called, until its own next Use or End
 pub own_stays : (c : Setting) (e : Entry) (H : History) (t : ℕ) → IsLegal c (e ∷ H) → takes_up e.op ≡ false → own (e ∷ H) t ≡ own H t
 own_stays c e H t legal other =
@@ -268,14 +272,14 @@ pub own_of_use : (c : Setting) (e : Entry) (H : History) (t : ℕ) (n : Named) �
 own_of_use c e H t n legal same is accepted =
     let reply : e.reply ≡ answer c H e.who (Use n) = legal.0 ∙ ap (answer c H e.who) is in
     let none = unrefused (first_reason (reasons c H e.who (Use n))) (reply_to c H e.who (Use n)) (sym (ap is_accepted reply) ∙ accepted) in
-    ap (λ b. if b then own_after e.reply (own H t) else own H t) (eq-eqb e.who t same)
+    own_of_caller e H t same
     ∙ ap (λ r. own_after r (own H t)) reply
     ∙ ap (λ r. own_after (unless r (reply_to c H e.who (Use n))) (own H t)) none
 
 -- a thread that has ended has the global locale
 pub own_of_end : (c : Setting) (e : Entry) (H : History) (t : ℕ) → IsLegal c (e ∷ H) → e.who ≡ t → e.op ≡ End → own (e ∷ H) t ≡ None
 own_of_end c e H t legal same is =
-    ap (λ b. if b then own_after e.reply (own H t) else own H t) (eq-eqb e.who t same)
+    own_of_caller e H t same
     ∙ ap (λ r. own_after r (own H t)) (legal.0 ∙ ap (answer c H e.who) is)
 
 -- ---- the shelf and the global locale

@@ -1,14 +1,20 @@
 -- The definitions at worked examples: sessions of a few calls with the replies that are wanted.
-use Rattle.std.specs.Prelude.{◌≡◌, ℕ, List, [], ◌∷◌, None, Some, refl}
+use Rattle.std.proofs.Common.{◌≡◌, ℕ, ◌<◌, Bool, true, false, ◌==◌, List, [], ◌∷◌, None, Some, is_some, refl, ap, sym, ◌∙◌, lit<, arith}
+use Rattle.std.specs.List.{All}
+use Rattle.std.specs.Prelude.{unwrap_or}
+use Rattle.std.proofs.lemmas.Bool.{eqb-false, true≢false}
+use Rattle.std.proofs.lemmas.List.Elements.{All-cons, All-nil}
 use Rattle.lc_base.specs.declared.category.Category.TheVariants as categories
 use Rattle.mask_compose.specs.Parts.{Parts}
 use Rattle.mask_compose.specs.Offer.{Offered}
 use Rattle.handle_table.specs.declared.handle.Handle.{Handle}
 use Rattle.handle_table.specs.declared.handle.Named.TheVariants.{Global, Of}
-use Rattle.handle_table.specs.Entry.{Op, New, Dup, Free, Use, Hold, Release, SetGlobal, Install, Post, Fetch, Pins, End, NoData, GlobalHandle, NeverMade, Stale, TooMany, AlreadyHeld, NotHeld, EmptyCell, Reply, Made, Freed, Was, Held, Released, Set, Installed, Posted, Got, Pinned, Ended, Refused, History, Setting}
+use Rattle.handle_table.specs.Entry.{Op, names, New, Dup, Free, Use, Hold, Release, SetGlobal, Install, Post, Fetch, Pins, End, NoData, GlobalHandle, NeverMade, Stale, TooMany, AlreadyHeld, NotHeld, EmptyCell, Reply, Made, Freed, Was, Held, Released, Set, Installed, Posted, Got, Pinned, Ended, Refused, History, Setting}
 use Rattle.handle_table.specs.Shelf.{lacking}
 use Rattle.handle_table.specs.History.{global_at, holders, Selects, Holds, free_row}
-use Rattle.handle_table.specs.Answer.{answer, entry, own}
+use Rattle.handle_table.specs.Answer.{answer, entry, own_after, own}
+use Rattle.handle_table.specs.Table.{AreOnShelf, IsOpening, Fits, has_base, SaysTheSame}
+use Rattle.handle_table.proofs.Laws.{refused_changes_nothing}
 
 -- the history after some calls, given oldest first
 abbrev played : Setting → History → List (ℕ × Op) → History
@@ -263,3 +269,151 @@ ended : replies usual [] (
     (0, make 1) ∷ (0, Use (Of (handle 0 0 1))) ∷ (0, End) ∷ (1, Pins (Of (handle 0 0 1))) ∷ (1, Use (Of (handle 0 0 1))) ∷ (0, Use Global) ∷ [])
     ≡ Made (handle 0 0 1) ∷ Was Global (Some (all_of 1)) ∷ Ended ∷ Pinned 0 ∷ Was Global (Some (all_of 1)) ∷ Was Global None ∷ []
 ended = refl
+
+-- ---- conditions of a call
+
+-- each name of a New or a SetGlobal is on the shelf of five, also outside the mask; the handles of a call may be any
+five_names : (a b c d e : ℕ) → a < 5 → b < 5 → c < 5 → d < 5 → e < 5 → AreOnShelf usual (a ∷ b ∷ c ∷ d ∷ e ∷ [])
+five_names a b c d e first second third fourth fifth =
+    let below : ℕ → Type 0 = λ n. n < 5 in
+    All-cons below a (b ∷ c ∷ d ∷ e ∷ []) first (All-cons below b (c ∷ d ∷ e ∷ []) second (All-cons below c (d ∷ e ∷ []) third (All-cons below d (e ∷ []) fourth (All-cons below e [] fifth (All-nil below)))))
+
+fits_on_the_shelf : Fits usual (New 1 (0 ∷ 4 ∷ 3 ∷ 1 ∷ 2 ∷ []) (Some (Of (handle 9 9 9))))
+fits_on_the_shelf = five_names 0 4 3 1 2 (lit< tt) (lit< tt) (lit< tt) (lit< tt) (lit< tt)
+
+not_below : (n : ℕ) → n < n → ⊥
+not_below n below = omega arith
+
+fits_past_the_shelf : Fits usual (New 1 (0 ∷ 5 ∷ 0 ∷ 0 ∷ 0 ∷ []) None) → ⊥
+fits_past_the_shelf fits = not_below 5 (fits 1 0 (lit< tt))
+
+fits_set_past_the_shelf : Fits usual (SetGlobal 1 (0 ∷ 0 ∷ 0 ∷ 0 ∷ 5 ∷ [])) → ⊥
+fits_set_past_the_shelf fits = not_below 5 (fits 4 0 (lit< tt))
+
+fits_handle : Fits usual (Free (Of (handle 9 9 9)))
+fits_handle = tt
+
+-- the POSIX locale, which is number 0, is never installed
+fits_install : Fits usual (Install 4 (record { object = all_of 6; available = 0 }))
+fits_install = (omega arith, omega arith)
+
+fits_install_posix : Fits usual (Install 0 (record { object = all_of 6; available = 31 })) → ⊥
+fits_install_posix fits = let some = fits.0 in omega arith
+
+fits_install_past : Fits usual (Install 5 (record { object = all_of 6; available = 31 })) → ⊥
+fits_install_past fits = not_below 5 fits.1
+
+-- two threads with eight cells each
+fits_last_cell : Fits usual (Fetch 1 7)
+fits_last_cell = (omega arith, omega arith)
+
+fits_ninth_cell : Fits usual (Fetch 1 8) → ⊥
+fits_ninth_cell fits = not_below 8 fits.1
+
+fits_third_thread : Fits usual (Fetch 2 7) → ⊥
+fits_third_thread fits = not_below 2 fits.0
+
+fits_post : Fits usual (Post 7 Global)
+fits_post = lit< tt
+
+fits_post_ninth : Fits usual (Post 8 Global) → ⊥
+fits_post_ninth fits = not_below 8 fits
+
+-- two numbers that are not one
+apart : (m n : ℕ) → (m == n) ≡ false → m ≡ n → ⊥
+apart m n other same = eqb-false m n other same
+
+-- an opening shelf begins with an offer of all five categories
+opening_usual : IsOpening offers
+opening_usual = refl
+
+opening_none : IsOpening [] → ⊥
+opening_none none = none
+
+opening_without_messages : IsOpening (record { object = all_of 0; available = 15 } ∷ offers) → ⊥
+opening_without_messages whole = apart 15 31 refl whole
+
+-- ---- bases, and histories that say the same
+
+base_of_new : has_base (New 31 (all 1) (Some (Of (handle 0 3 2)))) (handle 0 3 2) ≡ true
+base_of_new = refl
+
+base_of_another : has_base (New 31 (all 1) (Some (Of (handle 0 3 1)))) (handle 0 3 2) ≡ false
+base_of_another = refl
+
+base_global : has_base (New 31 (all 1) (Some Global)) (handle 0 3 2) ≡ false
+base_global = refl
+
+no_base : has_base (make 1) (handle 0 3 2) ≡ false
+no_base = refl
+
+copied_is_no_base : has_base (Dup (Of (handle 0 3 2))) (handle 0 3 2) ≡ false
+copied_is_no_base = refl
+
+-- the history after some calls on the usual table
+abbrev after : List (ℕ × Op) → History
+after calls = played usual [] calls
+
+-- a refused call says nothing new
+same_after_refusal : SaysTheSame usual (after ((0, make 1) ∷ (1, Free (Of (handle 0 5 1))) ∷ [])) (after ((0, make 1) ∷ []))
+same_after_refusal = refused_changes_nothing usual _ _ refl
+
+-- each of these accepted ones does: an Install, a New without a base and with one, a Free, a SetGlobal, a Use, an End of a
+-- thread that selects something, a Hold and a Post
+other_shelf : SaysTheSame usual (after ((0, Install 4 (record { object = all_of 6; available = 31 })) ∷ [])) (after []) → ⊥
+other_shelf s = apart 31 0 refl (ap (λ (o : Offered). o.available) (s.shelf 4))
+
+other_installs : SaysTheSame usual (after ((0, Install 4 (record { object = all_of 0; available = 0 })) ∷ [])) (after []) → ⊥
+other_installs s = apart 1 0 refl s.installs
+
+other_made : SaysTheSame usual (after ((0, make 1) ∷ [])) (after []) → ⊥
+other_made s = true≢false (s.made (handle 0 0 1))
+
+other_makes : SaysTheSame usual (after ((0, make 1) ∷ [])) (after []) → ⊥
+other_makes s = apart 1 0 refl (s.makes 0 0)
+
+other_free_row : SaysTheSame usual (after ((0, make 1) ∷ [])) (after []) → ⊥
+other_free_row s = apart 1 0 refl (ap (λ o. unwrap_or o 9) (s.free_row 0))
+
+other_live : SaysTheSame usual (after ((0, make 1) ∷ (0, Free (Of (handle 0 0 1))) ∷ [])) (after ((0, make 1) ∷ [])) → ⊥
+other_live s = true≢false (sym (s.live (handle 0 0 1)))
+
+other_object : SaysTheSame usual (after ((0, make 1) ∷ (0, New 2 (all 2) (Some (Of (handle 0 0 1)))) ∷ [])) (after ((0, make 1) ∷ [])) → ⊥
+other_object s = apart 2 1 refl (ap (λ (o : Parts). o.numeric) (s.object (handle 0 0 1)))
+
+other_global : SaysTheSame usual (after ((0, SetGlobal 8 (all 2)) ∷ [])) (after []) → ⊥
+other_global s = apart 2 0 refl (ap (λ (o : Parts). o.time) s.global)
+
+other_sets : SaysTheSame usual (after ((0, SetGlobal 0 (all 2)) ∷ [])) (after []) → ⊥
+other_sets s = apart 1 0 refl s.sets
+
+other_selection : SaysTheSame usual (after ((0, make 1) ∷ (1, Use (Of (handle 0 0 1))) ∷ [])) (after ((0, make 1) ∷ [])) → ⊥
+other_selection s = true≢false (ap (λ n. names n (handle 0 0 1)) (s.selection 1))
+
+other_own : SaysTheSame usual (after ((0, make 1) ∷ (1, Use (Of (handle 0 0 1))) ∷ (1, End) ∷ [])) (after ((0, make 1) ∷ (1, Use (Of (handle 0 0 1))) ∷ [])) → ⊥
+other_own s = true≢false (sym (ap is_some (s.own 1)))
+
+other_holding : SaysTheSame usual (after ((0, make 1) ∷ (1, Hold (Of (handle 0 0 1))) ∷ [])) (after ((0, make 1) ∷ [])) → ⊥
+other_holding s = true≢false (s.holding 1 (handle 0 0 1))
+
+other_pins : SaysTheSame usual (after ((0, make 1) ∷ (1, Hold (Of (handle 0 0 1))) ∷ [])) (after ((0, make 1) ∷ [])) → ⊥
+other_pins s = apart 1 0 refl (s.pins (handle 0 0 1))
+
+other_posted : SaysTheSame usual (after ((0, make 1) ∷ (0, Post 3 (Of (handle 0 0 1))) ∷ [])) (after ((0, make 1) ∷ [])) → ⊥
+other_posted s = true≢false (ap is_some (s.posted 0 3))
+
+-- what a thread has after its own call: what its Use took up, nothing after an End, and otherwise what it had
+own_after_use : own_after (Was Global (Some (all_of 1))) None ≡ Some (all_of 1)
+own_after_use = refl
+
+own_after_global : own_after (Was (Of (handle 0 0 1)) None) (Some (all_of 1)) ≡ None
+own_after_global = refl
+
+own_after_end : own_after Ended (Some (all_of 1)) ≡ None
+own_after_end = refl
+
+own_after_hold : own_after (Held (all_of 2)) (Some (all_of 1)) ≡ Some (all_of 1)
+own_after_hold = refl
+
+own_after_refusal : own_after (Refused Stale) (Some (all_of 1)) ≡ Some (all_of 1)
+own_after_refusal = refl

@@ -8,6 +8,7 @@ use Rattle.std.specs.Prelude.{unwrap_or, slice_index_or, nat_lt}
 use Rattle.handle_table.specs.declared.handle.Handle.{Handle}
 use Rattle.handle_table.specs.declared.handle.Named.TheVariants.{Global}
 use Rattle.handle_table.specs.declared.row.Row.{Row}
+use Rattle.handle_table.specs.declared.setting.TheConstants.{CELLS, MAX_THREADS}
 use Rattle.handle_table.specs.Entry.{Setting}
 use Rattle.handle_table.specs.Shelf.{posix, opening_offer}
 use Rattle.handle_table.specs.History.{pins}
@@ -21,14 +22,14 @@ use Rattle.handle_table.proofs.Pinned.{ways, sum_none, pins_counted}
 unpinned_at_first : (c : Setting) (h : Handle) → pins c [] h ≡ 0
 unpinned_at_first c h = pins_counted c [] h ∙ sum_none (ways [] h) c.threads (λ t lt. refl)
 
-fresh_row : (c : Setting) (t r : ℕ) (row : Row) → c.threads ≤ 16 → row ≡ record { makes = 0; is_live = false; pins = 0; holds = replicate 16 false }
+fresh_row : (c : Setting) (t r : ℕ) (row : Row) → c.threads ≤ MAX_THREADS → row ≡ record { makes = 0; is_live = false; pins = 0; holds = replicate MAX_THREADS false }
     → RowStands c [] t r row
 fresh_row c t r row few is = record {
   marks = ap (λ (x : Row). length x.holds) is;
   makes = ap (λ (x : Row). x.makes) is;
   live = ap (λ (x : Row). x.is_live) is;
   pins = ap (λ (x : Row). x.pins) is ∙ sym (unpinned_at_first c (newest [] t r));
-  holding = λ w caller. ap (is_held w) is ∙ get_or-replicate 16 w false false (omega arith);
+  holding = λ w caller. ap (is_held w) is ∙ get_or-replicate MAX_THREADS w false false (omega arith);
 }
 
 -- a grid of one value has it everywhere
@@ -40,7 +41,7 @@ fresh_cell c n x d t r line column =
 
 -- the row of a grid of empty rows
 abbrev pub empty_row : Row
-empty_row = record { makes = 0; is_live = false; pins = 0; holds = replicate 16 false }
+empty_row = record { makes = 0; is_live = false; pins = 0; holds = replicate MAX_THREADS false }
 
 shape_fresh : {A : Type 0} (c : Setting) (n : ℕ) (g : GridData A) → g.lines ≡ c.threads → g.width ≡ n → length g.items ≡ c.threads * n → HasLines c n g
 shape_fresh c n g lines width full = record {
@@ -66,14 +67,14 @@ pub record IsFresh (c : Setting) (kept : KeptData) : Type 0 where
   pub objects : length kept.objects.items ≡ c.threads * c.rows
   pub selections : kept.selections ≡ replicate c.threads Global
   pub cell_lines : kept.cells.lines ≡ c.threads
-  pub cell_width : kept.cells.width ≡ 8
-  pub cells : kept.cells.items ≡ replicate (c.threads * 8) None
+  pub cell_width : kept.cells.width ≡ CELLS
+  pub cells : kept.cells.items ≡ replicate (c.threads * CELLS) None
   pub installed : kept.installed ≡ replicate (length c.opening) None
   pub installs : kept.installs ≡ 0
   pub version : kept.global.version ≡ 0
   pub object : kept.global.object ≡ posix c
 
-pub keeps_fresh : (c : Setting) (kept : KeptData) → c.threads ≤ 16 → 1 ≤ length c.opening → IsFresh c kept → Keeps c [] kept
+pub keeps_fresh : (c : Setting) (kept : KeptData) → c.threads ≤ MAX_THREADS → 1 ≤ length c.opening → IsFresh c kept → Keeps c [] kept
 keeps_fresh c kept few some fresh = record {
   legal = tt;
   callers = tt;
@@ -94,8 +95,8 @@ keeps_fresh c kept few some fresh = record {
     each = λ t line. ap (λ xs. slice_index_or xs t Global) fresh.selections ∙ get_or-replicate c.threads t Global Global line;
   };
   cells = record {
-    shape = shape_fresh c 8 kept.cells fresh.cell_lines fresh.cell_width (ap length fresh.cells ∙ length-replicate (c.threads * 8) None);
-    each = λ t k line column. cell_fresh c 8 kept.cells None None t k fresh.cell_width fresh.cells line column;
+    shape = shape_fresh c CELLS kept.cells fresh.cell_lines fresh.cell_width (ap length fresh.cells ∙ length-replicate (c.threads * CELLS) None);
+    each = λ t k line column. cell_fresh c CELLS kept.cells None None t k fresh.cell_width fresh.cells line column;
   };
   shelf = record {
     count = ap length fresh.installed ∙ length-replicate (length c.opening) None;

@@ -7,6 +7,7 @@ use Rattle.mask_compose.specs.Offer.{Offered}
 use Rattle.handle_table.specs.declared.handle.Handle.{Handle}
 use Rattle.handle_table.specs.declared.handle.Named.{Named}
 use Rattle.handle_table.specs.declared.handle.Named.TheVariants.{Global, Of}
+use Rattle.handle_table.specs.declared.setting.TheConstants.{CELLS}
 use Rattle.handle_table.specs.Entry.{Op, New, Dup, Free, Use, Hold, Release, SetGlobal, Install, Post, Fetch, Pins, End, Refusal, AlreadyHeld, NotHeld, Entry, History, Setting, names, is_accepted}
 use Rattle.handle_table.specs.Shelf.{posix, shelf, installs, from_shelf}
 use Rattle.handle_table.specs.History.{handle_in, makes, live, object_named, replies_with, object, selection, holding, posted, sets, global, is_free, free_row}
@@ -192,7 +193,7 @@ keeps_install c H w m offer kept caller on k =
     }
 
 -- a Post
-pub keeps_post : (c : Setting) (H : History) (w : ℕ) (j : ℕ) (n : Named) (kept : KeptData) → w < c.threads → j < 8
+pub keeps_post : (c : Setting) (H : History) (w : ℕ) (j : ℕ) (n : Named) (kept : KeptData) → w < c.threads → j < CELLS
     → first_reason (reasons c H w (Post j n)) ≡ None → Keeps c H kept → Keeps c (entry c H w (Post j n) ∷ H) (after_post w j n kept)
 keeps_post c H w j n kept caller small none k =
     let e : Entry = entry c H w (Post j n) in

@@ -5,6 +5,7 @@ use Rattle.std.specs.Prelude.{slice_index_or, nat_lt, not, ◌||◌, IfSome}
 use Rattle.handle_table.specs.declared.handle.Handle.{Handle}
 use Rattle.handle_table.specs.declared.handle.Named.TheVariants.{Global}
 use Rattle.handle_table.specs.declared.row.Row.{Row}
+use Rattle.handle_table.specs.declared.setting.TheConstants.{CELLS}
 use Rattle.handle_table.specs.Entry.{History, Setting}
 use Rattle.handle_table.specs.Shelf.{no_offer}
 use Rattle.handle_table.specs.History.{made, live, holding, pins, free_row, selection, posted, object, least_below}
@@ -49,7 +50,7 @@ selection_is c H kept w line k =
     let lines = k.rows.shape.lines in
     k.selections.each w (omega arith)
 
-pub posted_is : (c : Setting) (H : History) (kept : KeptData) (w j : ℕ) → w < kept.rows.lines → j < 8 → Keeps c H kept
+pub posted_is : (c : Setting) (H : History) (kept : KeptData) (w j : ℕ) → w < kept.rows.lines → j < CELLS → Keeps c H kept
     → cell kept.cells w j None ≡ posted H w j
 posted_is c H kept w j line small k =
     let lines = k.rows.shape.lines in

@@ -9,6 +9,7 @@ use Rattle.global_locale.specs.Versioned.{Versioned}
 use Rattle.handle_table.specs.declared.handle.Handle.{Handle}
 use Rattle.handle_table.specs.declared.handle.Named.{Named}
 use Rattle.handle_table.specs.declared.handle.Named.TheVariants.{Global, Of}
+use Rattle.handle_table.specs.declared.setting.TheConstants.{CELLS}
 use Rattle.handle_table.specs.Entry.{New, SetGlobal, Install, Post, Entry, History, Setting, is_accepted, same_handle}
 use Rattle.handle_table.specs.Shelf.{no_offer, opening_offer, shelf, from_shelf}
 use Rattle.handle_table.specs.History.{handle_made, is_handle, makes_handle, made, makes, object, selection_after, selection, is_kept, handle_named, posted, sets, global}
@@ -166,14 +167,14 @@ post_elsewhere : (j k : ℕ) (x y : Option Handle) → (j ≡ k → ⊥) → (if
 post_elsewhere j k x y other = if_false (j == k) x y (ne_eqb j k other)
 
 -- an accepted Post puts its handle into the cell
-pub cells_of_post : (c : Setting) (H : History) (w j : ℕ) (n : Named) (cells : GridData (Option Handle)) → w < c.threads → j < 8
+pub cells_of_post : (c : Setting) (H : History) (w j : ℕ) (n : Named) (cells : GridData (Option Handle)) → w < c.threads → j < CELLS
     → is_accepted (answer c H w (Post j n)) ≡ true → CellsStand c H cells
     → CellsStand c (entry c H w (Post j n) ∷ H) (with_cell cells w j (handle_named n))
 cells_of_post c H w j n cells caller small accepted s =
     let e : Entry = entry c H w (Post j n) in
     let lines = s.shape.lines in
     let width = s.shape.width in record {
-      shape = shape_with c 8 cells w j (handle_named n) s.shape;
+      shape = shape_with c CELLS cells w j (handle_named n) s.shape;
       each = λ t k line column.
           elim (cases_eq w t) [
             | inr other ↦

@@ -1,11 +1,12 @@
 -- The rows of a table after each accepted op are as the longer history says.
-use Rattle.std.proofs.Common.{◌≡◌, ℕ, ◌+◌, ◌-◌, ◌^◌, ◌≤◌, ◌<◌, Bool, true, false, ◌==◌, ◌&&◌, ◌||◌, not, ◌∷◌, refl, ap, sym, ◌∙◌, subst, inl, inr, arith, get_or-set_same, get_or-set_other}
+use Rattle.std.proofs.Common.{◌≡◌, ℕ, ◌+◌, ◌*◌, ◌-◌, ◌^◌, ◌≤◌, ◌<◌, Bool, true, false, ◌==◌, ◌&&◌, ◌||◌, not, ◌∷◌, refl, ap, sym, ◌∙◌, subst, inl, inr, arith, get_or-set_same, get_or-set_other}
 use Rattle.std.proofs.lemmas.Bool.{and_right, cases_eq}
 use Rattle.std.proofs.lemmas.List.{length-set}
 use Rattle.std.specs.Prelude.{if◌then◌else◌, min, slice_set}
 use Rattle.handle_table.specs.declared.handle.Handle.{Handle}
 use Rattle.handle_table.specs.declared.handle.Named.{Named}
 use Rattle.handle_table.specs.declared.row.Row.{Row}
+use Rattle.handle_table.specs.declared.setting.TheConstants.{MAX_THREADS}
 use Rattle.handle_table.specs.Entry.{Free, Use, Hold, Release, End, Entry, History, Setting, names, is_accepted}
 use Rattle.handle_table.specs.History.{makes, live, selection, holding, pins}
 use Rattle.handle_table.specs.Answer.{answer, entry}
@@ -19,7 +20,7 @@ use Rattle.handle_table.proofs.Changes.{selection_of_caller, holding_of_caller, 
 use Rattle.handle_table.proofs.Changed.{row_changed, shape_changed, row_let_go, shape_let_go}
 
 -- a handle has at most two pins for each thread
-pub pins_few : (c : Setting) (H : History) (h : Handle) → c.threads ≤ 16 → pins c H h ≤ 32
+pub pins_few : (c : Setting) (H : History) (h : Handle) → c.threads ≤ MAX_THREADS → pins c H h ≤ 2 * MAX_THREADS
 pins_few c H h few =
     let all = pins_counted c H h in
     let most = sum_at_most (ways H h) 2 c.threads (λ t.
@@ -121,7 +122,7 @@ repinned_row c H G t r false false row same holds count some few s = record {
 }
 
 -- the marks of a row after one was written
-marks_after : (c : Setting) (H G : History) (v t r : ℕ) (b : Bool) (row : Row) → v < c.threads → c.threads ≤ 16 → RowStands c H t r row
+marks_after : (c : Setting) (H G : History) (v t r : ℕ) (b : Bool) (row : Row) → v < c.threads → c.threads ≤ MAX_THREADS → RowStands c H t r row
     → b ≡ holding G v (newest G t r) → SameOtherHolds c H G v t r
     → (w : ℕ) → w < c.threads → is_held w (record row { holds = slice_set row.holds v b }) ≡ holding G w (newest G t r)
 marks_after c H G v t r b row one few s here others w caller =
@@ -135,7 +136,7 @@ marks_after c H G v t r b row one few s here others w caller =
     ]
 
 -- a row whose newest handle gets a Hold of the thread
-opened_row : (c : Setting) (H G : History) (v t r : ℕ) (b : Bool) (row : Row) → v < c.threads → c.threads ≤ 16 → SameRow c H G t r
+opened_row : (c : Setting) (H G : History) (v t r : ℕ) (b : Bool) (row : Row) → v < c.threads → c.threads ≤ MAX_THREADS → SameRow c H G t r
     → SameOtherHolds c H G v t r → holding G v (newest G t r) ≡ (b || holding H v (newest H t r))
     → pins c G (newest G t r) ≡ pins c H (newest H t r) + bit b → pins c H (newest H t r) ≤ 32
     → RowStands c H t r row → RowStands c G t r (if b then opened v row else row)
@@ -150,7 +151,7 @@ opened_row c H G v t r false row one few same others here count small s =
     same_row c H G t r row same (but_one c H G v t r here others) (omega arith) s
 
 -- a row whose newest handle loses a Hold of the thread
-closed_row : (c : Setting) (H G : History) (v t r : ℕ) (b : Bool) (row : Row) → v < c.threads → c.threads ≤ 16 → SameRow c H G t r
+closed_row : (c : Setting) (H G : History) (v t r : ℕ) (b : Bool) (row : Row) → v < c.threads → c.threads ≤ MAX_THREADS → SameRow c H G t r
     → SameOtherHolds c H G v t r → holding G v (newest G t r) ≡ (not b && holding H v (newest H t r))
     → pins c G (newest G t r) + bit b ≡ pins c H (newest H t r)
     → RowStands c H t r row → RowStands c G t r (if b then closed v row else row)
@@ -172,7 +173,7 @@ pub ended_let_go : (a : Bool) (v : ℕ) (row : Row) → let_go v (if a then unpi
 ended_let_go true v row = refl
 ended_let_go false v row = refl
 
-ended_row : (c : Setting) (H G : History) (v t r : ℕ) (a d : Bool) (row : Row) → v < c.threads → c.threads ≤ 16 → SameRow c H G t r
+ended_row : (c : Setting) (H G : History) (v t r : ℕ) (a d : Bool) (row : Row) → v < c.threads → c.threads ≤ MAX_THREADS → SameRow c H G t r
     → SameOtherHolds c H G v t r → holding G v (newest G t r) ≡ false → holding H v (newest H t r) ≡ d
     → pins c G (newest G t r) + bit a + bit d ≡ pins c H (newest H t r)
     → RowStands c H t r row → RowStands c G t r (ended a d v row)

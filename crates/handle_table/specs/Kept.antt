@@ -7,6 +7,7 @@ use Rattle.handle_table.specs.declared.handle.Handle.{Handle}
 use Rattle.handle_table.specs.declared.handle.Named.{Named}
 use Rattle.handle_table.specs.declared.handle.Named.TheVariants.{Global}
 use Rattle.handle_table.specs.declared.row.Row.{Row}
+use Rattle.handle_table.specs.declared.setting.TheConstants.{CELLS, MAX_THREADS}
 use Rattle.handle_table.specs.Entry.{History, Setting}
 use Rattle.handle_table.specs.Shelf.{no_offer, opening_offer, shelf, installs}
 use Rattle.handle_table.specs.History.{makes, live, object, selection, holding, pins, is_kept, posted, sets, global}
@@ -21,7 +22,7 @@ newest H t r = record { owner = t; row = r; generation = makes H t r }
 
 -- a row is as the history says
 pub record RowStands (c : Setting) (H : History) (t r : ℕ) (row : Row) : Type 0 where
-  pub marks : length row.holds ≡ 16
+  pub marks : length row.holds ≡ MAX_THREADS
   pub makes : row.makes ≡ makes H t r
   pub live : row.is_live ≡ live H (newest H t r)
   pub pins : row.pins ≡ pins c H (newest H t r)
@@ -35,7 +36,7 @@ pub record HasLines {A : Type 0} (c : Setting) (count : ℕ) (g : GridData A) : 
 
 -- the rows are as the history says
 pub record RowsStand (c : Setting) (H : History) (rows : GridData Row) : Type 0 where
-  pub few : c.threads ≤ 16
+  pub few : c.threads ≤ MAX_THREADS
   pub shape : HasLines c c.rows rows
   pub each : (t r : ℕ) → t < c.threads → r < c.rows → RowStands c H t r (row_at rows t r)
 
@@ -52,8 +53,8 @@ pub record SelectionsStand (c : Setting) (H : History) (selections : List Named)
 
 -- what each cell has is as the history says
 pub record CellsStand (c : Setting) (H : History) (cells : GridData (Option Handle)) : Type 0 where
-  pub shape : HasLines c 8 cells
-  pub each : (t k : ℕ) → t < c.threads → k < 8 → cell cells t k None ≡ posted H t k
+  pub shape : HasLines c CELLS cells
+  pub each : (t k : ℕ) → t < c.threads → k < CELLS → cell cells t k None ≡ posted H t k
 
 -- the offer of each number is as the history says: the installed one, else the opening one
 pub record ShelfStands (c : Setting) (H : History) (installed : List (Option Offered)) : Type 0 where
@@ -99,5 +100,5 @@ pub record IsShaped (rows : GridData Row) (objects : GridData Parts) (cells : Gr
   pub object_lines : objects.lines ≡ rows.lines
   pub object_width : objects.width ≡ rows.width
   pub cell_lines : cells.lines ≡ rows.lines
-  pub cell_width : cells.width ≡ 8
+  pub cell_width : cells.width ≡ CELLS
   pub selected : length selections ≡ rows.lines

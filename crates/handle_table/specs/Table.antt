@@ -3,6 +3,7 @@ use Rattle.std.specs.Prelude.{◌≡◌, ℕ, ◌<◌, ◌≤◌, Bool, false, L
 use Rattle.std.specs.List.{All}
 use Rattle.mask_compose.specs.Offer.{Offered}
 use Rattle.handle_table.specs.declared.handle.Handle.{Handle}
+use Rattle.handle_table.specs.declared.setting.TheConstants.{CELLS, MAX_THREADS}
 use Rattle.handle_table.specs.Entry.{Op, New, Dup, Free, Use, Hold, Release, SetGlobal, Install, Post, Fetch, Pins, End, History, Setting, names}
 use Rattle.handle_table.specs.Shelf.{shelf, installs}
 use Rattle.handle_table.specs.History.{made, makes, live, sets, global, object, selection, holding, pins, free_row, posted}
@@ -28,7 +29,7 @@ pub record StandsFor (table : TableData) (H : History) : Type 0 where
 -- the parts of a table fit together: a line for each thread, a place for each locale name, and counts
 -- that are no larger than the number of steps
 pub record IsTable (c : Setting) (kept : KeptData) (count : ℕ) : Type 0 where
-  pub few : c.threads ≤ 16
+  pub few : c.threads ≤ MAX_THREADS
   pub lines : kept.rows.lines ≡ c.threads
   pub shelf : length kept.installed ≡ length c.opening
   pub installs : kept.installs ≤ count
@@ -38,10 +39,6 @@ pub record IsTable (c : Setting) (kept : KeptData) (count : ℕ) : Type 0 where
 abbrev pub IsOpening : List Offered → Type 0
 IsOpening [] = ⊥
 IsOpening (offer ∷ offers) = offer.available ≡ 31
-
--- the cells of a thread
-abbrev pub cells : ℕ
-cells = 8
 
 -- the numbers of locale names are on the shelf
 abbrev pub AreOnShelf : Setting → List ℕ → Type 0
@@ -58,8 +55,8 @@ Fits c (Hold n) = Unit {0}
 Fits c (Release n) = Unit {0}
 Fits c (SetGlobal mask numbers) = AreOnShelf c numbers
 Fits c (Install m offer) = (1 ≤ m) × (m < length c.opening)
-Fits c (Post k n) = k < cells
-Fits c (Fetch owner k) = (owner < c.threads) × (k < cells)
+Fits c (Post k n) = k < CELLS
+Fits c (Fetch owner k) = (owner < c.threads) × (k < CELLS)
 Fits c (Pins n) = Unit {0}
 Fits c End = Unit {0}
 

@@ -15,14 +15,14 @@ use crate::checks::first_reason;
 use crate::handle::{Handle, Named};
 use crate::kept::Kept;
 use crate::op::{Op, Refusal, Reply};
-use crate::setting::Setting;
+use crate::setting::{CELLS, MAX_THREADS, Setting};
 use crate::shelf::from_shelf;
 use lc_base::Mask;
 use mask_compose::{Object, Offer, Part, compose};
 
 /// Answers the thread's op: refuses it for the first reason against it, else does what it asks for.
 pub fn answer<P: Part>(setting: &Setting<P>, kept: &mut Kept<P>, who: u32, op: Op<P>) -> Reply<P>
-    requires few { who < 16 }
+    requires few { who < MAX_THREADS }
     requires who { who < kept.old.rows.lines }
     requires lines { kept.old.rows.lines ≡ setting.now.threads }
     requires shelf { length kept.old.installed ≡ length setting.now.opening }
@@ -46,7 +46,7 @@ pub fn answer<P: Part>(setting: &Setting<P>, kept: &mut Kept<P>, who: u32, op: O
 
 /// Does what the op asks for, which nothing is against.
 fn accept<P: Part>(setting: &Setting<P>, kept: &mut Kept<P>, who: u32, op: Op<P>) -> Reply<P>
-    requires few { who < 16 }
+    requires few { who < MAX_THREADS }
     requires who { who < kept.old.rows.lines }
     requires lines { kept.old.rows.lines ≡ setting.now.threads }
     requires shelf { length kept.old.installed ≡ length setting.now.opening }
@@ -211,7 +211,7 @@ fn taken_up<P: Part>(setting: &Setting<P>, kept: &Kept<P>, to: Named) -> Option<
 }
 
 fn hold<P: Part>(setting: &Setting<P>, kept: &mut Kept<P>, who: u32, named: Named) -> Reply<P>
-    requires few { who < 16 }
+    requires few { who < MAX_THREADS }
     requires who { who < kept.old.rows.lines }
     ensures accepts { Accepts setting.now who (Hold named) kept.old kept.new (reply_of result) }
     ensures shape { SameShape kept.old kept.new }
@@ -227,7 +227,7 @@ fn hold<P: Part>(setting: &Setting<P>, kept: &mut Kept<P>, who: u32, named: Name
 }
 
 fn release<P: Part>(setting: &Setting<P>, kept: &mut Kept<P>, who: u32, named: Named) -> Reply<P>
-    requires few { who < 16 }
+    requires few { who < MAX_THREADS }
     requires who { who < kept.old.rows.lines }
     ensures accepts { Accepts setting.now who (Release named) kept.old kept.new (reply_of result) }
     ensures shape { SameShape kept.old kept.new }
@@ -281,7 +281,7 @@ fn post<P: Part>(
     named: Named,
 ) -> Reply<P>
     requires who { who < kept.old.rows.lines }
-    requires number { number < 8 }
+    requires number { number < CELLS }
     ensures accepts { Accepts setting.now who (Post number named) kept.old kept.new (reply_of result) }
     ensures shape { SameShape kept.old kept.new }
 {
@@ -298,7 +298,7 @@ fn fetch<P: Part>(
 ) -> Reply<P>
     requires who { who < kept.old.rows.lines }
     requires owner { owner < kept.old.rows.lines }
-    requires number { number < 8 }
+    requires number { number < CELLS }
     ensures accepts { Accepts setting.now who (Fetch owner number) kept.old kept.new (reply_of result) }
     ensures shape { SameShape kept.old kept.new }
 {
@@ -320,7 +320,7 @@ fn count<P: Part>(setting: &Setting<P>, kept: &mut Kept<P>, who: u32, named: Nam
 }
 
 fn end<P: Part>(setting: &Setting<P>, kept: &mut Kept<P>, who: u32) -> Reply<P>
-    requires few { who < 16 }
+    requires few { who < MAX_THREADS }
     requires who { who < kept.old.rows.lines }
     ensures accepts { Accepts setting.now who End kept.old kept.new (reply_of result) }
     ensures shape { SameShape kept.old kept.new }

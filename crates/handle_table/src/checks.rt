@@ -12,7 +12,7 @@ ghost use Rattle.handle_table.specs.Kept.{Keeps};
 use crate::handle::Named;
 use crate::kept::Kept;
 use crate::op::{Op, Refusal};
-use crate::setting::Setting;
+use crate::setting::{CELLS, MAX_THREADS, Setting};
 use crate::shelf::lacking;
 use lc_base::Mask;
 use mask_compose::Part;
@@ -76,7 +76,7 @@ fn is_not_stale<P: Part>(kept: &Kept<P>, named: Named) -> Result<(), Refusal>
 
 /// Whether the thread does not hold the handle.
 fn is_not_held<P: Part>(kept: &Kept<P>, who: u32, named: Named) -> Result<(), Refusal>
-    requires few { who < 16 }
+    requires few { who < MAX_THREADS }
     requires who { who < kept.now.rows.lines }
     ensures { (c : SettingData) (H : History) → Keeps c H kept.now → reason_of result ≡ already_held H who named }
 {
@@ -88,7 +88,7 @@ fn is_not_held<P: Part>(kept: &Kept<P>, who: u32, named: Named) -> Result<(), Re
 
 /// Whether the thread holds the handle.
 fn is_held<P: Part>(kept: &Kept<P>, who: u32, named: Named) -> Result<(), Refusal>
-    requires few { who < 16 }
+    requires few { who < MAX_THREADS }
     requires who { who < kept.now.rows.lines }
     ensures { (c : SettingData) (H : History) → Keeps c H kept.now → reason_of result ≡ not_held H who named }
 {
@@ -101,7 +101,7 @@ fn is_held<P: Part>(kept: &Kept<P>, who: u32, named: Named) -> Result<(), Refusa
 /// Whether something stands in the thread's cell.
 fn is_full<P: Part>(kept: &Kept<P>, owner: u32, number: u32) -> Result<(), Refusal>
     requires owner { owner < kept.now.rows.lines }
-    requires number { number < 8 }
+    requires number { number < CELLS }
     ensures { (c : SettingData) (H : History) → Keeps c H kept.now → reason_of result ≡ empty_cell (posted H owner number) }
 {
     match kept.posted(owner, number) {
@@ -179,7 +179,7 @@ fn may_copy<P: Part>(
 
 /// The first reason against a Hold.
 fn may_hold<P: Part>(kept: &Kept<P>, who: u32, named: Named) -> Result<(), Refusal>
-    requires few { who < 16 }
+    requires few { who < MAX_THREADS }
     requires who { who < kept.now.rows.lines }
     ensures { (c : SettingData) (H : History) → Keeps c H kept.now →
         reason_of result ≡ first_reason (reasons c H who (Hold named)) }
@@ -190,7 +190,7 @@ fn may_hold<P: Part>(kept: &Kept<P>, who: u32, named: Named) -> Result<(), Refus
 
 /// The first reason against a Release.
 fn may_release<P: Part>(kept: &Kept<P>, who: u32, named: Named) -> Result<(), Refusal>
-    requires few { who < 16 }
+    requires few { who < MAX_THREADS }
     requires who { who < kept.now.rows.lines }
     ensures { (c : SettingData) (H : History) → Keeps c H kept.now →
         reason_of result ≡ first_reason (reasons c H who (Release named)) }
@@ -215,7 +215,7 @@ pub fn first_reason<P: Part>(
     who: u32,
     op: &Op<P>,
 ) -> Result<(), Refusal>
-    requires few { who < 16 }
+    requires few { who < MAX_THREADS }
     requires who { who < kept.now.rows.lines }
     requires lines { kept.now.rows.lines ≡ setting.now.threads }
     requires op { Fits setting.now (op_of op.now) }

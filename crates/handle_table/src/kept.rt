@@ -11,7 +11,7 @@ use crate::grid::Grid;
 use crate::handle::{Handle, Named};
 use crate::row::Row;
 use crate::rows;
-use crate::setting::Setting;
+use crate::setting::{CELLS, MAX_THREADS, Setting};
 use global_locale::Global as GlobalLocale;
 use lc_base::Mask;
 use mask_compose::{Object, Offer, Part};
@@ -102,12 +102,12 @@ impl<P: Part> Kept<P> {
         let places = threads as usize * setting.rows as usize;
         let rows = filled(alloc, Row::EMPTY, places)?;
         let objects = copies(alloc, &setting.posix().object, places)?;
-        let cells = filled(alloc, None, threads as usize * 8)?;
+        let cells = filled(alloc, None, threads as usize * CELLS as usize)?;
         Ok(Kept {
             rows: Grid::of(threads, setting.rows, rows),
             objects: Grid::of(threads, setting.rows, objects),
             selections: filled(alloc, Named::Global, threads as usize)?,
-            cells: Grid::of(threads, 8, cells),
+            cells: Grid::of(threads, CELLS, cells),
             installed: nothing_installed(alloc, setting.opening.len())?,
             installs: 0,
             global: GlobalLocale::new(setting.posix().object.share()),
@@ -137,7 +137,7 @@ impl<P: Part> Kept<P> {
 
     /// Whether the thread holds the handle.
     pub fn is_held(&self, who: u32, h: Handle) -> bool
-        requires few { who < 16 }
+        requires few { who < MAX_THREADS }
         requires who { who < self.now.rows.lines }
         ensures { (c : SettingData) (H : History) → Keeps c H self.now → result ≡ holding H who h }
     {
@@ -172,7 +172,7 @@ impl<P: Part> Kept<P> {
     /// What stands in the thread's cell.
     pub fn posted(&self, owner: u32, number: u32) -> Option<Handle>
         requires owner { owner < self.now.rows.lines }
-        requires number { number < 8 }
+        requires number { number < CELLS }
         ensures { (c : SettingData) (H : History) → Keeps c H self.now → result ≡ posted H owner number }
     {
         *self.cells.at(owner, number)
@@ -249,7 +249,7 @@ impl<P: Part> Kept<P> {
 
     /// Opens a Hold of the thread.
     pub fn hold(&mut self, who: u32, named: Named)
-        requires { who < 16 }
+        requires { who < MAX_THREADS }
         ensures { self.new ≡ after_hold who named self.old }
     {
         rows::open(&mut self.rows, who, named);
@@ -257,7 +257,7 @@ impl<P: Part> Kept<P> {
 
     /// Closes a Hold of the thread.
     pub fn release(&mut self, who: u32, named: Named)
-        requires { who < 16 }
+        requires { who < MAX_THREADS }
         ensures { self.new ≡ after_release who named self.old }
     {
         rows::close(&mut self.rows, who, named);
@@ -287,7 +287,7 @@ impl<P: Part> Kept<P> {
     /// Puts the handle that is named into the thread's cell.
     pub fn post(&mut self, who: u32, number: u32, named: Named)
         requires who { who < self.old.rows.lines }
-        requires number { number < 8 }
+        requires number { number < CELLS }
         ensures { self.new ≡ after_post who number named self.old }
     {
         let handle = match named {
@@ -300,7 +300,7 @@ impl<P: Part> Kept<P> {
     /// Ends the thread: it selects and holds nothing any more.
     pub fn end(&mut self, who: u32)
         requires lines { who < self.old.rows.lines }
-        requires few { who < 16 }
+        requires few { who < MAX_THREADS }
         ensures { self.new ≡ after_end who self.old }
     {
         let former = self.selections[who as usize];

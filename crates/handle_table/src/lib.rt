@@ -18,4 +18,5 @@ mod tests;
 
 pub use handle::{Handle, Named};
 pub use op::{Op, Refusal, Reply};
+pub use setting::{CELLS, MAX_THREADS};
 pub use table::Table;

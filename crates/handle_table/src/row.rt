@@ -3,6 +3,8 @@
 ghost use Rattle.std.specs.Prelude.{◌≡◌, ◌<◌};
 ghost use Rattle.handle_table.specs.Row.{pinned, unpinned, opened, closed, let_go, freed, with_next};
 
+use crate::setting::MAX_THREADS;
+
 /// What a table keeps of a row. Of the objects that were made in it, only the newest can be live or
 /// have pins, since a row is used again only when neither holds.
 #[derive(Clone, Copy)]
@@ -14,7 +16,7 @@ pub struct Row {
     /// The pins of the newest: at most two for each thread.
     pub pins: u32,
     /// Which threads hold the newest, by their numbers.
-    pub holds: [bool; 16],
+    pub holds: [bool; MAX_THREADS],
 }
 
 impl Row {
@@ -23,7 +25,7 @@ impl Row {
         makes: 0,
         is_live: false,
         pins: 0,
-        holds: [false; 16],
+        holds: [false; MAX_THREADS],
     };
 
     /// The row with one more pin.
@@ -48,7 +50,7 @@ impl Row {
 
     /// The row with a Hold of the thread, and its pin.
     pub fn opened(self, who: u32) -> Row
-        requires { who < 16 }
+        requires { who < MAX_THREADS }
         ensures { result ≡ opened who self }
     {
         let mut holds = self.holds;
@@ -58,7 +60,7 @@ impl Row {
 
     /// The row without a Hold of the thread and its pin.
     pub fn closed(self, who: u32) -> Row
-        requires { who < 16 }
+        requires { who < MAX_THREADS }
         ensures { result ≡ closed who self }
     {
         let mut holds = self.holds;
@@ -68,7 +70,7 @@ impl Row {
 
     /// The row without a Hold of the thread, if there is one.
     pub fn let_go(self, who: u32) -> Row
-        requires { who < 16 }
+        requires { who < MAX_THREADS }
         ensures { result ≡ let_go who self }
     {
         if self.holds[who as usize] {

@@ -9,6 +9,7 @@ ghost use Rattle.handle_table.specs.Grid.{with_cell};
 use crate::grid::Grid;
 use crate::handle::{Handle, Named};
 use crate::row::Row;
+use crate::setting::MAX_THREADS;
 
 /// What is kept of a row.
 fn row_of(rows: &Grid<Row>, owner: u32, row: u32) -> Row
@@ -58,7 +59,7 @@ pub fn is_live(rows: &Grid<Row>, h: Handle) -> bool
 
 /// Whether the thread holds the handle.
 pub fn is_held(rows: &Grid<Row>, who: u32, h: Handle) -> bool
-    requires { who < 16 }
+    requires { who < MAX_THREADS }
     ensures { result ≡ says_held rows.now who h }
 {
     match newest(rows, h) {
@@ -125,7 +126,7 @@ pub fn unpin(rows: &mut Grid<Row>, named: Named)
 
 /// Opens a Hold of the thread.
 pub fn open(rows: &mut Grid<Row>, who: u32, named: Named)
-    requires { who < 16 }
+    requires { who < MAX_THREADS }
     ensures rows { rows.new ≡ changed (opened who) rows.old named }
     ensures lines { rows.new.lines ≡ rows.old.lines }
     ensures width { rows.new.width ≡ rows.old.width }
@@ -139,7 +140,7 @@ pub fn open(rows: &mut Grid<Row>, who: u32, named: Named)
 
 /// Closes a Hold of the thread.
 pub fn close(rows: &mut Grid<Row>, who: u32, named: Named)
-    requires { who < 16 }
+    requires { who < MAX_THREADS }
     ensures rows { rows.new ≡ changed (closed who) rows.old named }
     ensures lines { rows.new.lines ≡ rows.old.lines }
     ensures width { rows.new.width ≡ rows.old.width }
@@ -179,7 +180,7 @@ pub fn make(rows: &mut Grid<Row>, who: u32, row: u32) -> u32
 
 /// Closes all Holds of the thread.
 pub fn close_all(rows: &mut Grid<Row>, who: u32)
-    requires { who < 16 }
+    requires { who < MAX_THREADS }
     ensures rows { rows.new ≡ all_let_go who rows.old }
     ensures lines { rows.new.lines ≡ rows.old.lines }
     ensures width { rows.new.width ≡ rows.old.width }
@@ -188,7 +189,7 @@ pub fn close_all(rows: &mut Grid<Row>, who: u32)
 }
 
 fn let_go_each(rows: &mut [Row], who: u32)
-    requires { who < 16 }
+    requires { who < MAX_THREADS }
     ensures { rows.new ≡ map (let_go who) rows.old }
 {
     for row in rows.iter_mut() {

@@ -7,6 +7,12 @@ use lc_base::List;
 use mask_compose::{Offer, Part};
 use std::marker::Model;
 
+/// The most threads that a table is made for.
+pub const MAX_THREADS: usize = 16;
+
+/// How many cells each thread has.
+pub const CELLS: u32 = 8;
+
 /// The setting of a table, which no step changes.
 #[derive(Drop)]
 pub struct Setting<P: Part> {
@@ -23,6 +29,7 @@ pub struct Setting<P: Part> {
 impl<P: Part> Model for Setting<P> {
     ghost use Rattle.std.specs.Prelude.{◌≤◌, length};
     ghost use Rattle.handle_table.specs.Entry.{Setting as SettingData};
+    ghost use Rattle.handle_table.specs.declared.setting.TheConstants.{MAX_THREADS};
 
     ghost Value = { SettingData };
 
@@ -33,7 +40,7 @@ impl<P: Part> Model for Setting<P> {
       opening = c.opening;
     } };
 
-    ghost invariant = { λ c. (c.threads ≤ 16) × (1 ≤ length c.opening) };
+    ghost invariant = { λ c. (c.threads ≤ MAX_THREADS) × (1 ≤ length c.opening) };
 }
 
 impl<P: Part> Setting<P> {

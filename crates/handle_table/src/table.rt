@@ -5,7 +5,7 @@ ghost use Rattle.std.specs.Prelude.{◌≡◌, ◌≢◌, ℕ, ◌+◌, ◌<◌,
 use crate::accept::answer;
 use crate::kept::Kept;
 use crate::op::{Op, Reply};
-use crate::setting::Setting;
+use crate::setting::{MAX_THREADS, Setting};
 use global_locale::Global as GlobalLocale;
 use lc_base::List;
 use mask_compose::{Offer, Part};
@@ -37,7 +37,7 @@ impl<P: Part> Table<P> {
     ghost use Rattle.handle_table.specs.Entry.{History, is_accepted};
     ghost use Rattle.handle_table.specs.declared.handle.Handle.{Handle};
     ghost use Rattle.handle_table.specs.History.{made, live, object, sets, global, global_at};
-    ghost use Rattle.handle_table.specs.Answer.{answer, entry, own};
+    ghost use Rattle.handle_table.specs.Answer.{answer, entry, own_after, own};
     ghost use Rattle.handle_table.specs.Seen.{op_of, reply_of};
     ghost use Rattle.handle_table.specs.Table.{StandsFor, SaysTheSame, IsOpening, Fits, has_base, steps};
 
@@ -52,7 +52,7 @@ impl<P: Part> Table<P> {
         shelf: List<Offer<P>>,
     ) -> Result<Table<P>, AllocError>
         requires some_thread { 1 ≤ threads }
-        requires threads { threads ≤ 16 }
+        requires threads { threads ≤ MAX_THREADS }
         requires some_row { 1 ≤ rows }
         requires rows { rows ≤ 64 }
         requires some_generation { 1 ≤ generations }
@@ -98,6 +98,8 @@ impl<P: Part> Table<P> {
             object self.old.setting (entry self.old.setting H who (op_of op) ∷ H) h ≡ object self.old.setting H h }
         ensures own_stays { (H : History) (t : ℕ) → StandsFor self.old H → t ≢ who →
             own (entry self.old.setting H who (op_of op) ∷ H) t ≡ own H t }
+        ensures own_taken { (H : History) → StandsFor self.old H →
+            own (entry self.old.setting H who (op_of op) ∷ H) who ≡ own_after (reply_of result) (own H who) }
         ensures versions_stay { (H : History) (k : ℕ) → StandsFor self.old H → k ≤ sets H →
             global_at self.old.setting (entry self.old.setting H who (op_of op) ∷ H) k ≡ global_at self.old.setting H k }
 

@@ -3,7 +3,7 @@ ghost use Rattle.handle_table.specs.Entry.{Setting};
 ghost use Rattle.handle_table.specs.Seen.{op_of};
 ghost use Rattle.handle_table.specs.Table.{IsOpening, Fits};
 
-use crate::{Handle, Named, Op, Refusal, Reply, Table};
+use crate::{CELLS, Handle, Named, Op, Refusal, Reply, Table};
 use lc_base::{Category, List, Mask};
 use mask_compose::{Object, Offer, Part};
 use std::alloc::{AllocError, Global};
@@ -147,8 +147,8 @@ fn fits(op: &Op<Tag>) -> bool
     match op {
         Op::New { names, .. } | Op::SetGlobal { names, .. } => names.iter().all(|name| *name < 5),
         Op::Install { name, .. } => 1 <= *name && *name < 5,
-        Op::Post { cell, .. } => *cell < 8,
-        Op::Fetch { owner, cell } => *owner < 3 && *cell < 8,
+        Op::Post { cell, .. } => *cell < CELLS,
+        Op::Fetch { owner, cell } => *owner < 3 && *cell < CELLS,
         _ => true,
     }
 }
@@ -250,6 +250,7 @@ fn freed_while_held_and_selected(rt: HostRuntime) -> Result<(), Fail> {
         (2, Ask::Release(first), Say::Refused(Refusal::NotHeld)),
         (0, Ask::Free(first), Say::Freed),
         (0, Ask::Free(first), STALE),
+        (1, Ask::Hold(first), STALE),
         (1, Ask::Use(first), STALE),
         (2, Ask::Fetch(0, 7), Say::Got(handle(0, 0, 1))),
         (2, Ask::Use(first), STALE),
@@ -300,7 +301,9 @@ fn bases_and_copies(rt: HostRuntime) -> Result<(), Fail> {
         (0, Ask::Over(8, 3, base), NO_DATA_TIME),
         (2, Ask::Hold(base), Say::Held([1, 2, 1, 2, 2])),
         (0, Ask::Over(16, 1, Named::Global), GLOBAL_HANDLE),
+        (0, Ask::Over(8, 3, Named::Global), NO_DATA_TIME),
         (0, Ask::Over(16, 1, of(0, 0, 2)), NEVER_MADE),
+        (0, Ask::Over(8, 3, of(0, 0, 2)), NO_DATA_TIME),
         (0, Ask::Free(base), Say::Freed),
         (0, Ask::Over(16, 1, base), STALE),
         (0, Ask::Over(8, 3, base), NO_DATA_TIME),
@@ -318,6 +321,7 @@ fn bases_and_copies(rt: HostRuntime) -> Result<(), Fail> {
         ),
         (2, Ask::Dup(of(2, 0, 1)), TOO_MANY),
         (2, Ask::Dup(of(2, 1, 1)), NEVER_MADE),
+        (2, Ask::Dup(base), STALE),
     ];
     play(&rt, rt.alloc(), 1, 65535, &calls)
 }

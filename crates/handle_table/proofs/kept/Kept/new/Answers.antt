@@ -5,6 +5,7 @@ use Rattle.global_locale.specs.Versioned.{Versioned}
 use Rattle.handle_table.specs.declared.handle.Handle.{Handle}
 use Rattle.handle_table.specs.declared.handle.Named.TheVariants.{Global}
 use Rattle.handle_table.specs.declared.row.Row.{Row}
+use Rattle.handle_table.specs.declared.setting.TheConstants.{CELLS, MAX_THREADS}
 use Rattle.handle_table.specs.Entry.{Setting}
 use Rattle.handle_table.specs.Grid.{GridData}
 use Rattle.handle_table.proofs.Fresh.{empty_row, keeps_fresh}
@@ -12,7 +13,7 @@ use Rattle.handle_table.proofs.kept.Kept.new.Goals as goal
 
 pub returns-clause-keeps : goal.returns-clause-keeps
 returns-clause-keeps g c =
-    let few : c.args.setting.now.threads ≤ 16 = let is = ap (λ (v : Setting). v.threads) c.setting.view_is in omega (arith, c.setting.invariant) in
+    let few : c.args.setting.now.threads ≤ MAX_THREADS = let is = ap (λ (v : Setting). v.threads) c.setting.view_is in omega (arith, c.setting.invariant) in
     let some = ap (λ (v : Setting). length v.opening) c.setting.view_is in
     keeps_fresh c.args.setting.now _ few (omega (arith, c.setting.invariant)) (record {
       row_lines = ap (λ (x : GridData Row). x.lines) c.of.ensures ∙ ap (λ (v : Setting). v.threads) c.setting.view_is;
@@ -27,7 +28,7 @@ returns-clause-keeps g c =
       cell_lines = ap (λ (x : GridData (Option Handle)). x.lines) c.of-3.ensures ∙ ap (λ (v : Setting). v.threads) c.setting.view_is;
       cell_width = ap (λ (x : GridData (Option Handle)). x.width) c.of-3.ensures;
       cells = ap (λ (x : GridData (Option Handle)). x.items) c.of-3.ensures ∙ c.in_ok-cells.ensures
-          ∙ ap (λ (v : Setting). replicate (v.threads * 8) None) c.setting.view_is;
+          ∙ ap (λ (v : Setting). replicate (v.threads * CELLS) None) c.setting.view_is;
       installed = c.in_ok-nothing_installed.ensures
           ∙ ap (λ n. replicate {A = Option Offered} n None) (c.len.ensures ∙ ap (λ (v : Setting). length v.opening) c.setting.view_is);
       installs = refl;

@@ -1,11 +1,11 @@
 use Rattle.std.proofs.Common.{◌≡◌, ap, refl, sym, subst, ◌∙◌, arith}
 use Rattle.handle_table.specs.Entry.{is_accepted}
-use Rattle.handle_table.specs.Answer.{answer, entry}
+use Rattle.handle_table.specs.Answer.{answer, entry, own_after, own}
 use Rattle.handle_table.specs.Seen.{op_of, reply_of}
 use Rattle.handle_table.specs.Kept.{Keeps}
 use Rattle.handle_table.specs.Table.{TableData}
 use Rattle.handle_table.proofs.Gone.{freed_stays}
-use Rattle.handle_table.proofs.Changes.{object_stays, own_of_other}
+use Rattle.handle_table.proofs.Changes.{object_stays, own_of_other, own_of_caller}
 use Rattle.handle_table.proofs.Laws.{refused_changes_nothing, version_stays}
 use Rattle.handle_table.proofs.table.Table.step.Goals as goal
 
@@ -35,6 +35,15 @@ returns-clause-object_stays g c = λ H h s before other.
 pub returns-clause-own_stays : goal.returns-clause-own_stays
 returns-clause-own_stays g c = λ H t s other.
     own_of_other (entry c.args.self.now.setting H c.args.who (op_of c.args.op)) H t (λ same. other (sym same))
+
+pub returns-clause-own_taken : goal.returns-clause-own_taken
+returns-clause-own_taken g c = λ H s.
+    let op = op_of c.args.op in
+    let keeps = subst (λ (v : TableData). Keeps v.setting H v.kept) (sym c.self.view_is) s.keeps in
+    let answered : reply_of c.answer-reply.result ≡ answer c.args.self.now.setting H c.args.who op =
+    c.answer-reply.ensures.replies H keeps ∙ ap (λ (v : TableData). answer v.setting H c.args.who op) c.self.view_is
+    in
+    own_of_caller (entry c.args.self.now.setting H c.args.who op) H c.args.who refl ∙ ap (λ r. own_after r (own H c.args.who)) (sym answered)
 
 pub returns-clause-versions_stay : goal.returns-clause-versions_stay
 returns-clause-versions_stay g c = λ H k s below.
