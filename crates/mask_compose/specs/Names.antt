@@ -1,6 +1,6 @@
 -- The name of an object whose categories may have different locales (XSH setlocale leaves its form open; this is our own):
 -- LC_CTYPE=a;LC_NUMERIC=b;LC_MONETARY=c;LC_TIME=d;LC_MESSAGES=e.
-use Rattle.std.specs.Prelude.{◌≡◌, ℕ, ◌+◌, Bool, true, ◌==◌, not, ◌&&◌, List, [], ◌∷◌, ◌++◌, length, slice_range, codes, Option, Some, None, option_map, if◌then◌else◌}
+use Rattle.std.specs.Prelude.{◌≡◌, ℕ, ◌+◌, Bool, true, ◌==◌, not, ◌&&◌, List, [], ◌∷◌, ◌++◌, length, slice_range, Option, Some, None, option_map, if◌then◌else◌}
 use Rattle.std.specs.List.{list_any, list_all, join_with_byte, slice_split}
 use Rattle.lc_base.specs.declared.category.Category.{Category}
 use Rattle.lc_base.specs.Categories.{categories, category_name}
