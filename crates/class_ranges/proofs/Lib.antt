@@ -1,0 +1,4 @@
+mod Examples
+pub mod Joining
+pub mod Orders
+pub mod CommonValues

@@ -1,0 +1,9 @@
+//! Sets of wide values, such as the members of a character class (XBD 7.3.1).
+#![tactic(auto)]
+
+mod merge;
+mod ranges;
+#[cfg(test)]
+mod tests;
+
+pub use ranges::Ranges;
