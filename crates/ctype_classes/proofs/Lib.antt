@@ -1,0 +1,6 @@
+mod Examples
+pub mod NamedLemmas
+pub mod LineLemmas
+pub mod CharacterLemmas
+pub mod CaseLemmas
+pub mod MemberLemmas

@@ -1,0 +1,12 @@
+use Rattle.std.proofs.Common.{◌≡◌, ℕ, ◌+◌, ◌-◌, ◌≤◌, ◌||◌, ◌&&◌, ltb, All}
+use Rattle.std.specs.Int.{is_in_range}
+use Rattle.class_ranges.specs.Ranges.{covers}
+use Rattle.charmap_reader.specs.CodedSet.{has}
+use Rattle.ctype_classes.proofs.CharacterLemmas.{AreAdded}
+use Rattle.ctype_classes.proofs.characters.add_characters.Given as goal
+
+abbrev pub invariant-loop-first : goal.invariant-loop-first
+invariant-loop-first l = AreAdded (has l.charset) l.fn.parts.items l.fn.range.0 l.fn.range.1 l.from l.last l.parts.items
+
+abbrev pub decreases-loop-first : goal.decreases-loop-first
+decreases-loop-first l = l.last + 1 - l.from

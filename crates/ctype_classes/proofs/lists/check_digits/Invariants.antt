@@ -1,0 +1,10 @@
+use Rattle.std.proofs.Common.{◌≡◌, length}
+use Rattle.lc_base.specs.declared.reason.Reason.TheVariants.{DigitsNotTen}
+use Rattle.ctype_classes.specs.Lists.{is_ten, each_passes}
+use Rattle.ctype_classes.proofs.lists.check_digits.Given as goal
+
+abbrev pub invariant-loop-place : goal.invariant-loop-place
+invariant-loop-place l = each_passes is_ten DigitsNotTen l.walk ≡ each_passes is_ten DigitsNotTen l.operands
+
+abbrev pub decreases-loop-place : goal.decreases-loop-place
+decreases-loop-place l = length l.walk

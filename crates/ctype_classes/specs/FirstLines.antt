@@ -1,0 +1,13 @@
+-- The operands of the first line of each keyword, as they are kept.
+use Rattle.std.specs.Prelude.{◌≡◌, ℕ, List}
+use Rattle.std.specs.Option.{option_copied}
+use Rattle.std.specs.Borrow.{Bor}
+use Rattle.lc_base.specs.declared.place.Place.{Place}
+use Rattle.charmap_reader.specs.Portable.{Name, first_named}
+use Rattle.locale_reader.specs.declared.source.Value.{Value}
+use Rattle.locale_reader.specs.declared.source.Entry.{Entry}
+use Rattle.ctype_classes.specs.Lines.{operands_of}
+
+-- a list of names gives the operands of the first line of each keyword
+abbrev pub AreFirstLines : List Entry → List (Name × Bor (List (Place × Value))) → Type 0
+AreFirstLines entries lines = (keyword : Name) → option_copied (first_named lines keyword) ≡ operands_of entries keyword

@@ -1,0 +1,14 @@
+pub use Rattle.lc_base.specs.Reading
+pub mod Lines
+pub mod Named
+pub mod Characters
+pub mod Table
+pub mod Classes
+pub mod Lists
+pub mod Exclusions
+pub mod Case
+pub mod CtypeValues
+pub mod Ctype
+pub mod Rows
+pub mod FirstLines
+pub mod Members

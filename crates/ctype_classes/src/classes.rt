@@ -1,0 +1,135 @@
+//! The classes of a locale.
+
+ghost use Rattle.std.specs.Prelude.{◌≡◌, ◌++◌, map, IfOk};
+ghost use Rattle.std.specs.Option.{option_copied};
+ghost use Rattle.class_ranges.specs.Ranges.{covers};
+ghost use Rattle.ctype_classes.specs.Lines.{ranges_in};
+ghost use Rattle.ctype_classes.specs.Named.{pairs_of};
+ghost use Rattle.ctype_classes.specs.Rows.{row_of};
+ghost use Rattle.ctype_classes.specs.Classes.{members_of, members_of_all, all_members, listed_members, with_class, with_classes, twelve_classes};
+
+use crate::characters::characters;
+use crate::first_lines::KeywordList;
+use crate::named::{Named, add_named, get_named};
+use crate::table::{Row, TABLE};
+use charmap_reader::Charset;
+use class_ranges::Ranges;
+use locale_reader::{ValueRef, Values};
+use std::alloc::{AllocError, Global};
+
+/// Classes with their members.
+pub type Classes = Named<Ranges>;
+
+/// Whether a class has a value. A class that is not there has none.
+pub fn has_member(classes: &Classes, name: &[u8], w: u32) -> bool
+    ensures { result ≡ covers (members_of (pairs_of classes.now) name.now) w }
+{
+    match get_named(classes, name) {
+        Some(members) => members.contains(w),
+        None => false,
+    }
+}
+
+/// Adds the ranges of characters among operands.
+fn add_listed(members: Vec<(u32, u32)>, operands: &Values) -> Result<Vec<(u32, u32)>, AllocError>
+    ensures { IfOk result (λ v. v.items ≡ members.items ++ ranges_in operands.now) }
+{
+    let mut members = members;
+    let mut walk = operands.walk();
+    while let Some((_, value)) = walk.next() {
+        if let ValueRef::Chars(first, last) = value {
+            members.push((first, last))?;
+        }
+    }
+    Ok(members)
+}
+
+/// The listed members of a class, or those that stand for an absent keyword.
+fn listed_members(
+    alloc: Global,
+    absent: &[(u32, u32)],
+    operands: Option<&Values>,
+) -> Result<Vec<(u32, u32)>, AllocError>
+    ensures { IfOk result (λ v. v.items ≡ listed_members absent.now (option_copied operands.entry)) }
+{
+    match operands {
+        None => Vec::from_slice(alloc, absent),
+        Some(operands) => add_listed(Vec::new(alloc), operands),
+    }
+}
+
+/// Adds the members of classes.
+fn add_parts(
+    members: Vec<(u32, u32)>,
+    classes: &Classes,
+    parts: &[&[u8]],
+) -> Result<Vec<(u32, u32)>, AllocError>
+    ensures { IfOk result (λ v. v.items ≡ members.items ++ members_of_all (pairs_of classes.now) (map (λ p. p.now) parts.now)) }
+{
+    let mut members = members;
+    for part in parts {
+        if let Some(ranges) = get_named(classes, part) {
+            members.extend_from_slice(ranges.as_slice())?;
+        }
+    }
+    Ok(members)
+}
+
+/// The members of a class, in any order.
+fn all_members(
+    alloc: Global,
+    list: &KeywordList<'_>,
+    classes: &Classes,
+    row: &Row<'_>,
+) -> Result<Vec<(u32, u32)>, AllocError>
+    ensures { IfOk result (λ v. v.items ≡ all_members list.now (pairs_of classes.now) (row_of row.now)) }
+{
+    let mut members = listed_members(alloc, row.absent, list.operands(row.name))?;
+    members.extend_from_slice(row.always)?;
+    add_parts(members, classes, row.parts)
+}
+
+/// The classes with one more.
+pub fn with_class(
+    alloc: Global,
+    charset: &Charset,
+    list: &KeywordList<'_>,
+    classes: Classes,
+    row: &Row<'_>,
+) -> Result<Classes, AllocError>
+    ensures { IfOk result (λ more. pairs_of more ≡ with_class charset.now list.now (pairs_of classes) (row_of row.now)) }
+{
+    let mut classes = classes;
+    let members = all_members(alloc, list, &classes, row)?;
+    let members = characters(alloc, charset, &members)?;
+    add_named(alloc, &mut classes, row.name, members)?;
+    Ok(classes)
+}
+
+/// The classes after those of rows.
+fn with_classes(
+    alloc: Global,
+    charset: &Charset,
+    list: &KeywordList<'_>,
+    classes: Classes,
+    rows: &[Row<'_>],
+) -> Result<Classes, AllocError>
+    ensures { IfOk result (λ more. pairs_of more ≡ with_classes charset.now list.now (pairs_of classes) (map row_of rows.now)) }
+{
+    let mut classes = classes;
+    for row in rows {
+        classes = with_class(alloc, charset, list, classes, row)?;
+    }
+    Ok(classes)
+}
+
+/// The classes that each locale has.
+pub fn twelve_classes(
+    alloc: Global,
+    charset: &Charset,
+    list: &KeywordList<'_>,
+) -> Result<Classes, AllocError>
+    ensures { IfOk result (λ classes. pairs_of classes ≡ twelve_classes charset.now list.now) }
+{
+    with_classes(alloc, charset, list, Classes::new(alloc), &TABLE)
+}

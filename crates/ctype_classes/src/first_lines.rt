@@ -1,0 +1,66 @@
+//! A keyword list with its lines by their keywords.
+
+ghost use Rattle.std.specs.Prelude.{◌≡◌, IfOk};
+ghost use Rattle.std.specs.Option.{option_copied};
+ghost use Rattle.ctype_classes.specs.Lines.{operands_of};
+ghost use Rattle.ctype_classes.specs.Named.{pairs_of};
+ghost use Rattle.ctype_classes.specs.FirstLines.{AreFirstLines};
+
+use crate::named::{Named, add_named, get_named};
+use locale_reader::{Entry, Values};
+use std::alloc::{AllocError, Global};
+use std::marker::Model;
+
+/// A keyword list, whose first lines are found by their keywords.
+#[derive(Drop)]
+pub struct KeywordList<'a> {
+    entries: &'a [Entry],
+    first: Named<&'a Values>,
+}
+
+impl<'a> Model for KeywordList<'a> {
+    ghost use Rattle.std.specs.Prelude.{List};
+    ghost use Rattle.locale_reader.specs.declared.source.Entry.{Entry as Line};
+    ghost use Rattle.ctype_classes.specs.Named.{pairs_of};
+    ghost use Rattle.ctype_classes.specs.FirstLines.{AreFirstLines};
+
+    ghost Value = { List Line };
+
+    ghost view = { λ l. l.entries.now };
+
+    ghost invariant = { λ l. AreFirstLines l.entries.now (pairs_of l.first) };
+}
+
+/// The operands of the first line of each keyword.
+fn first_lines<'a>(alloc: Global, entries: &'a [Entry]) -> Result<Named<&'a Values>, AllocError>
+    ensures { IfOk result (λ lines. AreFirstLines entries.now (pairs_of lines)) }
+{
+    let mut lines = Named::new(alloc);
+    for entry in entries {
+        add_named(alloc, &mut lines, entry.keyword.as_bytes(), &entry.values)?;
+    }
+    Ok(lines)
+}
+
+impl<'a> KeywordList<'a> {
+    pub fn of(alloc: Global, entries: &'a [Entry]) -> Result<KeywordList<'a>, AllocError>
+        ensures { IfOk result (λ l. l ≡ entries.now) }
+    {
+        let first = first_lines(alloc, entries)?;
+        Ok(KeywordList { entries, first })
+    }
+
+    /// The lines, in order.
+    pub fn entries(&self) -> &'a [Entry]
+        ensures { result.now ≡ self.now }
+    {
+        self.entries
+    }
+
+    /// The operands of the first line with a keyword.
+    pub fn operands(&self, keyword: &[u8]) -> Option<&'a Values>
+        ensures { option_copied result ≡ operands_of self.now keyword.now }
+    {
+        get_named(&self.first, keyword).copied()
+    }
+}

@@ -1,0 +1,16 @@
+//! The locale category `LC_CTYPE`: character classes and case maps (XBD 7.3.1).
+#![tactic(auto)]
+
+mod case;
+mod characters;
+mod classes;
+mod ctype;
+mod exclusions;
+mod first_lines;
+mod lists;
+mod named;
+mod table;
+#[cfg(test)]
+mod tests;
+
+pub use ctype::Ctype;

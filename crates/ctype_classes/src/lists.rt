@@ -1,0 +1,218 @@
+//! The faults of the lines of a keyword list, and the classes that they declare.
+
+ghost use Rattle.std.specs.Prelude.{◌≡◌, ◌<◌, length};
+ghost use Rattle.std.specs.List.{list_any, list_all};
+ghost use Rattle.std.specs.Char.{is_ascii_alphanumeric};
+ghost use Rattle.std.specs.Str.{bytes_eq};
+ghost use Rattle.lc_base.specs.Reading.{Gives};
+ghost use Rattle.lc_base.specs.declared.reason.Reason.TheVariants.{DigitsNotTen as NotTen, NotCased as Caseless};
+ghost use Rattle.locale_reader.specs.Cells.{seen};
+ghost use Rattle.ctype_classes.specs.Named.{pairs_of};
+ghost use Rattle.ctype_classes.specs.Lists.{is_ten, is_cased, is_cased_pair, each_passes, is_word, is_class_name, is_taken, declaring, declaring_value, declaring_values, after_line, after_lines, classes_of};
+
+use crate::classes::{Classes, has_member, twelve_classes, with_class};
+use crate::first_lines::KeywordList;
+use crate::named::get_named;
+use crate::table::Row;
+use charmap_reader::Charset;
+use lc_base::{Place, Reason, TextFault};
+use locale_reader::{Entry, ValueRef, Values};
+use std::alloc::Global;
+
+const DIGIT: &[u8] = b"digit";
+
+const TOUPPER: &[u8] = b"toupper";
+
+const TOLOWER: &[u8] = b"tolower";
+
+const CHARCLASS: &[u8] = b"charclass";
+
+/// The keywords of LC_CTYPE that are no class.
+const OTHER_KEYWORDS: [&[u8]; 3] = [CHARCLASS, TOUPPER, TOLOWER];
+
+/// Whether a value of the line `digit` has none but the ten digits.
+fn is_ten(value: ValueRef<'_>) -> bool
+    ensures { result ≡ is_ten (seen value.entry) }
+{
+    match value {
+        ValueRef::Chars(first, last) => { (48..=57).contains(&first) && (48..=57).contains(&last) }
+        ValueRef::Text(_) | ValueRef::Number(_) | ValueRef::Pair(_, _) => true,
+    }
+}
+
+/// The line `digit` lists none but the ten digits.
+fn check_digits(operands: &Values) -> Result<(), TextFault>
+    ensures { Gives (λ u. u) result (each_passes is_ten NotTen operands.now) }
+{
+    let mut walk = operands.walk();
+    while let Some((place, value)) = walk.next() {
+        if !is_ten(value) {
+            return Err(TextFault::At(place, Reason::DigitsNotTen));
+        }
+    }
+    Ok(())
+}
+
+/// Whether a character has case.
+fn is_cased(classes: &Classes, w: u32) -> bool
+    ensures { result ≡ is_cased (pairs_of classes.now) w }
+{
+    has_member(classes, b"upper", w) || has_member(classes, b"lower", w)
+}
+
+/// Whether both characters of a pair have case.
+fn is_cased_pair(classes: &Classes, value: ValueRef<'_>) -> bool
+    ensures { result ≡ is_cased_pair (pairs_of classes.now) (seen value.entry) }
+{
+    match value {
+        ValueRef::Pair(first, second) => is_cased(classes, first) && is_cased(classes, second),
+        ValueRef::Text(_) | ValueRef::Number(_) | ValueRef::Chars(_, _) => true,
+    }
+}
+
+/// The characters of case pairs have case.
+fn check_pairs(classes: &Classes, operands: &Values) -> Result<(), TextFault>
+    ensures { Gives (λ u. u) result (each_passes (is_cased_pair (pairs_of classes.now)) Caseless operands.now) }
+{
+    let mut walk = operands.walk();
+    while let Some((place, value)) = walk.next() {
+        if !is_cased_pair(classes, value) {
+            return Err(TextFault::At(place, Reason::NotCased));
+        }
+    }
+    Ok(())
+}
+
+/// Whether these are letters and digits.
+fn is_alphanumeric(name: &[u8]) -> bool
+    ensures { result ≡ list_all is_ascii_alphanumeric name.now }
+{
+    name.iter().all(|byte| byte.is_ascii_alphanumeric())
+}
+
+/// Whether these are letters and digits, of which the first is a letter.
+fn is_word(name: &[u8]) -> bool
+    requires { 0 < length name.now }
+    ensures { result ≡ is_word name.now }
+{
+    name[0].is_ascii_alphabetic() && is_alphanumeric(name)
+}
+
+/// Whether a class may have this name: 1 to 14 letters and digits, of which the first is a letter.
+fn is_class_name(name: &[u8]) -> bool
+    ensures { result ≡ is_class_name name.now }
+{
+    (1..=14).contains(&name.len()) && is_word(name)
+}
+
+/// Whether a name is one of these.
+fn is_among(names: &[&[u8]], name: &[u8]) -> bool
+    ensures { result ≡ list_any (λ n. bytes_eq n.now name.now) names.now }
+{
+    names.iter().any(|other| *other == name)
+}
+
+/// Whether a name is a keyword or that of a class.
+fn is_taken(classes: &Classes, name: &[u8]) -> bool
+    ensures { result ≡ is_taken (pairs_of classes.now) name.now }
+{
+    get_named(classes, name).is_some() || is_among(&OTHER_KEYWORDS, name)
+}
+
+/// The classes after one that an operand declares.
+fn declaring(
+    alloc: Global,
+    charset: &Charset,
+    list: &KeywordList<'_>,
+    classes: Classes,
+    place: Place,
+    name: &[u8],
+) -> Result<Classes, TextFault>
+    ensures { Gives pairs_of result (declaring charset.now list.now (pairs_of classes) place name.now) }
+{
+    if !is_class_name(name) || is_taken(&classes, name) {
+        return Err(TextFault::At(place, Reason::BadClassName));
+    }
+    let row = Row {
+        name,
+        always: &[],
+        absent: &[],
+        parts: &[],
+    };
+    Ok(with_class(alloc, charset, list, classes, &row)?)
+}
+
+/// The classes after an operand of `charclass`.
+fn declaring_value(
+    alloc: Global,
+    charset: &Charset,
+    list: &KeywordList<'_>,
+    classes: Classes,
+    place: Place,
+    value: ValueRef<'_>,
+) -> Result<Classes, TextFault>
+    ensures { Gives pairs_of result (declaring_value charset.now list.now (pairs_of classes) (place, seen value.entry)) }
+{
+    match value {
+        ValueRef::Text(name) => declaring(alloc, charset, list, classes, place, name),
+        ValueRef::Number(_) | ValueRef::Chars(_, _) | ValueRef::Pair(_, _) => Ok(classes),
+    }
+}
+
+/// The classes after the operands of `charclass`.
+fn declaring_values(
+    alloc: Global,
+    charset: &Charset,
+    list: &KeywordList<'_>,
+    classes: Classes,
+    operands: &Values,
+) -> Result<Classes, TextFault>
+    ensures { Gives pairs_of result (declaring_values charset.now list.now (pairs_of classes) operands.now) }
+{
+    let mut classes = classes;
+    let mut walk = operands.walk();
+    while let Some((place, value)) = walk.next() {
+        classes = declaring_value(alloc, charset, list, classes, place, value)?;
+    }
+    Ok(classes)
+}
+
+/// The classes after a line.
+fn after_line(
+    alloc: Global,
+    charset: &Charset,
+    list: &KeywordList<'_>,
+    classes: Classes,
+    line: &Entry,
+) -> Result<Classes, TextFault>
+    ensures { Gives pairs_of result (after_line charset.now list.now (pairs_of classes) line.now) }
+{
+    let keyword = line.keyword.as_bytes();
+    if keyword == CHARCLASS {
+        declaring_values(alloc, charset, list, classes, &line.values)
+    } else if keyword == DIGIT {
+        check_digits(&line.values)?;
+        Ok(classes)
+    } else if keyword == TOUPPER || keyword == TOLOWER {
+        check_pairs(&classes, &line.values)?;
+        Ok(classes)
+    } else {
+        Ok(classes)
+    }
+}
+
+/// The classes of a keyword list, or the first fault of its lines.
+#[tactic(auto, unfolding(crate::specs::Lists::classes_of))]
+pub fn classes_of(
+    alloc: Global,
+    charset: &Charset,
+    list: &KeywordList<'_>,
+) -> Result<Classes, TextFault>
+    ensures { Gives pairs_of result (classes_of charset.now list.now) }
+{
+    let mut classes = twelve_classes(alloc, charset, list)?;
+    for line in list.entries() {
+        classes = after_line(alloc, charset, list, classes, line)?;
+    }
+    Ok(classes)
+}
