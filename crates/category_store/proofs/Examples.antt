@@ -1,0 +1,243 @@
+-- Worked examples of copies, of compiled locales, and of what names and keys stand for.
+use Rattle.std.specs.Prelude.{◌≡◌, ℕ, ◌+◌, List, [], ◌∷◌, ◌++◌, codes, map, Option, Some, None, Ok, Err, refl}
+use Rattle.lc_base.specs.declared.place.Place.{Place}
+use Rattle.lc_base.specs.declared.category.Category.{Category}
+use Rattle.lc_base.specs.declared.category.Category.TheVariants.{Ctype, Numeric, Monetary, Time, Messages}
+use Rattle.lc_base.specs.declared.reason.Reason.TheVariants.{CopyMissing, CopyCycle, NotBuilt, EmptyRadix}
+use Rattle.lc_base.specs.declared.block.Block.{Block}
+use Rattle.lc_base.specs.declared.block.Later.{Later}
+use Rattle.charmap_reader.specs.CodedSet.{utf8, posix, listed}
+use Rattle.locale_reader.specs.declared.source.Value.TheVariants.{Text}
+use Rattle.locale_reader.specs.declared.source.Section.{Section}
+use Rattle.locale_reader.specs.declared.source.Body.TheVariants.{Copy, Entries}
+use Rattle.numeric_cat.specs.NumericValues.{NumericValues}
+use Rattle.numeric_cat.specs.Numeric.{posix_values}
+use Rattle.category_store.specs.Blocks.{by_place}
+use Rattle.category_store.specs.Sources.{Source, charset_named, with_named}
+use Rattle.category_store.specs.Copies.{copy_fault, end_of}
+use Rattle.category_store.specs.Compiled.{numeric_of, category_of, available, locales_of}
+use Rattle.category_store.specs.Catalog.{Locale, Catalog}
+use Rattle.category_store.specs.Library.{names_of, keys_of, catalog_from, catalog_of, locale_at, numbers, opening, later, posix_object, no_offer}
+
+at : ℕ → ℕ → Place
+at line column = record { line = line; column = column }
+
+-- LC_NUMERIC at a line, with this decimal_point
+numeric : ℕ → List ℕ → Section
+numeric line radix = record {
+  category = Numeric;
+  place = at line 1;
+  body = Entries (record { place = at (line + 1) 1; keyword = codes "decimal_point"; values = (at (line + 1) 15, Text radix) ∷ [] } ∷ []);
+}
+
+-- a section at a line that has no keyword
+bare : Category → ℕ → Section
+bare category line = record { category = category; place = at line 1; body = Entries [] }
+
+-- a section at a line that copies
+copies : Category → ℕ → List ℕ → Section
+copies category line name = record { category = category; place = at line 1; body = Copy (at (line + 1) 6) name }
+
+locale : List ℕ → List Section → Source
+locale name sections = record { key = None; name = name; charset = utf8; sections = sections }
+
+version : List ℕ → List ℕ → List Section → Source
+version key name sections = record { key = Some key; name = name; charset = utf8; sections = sections }
+
+-- ---- blocks by place
+
+abbrev block : ℕ → List ℕ → Block
+block line name = record { name = name; charset = codes "UTF-8"; first_line = line; text = [] }
+
+-- the blocks of both lists go by place
+by_place-both : map (λ p. p.block.first_line) (by_place (block 2 (codes "a") ∷ block 9 (codes "b") ∷ []) (record { key = codes "k"; block = block 5 (codes "a") } ∷ record { key = codes "l"; block = block 12 (codes "c") } ∷ [])) ≡ 2 ∷ 5 ∷ 9 ∷ 12 ∷ []
+by_place-both = refl
+
+-- ---- charsets
+
+charset_named-built_in : charset_named ((codes "demo", listed (codes "DEMO") []) ∷ []) (codes "UTF-8") ≡ utf8
+charset_named-built_in = refl
+
+charset_named-charmap : charset_named ((codes "demo", listed (codes "DEMO") []) ∷ []) (codes "demo") ≡ listed (codes "DEMO") []
+charset_named-charmap = refl
+
+-- ---- copies
+
+-- the locale is not there
+missing : copy_fault (locale (codes "a") (copies Numeric 2 (codes "b") ∷ []) ∷ []) ≡ Some (at 3 6, CopyMissing)
+unfolding at copies locale
+missing = refl
+
+-- it is there and lacks the category
+lacking : copy_fault (locale (codes "a") (copies Numeric 2 (codes "b") ∷ []) ∷ locale (codes "b") (bare Time 9 ∷ []) ∷ []) ≡ Some (at 3 6, CopyMissing)
+unfolding at copies bare locale
+lacking = refl
+
+-- a copy whose own target is there has no fault: the next one has
+later_one_missing : copy_fault (locale (codes "a") (copies Numeric 2 (codes "b") ∷ []) ∷ locale (codes "b") (copies Numeric 9 (codes "c") ∷ []) ∷ []) ≡ Some (at 10 6, CopyMissing)
+unfolding at copies locale
+later_one_missing = refl
+
+-- a copy of itself
+itself : copy_fault (locale (codes "a") (copies Numeric 2 (codes "a") ∷ []) ∷ []) ≡ Some (at 3 6, CopyCycle)
+unfolding at copies locale
+itself = refl
+
+-- two that copy each other: the first one is named
+each_other : copy_fault (locale (codes "a") (copies Time 2 (codes "b") ∷ []) ∷ locale (codes "b") (copies Time 9 (codes "a") ∷ []) ∷ []) ≡ Some (at 3 6, CopyCycle)
+unfolding at copies locale
+each_other = refl
+
+-- a cycle that is entered from outside
+entered : copy_fault (locale (codes "a") (copies Numeric 2 (codes "b") ∷ []) ∷ locale (codes "b") (copies Numeric 9 (codes "c") ∷ []) ∷ locale (codes "c") (copies Numeric 16 (codes "b") ∷ []) ∷ []) ≡ Some (at 3 6, CopyCycle)
+unfolding at copies locale
+entered = refl
+
+-- the other categories of two locales that copy each other are no cycle
+crosswise : copy_fault (locale (codes "a") (copies Numeric 2 (codes "b") ∷ numeric 5 [] ∷ []) ∷ locale (codes "b") (numeric 9 (codes ",") ∷ copies Time 12 (codes "C") ∷ []) ∷ []) ≡ None
+unfolding at copies numeric locale
+crosswise = refl
+
+abbrev chain : List Source
+chain =
+    locale (codes "a") (copies Numeric 2 (codes "b") ∷ []) ∷ locale (codes "b") (copies Numeric 9 (codes "c") ∷ []) ∷
+    locale (codes "c") (copies Numeric 16 (codes "d") ∷ []) ∷ locale (codes "d") (numeric 23 (codes ",") ∷ []) ∷ []
+
+-- a chain that needs as many steps as it has copies
+chain-ends : copy_fault chain ≡ None
+unfolding at copies numeric locale
+chain-ends = refl
+
+end_of-chain : end_of chain Numeric 1 ∷ end_of chain Numeric 3 ∷ end_of chain Numeric 4 ∷ end_of chain Time 1 ∷ [] ≡ 4 ∷ 4 ∷ 4 ∷ 0 ∷ []
+unfolding at copies numeric locale
+end_of-chain = refl
+
+-- C and POSIX are the POSIX locale
+of_posix : copy_fault (locale (codes "a") (copies Numeric 2 (codes "C") ∷ copies Time 5 (codes "POSIX") ∷ []) ∷ []) ≡ None
+unfolding at copies locale
+of_posix = refl
+
+category_of-posix : category_of posix_values numeric_of (locale (codes "a") (copies Numeric 2 (codes "C") ∷ []) ∷ []) Numeric 1 ≡ Ok posix_values
+unfolding at copies locale
+category_of-posix = refl
+
+-- a later version copies a locale, also one of its own name
+own_name : end_of (version (codes "k") (codes "a") (copies Numeric 2 (codes "a") ∷ []) ∷ locale (codes "a") (numeric 9 (codes ",") ∷ []) ∷ []) Numeric 1 ≡ 2
+unfolding at copies numeric locale version
+own_name = refl
+
+-- no copy takes a later version
+of_later : copy_fault (locale (codes "a") (copies Numeric 2 (codes "b") ∷ []) ∷ version (codes "k") (codes "b") (numeric 9 (codes ",") ∷ []) ∷ []) ≡ Some (at 3 6, CopyMissing)
+unfolding at copies numeric locale version
+of_later = refl
+
+-- ---- compiled categories
+
+available-two : available (locale (codes "a") (numeric 2 (codes ",") ∷ copies Time 5 (codes "C") ∷ []) ∷ []) 1 ≡ 10
+unfolding at copies numeric locale
+available-two = refl
+
+comma : NumericValues
+comma = record posix_values { decimal_point = codes "," }
+
+-- each locale of a chain has what the last one says, under its own name
+locales_of-chain : locales_of chain ≡ Ok (
+    record { name = codes "a"; available = 2; numeric = comma } ∷ record { name = codes "b"; available = 2; numeric = comma } ∷
+    record { name = codes "c"; available = 2; numeric = comma } ∷ record { name = codes "d"; available = 2; numeric = comma } ∷ [])
+unfolding at copies numeric locale comma
+locales_of-chain = refl
+
+-- the fault of a copied section has its own place, and comes with the copying locale: before that of LC_TIME there
+copied_fault : locales_of (locale (codes "a") (copies Numeric 2 (codes "b") ∷ bare Time 5 ∷ []) ∷ locale (codes "b") (numeric 9 [] ∷ []) ∷ []) ≡ Err (at 10 15, EmptyRadix)
+unfolding at copies numeric bare locale
+copied_fault = refl
+
+-- a category that is not built is refused at the header where the copies end; the POSIX locale's is not
+not_built_copied : locales_of (locale (codes "a") (copies Time 2 (codes "b") ∷ []) ∷ locale (codes "b") (bare Time 9 ∷ []) ∷ []) ≡ Err (at 9 1, NotBuilt)
+unfolding at copies bare locale
+not_built_copied = refl
+
+-- in a locale the categories go in their order, not in that of the text
+order_of_categories : locales_of (locale (codes "a") (bare Messages 2 ∷ bare Monetary 5 ∷ numeric 9 [] ∷ []) ∷ []) ≡ Err (at 10 15, EmptyRadix)
+unfolding at numeric bare locale
+order_of_categories = refl
+
+-- copies come before categories
+copies_first : catalog_from None (locale (codes "a") (numeric 2 [] ∷ []) ∷ locale (codes "b") (copies Numeric 9 (codes "x") ∷ []) ∷ []) ≡ Err (at 10 6, CopyMissing)
+unfolding at copies numeric locale
+copies_first = refl
+
+-- ---- names, numbers and offers
+
+-- two later versions of one locale, one of a new name, and a locale of a later version's name
+abbrev four : List Source
+four = version (codes "k") (codes "b") [] ∷ locale (codes "a") (numeric 9 (codes ",") ∷ []) ∷ locale (codes "b") (numeric 16 (codes ":") ∷ []) ∷ version (codes "l") (codes "c") (numeric 23 (codes ";") ∷ []) ∷ []
+
+names_of-four : names_of four ≡ (codes "b", 1) ∷ (codes "a", 2) ∷ (codes "c", 3) ∷ []
+unfolding at numeric locale version
+names_of-four = refl
+
+keys_of-four : keys_of four ≡ (codes "k", 1) ∷ (codes "l", 4) ∷ []
+unfolding at numeric locale version
+keys_of-four = refl
+
+library : Option (List ℕ) → Catalog
+library native = catalog_of four native (
+    record { name = codes "b"; available = 0; numeric = posix_values } ∷ record { name = codes "a"; available = 2; numeric = comma } ∷
+    record { name = codes "b"; available = 2; numeric = posix_values } ∷ record { name = codes "c"; available = 2; numeric = posix_values } ∷ [])
+
+locale_at-numbers : (locale_at (library None) 0).name ∷ (locale_at (library None) 2).name ∷ (locale_at (library None) 5).name ∷ [] ≡ codes "C" ∷ codes "a" ∷ codes "C" ∷ []
+unfolding library
+locale_at-numbers = refl
+
+numbers-all : numbers (library None) (codes "a") 31 ≡ Ok (2 ∷ 2 ∷ 2 ∷ 2 ∷ 2 ∷ [])
+unfolding library at numeric locale version
+numbers-all = refl
+
+-- a name that only a later version has is named by a block
+numbers-later : numbers (library None) (codes "c") 2 ≡ Ok (0 ∷ 3 ∷ 0 ∷ 0 ∷ 0 ∷ [])
+unfolding library at numeric locale version
+numbers-later = refl
+
+-- the first category of the mask is told
+numbers-nowhere : numbers (library None) (codes "nowhere") 24 ≡ Err Time
+unfolding library at numeric locale version
+numbers-nowhere = refl
+
+-- an empty mask needs no locale
+numbers-empty_mask : numbers (library None) (codes "nowhere") 0 ≡ Ok (0 ∷ 0 ∷ 0 ∷ 0 ∷ 0 ∷ [])
+unfolding library at numeric locale version
+numbers-empty_mask = refl
+
+-- an empty name is the native locale's, or else the POSIX locale's
+numbers-native : numbers (library (Some (codes "a"))) [] 3 ≡ Ok (2 ∷ 2 ∷ 0 ∷ 0 ∷ 0 ∷ [])
+unfolding library at numeric locale version
+numbers-native = refl
+
+numbers-no_native : numbers (library None) [] 31 ≡ Ok (0 ∷ 0 ∷ 0 ∷ 0 ∷ 0 ∷ [])
+unfolding library at numeric locale version
+numbers-no_native = refl
+
+-- a mixed name gives each category its own part
+numbers-mixed : numbers (library None) (codes "LC_CTYPE=C;LC_NUMERIC=a;LC_MONETARY=POSIX;LC_TIME=nowhere;LC_MESSAGES=b") 23 ≡ Ok (0 ∷ 2 ∷ 0 ∷ 0 ∷ 1 ∷ [])
+unfolding library at numeric locale version
+numbers-mixed = refl
+
+numbers-mixed_nowhere : numbers (library None) (codes "LC_CTYPE=C;LC_NUMERIC=a;LC_MONETARY=POSIX;LC_TIME=nowhere;LC_MESSAGES=b") 31 ≡ Err Time
+unfolding library at numeric locale version
+numbers-mixed_nowhere = refl
+
+-- b means its locale at first, though a later version stands before it; c offers nothing
+opening-four : opening (library None) ≡
+    record { object = posix_object; available = 31 } ∷ record { object = record posix_object { numeric = 3 }; available = 2 } ∷
+    record { object = record posix_object { numeric = 2 }; available = 2 } ∷ no_offer ∷ []
+unfolding library at numeric locale version
+opening-four = refl
+
+later-key : later (library None) (codes "l") ≡ Some (3, record { object = record posix_object { numeric = 4 }; available = 2 })
+unfolding library at numeric locale version
+later-key = refl
+
+later-unknown : later (library None) (codes "a") ≡ None
+unfolding library at numeric locale version
+later-unknown = refl

@@ -1,0 +1,11 @@
+use Rattle.std.proofs.Common.{◌≡◌, ◌≤◌, drop, map, length}
+use Rattle.category_store.specs.Named.{pairs_of}
+use Rattle.category_store.specs.Seen.{source}
+use Rattle.category_store.specs.Library.{names_of, names_after}
+use Rattle.category_store.proofs.names.names_of.Given as goal
+
+abbrev pub invariant-loop-source : goal.invariant-loop-source
+invariant-loop-source l = record {
+  rest : names_of (map source l.sources) ≡ names_after (pairs_of l.names) (map source (drop l.source-index l.sources));
+  few : length (pairs_of l.names) ≤ l.source-index;
+}

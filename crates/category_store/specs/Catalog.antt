@@ -1,0 +1,23 @@
+-- What a library of compiled locales says, as data.
+use Rattle.std.specs.Prelude.{ℕ, List}
+use Rattle.numeric_cat.specs.NumericValues.{NumericValues}
+
+-- a compiled locale: its name, the mask of the categories that it has, and the values of its categories; a category that it
+-- lacks is the POSIX locale's
+pub record Locale : Type 0 where
+  pub name : List ℕ
+  pub available : ℕ
+  pub numeric : NumericValues
+
+-- a library
+pub record Catalog : Type 0 where
+  -- the compiled locales and later versions, by place: the i-th has the number i
+  pub locales : List Locale
+  -- the names of locales, each with its number
+  pub names : List (List ℕ × ℕ)
+  -- the names that a locale has at first, each with the number of that compiled locale
+  pub first : List (List ℕ × ℕ)
+  -- the keys of later versions, each with the number of the compiled one
+  pub keys : List (List ℕ × ℕ)
+  -- the number of the native locale's name
+  pub native : ℕ

@@ -1,0 +1,61 @@
+-- The categories of a bundle's locales, compiled in order, up to the first fault in them.
+use Rattle.std.specs.Prelude.{ℕ, ◌+◌, List, [], ◌∷◌, Option, Some, None, is_some, Ok, Err, if◌then◌else◌}
+use Rattle.lc_base.specs.declared.category.Category.{Category}
+use Rattle.lc_base.specs.declared.category.Category.TheVariants.{Ctype, Numeric, Monetary, Time, Messages}
+use Rattle.lc_base.specs.declared.reason.Reason.TheVariants.{NotBuilt}
+use Rattle.lc_base.specs.Mask.{category_bit}
+use Rattle.lc_base.specs.Reading.{Reads, ◌>>=◌}
+use Rattle.numeric_cat.specs.NumericValues.{NumericValues}
+use Rattle.numeric_cat.specs.Numeric.{numeric_values, posix_values}
+use Rattle.category_store.specs.Sources.{Source}
+use Rattle.category_store.specs.Copies.{section_at, end_of}
+use Rattle.category_store.specs.Written.{Written, written_at}
+use Rattle.category_store.specs.Catalog.{Locale}
+
+-- ---- what keyword lists give, category by category
+
+-- a category that is not built yet: a list for it is refused, at the header of its section
+abbrev pub not_built : Written → Reads (Unit {0})
+not_built written = Err (written.place, NotBuilt)
+
+-- LC_NUMERIC (XBD 7.3.4)
+abbrev pub numeric_of : Written → Reads NumericValues
+numeric_of written = numeric_values written.entries
+
+-- ---- locales
+
+-- what a keyword list gives; where none is written it is the POSIX locale's category
+abbrev pub read_or : {V : Type 0} → V → (Written → Reads V) → Option Written → Reads V
+read_or posix read None = Ok posix
+read_or posix read (Some written) = read written
+
+-- a category of the source with a number: of the keyword list that is written where its copies end
+abbrev pub category_of : {V : Type 0} → V → (Written → Reads V) → List Source → Category → ℕ → Reads V
+category_of posix read sources category n = read_or posix read (written_at sources category (end_of sources category n))
+
+-- the bit of a category that a source has
+abbrev pub bit_at : List Source → ℕ → Category → ℕ
+bit_at sources n category = if is_some (section_at sources category n) then category_bit category else 0
+
+-- the mask of the categories that a source has
+abbrev pub available : List Source → ℕ → ℕ
+available sources n =
+    bit_at sources n Ctype + bit_at sources n Numeric + bit_at sources n Monetary + bit_at sources n Time + bit_at sources n Messages
+
+-- the locale of a source, compiled: its categories in their order
+abbrev pub locale_of : List Source → ℕ → Source → Reads Locale
+locale_of sources n s =
+    category_of tt not_built sources Ctype n >>= λ _.
+    category_of posix_values numeric_of sources Numeric n >>= λ numeric.
+    category_of tt not_built sources Monetary n >>= λ _.
+    category_of tt not_built sources Time n >>= λ _.
+    category_of tt not_built sources Messages n >>= λ _.
+    Ok (record { name = s.name; available = available sources n; numeric = numeric })
+
+-- the locales of sources, of which the first has this number
+abbrev pub locales_from : List Source → ℕ → List Source → Reads (List Locale)
+locales_from sources n [] = Ok []
+locales_from sources n (s ∷ ss) = locale_of sources n s >>= λ l. locales_from sources (n + 1) ss >>= λ ls. Ok (l ∷ ls)
+
+abbrev pub locales_of : List Source → Reads (List Locale)
+locales_of sources = locales_from sources 1 sources

@@ -1,0 +1,112 @@
+-- Compiled categories as they are kept: each under the number of the source in which it is written.
+use Rattle.std.specs.Prelude.{ℕ, zero, suc, ◌+◌, List, [], ◌∷◌, map, slice_get, Option, Some, None, option_map, Ok, Err}
+use Rattle.std.specs.Option.{option_or}
+use Rattle.lc_base.specs.declared.place.Place.{Place}
+use Rattle.lc_base.specs.declared.category.Category.{Category}
+use Rattle.lc_base.specs.declared.category.Category.TheVariants.{Ctype, Numeric, Monetary, Time, Messages}
+use Rattle.lc_base.specs.declared.reason.Reason.{Reason}
+use Rattle.lc_base.specs.Lines.{◌>>=◌}
+use Rattle.lc_base.specs.Reading.{Reads}
+use Rattle.numeric_cat.specs.Numeric.{posix_values}
+use Rattle.category_store.specs.declared.numbers.Numbers.{Numbers}
+use Rattle.category_store.specs.declared.row.Row.{Row}
+use Rattle.category_store.specs.declared.kept.Kept.{Kept}
+use Rattle.category_store.specs.Sources.{Source}
+use Rattle.category_store.specs.Copies.{end_of}
+use Rattle.category_store.specs.Written.{Written, written_for}
+use Rattle.category_store.specs.Compiled.{not_built, numeric_of, available}
+use Rattle.category_store.specs.Catalog.{Locale}
+
+-- ---- one category of all sources
+
+-- what the keyword lists of a category give, source by source, where there are any
+abbrev pub slots : {V : Type 0} → (Written → Reads V) → List Source → Category → List (Option (Reads V))
+slots read sources category = map (λ (s : Source). option_map read (written_for category s)) sources
+
+-- what is kept under a number, from 1
+abbrev pub kept : {V : Type 0} → List (Option (Reads V)) → ℕ → Option (Reads V)
+kept slots zero = None
+kept slots (suc k) = slice_get slots k >>= λ slot. slot
+
+abbrev pub given_or : {V : Type 0} → V → Option (Reads V) → Reads V
+given_or posix None = Ok posix
+given_or posix (Some given) = given
+
+-- what is kept under a number, or else the POSIX locale's category
+abbrev pub kept_or : {V : Type 0} → V → List (Option (Reads V)) → ℕ → Reads V
+kept_or posix slots n = given_or posix (kept slots n)
+
+-- the value of what was read, the POSIX locale's where it has a fault
+abbrev pub value_or : {V : Type 0} → V → Reads V → V
+value_or posix (Ok v) = v
+value_or posix (Err fault) = posix
+
+-- the fault of what was read
+abbrev pub fault_in : {V : Type 0} → Reads V → Option (Place × Reason)
+fault_in (Ok v) = None
+fault_in (Err fault) = Some fault
+
+-- ---- the five categories
+
+-- the categories of sources
+abbrev pub kept_of : List Source → Kept
+kept_of sources = record {
+  ctype = slots not_built sources Ctype;
+  numeric = slots numeric_of sources Numeric;
+  monetary = slots not_built sources Monetary;
+  time = slots not_built sources Time;
+  messages = slots not_built sources Messages;
+}
+
+-- a locale whose categories are kept under these numbers
+abbrev pub locale_with : List ℕ → ℕ → Kept → Numbers → Locale
+locale_with name mask kept ends = record {
+  name = name;
+  available = mask;
+  numeric = value_or posix_values (kept_or posix_values kept.numeric ends.numeric);
+}
+
+-- the first fault of the categories that are kept under these numbers
+abbrev pub ends_fault : Kept → Numbers → Option (Place × Reason)
+ends_fault kept ends =
+    option_or (option_or (option_or (option_or
+    (fault_in (kept_or tt kept.ctype ends.ctype))
+    (fault_in (kept_or posix_values kept.numeric ends.numeric)))
+    (fault_in (kept_or tt kept.monetary ends.monetary)))
+    (fault_in (kept_or tt kept.time ends.time)))
+    (fault_in (kept_or tt kept.messages ends.messages))
+
+-- ---- rows
+
+-- the numbers of the sources in which the categories of a source are written
+abbrev pub ends_at : List Source → ℕ → Numbers
+ends_at sources n = record {
+  ctype = end_of sources Ctype n;
+  numeric = end_of sources Numeric n;
+  monetary = end_of sources Monetary n;
+  time = end_of sources Time n;
+  messages = end_of sources Messages n;
+}
+
+-- a compiled locale as it is kept: its name, its categories, and where they are written
+abbrev pub row_of : List Source → ℕ → Source → Row
+row_of sources n s = record { name = s.name; available = available sources n; ends = ends_at sources n }
+
+-- the rows of sources, of which the first has this number
+abbrev pub rows_from : List Source → ℕ → List Source → List Row
+rows_from sources n [] = []
+rows_from sources n (s ∷ ss) = row_of sources n s ∷ rows_from sources (n + 1) ss
+
+-- the locale of a row
+abbrev pub locale_in : Kept → Row → Locale
+locale_in kept r = locale_with r.name r.available kept r.ends
+
+-- the first fault of rows
+abbrev pub rows_fault : Kept → List Row → Option (Place × Reason)
+rows_fault kept [] = None
+rows_fault kept (r ∷ rs) = option_or (ends_fault kept r.ends) (rows_fault kept rs)
+
+-- what stands under a number that counts from 1
+abbrev pub row_at : {A : Type 0} → List A → ℕ → Option A
+row_at rows zero = None
+row_at rows (suc k) = slice_get rows k

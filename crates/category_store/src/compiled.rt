@@ -1,0 +1,62 @@
+//! A compiled locale.
+
+ghost use Rattle.std.specs.Prelude.{◌≡◌};
+ghost use Rattle.category_store.specs.Kept.{locale_with};
+
+use crate::kept::Kept;
+use crate::numbers::Numbers;
+use lc_base::Mask;
+use numeric_cat::Numeric;
+use std::marker::Model;
+
+/// A compiled locale of a library. A category that it lacks is the POSIX locale's.
+#[derive(Drop)]
+pub struct Compiled<'a> {
+    name: &'a [u8],
+    available: Mask,
+    kept: &'a Kept,
+    ends: Numbers,
+}
+
+impl<'a> Model for Compiled<'a> {
+    ghost use Rattle.category_store.specs.Catalog.{Locale};
+    ghost use Rattle.category_store.specs.Kept.{locale_with};
+
+    ghost Value = { Locale };
+
+    ghost view = { λ c. locale_with c.name.now c.available c.kept.now c.ends };
+}
+
+impl<'a> Compiled<'a> {
+    pub(crate) fn of(name: &'a [u8], available: Mask, kept: &'a Kept, ends: Numbers) -> Compiled<'a>
+        ensures { result ≡ locale_with name.now available kept.now ends }
+    {
+        Compiled {
+            name,
+            available,
+            kept,
+            ends,
+        }
+    }
+
+    /// The name of the locale; that of the POSIX locale is `C`.
+    pub fn name(&self) -> &'a [u8]
+        ensures { result.now ≡ self.now.name }
+    {
+        self.name
+    }
+
+    /// The categories that the locale has.
+    pub fn available(&self) -> Mask
+        ensures { result ≡ self.now.available }
+    {
+        self.available
+    }
+
+    /// The locale's LC_NUMERIC.
+    pub fn numeric(&self) -> &'a Numeric
+        ensures { result.now ≡ self.now.numeric }
+    {
+        self.kept.numeric.get(self.ends.numeric)
+    }
+}

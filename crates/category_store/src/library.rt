@@ -1,0 +1,293 @@
+//! The library of a bundle's compiled locales.
+
+ghost use Rattle.std.specs.Prelude.{◌≡◌, ◌+◌, ◌<◌, ◌≤◌, ◌^◌, ℕ, List, Ok, Err, length, map, All, IfOk, MatchResult, option_map};
+ghost use Rattle.std.specs.Option.{option_copied};
+ghost use Rattle.lc_base.specs.Reading.{Gives};
+ghost use Rattle.category_store.specs.Blocks.{IsSized};
+ghost use Rattle.category_store.specs.Seen.{source};
+ghost use Rattle.mask_compose.specs.Names.{spanned};
+ghost use Rattle.category_store.specs.Named.{pairs_of};
+ghost use Rattle.category_store.specs.Copies.{locale_numbers, copy_fault};
+ghost use Rattle.category_store.specs.Compiled.{locales_of};
+ghost use Rattle.category_store.specs.Library.{catalog, catalog_from, locale_at, number_of, number_in, numbers, names_given, posix_object, object_of, offer_at, first_offer, name_at, opening, later, unless_fault};
+
+use crate::blocks::by_place;
+use crate::charsets::Charsets;
+use crate::compiled::Compiled;
+use crate::copies::locale_numbers;
+use crate::ends::{Ends, copy_fault};
+use crate::locales::Locales;
+use crate::named::{Named, get_named};
+use crate::names::{keys_of, names_of, native_number, plain_number};
+use crate::share::Share;
+use crate::source::{Source, read_sources};
+use lc_base::{Block, Category, Later, List, Mask, TextFault};
+use mask_compose::{Object, Offer, read_names};
+use std::alloc::{AllocError, Global};
+use std::marker::Model;
+
+/// The compiled locales of a bundle, with the numbers of their names.
+#[derive(Drop)]
+pub struct Library {
+    locales: Locales,
+    names: Named<u32>,
+    first: Named<u32>,
+    keys: Named<u32>,
+    native: u32,
+}
+
+impl Model for Library {
+    ghost use Rattle.category_store.specs.Catalog.{Catalog};
+    ghost use Rattle.category_store.specs.Named.{pairs_of};
+
+    ghost Value = { Catalog };
+
+    ghost view = { λ l. record {
+      locales = l.locales;
+      names = pairs_of l.names;
+      first = pairs_of l.first;
+      keys = pairs_of l.keys;
+      native = l.native;
+    } };
+}
+
+/// A category of the mask whose locale no block names.
+#[derive(Clone, Copy, Debug, PartialEq, Eq)]
+pub struct NoData {
+    pub category: Category,
+}
+
+impl Library {
+    /// Compiles the locales of a bundle and their later versions.
+    ///
+    /// The refusal is the first fault: of the charmaps in order, then of the sources in order of
+    /// place, then `CopyMissing` or `CopyCycle` of a copy, and last of the categories, by locale in
+    /// order of place. A section of `LC_CTYPE`, `LC_MONETARY`, `LC_TIME` or `LC_MESSAGES` is
+    /// `NotBuilt` at its header.
+    pub fn build(
+        alloc: Global,
+        charmaps: &List<Block>,
+        locales: &List<Block>,
+        later: &List<Later>,
+        native: Option<&[u8]>,
+    ) -> Result<Library, TextFault>
+        requires few { (length locales.now ≤ 64) × (length later.now ≤ 64) }
+        requires charmaps { All IsSized charmaps.now }
+        requires locales { All IsSized locales.now }
+        requires later { All (λ l. IsSized l.block) later.now }
+        ensures { Gives (λ l. l) result (catalog charmaps.now locales.now later.now (option_copied native.entry)) }
+    {
+        let charsets = Charsets::read(alloc, charmaps)?;
+        let blocks = by_place(alloc, locales, later)?;
+        let sources = read_sources(alloc, &charsets, blocks.as_slice())?;
+        library_of(alloc, sources.as_slice(), native)
+    }
+
+    fn of(
+        locales: Locales,
+        names: Named<u32>,
+        first: Named<u32>,
+        keys: Named<u32>,
+        native: u32,
+    ) -> Library
+        ensures { result ≡ record { locales = locales; names = pairs_of names; first = pairs_of first; keys = pairs_of keys; native = native } }
+    {
+        Library {
+            locales,
+            names,
+            first,
+            keys,
+            native,
+        }
+    }
+
+    /// The compiled locale of a share. The POSIX locale has the number 0, and stands for a number
+    /// that the library does not have.
+    pub fn compiled(&self, share: Share) -> Compiled<'_>
+        ensures { result ≡ locale_at self.now share.number }
+    {
+        self.locales.get(share.number)
+    }
+
+    /// The object of the POSIX locale.
+    pub fn posix(&self) -> Object<Share>
+        ensures { result ≡ posix_object }
+    {
+        object_of(Mask::all(), 0)
+    }
+
+    /// The number of a name that is no mixed one.
+    fn number_of(&self, name: &[u8]) -> Option<u32>
+        ensures { result ≡ number_of self.now name.now }
+    {
+        if name.is_empty() {
+            return Some(self.native);
+        }
+        plain_number(&self.names, name)
+    }
+
+    /// The number of a name in a category.
+    fn number_in(&self, mask: Mask, category: Category, name: &[u8]) -> Result<u32, NoData>
+        ensures { MatchResult result (λ n. number_in self.now mask category name.now ≡ Ok n) (λ e. number_in self.now mask category name.now ≡ Err e.category) }
+    {
+        if !mask.has(category) {
+            return Ok(0);
+        }
+        match self.number_of(name) {
+            Some(number) => Ok(number),
+            None => Err(NoData { category }),
+        }
+    }
+
+    /// The numbers that a name gives the categories of the mask, in the order of the categories; 0
+    /// outside of the mask. An empty name is the native locale's, and a mixed name gives each
+    /// category its own part (XSH newlocale, setlocale).
+    ///
+    /// `NoData` names the first category of the mask whose locale no block names.
+    pub fn numbers(&self, name: &[u8], mask: Mask) -> Result<[u32; 5], NoData>
+        ensures { MatchResult result (λ ns. numbers self.now name.now mask ≡ Ok ns) (λ e. numbers self.now name.now mask ≡ Err e.category) }
+    {
+        let given = names_given(name);
+        let ctype = self.number_in(mask, Category::Ctype, given[0])?;
+        let numeric = self.number_in(mask, Category::Numeric, given[1])?;
+        let monetary = self.number_in(mask, Category::Monetary, given[2])?;
+        let time = self.number_in(mask, Category::Time, given[3])?;
+        let messages = self.number_in(mask, Category::Messages, given[4])?;
+        Ok([ctype, numeric, monetary, time, messages])
+    }
+
+    /// What a compiled locale offers.
+    fn offer_at(&self, number: u32) -> Offer<Share>
+        ensures { result ≡ offer_at self.now number }
+    {
+        let available = self.compiled(Share { number }).available();
+        Offer {
+            object: object_of(available, number),
+            available,
+        }
+    }
+
+    /// What a name offers at first.
+    fn first_offer(&self, name: &[u8]) -> Offer<Share>
+        ensures { result ≡ first_offer self.now name.now }
+    {
+        match get_named(&self.first, name) {
+            Some(number) => self.offer_at(*number),
+            None => Offer {
+                object: object_of(Mask::all(), 0),
+                available: Mask::of_bits(0).unwrap(),
+            },
+        }
+    }
+
+    /// The number of names, without those of the POSIX locale.
+    fn name_count(&self) -> usize
+        ensures { result ≡ length self.now.names }
+    {
+        self.names.len()
+    }
+
+    /// A name by its place, from 0.
+    fn name_at(&self, i: usize) -> &[u8]
+        ensures { result.now ≡ name_at self.now i }
+    {
+        match self.names.get_index(i) {
+            Some((name, _)) => name.as_slice(),
+            None => b"",
+        }
+    }
+
+    /// What the names offer at first, by their numbers. A name that only a later version has offers
+    /// nothing.
+    pub fn opening(&self, alloc: Global) -> Result<List<Offer<Share>>, AllocError>
+        ensures { IfOk result (λ offers. offers ≡ opening self.now) }
+    {
+        let mut offers = Vec::new(alloc);
+        offers.push(self.offer_at(0))?;
+        for i in 0..self.name_count() {
+            offers.push(self.first_offer(self.name_at(i)))?;
+        }
+        Ok(List::of(offers))
+    }
+
+    /// What a key installs: the number of its name, and what that name offers from then on. `None`
+    /// exactly where no block has the key.
+    pub fn later(&self, key: &[u8]) -> Option<(u32, Offer<Share>)>
+        ensures { result ≡ later self.now key.now }
+    {
+        let number = *get_named(&self.keys, key)?;
+        let name = self.compiled(Share { number }).name();
+        let name_number = get_named(&self.names, name).copied().unwrap_or(0);
+        Some((name_number, self.offer_at(number)))
+    }
+}
+
+/// The object with a number in the categories of a mask, and the POSIX locale in the others.
+fn object_of(mask: Mask, number: u32) -> Object<Share>
+    ensures { result ≡ object_of mask number }
+{
+    let part = |category: Category| Share {
+        number: if mask.has(category) { number } else { 0 },
+    };
+    Object::of(
+        part(Category::Ctype),
+        part(Category::Numeric),
+        part(Category::Monetary),
+        part(Category::Time),
+        part(Category::Messages),
+    )
+}
+
+/// The names that a name gives the categories: the parts of a mixed one, or itself.
+fn names_given(name: &[u8]) -> [&[u8]; 5]
+    ensures { map (λ n. n.now) result ≡ names_given name.now }
+{
+    match read_names(name) {
+        None => [name, name, name, name, name],
+        Some(spans) => [
+            spanned(name, spans[0]),
+            spanned(name, spans[1]),
+            spanned(name, spans[2]),
+            spanned(name, spans[3]),
+            spanned(name, spans[4]),
+        ],
+    }
+}
+
+/// The bytes of a span: its start and its length.
+fn spanned(text: &[u8], span: (usize, usize)) -> &[u8]
+    requires { span.0 + span.1 ≤ length text.now }
+    ensures { result.now ≡ spanned text.now span }
+{
+    &text[span.0..span.0 + span.1]
+}
+
+/// Compiles the locales of sources, or refuses the first fault of their copies.
+fn compile(alloc: Global, sources: &[Source<'_>], first: &Named<u32>) -> Result<Locales, TextFault>
+    requires known { pairs_of first.now ≡ locale_numbers (map source sources.now) }
+    requires few { length sources.now < 2 ^ 31 }
+    ensures { let S = map source sources.now in Gives (λ l. l) result (unless_fault (copy_fault S) (locales_of S)) }
+{
+    let ends = Ends::of(alloc, sources, first)?;
+    match copy_fault(sources, first, &ends) {
+        Some((place, reason)) => Err(TextFault::At(place, reason)),
+        None => Locales::compile(alloc, sources, &ends),
+    }
+}
+
+/// The library of sources, or the first fault of their copies or categories.
+fn library_of(
+    alloc: Global,
+    sources: &[Source<'_>],
+    native: Option<&[u8]>,
+) -> Result<Library, TextFault>
+    requires { length sources.now < 2 ^ 31 }
+    ensures { Gives (λ l. l) result (catalog_from (option_copied native.entry) (map source sources.now)) }
+{
+    let first = locale_numbers(alloc, sources)?;
+    let locales = compile(alloc, sources, &first)?;
+    let names = names_of(alloc, sources)?;
+    let native = native_number(&names, native);
+    let keys = keys_of(alloc, sources)?;
+    Ok(Library::of(locales, names, first, keys, native))
+}
