@@ -1,5 +1,5 @@
 -- Ranges joined, and the least values of two sets.
-use Rattle.std.proofs.Common.{◌≡◌, true, false, List, [], ◌∷◌, Some, None, refl}
+use Rattle.std.proofs.Common.{◌≡◌, true, false, [], ◌∷◌, Some, None, refl}
 use Rattle.class_ranges.specs.Ranges.{covers, ranges_of, first_common}
 
 -- ranges that meet or touch are one

@@ -1,6 +1,5 @@
 -- Ranges of values in order: what they cover, and what stands next in them.
 use Rattle.std.proofs.Common.{◌≡◌, ℕ, ◌+◌, ◌<◌, ◌≤◌, max, Bool, true, false, ◌||◌, ◌⊎◌, inl, inr, ⊎_elim, List, [], ◌∷◌, ◌++◌, length, get_or, take, All, refl, sym, ap, ◌∙◌, arith, leb, ltb, ltb-true, ltb-false, length-append, take_all}
-use Rattle.std.specs.Bool.{◌==◌}
 use Rattle.std.specs.Int.{is_in_range}
 use Rattle.std.proofs.Math.ListN.{get_or-append}
 use Rattle.std.proofs.Math.Seq.{get_or-append_seam}

@@ -1,10 +1,9 @@
 -- Ranges in order, as they follow one another: what they cover, and that there is just one list for each set.
-use Rattle.std.proofs.Common.{◌≡◌, ℕ, zero, suc, ◌+◌, ◌<◌, ◌≤◌, min, max, Bool, true, false, cond, ◌&&◌, ◌||◌, ◌⊎◌, inl, inr, ⊎_elim, List, [], ◌∷◌, length, get_or, drop, Option, Some, None, All, refl, sym, ap, ◌∙◌, arith, ltb, leb}
+use Rattle.std.proofs.Common.{◌≡◌, ℕ, zero, suc, ◌+◌, ◌<◌, ◌≤◌, min, max, Bool, true, false, cond, ◌||◌, ⊎_elim, List, [], ◌∷◌, length, get_or, drop, All, refl, sym, ap, ◌∙◌, arith, ltb}
 use Rattle.std.specs.Int.{is_in_range}
-use Rattle.std.specs.Option.{option_or}
-use Rattle.std.proofs.lemmas.Bool.{cases_lt, cases_order, cond_both, leb-true, leb-false, ltb-true, ltb-false, false≢true, true≢false, and_right}
+use Rattle.std.proofs.lemmas.Bool.{cases_lt, cond_both, ltb-true, ltb-false, true≢false}
 use Rattle.std.proofs.lemmas.Bool.Decides.{nat_tests}
-use Rattle.class_ranges.specs.Ranges.{Range, covers, IsApart, with_range, ranges_of, first_in, first_common, IsLeast}
+use Rattle.class_ranges.specs.Ranges.{Range, covers, IsApart, with_range, ranges_of}
 
 -- ranges in order, the first of which does not begin below a value
 abbrev pub FollowFrom : ℕ → List Range → Type 0

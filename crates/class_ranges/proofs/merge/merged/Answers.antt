@@ -1,7 +1,7 @@
-use Rattle.std.proofs.Common.{arith, ℕ, ◌<◌, ◌≤◌, length, refl, get_or, rules}
+use Rattle.std.proofs.Common.{arith, ◌<◌, ◌≤◌, length, refl, get_or}
 use Rattle.std.proofs.lemmas.Bool.Decides.{nat_tests}
 use Rattle.std.proofs.lemmas.List.{get_or_default}
-use Rattle.class_ranges.proofs.Joining.{joined_none, joined_apart, joined_near, joined_all, start_among}
+use Rattle.class_ranges.proofs.Joining.{joined_none, joined_apart, joined_near}
 use Rattle.class_ranges.proofs.merge.merged.Goals as goal
 use Rattle.class_ranges.proofs.merge.merged.Goals.{then-saturating_sub-gt1+in_ok-push, else-saturating_sub-gt1}
 

@@ -1,5 +1,4 @@
 use Rattle.std.proofs.Common.{rules, ℕ, ◌≡◌, ◌≤◌, ◌∙◌, All, sym}
-use Rattle.std.specs.List.{list_any}
 use Rattle.std.proofs.lemmas.List.Sorted.{IsNonDecreasingBy-from_sort_by_key, list_any-IsPermutation, All-permutation}
 use Rattle.std.specs.Int.{is_in_range}
 use Rattle.class_ranges.specs.Ranges.{covers}
