@@ -7,6 +7,7 @@ use crate::{Library, NoData, Share};
 use lc_base::{Block, ByteText, Category, Later, List, Mask, Place, Reason, TextFault};
 use mask_compose::Offer;
 use std::alloc::{AllocError, Global};
+use std::process::Abort;
 use std::test::Fail;
 
 /// A block: the key of a later version, the name, the charset and the text. A charmap has no
@@ -239,17 +240,29 @@ const FAULTS: [(&[Row], u32, u32, Reason); 15] = [
     ),
 ];
 
-#[test]
-fn refuses_bundles(rt: HostRuntime) -> Result<(), Fail> {
-    for (rows, line, column, reason) in FAULTS {
-        let fault = match build(rt.alloc(), rows, None) {
+/// Checks where and why blocks are refused.
+fn check_faults(
+    rt: &impl Abort,
+    alloc: Global,
+    faults: &[(&[Row], u32, u32, Reason)],
+) -> Result<(), Fail> {
+    for (rows, line, column, reason) in faults {
+        let fault = match build(alloc, rows, None) {
             Ok(_) => None,
             Err(fault) => Some(fault),
         };
-        let place = Place { line, column };
-        assert_eq!(rt; fault, Some(TextFault::At(place, reason)));
+        let place = Place {
+            line: *line,
+            column: *column,
+        };
+        assert_eq!(rt; fault, Some(TextFault::At(place, *reason)));
     }
     Ok(())
+}
+
+#[test]
+fn refuses_bundles(rt: HostRuntime) -> Result<(), Fail> {
+    check_faults(&rt, rt.alloc(), &FAULTS)
 }
 
 /// Two locales over one charmap; one that copies the first of them, and the POSIX locale; and a
@@ -273,17 +286,22 @@ const LOCALES: [(&[u8], u32, &[u8]); 6] = [
     (b"C", 31, b"."),
 ];
 
+/// Checks what a library has under its numbers.
+fn check_locales(rt: &impl Abort, library: &Library, locales: &[(&[u8], u32, &[u8])]) {
+    let mut number = 0u32;
+    for (name, bits, radix) in locales {
+        let compiled = library.compiled(Share { number });
+        assert_eq!(rt; compiled.name(), *name);
+        assert_eq!(rt; compiled.available().bits(), *bits);
+        assert_eq!(rt; compiled.numeric().decimal_point(), *radix);
+        number = number.saturating_add(1);
+    }
+}
+
 #[test]
 fn compiles_locales(rt: HostRuntime) -> Result<(), Fail> {
     let library = build(rt.alloc(), &COMPILED, None).map_err(|_| "refused")?;
-    let mut number = 0u32;
-    for (name, bits, radix) in LOCALES {
-        let compiled = library.compiled(Share { number });
-        assert_eq!(rt; compiled.name(), name);
-        assert_eq!(rt; compiled.available().bits(), bits);
-        assert_eq!(rt; compiled.numeric().decimal_point(), radix);
-        number = number.saturating_add(1);
-    }
+    check_locales(&rt, &library, &LOCALES);
     Ok(())
 }
 
@@ -298,84 +316,80 @@ const NAMED: [Row; 5] = [
 
 const MIXED: &[u8] = b"LC_CTYPE=C;LC_NUMERIC=a;LC_MONETARY=x;LC_TIME=c;LC_MESSAGES=POSIX";
 
-/// Whether the native locale is `a`, a name, the bits of a mask, and the numbers of the name.
-const NUMBERS: [(bool, &[u8], u32, Result<[u32; 5], NoData>); 15] = [
-    (true, b"a", 31, Ok([2, 2, 2, 2, 2])),
-    (true, b"b", 18, Ok([0, 1, 0, 0, 1])),
-    (true, b"c", 2, Ok([0, 3, 0, 0, 0])),
-    (true, b"C", 31, Ok([0, 0, 0, 0, 0])),
-    (true, b"POSIX", 31, Ok([0, 0, 0, 0, 0])),
-    (true, b"", 17, Ok([2, 0, 0, 0, 2])),
-    (false, b"", 31, Ok([0, 0, 0, 0, 0])),
-    (true, b"x", 0, Ok([0, 0, 0, 0, 0])),
+/// A name, the bits of a mask, and the numbers of the name, or the first category whose locale no
+/// block names.
+type Numbered = (&'static [u8], u32, Result<[u32; 5], Category>);
+
+/// Where the native locale is `a`.
+const NUMBERS: [Numbered; 14] = [
+    (b"a", 31, Ok([2, 2, 2, 2, 2])),
+    (b"b", 18, Ok([0, 1, 0, 0, 1])),
+    (b"c", 2, Ok([0, 3, 0, 0, 0])),
+    (b"C", 31, Ok([0, 0, 0, 0, 0])),
+    (b"POSIX", 31, Ok([0, 0, 0, 0, 0])),
+    (b"", 17, Ok([2, 0, 0, 0, 2])),
+    (b"x", 0, Ok([0, 0, 0, 0, 0])),
+    (b"x", 24, Err(Category::Time)),
+    (b"k", 1, Err(Category::Ctype)),
+    (MIXED, 27, Ok([0, 2, 0, 3, 0])),
+    (MIXED, 31, Err(Category::Monetary)),
+    (MIXED, 0, Ok([0, 0, 0, 0, 0])),
     (
-        true,
-        b"x",
-        24,
-        Err(NoData {
-            category: Category::Time,
-        }),
-    ),
-    (
-        true,
-        b"k",
-        1,
-        Err(NoData {
-            category: Category::Ctype,
-        }),
-    ),
-    (true, MIXED, 27, Ok([0, 2, 0, 3, 0])),
-    (
-        true,
-        MIXED,
-        31,
-        Err(NoData {
-            category: Category::Monetary,
-        }),
-    ),
-    (true, MIXED, 0, Ok([0, 0, 0, 0, 0])),
-    (
-        true,
         b"LC_CTYPE=a;LC_NUMERIC=a;LC_MONETARY=a;LC_TIME=a",
         2,
-        Err(NoData {
-            category: Category::Numeric,
-        }),
+        Err(Category::Numeric),
     ),
     (
-        true,
         b"LC_CTYPE=a;LC_NUMERIC=;LC_MONETARY=a;LC_TIME=a;LC_MESSAGES=a",
         3,
-        Err(NoData {
-            category: Category::Ctype,
-        }),
+        Err(Category::Ctype),
     ),
 ];
 
-#[test]
-fn numbers_names(rt: HostRuntime) -> Result<(), Fail> {
-    let native = build(rt.alloc(), &NAMED, Some(b"a")).map_err(|_| "refused")?;
-    let no_native = build(rt.alloc(), &NAMED, None).map_err(|_| "refused")?;
-    for (is_native, name, bits, expected) in NUMBERS {
-        let library = if is_native { &native } else { &no_native };
-        let mask = Mask::of_bits(bits).ok_or("a mask")?;
-        assert_eq!(rt; library.numbers(name, mask), expected);
+/// Where no locale is native.
+const NUMBERS_WITHOUT_NATIVE: [Numbered; 1] = [(b"", 31, Ok([0, 0, 0, 0, 0]))];
+
+/// Checks the numbers of names.
+fn check_numbers(rt: &impl Abort, library: &Library, rows: &[Numbered]) -> Result<(), Fail> {
+    for (name, bits, expected) in rows {
+        let mask = Mask::of_bits(*bits).ok_or("a mask")?;
+        let numbers = match library.numbers(name, mask) {
+            Ok(numbers) => Ok(numbers),
+            Err(NoData { category }) => Err(category),
+        };
+        assert_eq!(rt; numbers, *expected);
     }
     Ok(())
 }
 
-/// The bits of an offer's categories, and the numbers of its LC_NUMERIC and its LC_TIME.
-fn parts_of(offer: &Offer<Share>) -> (u32, u32, u32) {
+#[test]
+fn numbers_names(rt: HostRuntime) -> Result<(), Fail> {
+    let library = build(rt.alloc(), &NAMED, Some(b"a")).map_err(|_| "refused")?;
+    check_numbers(&rt, &library, &NUMBERS)
+}
+
+#[test]
+fn numbers_names_without_native(rt: HostRuntime) -> Result<(), Fail> {
+    let library = build(rt.alloc(), &NAMED, None).map_err(|_| "refused")?;
+    check_numbers(&rt, &library, &NUMBERS_WITHOUT_NATIVE)
+}
+
+/// What an offer has of these.
+fn parts_of(offer: &Offer<Share>) -> Offered {
     let numeric = offer.object.part(Category::Numeric).number;
     let time = offer.object.part(Category::Time).number;
     (offer.available.bits(), numeric, time)
 }
 
+/// What a name offers: the bits of its categories, and the numbers of its LC_NUMERIC and its
+/// LC_TIME.
+type Offered = (u32, u32, u32);
+
 /// What the names offer at first, by their numbers.
-const OPENING: [(u32, u32, u32); 4] = [(31, 0, 0), (2, 3, 0), (10, 2, 2), (0, 0, 0)];
+const OPENING: [Offered; 4] = [(31, 0, 0), (2, 3, 0), (10, 2, 2), (0, 0, 0)];
 
 /// Keys, with the number of the name and what it offers from then on.
-const KEYS: [(&[u8], Option<(u32, (u32, u32, u32))>); 5] = [
+const KEYS: [(&[u8], Option<(u32, Offered)>); 5] = [
     (b"k", Some((1, (2, 1, 0)))),
     (b"l", Some((3, (2, 4, 0)))),
     (b"m", Some((1, (8, 0, 5)))),
@@ -383,22 +397,32 @@ const KEYS: [(&[u8], Option<(u32, (u32, u32, u32))>); 5] = [
     (b"", None),
 ];
 
+/// Checks what names offer.
+fn check_offers(rt: &impl Abort, offers: &[Offer<Share>], expected: &[Offered]) {
+    assert_eq!(rt; offers.len(), expected.len());
+    for (offer, parts) in offers.iter().zip(expected) {
+        assert_eq!(rt; parts_of(offer), *parts);
+    }
+}
+
+/// Checks what keys stand for.
+fn check_keys(rt: &impl Abort, library: &Library, keys: &[(&[u8], Option<(u32, Offered)>)]) {
+    for (key, expected) in keys {
+        let found = match library.later(key) {
+            Some((name, offer)) => Some((name, parts_of(&offer))),
+            None => None,
+        };
+        assert_eq!(rt; found, *expected);
+    }
+}
+
 #[test]
 fn offers_locales(rt: HostRuntime) -> Result<(), Fail> {
     let library = build(rt.alloc(), &NAMED, None).map_err(|_| "refused")?;
     assert_eq!(rt; library.posix().part(Category::Time).number, 0);
     let opening = library.opening(rt.alloc())?;
-    assert_eq!(rt; opening.len(), OPENING.len());
-    for (offer, expected) in opening.as_slice().iter().zip(OPENING) {
-        assert_eq!(rt; parts_of(offer), expected);
-    }
-    for (key, expected) in KEYS {
-        let found = match library.later(key) {
-            Some((name, offer)) => Some((name, parts_of(&offer))),
-            None => None,
-        };
-        assert_eq!(rt; found, expected);
-    }
+    check_offers(&rt, opening.as_slice(), &OPENING);
+    check_keys(&rt, &library, &KEYS);
     Ok(())
 }
 
