@@ -10,17 +10,8 @@ ghost use Rattle.handle_table.specs.Kept.{Keeps};
 
 use crate::kept::Kept;
 use crate::setting::Setting;
-use lc_base::{Category, Mask};
+use lc_base::{CATEGORIES, Category, Mask};
 use mask_compose::{Object, Offer, Part};
-
-/// The categories in their order.
-const CATEGORIES: [Category; 5] = [
-    Category::Ctype,
-    Category::Numeric,
-    Category::Monetary,
-    Category::Time,
-    Category::Messages,
-];
 
 /// The object that a mask and names take from the shelf.
 pub fn from_shelf<P: Part>(

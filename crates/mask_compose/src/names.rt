@@ -5,17 +5,8 @@ ghost use Rattle.std.specs.List.{slice_split};
 ghost use Rattle.std.specs.Option.{option_copied};
 ghost use Rattle.mask_compose.specs.Names.{field, mixed_name, mixed_parts, spans_of, spanned, IsMixedName, are_parts, part_in, is_separator, fields_of, length_after};
 
-use lc_base::{ByteText, Category, after};
+use lc_base::{ByteText, CATEGORIES, Category, after};
 use std::alloc::{AllocError, Global};
-
-/// The categories in the order of a mixed name.
-const CATEGORIES: [Category; 5] = [
-    Category::Ctype,
-    Category::Numeric,
-    Category::Monetary,
-    Category::Time,
-    Category::Messages,
-];
 
 /// The mixed name `LC_CTYPE=a;LC_NUMERIC=b;LC_MONETARY=c;LC_TIME=d;LC_MESSAGES=e` with the locale
 /// names of the categories (XSH setlocale).
