@@ -1,0 +1,4 @@
+pub mod NumberLemmas
+pub mod StepLemmas
+pub mod Whole
+mod Examples

@@ -1,0 +1,14 @@
+pub mod Conversions
+pub mod Formats
+pub mod Eras
+pub mod Segments
+pub mod Times
+pub mod Fields
+pub mod Weeks
+pub mod Keywords
+pub mod Faults
+pub mod TimeValues
+pub mod Values
+pub mod Kept
+pub mod Hits
+pub mod Shown

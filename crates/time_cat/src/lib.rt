@@ -1,0 +1,21 @@
+//! The locale category `LC_TIME` (XBD 7.3.5), times, and the conversions of their formats
+//! (XSH strftime).
+#![tactic(auto)]
+
+mod conversion;
+mod faults;
+mod keywords;
+mod segment;
+mod step;
+mod steps;
+#[cfg(test)]
+mod tests;
+mod texts;
+mod time;
+mod tm;
+
+pub use conversion::{Conversion, Layout, Named, Quantity, Shows, TimeText, conversion_of};
+pub use step::{Step, step_at};
+pub use steps::Steps;
+pub use time::{EraHit, Time};
+pub use tm::{Tm, TmField, TmRange};
