@@ -1,12 +1,12 @@
 -- The characters of a set among ranges, value by value.
-use Rattle.std.proofs.Common.{◌≡◌, ℕ, suc, ◌+◌, ◌<◌, ◌≤◌, ◌⊎◌, inl, inr, min, max, Bool, true, false, cond, ◌&&◌, ◌||◌, ⊎_elim, List, [], ◌∷◌, ◌++◌, length, get_or, take, All, map, refl, sym, ap, ◌∙◌, arith, ltb, leb, eqb}
+use Rattle.std.proofs.Common.{◌≡◌, ℕ, suc, ◌+◌, ◌<◌, ◌≤◌, ◌⊎◌, inl, inr, min, max, Bool, true, false, ◌&&◌, ◌||◌, ⊎_elim, List, [], ◌∷◌, ◌++◌, All, map, refl, sym, ap, ◌∙◌, arith, ltb, leb, eqb}
 use Rattle.std.specs.Int.{is_in_range}
 use Rattle.std.specs.List.{list_any}
-use Rattle.std.proofs.lemmas.Bool.{cases_lt, cond_both, leb-true, leb-false, lt-ltb, le-ltb}
+use Rattle.std.proofs.lemmas.Bool.{cases_lt, cond_both, leb-true, lt-ltb, le-ltb}
 use Rattle.std.proofs.lemmas.Bool.Decides.{nat_tests}
 use Rattle.std.proofs.lemmas.List.Elements.{All-push, All-cons}
 use Rattle.std.proofs.lemmas.List.Folds.{list_any-append}
-use Rattle.class_ranges.specs.Ranges.{Range, covers, IsApart, ranges_of}
+use Rattle.class_ranges.specs.Ranges.{Range, covers, IsApart}
 use Rattle.class_ranges.proofs.Orders.{same-ranges_of, covers-ranges_of}
 use Rattle.charmap_reader.specs.Portable.{Name, is_portable}
 use Rattle.charmap_reader.specs.CodedSet.{CodedSet, utf8, posix, listed, has, has_value, big_endian}

@@ -1,19 +1,18 @@
 -- Keyword lists of LC_CTYPE, and what they define.
-use Rattle.std.proofs.Common.{◌≡◌, ℕ, true, false, List, [], ◌∷◌, Some, None, Ok, Err, refl}
+use Rattle.std.proofs.Common.{◌≡◌, ℕ, true, false, List, [], ◌∷◌, Some, None, Err, refl}
 use Rattle.std.specs.Prelude.{codes}
 use Rattle.lc_base.specs.declared.place.Place.{Place}
-use Rattle.lc_base.specs.declared.reason.Class.TheVariants.{Upper, Alpha, Cntrl, Space, Graph, Punct}
+use Rattle.lc_base.specs.declared.reason.Class.TheVariants.{Alpha, Space, Punct}
 use Rattle.lc_base.specs.declared.reason.Reason.TheVariants.{BadClassName, DigitsNotTen, NotCased, Excluded}
 use Rattle.charmap_reader.specs.CodedSet.{CodedSet, utf8, posix, listed}
 use Rattle.locale_reader.specs.declared.source.Value.{Value}
 use Rattle.locale_reader.specs.declared.source.Value.TheVariants.{Text, Chars, Pair}
 use Rattle.locale_reader.specs.declared.source.Entry.{Entry}
 use Rattle.ctype_classes.specs.Characters.{characters}
-use Rattle.ctype_classes.specs.Classes.{Classes, class_answer, members_of, twelve_classes}
+use Rattle.ctype_classes.specs.Classes.{members_of}
 use Rattle.ctype_classes.specs.Lists.{classes_of}
 use Rattle.ctype_classes.specs.Exclusions.{all_kept_apart}
 use Rattle.ctype_classes.specs.Case.{upper_pairs, lower_pairs, map_of, image}
-use Rattle.ctype_classes.specs.CtypeValues.{CtypeValues}
 use Rattle.ctype_classes.specs.Ctype.{ctype_values, posix_values}
 use Rattle.ctype_classes.specs.Members.{membership}
 

@@ -4,8 +4,6 @@ use Rattle.std.specs.BTreeMap.{insert_entry, is_at}
 use Rattle.std.specs.List.{range_with_len}
 use Rattle.std.specs.Map.{lookup}
 use Rattle.std.specs.Ordering.{nat_cmp}
-use Rattle.lc_base.specs.declared.place.Place.{Place}
-use Rattle.locale_reader.specs.declared.source.Value.{Value}
 use Rattle.locale_reader.specs.declared.source.Entry.{Entry}
 use Rattle.ctype_classes.specs.Lines.{operands_of, pairs_in}
 

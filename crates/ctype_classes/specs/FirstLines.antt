@@ -1,5 +1,5 @@
 -- The operands of the first line of each keyword, as they are kept.
-use Rattle.std.specs.Prelude.{◌≡◌, ℕ, List}
+use Rattle.std.specs.Prelude.{◌≡◌, List}
 use Rattle.std.specs.Option.{option_copied}
 use Rattle.std.specs.Borrow.{Bor}
 use Rattle.lc_base.specs.declared.place.Place.{Place}

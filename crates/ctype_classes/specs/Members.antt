@@ -1,5 +1,5 @@
 -- Membership in a class, value by value: the table of classes with their automatic members (XBD 7.3.1).
-use Rattle.std.specs.Prelude.{◌≡◌, ℕ, Bool, false, ◌||◌, ◌&&◌, List, [], ◌∷◌, ◌++◌, map, codes, Option, unwrap_or, if◌then◌else◌}
+use Rattle.std.specs.Prelude.{ℕ, Bool, false, ◌||◌, ◌&&◌, List, [], ◌∷◌, ◌++◌, map, codes, Option, unwrap_or, if◌then◌else◌}
 use Rattle.lc_base.specs.declared.place.Place.{Place}
 use Rattle.class_ranges.specs.Ranges.{covers}
 use Rattle.charmap_reader.specs.Portable.{Name, first_named}

@@ -1,5 +1,5 @@
 -- The character classes that each locale has, with their automatic members (XBD 7.3.1).
-use Rattle.std.specs.Prelude.{ℕ, List, [], ◌∷◌, codes}
+use Rattle.std.specs.Prelude.{List, [], ◌∷◌, codes}
 use Rattle.class_ranges.specs.Ranges.{Range}
 use Rattle.charmap_reader.specs.Portable.{Name}
 

@@ -4,13 +4,12 @@ ghost use Rattle.std.specs.Prelude.{◌≡◌, ◌++◌, map, IfOk};
 ghost use Rattle.std.specs.Option.{option_copied};
 ghost use Rattle.class_ranges.specs.Ranges.{covers};
 ghost use Rattle.ctype_classes.specs.Lines.{ranges_in};
-ghost use Rattle.ctype_classes.specs.Named.{pairs_of};
 ghost use Rattle.ctype_classes.specs.Rows.{row_of};
 ghost use Rattle.ctype_classes.specs.Classes.{members_of, members_of_all, all_members, listed_members, with_class, with_classes, twelve_classes};
 
 use crate::characters::characters;
 use crate::first_lines::KeywordList;
-use crate::named::{Named, add_named, get_named};
+use crate::named::Named;
 use crate::table::{Row, TABLE};
 use charmap_reader::Charset;
 use class_ranges::Ranges;
@@ -22,9 +21,9 @@ pub type Classes = Named<Ranges>;
 
 /// Whether a class has a value. A class that is not there has none.
 pub fn has_member(classes: &Classes, name: &[u8], w: u32) -> bool
-    ensures { result ≡ covers (members_of (pairs_of classes.now) name.now) w }
+    ensures { result ≡ covers (members_of classes.now name.now) w }
 {
-    match get_named(classes, name) {
+    match classes.get(name) {
         Some(members) => members.contains(w),
         None => false,
     }
@@ -64,11 +63,11 @@ fn add_parts(
     classes: &Classes,
     parts: &[&[u8]],
 ) -> Result<Vec<(u32, u32)>, AllocError>
-    ensures { IfOk result (λ v. v.items ≡ members.items ++ members_of_all (pairs_of classes.now) (map (λ p. p.now) parts.now)) }
+    ensures { IfOk result (λ v. v.items ≡ members.items ++ members_of_all classes.now (map (λ p. p.now) parts.now)) }
 {
     let mut members = members;
     for part in parts {
-        if let Some(ranges) = get_named(classes, part) {
+        if let Some(ranges) = classes.get(part) {
             members.extend_from_slice(ranges.as_slice())?;
         }
     }
@@ -82,7 +81,7 @@ fn all_members(
     classes: &Classes,
     row: &Row<'_>,
 ) -> Result<Vec<(u32, u32)>, AllocError>
-    ensures { IfOk result (λ v. v.items ≡ all_members list.now (pairs_of classes.now) (row_of row.now)) }
+    ensures { IfOk result (λ v. v.items ≡ all_members list.now classes.now (row_of row.now)) }
 {
     let mut members = listed_members(alloc, row.absent, list.operands(row.name))?;
     members.extend_from_slice(row.always)?;
@@ -97,13 +96,11 @@ pub fn with_class(
     classes: Classes,
     row: &Row<'_>,
 ) -> Result<Classes, AllocError>
-    ensures { IfOk result (λ more. pairs_of more ≡ with_class charset.now list.now (pairs_of classes) (row_of row.now)) }
+    ensures { IfOk result (λ more. more ≡ with_class charset.now list.now classes (row_of row.now)) }
 {
-    let mut classes = classes;
     let members = all_members(alloc, list, &classes, row)?;
     let members = characters(alloc, charset, &members)?;
-    add_named(alloc, &mut classes, row.name, members)?;
-    Ok(classes)
+    classes.with(alloc, row.name, members)
 }
 
 /// The classes after those of rows.
@@ -114,7 +111,7 @@ fn with_classes(
     classes: Classes,
     rows: &[Row<'_>],
 ) -> Result<Classes, AllocError>
-    ensures { IfOk result (λ more. pairs_of more ≡ with_classes charset.now list.now (pairs_of classes) (map row_of rows.now)) }
+    ensures { IfOk result (λ more. more ≡ with_classes charset.now list.now classes (map row_of rows.now)) }
 {
     let mut classes = classes;
     for row in rows {
@@ -129,7 +126,7 @@ pub fn twelve_classes(
     charset: &Charset,
     list: &KeywordList<'_>,
 ) -> Result<Classes, AllocError>
-    ensures { IfOk result (λ classes. pairs_of classes ≡ twelve_classes charset.now list.now) }
+    ensures { IfOk result (λ classes. classes ≡ twelve_classes charset.now list.now) }
 {
     with_classes(alloc, charset, list, Classes::new(alloc), &TABLE)
 }

@@ -3,7 +3,6 @@
 ghost use Rattle.std.specs.Prelude.{◌≡◌, ℕ, List, unwrap_or, IfOk};
 ghost use Rattle.lc_base.specs.Reading.{Gives};
 ghost use Rattle.charmap_reader.specs.CodedSet.{set_name};
-ghost use Rattle.ctype_classes.specs.Named.{pairs_of};
 ghost use Rattle.ctype_classes.specs.Case.{image, first_image, upper_pairs, lower_pairs};
 ghost use Rattle.ctype_classes.specs.Classes.{class_answer};
 ghost use Rattle.ctype_classes.specs.Members.{membership};
@@ -14,7 +13,6 @@ use crate::classes::{Classes, twelve_classes};
 use crate::exclusions::check_exclusions;
 use crate::first_lines::KeywordList;
 use crate::lists::classes_of;
-use crate::named::get_named;
 use charmap_reader::Charset;
 use lc_base::{ByteText, List, Place, TextFault};
 use locale_reader::Entry;
@@ -32,11 +30,10 @@ pub struct Ctype {
 
 impl Model for Ctype {
     ghost use Rattle.ctype_classes.specs.CtypeValues.{CtypeValues};
-    ghost use Rattle.ctype_classes.specs.Named.{pairs_of};
 
     ghost Value = { CtypeValues };
 
-    ghost view = { λ c. record { codeset = c.codeset; classes = pairs_of c.classes; upper = c.upper.entries; lower = c.lower.entries } };
+    ghost view = { λ c. record { codeset = c.codeset; classes = c.classes; upper = c.upper.entries; lower = c.lower.entries } };
 }
 
 impl Ctype {
@@ -47,7 +44,7 @@ impl Ctype {
         list: &KeywordList<'_>,
         classes: Classes,
     ) -> Result<Ctype, AllocError>
-        ensures { IfOk result (λ c. c ≡ ctype_with charset.now list.now (pairs_of classes)) }
+        ensures { IfOk result (λ c. c ≡ ctype_with charset.now list.now classes) }
     {
         let upper = upper_pairs(alloc, list)?;
         let lower = lower_pairs(alloc, list, &upper)?;
@@ -113,7 +110,7 @@ impl Ctype {
     pub fn is(&self, class: &[u8], w: u32) -> Option<bool>
         ensures { result ≡ class_answer self.now.classes class.now w }
     {
-        let members = get_named(&self.classes, class)?;
+        let members = self.classes.get(class)?;
         Some(members.contains(w))
     }
 

@@ -4,12 +4,10 @@ ghost use Rattle.std.specs.Prelude.{◌≡◌, ◌&&◌, [], unwrap_or};
 ghost use Rattle.std.specs.Option.{option_copied};
 ghost use Rattle.lc_base.specs.Reading.{Gives};
 ghost use Rattle.class_ranges.specs.Ranges.{IsLeast, covers, first_common};
-ghost use Rattle.ctype_classes.specs.Named.{pairs_of};
 ghost use Rattle.ctype_classes.specs.Classes.{members_of};
 ghost use Rattle.ctype_classes.specs.Exclusions.{class_name, exclusions, common_member, kept_apart, without_space, all_kept_apart};
 
 use crate::classes::{Classes, has_member};
-use crate::named::get_named;
 use class_ranges::Ranges;
 use lc_base::{Class, Place, Reason, TextFault};
 
@@ -71,17 +69,17 @@ fn common(first: Option<&Ranges>, second: Option<&Ranges>) -> Option<u32>
 
 /// The least common member of two classes.
 fn common_member(classes: &Classes, pair: (Class, Class)) -> Option<u32>
-    ensures is { result ≡ common_member (pairs_of classes.now) pair }
-    ensures least { IsLeast (λ w. covers (members_of (pairs_of classes.now) (class_name pair.0)) w && covers (members_of (pairs_of classes.now) (class_name pair.1)) w) result }
+    ensures is { result ≡ common_member classes.now pair }
+    ensures least { IsLeast (λ w. covers (members_of classes.now (class_name pair.0)) w && covers (members_of classes.now (class_name pair.1)) w) result }
 {
-    let first = get_named(classes, class_name(pair.0));
-    let second = get_named(classes, class_name(pair.1));
+    let first = classes.get(class_name(pair.0));
+    let second = classes.get(class_name(pair.1));
     common(first, second)
 }
 
 /// The classes of each pair have no common member.
 fn check_pairs(section: Place, classes: &Classes, pairs: &[(Class, Class)]) -> Result<(), TextFault>
-    ensures { Gives (λ u. u) result (kept_apart section (pairs_of classes.now) pairs.now) }
+    ensures { Gives (λ u. u) result (kept_apart section classes.now pairs.now) }
 {
     for pair in pairs {
         if let Some(w) = common_member(classes, *pair) {
@@ -93,7 +91,7 @@ fn check_pairs(section: Place, classes: &Classes, pairs: &[(Class, Class)]) -> R
 
 /// The space character is not in `punct`.
 fn check_space(section: Place, classes: &Classes) -> Result<(), TextFault>
-    ensures { Gives (λ u. u) result (without_space section (pairs_of classes.now)) }
+    ensures { Gives (λ u. u) result (without_space section classes.now) }
 {
     if has_member(classes, b"punct", 32) {
         return Err(TextFault::At(section, Reason::Excluded(Class::Punct, Class::Space, 32)));
@@ -104,7 +102,7 @@ fn check_space(section: Place, classes: &Classes) -> Result<(), TextFault>
 /// The classes keep to all exclusions.
 #[tactic(auto, unfolding(crate::specs::Exclusions::all_kept_apart))]
 pub fn check_exclusions(section: Place, classes: &Classes) -> Result<(), TextFault>
-    ensures { Gives (λ u. u) result (all_kept_apart section (pairs_of classes.now)) }
+    ensures { Gives (λ u. u) result (all_kept_apart section classes.now) }
 {
     check_pairs(section, classes, &EXCLUSIONS)?;
     check_space(section, classes)

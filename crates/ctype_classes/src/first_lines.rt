@@ -3,10 +3,9 @@
 ghost use Rattle.std.specs.Prelude.{◌≡◌, IfOk};
 ghost use Rattle.std.specs.Option.{option_copied};
 ghost use Rattle.ctype_classes.specs.Lines.{operands_of};
-ghost use Rattle.ctype_classes.specs.Named.{pairs_of};
 ghost use Rattle.ctype_classes.specs.FirstLines.{AreFirstLines};
 
-use crate::named::{Named, add_named, get_named};
+use crate::named::Named;
 use locale_reader::{Entry, Values};
 use std::alloc::{AllocError, Global};
 use std::marker::Model;
@@ -21,23 +20,22 @@ pub struct KeywordList<'a> {
 impl<'a> Model for KeywordList<'a> {
     ghost use Rattle.std.specs.Prelude.{List};
     ghost use Rattle.locale_reader.specs.declared.source.Entry.{Entry as Line};
-    ghost use Rattle.ctype_classes.specs.Named.{pairs_of};
     ghost use Rattle.ctype_classes.specs.FirstLines.{AreFirstLines};
 
     ghost Value = { List Line };
 
     ghost view = { λ l. l.entries.now };
 
-    ghost invariant = { λ l. AreFirstLines l.entries.now (pairs_of l.first) };
+    ghost invariant = { λ l. AreFirstLines l.entries.now l.first };
 }
 
 /// The operands of the first line of each keyword.
 fn first_lines<'a>(alloc: Global, entries: &'a [Entry]) -> Result<Named<&'a Values>, AllocError>
-    ensures { IfOk result (λ lines. AreFirstLines entries.now (pairs_of lines)) }
+    ensures { IfOk result (λ lines. AreFirstLines entries.now lines) }
 {
     let mut lines = Named::new(alloc);
     for entry in entries {
-        add_named(alloc, &mut lines, entry.keyword.as_bytes(), &entry.values)?;
+        lines = lines.with(alloc, entry.keyword.as_bytes(), &entry.values)?;
     }
     Ok(lines)
 }
@@ -61,6 +59,6 @@ impl<'a> KeywordList<'a> {
     pub fn operands(&self, keyword: &[u8]) -> Option<&'a Values>
         ensures { option_copied result ≡ operands_of self.now keyword.now }
     {
-        get_named(&self.first, keyword).copied()
+        self.first.get(keyword).copied()
     }
 }

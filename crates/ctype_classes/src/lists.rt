@@ -7,12 +7,10 @@ ghost use Rattle.std.specs.Str.{bytes_eq};
 ghost use Rattle.lc_base.specs.Reading.{Gives};
 ghost use Rattle.lc_base.specs.declared.reason.Reason.TheVariants.{DigitsNotTen as NotTen, NotCased as Caseless};
 ghost use Rattle.locale_reader.specs.Cells.{seen};
-ghost use Rattle.ctype_classes.specs.Named.{pairs_of};
 ghost use Rattle.ctype_classes.specs.Lists.{is_ten, is_cased, is_cased_pair, each_passes, is_word, is_class_name, is_taken, declaring, declaring_value, declaring_values, after_line, after_lines, classes_of};
 
 use crate::classes::{Classes, has_member, twelve_classes, with_class};
 use crate::first_lines::KeywordList;
-use crate::named::get_named;
 use crate::table::Row;
 use charmap_reader::Charset;
 use lc_base::{Place, Reason, TextFault};
@@ -55,14 +53,14 @@ fn check_digits(operands: &Values) -> Result<(), TextFault>
 
 /// Whether a character has case.
 fn is_cased(classes: &Classes, w: u32) -> bool
-    ensures { result ≡ is_cased (pairs_of classes.now) w }
+    ensures { result ≡ is_cased classes.now w }
 {
     has_member(classes, b"upper", w) || has_member(classes, b"lower", w)
 }
 
 /// Whether both characters of a pair have case.
 fn is_cased_pair(classes: &Classes, value: ValueRef<'_>) -> bool
-    ensures { result ≡ is_cased_pair (pairs_of classes.now) (seen value.entry) }
+    ensures { result ≡ is_cased_pair classes.now (seen value.entry) }
 {
     match value {
         ValueRef::Pair(first, second) => is_cased(classes, first) && is_cased(classes, second),
@@ -72,7 +70,7 @@ fn is_cased_pair(classes: &Classes, value: ValueRef<'_>) -> bool
 
 /// The characters of case pairs have case.
 fn check_pairs(classes: &Classes, operands: &Values) -> Result<(), TextFault>
-    ensures { Gives (λ u. u) result (each_passes (is_cased_pair (pairs_of classes.now)) Caseless operands.now) }
+    ensures { Gives (λ u. u) result (each_passes (is_cased_pair classes.now) Caseless operands.now) }
 {
     let mut walk = operands.walk();
     while let Some((place, value)) = walk.next() {
@@ -114,9 +112,9 @@ fn is_among(names: &[&[u8]], name: &[u8]) -> bool
 
 /// Whether a name is a keyword or that of a class.
 fn is_taken(classes: &Classes, name: &[u8]) -> bool
-    ensures { result ≡ is_taken (pairs_of classes.now) name.now }
+    ensures { result ≡ is_taken classes.now name.now }
 {
-    get_named(classes, name).is_some() || is_among(&OTHER_KEYWORDS, name)
+    classes.get(name).is_some() || is_among(&OTHER_KEYWORDS, name)
 }
 
 /// The classes after one that an operand declares.
@@ -128,7 +126,7 @@ fn declaring(
     place: Place,
     name: &[u8],
 ) -> Result<Classes, TextFault>
-    ensures { Gives pairs_of result (declaring charset.now list.now (pairs_of classes) place name.now) }
+    ensures { Gives (λ c. c) result (declaring charset.now list.now classes place name.now) }
 {
     if !is_class_name(name) || is_taken(&classes, name) {
         return Err(TextFault::At(place, Reason::BadClassName));
@@ -151,7 +149,7 @@ fn declaring_value(
     place: Place,
     value: ValueRef<'_>,
 ) -> Result<Classes, TextFault>
-    ensures { Gives pairs_of result (declaring_value charset.now list.now (pairs_of classes) (place, seen value.entry)) }
+    ensures { Gives (λ c. c) result (declaring_value charset.now list.now classes (place, seen value.entry)) }
 {
     match value {
         ValueRef::Text(name) => declaring(alloc, charset, list, classes, place, name),
@@ -167,7 +165,7 @@ fn declaring_values(
     classes: Classes,
     operands: &Values,
 ) -> Result<Classes, TextFault>
-    ensures { Gives pairs_of result (declaring_values charset.now list.now (pairs_of classes) operands.now) }
+    ensures { Gives (λ c. c) result (declaring_values charset.now list.now classes operands.now) }
 {
     let mut classes = classes;
     let mut walk = operands.walk();
@@ -185,7 +183,7 @@ fn after_line(
     classes: Classes,
     line: &Entry,
 ) -> Result<Classes, TextFault>
-    ensures { Gives pairs_of result (after_line charset.now list.now (pairs_of classes) line.now) }
+    ensures { Gives (λ c. c) result (after_line charset.now list.now classes line.now) }
 {
     let keyword = line.keyword.as_bytes();
     if keyword == CHARCLASS {
@@ -208,7 +206,7 @@ pub fn classes_of(
     charset: &Charset,
     list: &KeywordList<'_>,
 ) -> Result<Classes, TextFault>
-    ensures { Gives pairs_of result (classes_of charset.now list.now) }
+    ensures { Gives (λ c. c) result (classes_of charset.now list.now) }
 {
     let mut classes = twelve_classes(alloc, charset, list)?;
     for line in list.entries() {

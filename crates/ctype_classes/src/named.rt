@@ -1,38 +1,67 @@
 //! Names and what they name.
 
-ghost use Rattle.std.specs.Prelude.{◌≡◌, OnOk};
+ghost use Rattle.std.specs.Prelude.{◌≡◌, [], IfOk};
 ghost use Rattle.std.specs.Option.{option_copied};
 ghost use Rattle.charmap_reader.specs.Portable.{first_named};
-ghost use Rattle.ctype_classes.specs.Named.{pairs_of};
 ghost use Rattle.ctype_classes.specs.Named.{with_named};
 
-use indexmap::IndexMap;
+use lc_base::ByteText;
 use std::alloc::{AllocError, Global};
+use std::collections::BTreeMap;
+use std::marker::Model;
 
-/// Names in the order in which they came, each with what it names, looked up by hash.
-pub type Named<V> = IndexMap<Vec<u8>, V>;
-
-/// What a name names.
-pub fn get_named<'a, V>(named: &'a Named<V>, name: &[u8]) -> Option<&'a V>
-    ensures { option_copied result ≡ first_named (pairs_of named.now) name.now }
-{
-    named.get(name)
+/// Names in the order in which they came, each with what it names, looked up in an ordered map.
+#[derive(Drop)]
+pub struct Named<V> {
+    entries: Vec<(ByteText, V)>,
+    places: BTreeMap<Vec<u8>, usize>,
 }
 
-/// Adds a name, unless it is there already.
-pub fn add_named<V: Drop>(
-    alloc: Global,
-    named: &mut Named<V>,
-    name: &[u8],
-    value: V,
-) -> Result<(), AllocError>
-    ensures { OnOk result (pairs_of named.new ≡ with_named (pairs_of named.old) name.now value) }
-{
-    match get_named(named, name) {
-        Some(_) => Ok(()),
-        None => {
-            named.insert(Vec::from_slice(alloc, name)?, value)?;
-            Ok(())
+impl<V> Model for Named<V> {
+    ghost use Rattle.std.specs.Prelude.{ℕ, List};
+
+    ghost Value = { List (List ℕ × V) };
+
+    ghost use Rattle.ctype_classes.specs.Named.{AreFirstPlaces};
+
+    ghost view = { λ n. n.entries.items };
+
+    ghost invariant = { λ n. AreFirstPlaces n.places n.entries.items };
+}
+
+impl<V> Named<V> {
+    pub fn new(alloc: Global) -> Named<V>
+        ensures { result ≡ [] }
+    {
+        Named {
+            entries: Vec::new(alloc),
+            places: BTreeMap::new(alloc),
         }
+    }
+
+    /// What a name names.
+    pub fn get(&self, name: &[u8]) -> Option<&V>
+        ensures { option_copied result ≡ first_named self.now name.now }
+    {
+        let place = *self.places.get(name)?;
+        Some(&self.entries[place].1)
+    }
+
+    /// The names with one more, unless it is there already.
+    pub fn with(self, alloc: Global, name: &[u8], value: V) -> Result<Named<V>, AllocError>
+    where
+        V: Drop,
+        ensures { IfOk result (λ more. more ≡ with_named self name.now value) }
+    {
+        if self.get(name).is_some() {
+            return Ok(self);
+        }
+        let Named {
+            mut entries,
+            mut places,
+        } = self;
+        places.insert(Vec::from_slice(alloc, name)?, entries.len())?;
+        entries.push((ByteText::of(alloc, name)?, value))?;
+        Ok(Named { entries, places })
     }
 }

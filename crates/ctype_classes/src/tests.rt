@@ -3,6 +3,7 @@ use charmap_reader::{Charset, read_charmap};
 use lc_base::{ByteText, Class, List, Place, Reason, TextFault};
 use locale_reader::{Entry, Value, Values};
 use std::alloc::{AllocError, Global};
+use std::process::Abort;
 use std::test::Fail;
 
 #[derive(Clone, Copy)]
@@ -40,25 +41,28 @@ const FAULTS: [(Line, Reason); 4] = [
     ((b"charclass", &[Name(b"graph")]), Reason::BadClassName),
 ];
 
-/// A line of a keyword list over POSIX, and the exclusion.
-const EXCLUDED: [(Line, (Class, Class, u32)); 4] = [
+/// A line of a keyword list over POSIX, and the exclusion at the header.
+const EXCLUDED: [(Line, Reason); 4] = [
     (
         (b"alpha", &[Chars(95, 95)]),
-        (Class::Alpha, Class::Punct, 95),
+        Reason::Excluded(Class::Alpha, Class::Punct, 95),
     ),
     (
         (b"cntrl", &[Chars(50, 60)]),
-        (Class::Cntrl, Class::Digit, 50),
+        Reason::Excluded(Class::Cntrl, Class::Digit, 50),
     ),
     (
         (b"space", &[Chars(46, 46)]),
-        (Class::Space, Class::Graph, 46),
+        Reason::Excluded(Class::Space, Class::Graph, 46),
     ),
     (
         (b"punct", &[Chars(32, 33)]),
-        (Class::Space, Class::Graph, 32),
+        Reason::Excluded(Class::Space, Class::Graph, 32),
     ),
 ];
+
+/// A value with its upper and its lower case in DEMO.
+const MAPS: [(u32, u32, u32); 4] = [(233, 201, 233), (201, 201, 233), (65, 65, 97), (99, 99, 99)];
 
 fn value_of(alloc: Global, operand: Operand) -> Result<Value, AllocError> {
     Ok(match operand {
@@ -107,6 +111,14 @@ fn posix_classes(rt: HostRuntime) -> Result<(), Fail> {
     Ok(())
 }
 
+/// Checks case maps.
+fn check_maps(rt: &impl Abort, ctype: &Ctype, maps: &[(u32, u32, u32)]) {
+    for (w, upper, lower) in maps {
+        assert_eq!(rt; ctype.upper(*w), *upper);
+        assert_eq!(rt; ctype.lower(*w), *lower);
+    }
+}
+
 #[test]
 fn charmap(rt: HostRuntime) -> Result<(), Fail> {
     let charset = read_charmap(rt.alloc(), b"demo", DEMO, 1)?;
@@ -114,39 +126,37 @@ fn charmap(rt: HostRuntime) -> Result<(), Fail> {
     assert_eq!(rt; demo.is(b"alpha", 33280), Some(true));
     assert_eq!(rt; demo.is(b"alpha", 33282), Some(false));
     assert_eq!(rt; demo.is(b"vowel", 65), None);
-    for (w, upper, lower) in [(233, 201, 233), (201, 201, 233), (65, 65, 97), (99, 99, 99)] {
-        assert_eq!(rt; demo.upper(w), upper);
-        assert_eq!(rt; demo.lower(w), lower);
-    }
+    check_maps(&rt, &demo, &MAPS);
     assert!(rt; demo.codeset() == b"DEMO".as_slice());
     Ok(())
 }
 
-#[test]
-fn refused_lists(rt: HostRuntime) -> Result<(), Fail> {
-    let posix = Charset::portable(rt.alloc())?;
-    for (line, reason) in FAULTS {
-        match built(rt.alloc(), &[line], &posix) {
-            Ok(_) => assert!(rt; false),
-            Err(fault) => assert_eq!(rt;
-                fault,
-                TextFault::At(Place { line: 3, column: 7 }, reason)
-            ),
-        }
-    }
-    for (line, (first, second, w)) in EXCLUDED {
-        match built(rt.alloc(), &[line], &posix) {
-            Ok(_) => assert!(rt; false),
-            Err(fault) => assert_eq!(rt;
-                fault,
-                TextFault::At(
-                    Place { line: 2, column: 1 },
-                    Reason::Excluded(first, second, w)
-                )
-            ),
-        }
+/// Checks why lists of one line are refused, at a place.
+fn check_faults(
+    rt: &impl Abort,
+    alloc: Global,
+    place: Place,
+    faults: &[(Line, Reason)],
+) -> Result<(), Fail> {
+    let posix = Charset::portable(alloc)?;
+    for (line, reason) in faults {
+        let fault = match built(alloc, &[*line], &posix) {
+            Ok(_) => None,
+            Err(fault) => Some(fault),
+        };
+        assert_eq!(rt; fault, Some(TextFault::At(place, *reason)));
     }
     Ok(())
+}
+
+#[test]
+fn refused_lines(rt: HostRuntime) -> Result<(), Fail> {
+    check_faults(&rt, rt.alloc(), Place { line: 3, column: 7 }, &FAULTS)
+}
+
+#[test]
+fn excluding_classes(rt: HostRuntime) -> Result<(), Fail> {
+    check_faults(&rt, rt.alloc(), Place { line: 2, column: 1 }, &EXCLUDED)
 }
 
 #[test]

@@ -1,6 +1,4 @@
-use Rattle.std.proofs.Common.{◌≡◌, ℕ, ◌+◌, ◌-◌, ◌≤◌, ◌||◌, ◌&&◌, ltb, All}
-use Rattle.std.specs.Int.{is_in_range}
-use Rattle.class_ranges.specs.Ranges.{covers}
+use Rattle.std.proofs.Common.{◌+◌, ◌-◌}
 use Rattle.charmap_reader.specs.CodedSet.{has}
 use Rattle.ctype_classes.proofs.CharacterLemmas.{AreAdded}
 use Rattle.ctype_classes.proofs.characters.add_characters.Given as goal

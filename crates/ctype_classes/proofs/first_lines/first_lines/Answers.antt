@@ -1,7 +1,6 @@
-use Rattle.std.proofs.Common.{◌≡◌, ◌+◌, ◌++◌, List, [], ◌∷◌, take, ap, ◌∙◌, sym, refl}
+use Rattle.std.proofs.Common.{◌≡◌, ◌+◌, ◌++◌, [], ◌∷◌, take, ap, ◌∙◌, sym, refl}
 use Rattle.std.proofs.lemmas.List.{take_more}
 use Rattle.locale_reader.specs.declared.source.Entry.{Entry}
-use Rattle.ctype_classes.specs.Named.{pairs_of}
 use Rattle.ctype_classes.proofs.LineLemmas.{first_lines_more}
 use Rattle.ctype_classes.proofs.first_lines.first_lines.Goals as goal
 
@@ -10,4 +9,4 @@ loop-entry-preserved c = λ keyword.
     let entry = c.entry-item.result in
     let cut : take (c.loop-entry.entry-index + 1) c.args.entries.now ≡ take c.loop-entry.entry-index c.args.entries.now ++ entry ∷ [] =
     take_more c.args.entries.now c.loop-entry.entry-index entry c.loop-entry-test.true ∙ ap (λ (e : Entry). take c.loop-entry.entry-index c.args.entries.now ++ e ∷ []) (sym c.entry-item.is) in
-    rw (c.in_ok-add_named.ensures, c.as_bytes.ensures, cut) (first_lines_more (take c.loop-entry.entry-index c.args.entries.now) (pairs_of c.loop-entry.lines) entry _ refl c.loop-entry.invariant keyword)
+    rw (c.in_ok-lines.ensures, c.as_bytes.ensures, cut) (first_lines_more (take c.loop-entry.entry-index c.args.entries.now) c.loop-entry.lines entry _ refl c.loop-entry.invariant keyword)
