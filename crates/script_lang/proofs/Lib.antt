@@ -1,3 +1,6 @@
-pub mod Scripts
-pub mod Blocks
-pub mod Examples
+pub mod KeptLemmas
+pub mod ReadLemmas
+pub mod StepLemmas
+pub mod WordLemmas
+mod WordExamples
+mod BundleExamples

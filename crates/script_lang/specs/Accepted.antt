@@ -1,31 +1,84 @@
 -- The accepted bundle, or the bundle's first fault (our own).
-use Rattle.std.specs.Prelude.{ℕ, List, Ok}
-use Rattle.lc_base.specs.declared.reason.Reason.TheVariants.{NotBuilt}
-use Rattle.lc_base.specs.declared.fault.TextFault.{TextFault}
-use Rattle.lc_base.specs.declared.fault.TextFault.TheVariants.{At}
+use Rattle.std.specs.Prelude.{ℕ, ◌-◌, ◌<◌, ◌≤◌, ◌^◌, List, [], length, Option, Some, None, Ok, Err}
+use Rattle.std.specs.List.{All}
+use Rattle.lc_base.specs.declared.block.Block.{Block}
+use Rattle.lc_base.specs.declared.block.Later.{Later}
+use Rattle.lc_base.specs.declared.reason.Reason.TheVariants.{NoEnd}
 use Rattle.lc_base.specs.Lines.{lines_of}
 use Rattle.lc_base.specs.Reading.{Reads, ◌>>=◌}
-use Rattle.locale_reader.specs.NumericSection.{if_built, numeric_reading}
+use Rattle.script_lang.specs.declared.bundle.TheConstants.{CHARMAP_LIMIT, LOCALE_LIMIT, LATER_LIMIT, THREAD_LIMIT, ROUND_LIMIT, COMMAND_LIMIT}
 use Rattle.script_lang.specs.declared.bundle.Bundle.{Bundle}
-use Rattle.script_lang.specs.declared.bundle.Parts.{Parts}
-use Rattle.script_lang.specs.Bundle.{BundleParts, parts_of, commands_of}
+use Rattle.script_lang.specs.declared.command.Command.{Command}
+use Rattle.script_lang.specs.declared.command.Command.TheVariants.{New, Free, Use, Selected, Setlocale, LocaleName, Info}
+use Rattle.script_lang.specs.declared.command.Placed.{Placed}
+use Rattle.script_lang.specs.declared.command.Target.{Target}
+use Rattle.script_lang.specs.declared.command.Target.TheVariants.{Global, Variable, Handle}
+use Rattle.script_lang.specs.declared.reading.Known.{Known}
+use Rattle.script_lang.specs.declared.reading.Opened.{Opened}
+use Rattle.script_lang.specs.declared.reading.Reading.{Reading}
+use Rattle.script_lang.specs.Reading.{at_first, lines_read}
+use Rattle.script_lang.specs.Spans.{start}
 
--- the refusal of a text of another form
-abbrev pub not_built : TextFault
-not_built = At (record { line = 1; column = 1 }) NotBuilt
+-- what the lines give, unless a block is still open: its directive is at fault, which stands on the line before its text
+abbrev pub finished : Reading → Reads Bundle
+finished r = elim r.begun [ None ↦ Ok r.bundle | Some o ↦ Err (start (o.block.first_line - 1), NoEnd) ]
 
--- the parts, where they lie in the text
-abbrev pub seen_parts : Parts → BundleParts
-seen_parts p = record { name = p.name.now; block = lines_of p.block.now; thread = p.thread.now; script = lines_of p.script.now }
+-- the bundle that lines spell: without known blocks no name is looked for, and with them, and with the names of all threads,
+-- each is
+unfoldable pub bundle_with : Option Known → List (List ℕ) → List (List ℕ) → Reads Bundle
+bundle_with known threads lines = lines_read known (at_first threads) 1 lines >>= finished
 
--- the bundle that the lines spell
-unfoldable pub bundle_reading : List (List ℕ) → Reads Bundle
-bundle_reading lines = do
-  parts ← if_built (parts_of lines)
-  source ← numeric_reading parts.block
-  commands ← if_built (commands_of parts.name parts.script)
-  Ok (record { name = parts.name; source = source; thread = parts.thread; commands = commands })
+-- the blocks of a bundle that are named
+abbrev pub known_of : Bundle → Known
+known_of b = record { charmaps = b.charmaps; locales = b.locales }
 
--- the bundle that a text spells
-abbrev pub bundle_of : List ℕ → Reads Bundle
-bundle_of text = bundle_reading (lines_of text)
+-- the bundle that a text spells, or its first fault: first the lines are read as such, then, where they have no fault, once
+-- more with each name looked for in the whole bundle
+unfoldable pub bundle_of : List ℕ → Reads Bundle
+bundle_of text = bundle_with None [] (lines_of text) >>= λ first. bundle_with (Some (known_of first)) first.threads (lines_of text)
+
+-- ---- what holds of each accepted bundle
+
+-- a block whose text and first line have the sizes that readers of texts take
+pub record IsSized (block : Block) : Type 0 where
+  pub text : length block.text < 2 ^ 31
+  pub line : block.first_line < 2 ^ 31
+
+-- how many threads a handle may be of: where the threads are not known yet, it has the number 0
+abbrev pub thread_count : Option Bundle → ℕ
+thread_count None = 1
+thread_count (Some b) = length b.threads
+
+-- a handle is of one of so many threads
+abbrev pub IsOwned : ℕ → Target → Type 0
+IsOwned threads Global = Unit {0}
+IsOwned threads (Variable name) = Unit {0}
+IsOwned threads (Handle h) = h.owner < threads
+
+-- the handles of a command are
+abbrev pub AreOwned : ℕ → Command → Type 0
+AreOwned threads (New variable mask locale) = Unit {0}
+AreOwned threads (Free named) = IsOwned threads named
+AreOwned threads (Use named) = IsOwned threads named
+AreOwned threads Selected = Unit {0}
+AreOwned threads (Setlocale categories locale) = Unit {0}
+AreOwned threads (LocaleName categories) = Unit {0}
+AreOwned threads (Info item) = Unit {0}
+
+-- a command is one of so many threads', and names no other
+pub record IsPlaced (threads : ℕ) (p : Placed) : Type 0 where
+  pub thread : p.thread < threads
+  pub owned : AreOwned threads p.command
+
+-- the numbers and sizes of what is in a bundle, and the threads of its commands
+pub record IsAccepted (b : Bundle) : Type 0 where
+  pub few_charmaps : length b.charmaps ≤ CHARMAP_LIMIT
+  pub few_locales : length b.locales ≤ LOCALE_LIMIT
+  pub few_later : length b.later ≤ LATER_LIMIT
+  pub few_threads : length b.threads ≤ THREAD_LIMIT
+  pub few_rounds : b.rounds ≤ ROUND_LIMIT
+  pub few_commands : length b.commands ≤ COMMAND_LIMIT
+  pub charmaps : All IsSized b.charmaps
+  pub locales : All IsSized b.locales
+  pub later : All (λ (l : Later). IsSized l.block) b.later
+  pub commands : All (IsPlaced (length b.threads)) b.commands

@@ -1,5 +1,11 @@
 pub mod Names
-pub mod Bundle
+pub mod Spans
+pub mod Words
+pub mod Seen
+pub mod Tables
+pub mod Commands
+pub mod Reading
 pub mod Accepted
+pub mod Kept
 pub mod Output
 pub mod Refusal

@@ -1,4 +1,4 @@
--- Names of locales and threads (our own rules).
+-- Names of locales, charmaps and threads (our own rules).
 use Rattle.std.specs.Prelude.{ℕ, ◌==◌, nat_lt, nat_le, Bool, not, ◌&&◌, ◌||◌, List, length, slice_index, codes}
 use Rattle.std.specs.List.{list_all}
 use Rattle.std.specs.Str.{bytes_eq}
@@ -20,10 +20,18 @@ is_letter_or_digit c = is_letter c || is_digit c
 abbrev pub is_name_byte : ℕ → Bool
 is_name_byte c = is_letter_or_digit c || (c == 95) || (c == 46) || (c == 45) || (c == 64)
 
--- 1 to 64 bytes of a name, and neither `C` nor `POSIX`
-abbrev pub is_locale_name : List ℕ → Bool
-is_locale_name name = nat_lt 0 (length name) && nat_le (length name) LOCALE_NAME_LIMIT && list_all is_name_byte name && not (bytes_eq name (codes "C")) && not (bytes_eq name (codes "POSIX"))
+-- 1 to 64 bytes of a name
+unfoldable pub is_formed : List ℕ → Bool
+is_formed name = nat_lt 0 (length name) && nat_le (length name) LOCALE_NAME_LIMIT && list_all is_name_byte name
+
+-- a formed name that is neither `C` nor `POSIX`
+unfoldable pub is_locale_name : List ℕ → Bool
+is_locale_name name = is_formed name && not (bytes_eq name (codes "C")) && not (bytes_eq name (codes "POSIX"))
+
+-- a formed name that is neither `UTF-8` nor `POSIX`
+unfoldable pub is_charmap_name : List ℕ → Bool
+is_charmap_name name = is_formed name && not (bytes_eq name (codes "UTF-8")) && not (bytes_eq name (codes "POSIX"))
 
 -- a letter and up to 15 letters and digits, and not `GLOBAL`
-abbrev pub is_thread_name : List ℕ → Bool
+unfoldable pub is_thread_name : List ℕ → Bool
 is_thread_name name = nat_lt 0 (length name) && nat_le (length name) THREAD_NAME_LIMIT && is_letter (slice_index name 0) && list_all is_letter_or_digit name && not (bytes_eq name (codes "GLOBAL"))

@@ -9,6 +9,8 @@ use Rattle.script_lang.specs.declared.output.Said.{Said}
 use Rattle.script_lang.specs.declared.output.Said.TheVariants as said
 use Rattle.script_lang.specs.declared.output.Why.{Why}
 use Rattle.script_lang.specs.declared.output.Why.TheVariants as whys
+use Rattle.handle_table.specs.declared.op.Refusal.{Refusal}
+use Rattle.handle_table.specs.declared.op.Refusal.TheVariants as refusals
 use Rattle.handle_table.specs.declared.handle.Handle.{Handle}
 use Rattle.handle_table.specs.declared.handle.Named.{Named}
 use Rattle.handle_table.specs.declared.handle.Named.TheVariants.{Global, Of}
@@ -41,6 +43,7 @@ quoted text = 34 ∷ [] ++ flat_map escaped text ++ 34 ∷ []
 abbrev pub places_text : Places → List ℕ
 places_text places.None = codes "-"
 places_text (places.One p) = decimal p
+places_text (places.Two p q) = decimal p ++ codes "," ++ decimal q
 
 -- the version of the global locale that a line prints
 abbrev pub version_text : Option ℕ → List ℕ
@@ -56,23 +59,29 @@ abbrev pub named_text : List (List ℕ) → Named → List ℕ
 named_text names Global = codes "GLOBAL"
 named_text names (Of h) = handle_text names h
 
+-- why the table refuses a call
+abbrev pub refusal_text : Refusal → List ℕ
+refusal_text (refusals.NoData category) = codes "NoData " ++ category_name category
+refusal_text refusals.GlobalHandle = codes "GlobalHandle"
+refusal_text refusals.NeverMade = codes "NeverMade"
+refusal_text refusals.Stale = codes "Stale"
+refusal_text refusals.TooMany = codes "TooMany"
+refusal_text refusals.AlreadyHeld = codes "AlreadyHeld"
+refusal_text refusals.NotHeld = codes "NotHeld"
+refusal_text refusals.EmptyCell = codes "EmptyCell"
+
 -- why a command is refused
 abbrev pub why_text : Why → List ℕ
 why_text whys.Unset = codes "Unset"
-why_text (whys.NoData category) = codes "NoData " ++ category_name category
-why_text whys.GlobalHandle = codes "GlobalHandle"
-why_text whys.NeverMade = codes "NeverMade"
-why_text whys.Stale = codes "Stale"
-why_text whys.TooMany = codes "TooMany"
-why_text whys.AlreadyHeld = codes "AlreadyHeld"
-why_text whys.NotHeld = codes "NotHeld"
-why_text whys.EmptyCell = codes "EmptyCell"
+why_text whys.BadMask = codes "BadMask"
+why_text (whys.Table refusal) = refusal_text refusal
 
 -- a reply, where the threads have these names
 abbrev pub reply_text : List (List ℕ) → Said → List ℕ
 reply_text names (said.Handle h) = codes "handle " ++ handle_text names h
 reply_text names said.Freed = codes "freed"
 reply_text names (said.Was former) = codes "was " ++ named_text names former
+reply_text names (said.Is selected) = codes "is " ++ named_text names selected
 reply_text names said.Held = codes "held"
 reply_text names said.Released = codes "released"
 reply_text names (said.Name name) = codes "name " ++ name

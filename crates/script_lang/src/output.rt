@@ -3,11 +3,11 @@
 ghost use Rattle.std.specs.Prelude.{◌≡◌, ◌++◌, ◌<◌, [], slice_index_or, IfOk, OnOk};
 ghost use Rattle.std.specs.Fmt.{decimal};
 ghost use Rattle.std.specs.List.{flat_map};
-ghost use Rattle.script_lang.specs.Output.{hex_digit, escaped, quoted, places_text, version_text, handle_text, named_text, why_text, reply_text, caller_text, outcome_text, line_text, printed};
+ghost use Rattle.script_lang.specs.Output.{hex_digit, escaped, quoted, places_text, version_text, handle_text, named_text, refusal_text, why_text, reply_text, caller_text, outcome_text, line_text, printed};
 
-use handle_table::{Handle, Named};
+use handle_table::{Handle, Named, Refusal};
 use itoa::Buffer;
-use lc_base::{ByteText, Category, List};
+use lc_base::{ByteText, List};
 use std::alloc::{AllocError, Global};
 
 /// The positions of a line's entries in the history.
@@ -16,6 +16,8 @@ pub enum Places {
     /// The line made no entry.
     None,
     One(u64),
+    /// A Hold and the Release of it.
+    Two(u64, u64),
 }
 
 /// Why a command is refused.
@@ -23,15 +25,11 @@ pub enum Places {
 pub enum Why {
     /// The command names a variable that no earlier accepted command of the thread bound.
     Unset,
-    /// The locale that is named for this category lacks it.
-    NoData(Category),
-    GlobalHandle,
-    NeverMade,
-    Stale,
-    TooMany,
-    AlreadyHeld,
-    NotHeld,
-    EmptyCell,
+    /// The mask has a bit that no category has.
+    BadMask,
+    /// The table refuses it, or the runner does for want of a locale: no block of the bundle names the
+    /// one that is named for this category.
+    Table(Refusal),
 }
 
 /// A printed reply.
@@ -44,11 +42,13 @@ pub enum Said {
     Freed,
     /// uselocale: what was selected before.
     Was(Named),
+    /// uselocale that asks: what is selected.
+    Is(Named),
     /// hold.
     Held,
     /// release.
     Released,
-    /// setlocale: the name of the category.
+    /// setlocale, also one that asks: the name of the category.
     Name(ByteText),
     /// install: the number of installs so far.
     Installed(u32),
@@ -147,6 +147,11 @@ fn push_places(out: &mut Vec<u8>, places: Places) -> Result<(), AllocError>
     match places {
         Places::None => out.extend_from_slice(b"-"),
         Places::One(place) => push_number(out, place),
+        Places::Two(hold, release) => {
+            push_number(out, hold)?;
+            out.push(b',')?;
+            push_number(out, release)
+        }
     }
 }
 
@@ -174,6 +179,10 @@ fn push_reply(out: &mut Vec<u8>, reply: &Said, threads: &List<ByteText>) -> Resu
         Said::Was(former) => {
             out.extend_from_slice(b"was ")?;
             push_named(out, *former, threads)
+        }
+        Said::Is(named) => {
+            out.extend_from_slice(b"is ")?;
+            push_named(out, *named, threads)
         }
         Said::Name(name) => {
             out.extend_from_slice(b"name ")?;
@@ -231,17 +240,27 @@ fn push_why(out: &mut Vec<u8>, why: Why) -> Result<(), AllocError>
 {
     match why {
         Why::Unset => out.extend_from_slice(b"Unset"),
-        Why::NoData(category) => {
+        Why::BadMask => out.extend_from_slice(b"BadMask"),
+        Why::Table(refusal) => push_table_refusal(out, refusal),
+    }
+}
+
+/// Adds the word of a refusal of the table.
+fn push_table_refusal(out: &mut Vec<u8>, refusal: Refusal) -> Result<(), AllocError>
+    ensures { OnOk result (out.new.items ≡ out.old.items ++ refusal_text refusal) }
+{
+    match refusal {
+        Refusal::NoData(category) => {
             out.extend_from_slice(b"NoData ")?;
             out.extend_from_slice(category.name())
         }
-        Why::GlobalHandle => out.extend_from_slice(b"GlobalHandle"),
-        Why::NeverMade => out.extend_from_slice(b"NeverMade"),
-        Why::Stale => out.extend_from_slice(b"Stale"),
-        Why::TooMany => out.extend_from_slice(b"TooMany"),
-        Why::AlreadyHeld => out.extend_from_slice(b"AlreadyHeld"),
-        Why::NotHeld => out.extend_from_slice(b"NotHeld"),
-        Why::EmptyCell => out.extend_from_slice(b"EmptyCell"),
+        Refusal::GlobalHandle => out.extend_from_slice(b"GlobalHandle"),
+        Refusal::NeverMade => out.extend_from_slice(b"NeverMade"),
+        Refusal::Stale => out.extend_from_slice(b"Stale"),
+        Refusal::TooMany => out.extend_from_slice(b"TooMany"),
+        Refusal::AlreadyHeld => out.extend_from_slice(b"AlreadyHeld"),
+        Refusal::NotHeld => out.extend_from_slice(b"NotHeld"),
+        Refusal::EmptyCell => out.extend_from_slice(b"EmptyCell"),
     }
 }
 

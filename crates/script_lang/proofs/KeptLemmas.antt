@@ -1,0 +1,249 @@
+-- What holds while a bundle is read is kept by each step.
+use Rattle.std.proofs.Common.{◌≡◌, ℕ, ◌+◌, ◌<◌, ◌≤◌, ◌^◌, List, [], ◌∷◌, ◌++◌, length, Option, Some, None, arith, length-append}
+use Rattle.std.specs.List.{All}
+use Rattle.std.proofs.lemmas.List.Elements.{All-push, All-nil}
+use Rattle.lc_base.specs.declared.block.Block.{Block}
+use Rattle.lc_base.specs.declared.block.Later.{Later}
+use Rattle.lc_base.specs.Lines.{ended}
+use Rattle.script_lang.specs.declared.bundle.TheConstants.{THREAD_LIMIT, ROUND_LIMIT, COMMAND_LIMIT}
+use Rattle.script_lang.specs.declared.bundle.Bundle.{Bundle}
+use Rattle.script_lang.specs.declared.command.Command.{Command}
+use Rattle.script_lang.specs.declared.command.Command.TheVariants.{New, Free, Use, Selected, Setlocale, LocaleName, Info}
+use Rattle.script_lang.specs.declared.command.Placed.{Placed}
+use Rattle.script_lang.specs.declared.command.Target.{Target}
+use Rattle.script_lang.specs.declared.command.Target.TheVariants.{Global, Variable, Handle}
+use Rattle.script_lang.specs.declared.reading.BlockKind.{BlockKind}
+use Rattle.script_lang.specs.declared.reading.BlockKind.TheVariants.{Charmap, Locale, Later as LaterKind}
+use Rattle.script_lang.specs.declared.reading.Known.{Known}
+use Rattle.script_lang.specs.declared.reading.Opened.{Opened}
+use Rattle.script_lang.specs.declared.reading.Reading.{Reading}
+use Rattle.script_lang.specs.Reading.{at_first, with_open, with_native, with_current, with_thread, with_round, with_command, with_block, with_line, asked}
+use Rattle.script_lang.specs.Accepted.{IsSized, thread_count, IsOwned, AreOwned, IsPlaced, IsAccepted}
+use Rattle.script_lang.specs.Kept.{HasRoomFor, IsBegun, IsCurrent, begun_size, IsReading}
+
+pub kept_at_first : (threads : List (List ℕ)) → length threads ≤ THREAD_LIMIT → IsReading 0 (at_first threads)
+kept_at_first threads few = record {
+  accepted = record {
+    few_charmaps = omega arith;
+    few_locales = omega arith;
+    few_later = omega arith;
+    few_threads = few;
+    few_rounds = omega arith;
+    few_commands = omega arith;
+    charmaps = All-nil _;
+    locales = All-nil _;
+    later = All-nil _;
+    commands = All-nil _;
+  };
+  current = tt;
+  begun = tt;
+  size = omega arith;
+}
+
+pub kept_with_open : (r : Reading) (kind : BlockKind) (name charset : List ℕ) (n : ℕ) → n + 1 < 2 ^ 31 → HasRoomFor kind r.bundle → IsReading 0 r → IsReading 0 (with_open r kind name charset n)
+kept_with_open r kind name charset n small room k = record { accepted = k.accepted; current = k.current; begun = (room, omega arith, small); size = omega arith }
+
+pub kept_with_native : (r : Reading) (name : List ℕ) → IsReading 0 r → IsReading 0 (with_native r name)
+kept_with_native r name k = record {
+  accepted = record {
+    few_charmaps = k.accepted.few_charmaps;
+    few_locales = k.accepted.few_locales;
+    few_later = k.accepted.few_later;
+    few_threads = k.accepted.few_threads;
+    few_rounds = k.accepted.few_rounds;
+    few_commands = k.accepted.few_commands;
+    charmaps = k.accepted.charmaps;
+    locales = k.accepted.locales;
+    later = k.accepted.later;
+    commands = k.accepted.commands;
+  };
+  current = still r.current k.current;
+  begun = same r.begun k.begun;
+  size = k.size;
+} where
+  still : (current : Option ℕ) → IsCurrent current r.bundle → IsCurrent current (with_native r name).bundle
+  still None h = tt
+  still (Some t) h = h
+
+  room : (kind : BlockKind) → HasRoomFor kind r.bundle → HasRoomFor kind (with_native r name).bundle
+  room Charmap h = h
+  room Locale h = h
+  room (LaterKind key) h = h
+
+  same : (begun : Option Opened) → IsBegun begun r.bundle → IsBegun begun (with_native r name).bundle
+  same None h = tt
+  same (Some o) h = (room o.kind h.0, h.1, h.2)
+
+pub kept_with_current : (r : Reading) (t : ℕ) → t < length r.bundle.threads → IsReading 0 r → IsReading 0 (with_current r t)
+kept_with_current r t lt k = record { accepted = k.accepted; current = lt; begun = k.begun; size = k.size }
+
+-- handles of threads are of more threads, too
+owned_more : (n m : ℕ) → n ≤ m → (t : Target) → IsOwned n t → IsOwned m t
+owned_more n m le Global h = tt
+owned_more n m le (Variable name) h = tt
+owned_more n m le (Handle x) h = omega arith
+
+pub are_owned_more : (n m : ℕ) → n ≤ m → (c : Command) → AreOwned n c → AreOwned m c
+are_owned_more n m le (New variable mask locale) h = tt
+are_owned_more n m le (Free t) h = owned_more n m le t h
+are_owned_more n m le (Use t) h = owned_more n m le t h
+are_owned_more n m le Selected h = tt
+are_owned_more n m le (Setlocale categories locale) h = tt
+are_owned_more n m le (LocaleName categories) h = tt
+are_owned_more n m le (Info item) h = tt
+
+placed_more : (n m : ℕ) → n ≤ m → (ps : List Placed) → All (IsPlaced n) ps → All (IsPlaced m) ps
+placed_more n m le ps all k d lt = let p = all k d lt in record { thread = omega (arith, p.thread); owned = are_owned_more n m le _ p.owned }
+
+pub kept_with_thread : (r : Reading) (name : List ℕ) → length r.bundle.threads < THREAD_LIMIT → IsReading 0 r → IsReading 0 (with_thread r name)
+kept_with_thread r name lt k = record {
+  accepted = record {
+    few_charmaps = k.accepted.few_charmaps;
+    few_locales = k.accepted.few_locales;
+    few_later = k.accepted.few_later;
+    few_threads = simp length-append (omega arith);
+    few_rounds = k.accepted.few_rounds;
+    few_commands = k.accepted.few_commands;
+    charmaps = k.accepted.charmaps;
+    locales = k.accepted.locales;
+    later = k.accepted.later;
+    commands = placed_more (length r.bundle.threads) (length (r.bundle.threads ++ name ∷ [])) (simp length-append (omega arith)) r.bundle.commands k.accepted.commands;
+  };
+  current = simp length-append (omega arith);
+  begun = same r.begun k.begun;
+  size = k.size;
+} where
+  room : (kind : BlockKind) → HasRoomFor kind r.bundle → HasRoomFor kind (with_thread r name).bundle
+  room Charmap h = h
+  room Locale h = h
+  room (LaterKind key) h = h
+
+  same : (begun : Option Opened) → IsBegun begun r.bundle → IsBegun begun (with_thread r name).bundle
+  same None h = tt
+  same (Some o) h = (room o.kind h.0, h.1, h.2)
+
+pub kept_with_round : (r : Reading) → r.bundle.rounds < ROUND_LIMIT → IsReading 0 r → IsReading 0 (with_round r)
+kept_with_round r lt k = record {
+  accepted = record {
+    few_charmaps = k.accepted.few_charmaps;
+    few_locales = k.accepted.few_locales;
+    few_later = k.accepted.few_later;
+    few_threads = k.accepted.few_threads;
+    few_rounds = omega arith;
+    few_commands = k.accepted.few_commands;
+    charmaps = k.accepted.charmaps;
+    locales = k.accepted.locales;
+    later = k.accepted.later;
+    commands = k.accepted.commands;
+  };
+  current = tt;
+  begun = same r.begun k.begun;
+  size = k.size;
+} where
+  room : (kind : BlockKind) → HasRoomFor kind r.bundle → HasRoomFor kind (with_round r).bundle
+  room Charmap h = h
+  room Locale h = h
+  room (LaterKind key) h = h
+
+  same : (begun : Option Opened) → IsBegun begun r.bundle → IsBegun begun (with_round r).bundle
+  same None h = tt
+  same (Some o) h = (room o.kind h.0, h.1, h.2)
+
+pub kept_with_command : (r : Reading) (t : ℕ) (c : Command) → length r.bundle.commands < COMMAND_LIMIT → t < length r.bundle.threads → AreOwned (length r.bundle.threads) c → IsReading 0 r → IsReading 0 (with_command r t c)
+kept_with_command r t c lt thread owned k = record {
+  accepted = record {
+    few_charmaps = k.accepted.few_charmaps;
+    few_locales = k.accepted.few_locales;
+    few_later = k.accepted.few_later;
+    few_threads = k.accepted.few_threads;
+    few_rounds = k.accepted.few_rounds;
+    few_commands = simp length-append (omega arith);
+    charmaps = k.accepted.charmaps;
+    locales = k.accepted.locales;
+    later = k.accepted.later;
+    commands = All-push (IsPlaced (length r.bundle.threads)) r.bundle.commands (record { round = r.bundle.rounds; thread = t; command = c }) k.accepted.commands (record { thread = thread; owned = owned });
+  };
+  current = still r.current k.current;
+  begun = same r.begun k.begun;
+  size = k.size;
+} where
+  still : (current : Option ℕ) → IsCurrent current r.bundle → IsCurrent current (with_command r t c).bundle
+  still None h = tt
+  still (Some t) h = h
+
+  room : (kind : BlockKind) → HasRoomFor kind r.bundle → HasRoomFor kind (with_command r t c).bundle
+  room Charmap h = h
+  room Locale h = h
+  room (LaterKind key) h = h
+
+  same : (begun : Option Opened) → IsBegun begun r.bundle → IsBegun begun (with_command r t c).bundle
+  same None h = tt
+  same (Some o) h = (room o.kind h.0, h.1, h.2)
+
+-- a block that is closed
+more_charmaps : (b : Bundle) (block : Block) → IsAccepted b → HasRoomFor Charmap b → IsSized block → IsAccepted (record b { charmaps = b.charmaps ++ block ∷ [] })
+more_charmaps b block a room sized = record {
+  few_charmaps = simp length-append (omega arith);
+  few_locales = a.few_locales;
+  few_later = a.few_later;
+  few_threads = a.few_threads;
+  few_rounds = a.few_rounds;
+  few_commands = a.few_commands;
+  charmaps = All-push IsSized b.charmaps block a.charmaps sized;
+  locales = a.locales;
+  later = a.later;
+  commands = a.commands;
+}
+
+more_locales : (b : Bundle) (block : Block) → IsAccepted b → HasRoomFor Locale b → IsSized block → IsAccepted (record b { locales = b.locales ++ block ∷ [] })
+more_locales b block a room sized = record {
+  few_charmaps = a.few_charmaps;
+  few_locales = simp length-append (omega arith);
+  few_later = a.few_later;
+  few_threads = a.few_threads;
+  few_rounds = a.few_rounds;
+  few_commands = a.few_commands;
+  charmaps = a.charmaps;
+  locales = All-push IsSized b.locales block a.locales sized;
+  later = a.later;
+  commands = a.commands;
+}
+
+more_later : (b : Bundle) (key : List ℕ) (block : Block) → IsAccepted b → HasRoomFor (LaterKind key) b → IsSized block → IsAccepted (record b { later = b.later ++ (record { key = key; block = block }) ∷ [] })
+more_later b key block a room sized = record {
+  few_charmaps = a.few_charmaps;
+  few_locales = a.few_locales;
+  few_later = simp length-append (omega arith);
+  few_threads = a.few_threads;
+  few_rounds = a.few_rounds;
+  few_commands = a.few_commands;
+  charmaps = a.charmaps;
+  locales = a.locales;
+  later = All-push (λ (l : Later). IsSized l.block) b.later (record { key = key; block = block }) a.later sized;
+  commands = a.commands;
+}
+
+pub kept_with_block : (b : Bundle) (current : Option ℕ) (kind : BlockKind) (block : Block) → IsAccepted b → IsCurrent current b → HasRoomFor kind b → IsSized block → IsReading 0 (with_block b current kind block)
+kept_with_block b None Charmap block a h room sized = record { accepted = more_charmaps b block a room sized; current = tt; begun = tt; size = omega arith }
+kept_with_block b (Some t) Charmap block a h room sized = record { accepted = more_charmaps b block a room sized; current = h; begun = tt; size = omega arith }
+kept_with_block b None Locale block a h room sized = record { accepted = more_locales b block a room sized; current = tt; begun = tt; size = omega arith }
+kept_with_block b (Some t) Locale block a h room sized = record { accepted = more_locales b block a room sized; current = h; begun = tt; size = omega arith }
+kept_with_block b None (LaterKind key) block a h room sized = record { accepted = more_later b key block a room sized; current = tt; begun = tt; size = omega arith }
+kept_with_block b (Some t) (LaterKind key) block a h room sized = record { accepted = more_later b key block a room sized; current = h; begun = tt; size = omega arith }
+
+pub kept_with_line : (b : Bundle) (current : Option ℕ) (o : Opened) (line : List ℕ) → IsAccepted b → IsCurrent current b → HasRoomFor o.kind b → (0 < o.block.first_line) × (o.block.first_line < 2 ^ 31) → IsReading (length o.block.text + length line + 1) (with_line b current o line)
+kept_with_line b current o line a h room first = record { accepted = a; current = h; begun = (room, first.0, first.1); size = simp length-append (omega arith) }
+
+-- a larger bound
+pub kept_more : (n m : ℕ) (r : Reading) → n ≤ m → IsReading n r → IsReading m r
+kept_more n m r le k = record { accepted = k.accepted; current = k.current; begun = k.begun; size = omega (arith, k.size) }
+
+-- the handles of a command are of the threads that the bundle has by then
+pub owned_by_asked : (known : Option Known) (r : Reading) (c : Command) → 0 < length r.bundle.threads → AreOwned (thread_count (asked known r)) c → AreOwned (length r.bundle.threads) c
+owned_by_asked None r c some h = are_owned_more 1 (length r.bundle.threads) (omega arith) c h
+owned_by_asked (Some known) r c some h = h
+
+-- so many threads may be named
+pub few_asked : (known : Option Known) (r : Reading) → length r.bundle.threads ≤ THREAD_LIMIT → thread_count (asked known r) ≤ THREAD_LIMIT
+few_asked None r few = omega arith
+few_asked (Some known) r few = few

@@ -1,0 +1,319 @@
+//! Commands, from their words.
+
+ghost use Rattle.std.specs.Prelude.{◌≡◌, ℕ, ◌<◌, ◌≤◌, IfOk, IfSome, option_map};
+ghost use Rattle.std.specs.Option.{option_copied};
+ghost use Rattle.lc_base.specs.declared.fault.TextFault.TheVariants.{At};
+ghost use Rattle.lc_base.specs.declared.reason.Reason.TheVariants.{BadLine};
+ghost use Rattle.lc_base.specs.declared.reason.LinePart.TheVariants.{Argument};
+ghost use Rattle.lc_base.specs.Reading.{Gives};
+ghost use Rattle.script_lang.specs.Seen.{seen_handle};
+ghost use Rattle.script_lang.specs.Accepted.{thread_count, IsOwned, AreOwned};
+ghost use Rattle.script_lang.specs.Spans.{span, spans};
+ghost use Rattle.script_lang.specs.Words.{text_of_word, categories_of_word, mask_of_word, variable_of_word, handle_of_word};
+ghost use Rattle.script_lang.specs.Commands.{or_wrong, argument, read_as, no_more, is_over, thread_number, handle, target, item, base_word, new_words, new_command, free_command, selection, use_command, setlocale_command, info_command, command_of, command};
+
+use crate::bundle::{Bundle, THREAD_LIMIT};
+use crate::command::{Categories, Command, Item, Target};
+use crate::names::is_thread_name;
+use crate::piece::Piece;
+use crate::table::{Verb, command_named, item_named};
+use crate::word::{
+    WrittenHandle, categories_of_word, handle_of_word, mask_of_word, text_of_word, variable_of_word,
+};
+use handle_table::Handle;
+use lc_base::{ByteText, LinePart, Place, Reason, TextFault};
+use std::alloc::Global;
+
+/// The refusal of a wrong, missing or needless word at this place.
+fn wrong_word(place: Place) -> TextFault
+    ensures { result ≡ At place (BadLine Argument) }
+{
+    TextFault::At(place, Reason::BadLine(LinePart::Argument))
+}
+
+/// The next word, and what follows it.
+#[tactic(auto, unfolding(crate::specs::Commands::argument))]
+fn argument(rest: Piece<'_>) -> Result<(Piece<'_>, Piece<'_>), TextFault>
+    ensures { Gives spans result (argument (span rest.entry)) }
+{
+    rest.next_word().ok_or(wrong_word(rest.end()))
+}
+
+/// Nothing follows but blanks.
+#[tactic(auto, unfolding(crate::specs::Commands::no_more))]
+fn no_more(rest: Piece<'_>) -> Result<(), TextFault>
+    ensures { Gives (λ x. x) result (no_more (span rest.entry)) }
+{
+    match rest.next_word() {
+        None => Ok(()),
+        Some((word, _)) => Err(wrong_word(word.place)),
+    }
+}
+
+/// Whether nothing follows but blanks.
+#[tactic(auto, unfolding(crate::specs::Commands::is_over))]
+pub fn is_over(rest: Piece<'_>) -> bool
+    ensures { result ≡ is_over (span rest.entry) }
+{
+    rest.next_word().is_none()
+}
+
+/// A variable, and what follows it.
+#[tactic(auto, unfolding(crate::specs::Commands::read_as))]
+fn variable(alloc: Global, rest: Piece<'_>) -> Result<(ByteText, Piece<'_>), TextFault>
+    ensures { Gives (λ x. (x.0, span x.1)) result (read_as variable_of_word (span rest.entry)) }
+{
+    let (word, rest) = argument(rest)?;
+    match variable_of_word(alloc, word.bytes)? {
+        Some(name) => Ok((name, rest)),
+        None => Err(wrong_word(word.place)),
+    }
+}
+
+/// The bits of a mask, and what follows it.
+#[tactic(auto, unfolding(crate::specs::Commands::read_as))]
+fn mask(rest: Piece<'_>) -> Result<(u32, Piece<'_>), TextFault>
+    ensures { Gives (λ x. (x.0, span x.1)) result (read_as mask_of_word (span rest.entry)) }
+{
+    let (word, rest) = argument(rest)?;
+    match mask_of_word(word.bytes) {
+        Some(bits) => Ok((bits, rest)),
+        None => Err(wrong_word(word.place)),
+    }
+}
+
+/// The name of a locale, and what follows it.
+#[tactic(auto, unfolding(crate::specs::Commands::read_as))]
+fn locale(alloc: Global, rest: Piece<'_>) -> Result<(ByteText, Piece<'_>), TextFault>
+    ensures { Gives (λ x. (x.0, span x.1)) result (read_as text_of_word (span rest.entry)) }
+{
+    let (word, rest) = argument(rest)?;
+    match text_of_word(alloc, word.bytes)? {
+        Some(name) => Ok((name, rest)),
+        None => Err(wrong_word(word.place)),
+    }
+}
+
+/// The categories of a setlocale, and what follows them.
+#[tactic(auto, unfolding(crate::specs::Commands::read_as))]
+fn categories(rest: Piece<'_>) -> Result<(Categories, Piece<'_>), TextFault>
+    ensures { Gives (λ x. (x.0, span x.1)) result (read_as categories_of_word (span rest.entry)) }
+{
+    let (word, rest) = argument(rest)?;
+    match categories_of_word(word.bytes) {
+        Some(categories) => Ok((categories, rest)),
+        None => Err(wrong_word(word.place)),
+    }
+}
+
+/// The number of a thread; 0 where the threads of the bundle are not known yet.
+fn thread_number(known: Option<&Bundle>, name: &[u8]) -> Option<u32>
+    requires { thread_count (option_copied known) ≤ THREAD_LIMIT }
+    ensures is { result ≡ thread_number (option_copied known.entry) name.now }
+    ensures owned { IfSome result (λ n. n < thread_count (option_copied known.entry)) }
+{
+    match known {
+        None => Some(0),
+        Some(bundle) => bundle.thread_number(name),
+    }
+}
+
+/// The handle that a word is.
+fn handle(
+    known: Option<&Bundle>,
+    word: Piece<'_>,
+    written: WrittenHandle<'_>,
+) -> Result<Target, TextFault>
+    requires { thread_count (option_copied known) ≤ THREAD_LIMIT }
+    ensures is { Gives (λ x. x) result (handle (option_copied known.entry) (span word.entry) (seen_handle written.entry)) }
+    ensures owned { IfOk result (IsOwned (thread_count (option_copied known.entry))) }
+{
+    let Some(owner) = thread_number(known, written.thread) else {
+        return Err(TextFault::At(word.place, Reason::NoThread));
+    };
+    Ok(Target::Handle(Handle {
+        owner,
+        row: written.row,
+        generation: written.generation,
+    }))
+}
+
+/// What a word names: `GLOBAL`, a variable or a handle.
+#[tactic(auto, unfolding(crate::specs::Commands::target))]
+fn target(alloc: Global, known: Option<&Bundle>, word: Piece<'_>) -> Result<Target, TextFault>
+    requires { thread_count (option_copied known) ≤ THREAD_LIMIT }
+    ensures is { Gives (λ x. x) result (target (option_copied known.entry) (span word.entry)) }
+    ensures owned { IfOk result (IsOwned (thread_count (option_copied known.entry))) }
+{
+    if word.bytes == b"GLOBAL".as_slice() {
+        return Ok(Target::Global);
+    }
+    if is_thread_name(word.bytes) {
+        return Ok(Target::Variable(ByteText::of(alloc, word.bytes)?));
+    }
+    match handle_of_word(word.bytes) {
+        Some(written) => handle(known, word, written),
+        None => Err(wrong_word(word.place)),
+    }
+}
+
+/// The item of a word.
+#[tactic(auto, unfolding(crate::specs::Commands::item))]
+fn item(word: Piece<'_>) -> Result<Item, TextFault>
+    ensures { Gives (λ x. x) result (item (span word.entry)) }
+{
+    match item_named(word.bytes) {
+        Some(Some(item)) => Ok(item),
+        Some(None) => Err(TextFault::At(word.place, Reason::NotBuilt)),
+        None => Err(wrong_word(word.place)),
+    }
+}
+
+/// The base of `new`, its fourth word.
+#[tactic(auto, unfolding(crate::specs::Commands::base_word))]
+fn base_word(rest: Piece<'_>) -> Option<Piece<'_>>
+    ensures { option_map span result ≡ base_word (span rest.entry) }
+{
+    let (_, rest) = rest.next_word()?;
+    let (_, rest) = rest.next_word()?;
+    let (_, rest) = rest.next_word()?;
+    let (base, _) = rest.next_word()?;
+    Some(base)
+}
+
+/// `new N MASK LOC`.
+#[tactic(auto, unfolding(crate::specs::Commands::new_words))]
+fn new_words(alloc: Global, rest: Piece<'_>) -> Result<Command, TextFault>
+    ensures is { Gives (λ x. x) result (new_words (span rest.entry)) }
+    ensures owned { (n : ℕ) → IfOk result (AreOwned n) }
+{
+    let (variable, rest) = variable(alloc, rest)?;
+    let (mask, rest) = mask(rest)?;
+    let (locale, rest) = locale(alloc, rest)?;
+    no_more(rest)?;
+    Ok(Command::New {
+        variable,
+        mask,
+        locale,
+    })
+}
+
+/// `new`, whose base is not built yet.
+#[tactic(auto, unfolding(crate::specs::Commands::new_command))]
+fn new_command(alloc: Global, rest: Piece<'_>) -> Result<Command, TextFault>
+    ensures is { Gives (λ x. x) result (new_command (span rest.entry)) }
+    ensures owned { (n : ℕ) → IfOk result (AreOwned n) }
+{
+    match base_word(rest) {
+        None => new_words(alloc, rest),
+        Some(word) => Err(TextFault::At(word.place, Reason::NotBuilt)),
+    }
+}
+
+/// `free H`.
+#[tactic(auto, unfolding(crate::specs::Commands::free_command))]
+fn free_command(
+    alloc: Global,
+    known: Option<&Bundle>,
+    rest: Piece<'_>,
+) -> Result<Command, TextFault>
+    requires { thread_count (option_copied known) ≤ THREAD_LIMIT }
+    ensures is { Gives (λ x. x) result (free_command (option_copied known.entry) (span rest.entry)) }
+    ensures owned { IfOk result (AreOwned (thread_count (option_copied known.entry))) }
+{
+    let (word, rest) = argument(rest)?;
+    let named = target(alloc, known, word)?;
+    no_more(rest)?;
+    Ok(Command::Free(named))
+}
+
+/// `?`, or what is selected.
+fn selection(alloc: Global, known: Option<&Bundle>, word: Piece<'_>) -> Result<Command, TextFault>
+    requires { thread_count (option_copied known) ≤ THREAD_LIMIT }
+    ensures is { Gives (λ x. x) result (selection (option_copied known.entry) (span word.entry)) }
+    ensures owned { IfOk result (AreOwned (thread_count (option_copied known.entry))) }
+{
+    if word.bytes == b"?".as_slice() {
+        return Ok(Command::Selected);
+    }
+    Ok(Command::Use(target(alloc, known, word)?))
+}
+
+/// `use H`, `use ?`.
+#[tactic(auto, unfolding(crate::specs::Commands::use_command))]
+fn use_command(alloc: Global, known: Option<&Bundle>, rest: Piece<'_>) -> Result<Command, TextFault>
+    requires { thread_count (option_copied known) ≤ THREAD_LIMIT }
+    ensures is { Gives (λ x. x) result (use_command (option_copied known.entry) (span rest.entry)) }
+    ensures owned { IfOk result (AreOwned (thread_count (option_copied known.entry))) }
+{
+    let (word, rest) = argument(rest)?;
+    let command = selection(alloc, known, word)?;
+    no_more(rest)?;
+    Ok(command)
+}
+
+/// `setlocale CAT LOC`, `setlocale CAT`.
+#[tactic(auto, unfolding(crate::specs::Commands::setlocale_command))]
+fn setlocale_command(alloc: Global, rest: Piece<'_>) -> Result<Command, TextFault>
+    ensures is { Gives (λ x. x) result (setlocale_command (span rest.entry)) }
+    ensures owned { (n : ℕ) → IfOk result (AreOwned n) }
+{
+    let (categories, rest) = categories(rest)?;
+    if is_over(rest) {
+        return Ok(Command::LocaleName(categories));
+    }
+    let (locale, rest) = locale(alloc, rest)?;
+    no_more(rest)?;
+    Ok(Command::Setlocale { categories, locale })
+}
+
+/// `info ITEM`.
+#[tactic(auto, unfolding(crate::specs::Commands::info_command))]
+fn info_command(rest: Piece<'_>) -> Result<Command, TextFault>
+    ensures is { Gives (λ x. x) result (info_command (span rest.entry)) }
+    ensures owned { (n : ℕ) → IfOk result (AreOwned n) }
+{
+    let (word, rest) = argument(rest)?;
+    let item = item(word)?;
+    no_more(rest)?;
+    Ok(Command::Info(item))
+}
+
+/// The command of a verb.
+fn command_of(
+    alloc: Global,
+    known: Option<&Bundle>,
+    verb: Verb,
+    rest: Piece<'_>,
+) -> Result<Command, TextFault>
+    requires { thread_count (option_copied known) ≤ THREAD_LIMIT }
+    ensures is { Gives (λ x. x) result (command_of (option_copied known.entry) verb (span rest.entry)) }
+    ensures owned { IfOk result (AreOwned (thread_count (option_copied known.entry))) }
+{
+    match verb {
+        Verb::New => new_command(alloc, rest),
+        Verb::Free => free_command(alloc, known, rest),
+        Verb::Use => use_command(alloc, known, rest),
+        Verb::Setlocale => setlocale_command(alloc, rest),
+        Verb::Info => info_command(rest),
+    }
+}
+
+/// The command with this first word and the rest of its line.
+#[tactic(auto, unfolding(crate::specs::Commands::command))]
+pub fn command(
+    alloc: Global,
+    known: Option<&Bundle>,
+    word: Piece<'_>,
+    rest: Piece<'_>,
+) -> Result<Command, TextFault>
+    requires { thread_count (option_copied known) ≤ THREAD_LIMIT }
+    ensures is { Gives (λ x. x) result (command (option_copied known.entry) (span word.entry) (span rest.entry)) }
+    ensures owned { IfOk result (AreOwned (thread_count (option_copied known.entry))) }
+{
+    match command_named(word.bytes) {
+        Some(Some(verb)) => command_of(alloc, known, verb, rest),
+        Some(None) => Err(TextFault::At(word.place, Reason::NotBuilt)),
+        None => Err(TextFault::At(word.place, Reason::BadLine(LinePart::Command))),
+    }
+}

@@ -1,0 +1,302 @@
+//! The lines of a bundle, read one after another.
+
+ghost use Rattle.std.specs.Prelude.{◌≡◌, ℕ, ◌+◌, ◌<◌, ◌≤◌, ◌^◌, ◌++◌, length, IfOk, Ok};
+ghost use Rattle.std.specs.Option.{option_copied};
+ghost use Rattle.lc_base.specs.Lines.{lines_of, ended};
+ghost use Rattle.lc_base.specs.Reading.{Gives};
+ghost use Rattle.script_lang.specs.Spans.{span, whole_line};
+ghost use Rattle.script_lang.specs.Reading.{asked, begins_with, command_line, outside, more_blocks, with_block, with_line, inside, line_read, at_first, lines_read};
+ghost use Rattle.script_lang.specs.Accepted.{thread_count, IsAccepted, IsSized, finished, bundle_with, known_of};
+ghost use Rattle.script_lang.specs.Kept.{HasRoomFor, IsBegun, IsCurrent, begun_size, IsReading};
+
+use crate::arguments::command;
+use crate::bundle::{Bundle, COMMAND_LIMIT, THREAD_LIMIT};
+use crate::directive::directive_line;
+use crate::lists::with_value;
+use crate::piece::Piece;
+use crate::reading::{BlockKind, Known, Opened, Reading};
+use crate::steps::{at_first, with_command};
+use lc_base::{Block, ByteText, Later, Limit, LinePart, List, Place, Reason, TextFault, next_line};
+use std::alloc::{AllocError, Global};
+
+/// The bundle whose threads are all known, in the second phase.
+fn asked<'a>(known: Option<&Known>, reading: &'a Reading) -> Option<&'a Bundle>
+    ensures { option_copied result ≡ asked (option_copied known.entry) reading.now }
+{
+    match known {
+        None => None,
+        Some(_) => Some(&reading.bundle),
+    }
+}
+
+/// A line with this first word and the rest of it.
+#[tactic(auto, using(crate::proofs::KeptLemmas::few_asked), unfolding(crate::specs::Reading::command_line))]
+fn command_line(
+    alloc: Global,
+    known: Option<&Known>,
+    reading: Reading,
+    word: Piece<'_>,
+    rest: Piece<'_>,
+) -> Result<Reading, TextFault>
+    requires { IsReading 0 reading }
+    ensures is { Gives (λ r. r) result (command_line (option_copied known.entry) reading (span word.entry) (span rest.entry)) }
+    ensures kept { IfOk result (IsReading 0) }
+{
+    let Some(thread) = reading.current else {
+        return Err(TextFault::At(word.place, Reason::BadLine(LinePart::Thread)));
+    };
+    if reading.bundle.commands.len() >= COMMAND_LIMIT {
+        return Err(TextFault::At(word.place, Reason::OverLimit(Limit::Commands)));
+    }
+    let command = command(alloc, asked(known, &reading), word, rest)?;
+    Ok(with_command(reading, thread, command)?)
+}
+
+/// Whether a text begins with this byte.
+fn begins_with(c: u8, bytes: &[u8]) -> bool
+    ensures { result ≡ begins_with c bytes.now }
+{
+    match bytes {
+        [] => false,
+        [first, ..] => *first == c,
+    }
+}
+
+/// A line outside of blocks.
+#[tactic(auto, unfolding(crate::specs::Reading::outside))]
+fn outside(
+    alloc: Global,
+    known: Option<&Known>,
+    reading: Reading,
+    number: u32,
+    line: &[u8],
+) -> Result<Reading, TextFault>
+    requires short { length line.now < 2 ^ 31 }
+    requires number { number + length line.now ≤ 2 ^ 31 }
+    requires kept { IsReading 0 reading }
+    ensures is { Gives (λ r. r) result (outside (option_copied known.entry) reading number line.now) }
+    ensures kept { IfOk result (IsReading 0) }
+{
+    if begins_with(b'.', line) {
+        return directive_line(alloc, known, reading, number, line);
+    }
+    match Piece::whole_line(number, line).next_word() {
+        None => Ok(reading),
+        Some((word, _)) if begins_with(b'#', word.bytes) => Ok(reading),
+        Some((word, rest)) => command_line(alloc, known, reading, word, rest),
+    }
+}
+
+/// The bundle with one more block of this kind.
+fn more_blocks(bundle: Bundle, kind: BlockKind, block: Block) -> Result<Bundle, AllocError>
+    ensures { IfOk result (λ b. b ≡ more_blocks bundle kind block) }
+{
+    let mut bundle = bundle;
+    match kind {
+        BlockKind::Charmap => bundle.charmaps = with_value(bundle.charmaps, block)?,
+        BlockKind::Locale => bundle.locales = with_value(bundle.locales, block)?,
+        BlockKind::Later(key) => bundle.later = with_value(bundle.later, Later { key, block })?,
+    }
+    Ok(bundle)
+}
+
+/// A block that is closed.
+fn with_block(
+    bundle: Bundle,
+    current: Option<u32>,
+    kind: BlockKind,
+    block: Block,
+) -> Result<Reading, AllocError>
+    requires accepted { IsAccepted bundle }
+    requires current { IsCurrent current bundle }
+    requires room { HasRoomFor kind bundle }
+    requires sized { IsSized block }
+    ensures is { IfOk result (λ r. r ≡ with_block bundle current kind block) }
+    ensures kept { (n : ℕ) → IfOk result (IsReading n) }
+{
+    let bundle = more_blocks(bundle, kind, block)?;
+    Ok(Reading {
+        bundle,
+        current,
+        begun: None,
+    })
+}
+
+/// A text with a line and its newline.
+fn with_ended(text: ByteText, line: &[u8]) -> Result<ByteText, AllocError>
+    ensures { IfOk result (λ more. more ≡ text ++ ended line.now) }
+{
+    let mut bytes = text.into_vec();
+    bytes.extend_from_slice(line)?;
+    bytes.push(b'\n')?;
+    Ok(ByteText::from_vec(bytes))
+}
+
+/// One more line of a block.
+#[tactic(auto, using(crate::proofs::KeptLemmas::kept_with_line))]
+fn with_line(
+    bundle: Bundle,
+    current: Option<u32>,
+    opened: Opened,
+    line: &[u8],
+) -> Result<Reading, AllocError>
+    requires accepted { IsAccepted bundle }
+    requires current { IsCurrent current bundle }
+    requires room { HasRoomFor opened.kind bundle }
+    requires line { (0 < opened.block.first_line) × (opened.block.first_line < 2 ^ 31) }
+    ensures is { IfOk result (λ r. r ≡ with_line bundle current opened line.now) }
+    ensures kept { IfOk result (IsReading (length opened.block.text + length line.now + 1)) }
+{
+    let Opened { kind, block } = opened;
+    let Block {
+        name,
+        charset,
+        first_line,
+        text,
+    } = block;
+    let block = Block {
+        name,
+        charset,
+        first_line,
+        text: with_ended(text, line)?,
+    };
+    Ok(Reading {
+        bundle,
+        current,
+        begun: Some(Opened { kind, block }),
+    })
+}
+
+/// A line of a block, which is not read but for its end.
+fn inside(reading: Reading, opened: Opened, line: &[u8]) -> Result<Reading, TextFault>
+    requires accepted { IsAccepted reading.bundle }
+    requires current { IsCurrent reading.current reading.bundle }
+    requires room { HasRoomFor opened.kind reading.bundle }
+    requires line { (0 < opened.block.first_line) × (opened.block.first_line < 2 ^ 31) }
+    requires sized { IsSized opened.block }
+    ensures is { Gives (λ r. r) result (Ok (inside reading opened line.now)) }
+    ensures kept { IfOk result (IsReading (length opened.block.text + length line.now + 1)) }
+{
+    let Reading {
+        bundle,
+        current,
+        ..
+    } = reading;
+    if line == b".end".as_slice() {
+        Ok(with_block(bundle, current, opened.kind, opened.block)?)
+    } else {
+        Ok(with_line(bundle, current, opened, line)?)
+    }
+}
+
+/// A line with its number.
+#[tactic(auto, unfolding(crate::specs::Reading::line_read))]
+fn line_read(
+    alloc: Global,
+    known: Option<&Known>,
+    reading: Reading,
+    number: u32,
+    line: &[u8],
+) -> Result<Reading, TextFault>
+    requires short { length line.now < 2 ^ 31 }
+    requires number { number + length line.now ≤ 2 ^ 31 }
+    requires text { begun_size reading.begun < 2 ^ 31 }
+    requires kept { IsReading (begun_size reading.begun) reading }
+    ensures is { Gives (λ r. r) result (line_read (option_copied known.entry) reading number line.now) }
+    ensures kept { IfOk result (IsReading (begun_size reading.begun + length line.now + 1)) }
+{
+    let Reading {
+        bundle,
+        current,
+        begun,
+    } = reading;
+    let reading = Reading {
+        bundle,
+        current,
+        begun: None,
+    };
+    match begun {
+        None => outside(alloc, known, reading, number, line),
+        Some(opened) => inside(reading, opened, line),
+    }
+}
+
+/// What the lines of a text give.
+fn lines_read(
+    alloc: Global,
+    known: Option<&Known>,
+    first: Reading,
+    text: &[u8],
+) -> Result<Reading, TextFault>
+    requires short { length text.now < 2 ^ 31 }
+    requires kept { IsReading 0 first }
+    ensures is { Gives (λ r. r) result (lines_read (option_copied known.entry) first 1 (lines_of text.now)) }
+    ensures accepted { IfOk result (λ r. IsAccepted r.bundle) }
+    ensures begun { IfOk result (λ r. IsBegun r.begun r.bundle) }
+{
+    let mut reading = first;
+    let mut number = 1;
+    let mut rest = text;
+    while let Some((line, following)) = next_line(rest) {
+        reading = line_read(alloc, known, reading, number, line)?;
+        number += 1;
+        rest = following;
+    }
+    Ok(reading)
+}
+
+/// The bundle, unless a block is still open.
+fn finished(reading: Reading) -> Result<Bundle, TextFault>
+    requires accepted { IsAccepted reading.bundle }
+    requires begun { IsBegun reading.begun reading.bundle }
+    ensures is { Gives (λ b. b) result (finished reading) }
+    ensures accepted { IfOk result IsAccepted }
+{
+    let Reading { bundle, begun, .. } = reading;
+    match begun {
+        None => Ok(bundle),
+        Some(opened) => Err(TextFault::At(
+            Place {
+                line: opened.block.first_line - 1,
+                column: 1,
+            },
+            Reason::NoEnd,
+        )),
+    }
+}
+
+/// The bundle that a text spells: without known blocks no name is looked for, and with them each is.
+#[tactic(auto, unfolding(crate::specs::Accepted::bundle_with))]
+pub fn bundle_with(
+    alloc: Global,
+    known: Option<&Known>,
+    threads: List<ByteText>,
+    text: &[u8],
+) -> Result<Bundle, TextFault>
+    requires short { length text.now < 2 ^ 31 }
+    requires few { length threads ≤ THREAD_LIMIT }
+    ensures is { Gives (λ b. b) result (bundle_with (option_copied known.entry) threads (lines_of text.now)) }
+    ensures accepted { IfOk result IsAccepted }
+{
+    let reading = lines_read(alloc, known, at_first(alloc, threads), text)?;
+    finished(reading)
+}
+
+/// The blocks of a bundle that are named, and the names of its threads.
+pub fn known_of(bundle: Bundle) -> (Known, List<ByteText>)
+    requires { length bundle.threads ≤ THREAD_LIMIT }
+    ensures known { result.0 ≡ known_of bundle }
+    ensures threads { result.1 ≡ bundle.threads }
+    ensures few { length result.1 ≤ THREAD_LIMIT }
+{
+    let Bundle {
+        charmaps,
+        locales,
+        later: _,
+        native: _,
+        threads,
+        rounds: _,
+        commands: _,
+    } = bundle;
+    (Known { charmaps, locales }, threads)
+}
