@@ -1,7 +1,6 @@
 -- Whole bundles, and their first faults.
-use Rattle.std.proofs.Common.{◌≡◌, ℕ, List, [], ◌∷◌, Option, Some, None, Ok, Err, refl}
+use Rattle.std.proofs.Common.{◌≡◌, ℕ, List, [], ◌∷◌, Some, None, Ok, Err, refl}
 use Rattle.std.specs.Prelude.{codes, replicate}
-use Rattle.lc_base.specs.declared.place.Place.{Place}
 use Rattle.lc_base.specs.declared.reason.Reason.{Reason}
 use Rattle.lc_base.specs.declared.reason.Reason.TheVariants as reasons
 use Rattle.lc_base.specs.declared.reason.LinePart.TheVariants as parts
@@ -12,13 +11,12 @@ use Rattle.script_lang.specs.declared.bundle.Bundle.{Bundle}
 use Rattle.script_lang.specs.declared.bundle.TheConstants.{CHARMAP_LIMIT, LOCALE_LIMIT, LATER_LIMIT, THREAD_LIMIT, ROUND_LIMIT, COMMAND_LIMIT}
 use Rattle.script_lang.specs.declared.command.Target.TheVariants as targets
 use Rattle.script_lang.specs.declared.command.Command.TheVariants.{Free}
-use Rattle.script_lang.specs.declared.reading.Reading.{Reading}
 use Rattle.script_lang.specs.Names.{is_formed, is_locale_name, is_charmap_name, is_thread_name}
 use Rattle.script_lang.specs.Spans.{next_word}
 use Rattle.script_lang.specs.Tables.{directives_table, commands_table, items_table}
 use Rattle.script_lang.specs.Words.{text_of_word, decimal_number, categories_of_word, mask_of_word, variable_of_word, cut_at, handle_of_word}
 use Rattle.script_lang.specs.Commands.{argument, read_as, no_more, is_over, base_word, command, target, item, new_words, new_command, free_command, use_command, setlocale_command, info_command}
-use Rattle.script_lang.specs.Reading.{at_first, with_round, new_thread, one_word, two_words, three_words, charmap_line, locale_line, later_line, native_line, thread_line, round_line, directive_line, command_line, outside, line_read}
+use Rattle.script_lang.specs.Reading.{at_first, new_thread, one_word, two_words, three_words, charmap_line, locale_line, later_line, native_line, thread_line, round_line, directive_line, command_line, outside, line_read}
 use Rattle.script_lang.specs.Accepted.{bundle_with, bundle_of}
 
 -- ---- limits

@@ -1,10 +1,9 @@
 -- What holds while a bundle is read is kept by each step.
-use Rattle.std.proofs.Common.{◌≡◌, ℕ, ◌+◌, ◌<◌, ◌≤◌, ◌^◌, List, [], ◌∷◌, ◌++◌, length, Option, Some, None, arith, length-append}
+use Rattle.std.proofs.Common.{ℕ, ◌+◌, ◌<◌, ◌≤◌, ◌^◌, List, [], ◌∷◌, ◌++◌, length, Option, Some, None, arith, length-append}
 use Rattle.std.specs.List.{All}
 use Rattle.std.proofs.lemmas.List.Elements.{All-push, All-nil}
 use Rattle.lc_base.specs.declared.block.Block.{Block}
 use Rattle.lc_base.specs.declared.block.Later.{Later}
-use Rattle.lc_base.specs.Lines.{ended}
 use Rattle.script_lang.specs.declared.bundle.TheConstants.{THREAD_LIMIT, ROUND_LIMIT, COMMAND_LIMIT}
 use Rattle.script_lang.specs.declared.bundle.Bundle.{Bundle}
 use Rattle.script_lang.specs.declared.command.Command.{Command}
@@ -19,7 +18,7 @@ use Rattle.script_lang.specs.declared.reading.Opened.{Opened}
 use Rattle.script_lang.specs.declared.reading.Reading.{Reading}
 use Rattle.script_lang.specs.Reading.{at_first, with_open, with_native, with_current, with_thread, with_round, with_command, with_block, with_line, asked}
 use Rattle.script_lang.specs.Accepted.{IsSized, thread_count, IsOwned, AreOwned, IsPlaced, IsAccepted}
-use Rattle.script_lang.specs.Kept.{HasRoomFor, IsBegun, IsCurrent, begun_size, IsReading}
+use Rattle.script_lang.specs.Kept.{HasRoomFor, IsBegun, IsCurrent, IsReading}
 
 pub kept_at_first : (threads : List (List ℕ)) → length threads ≤ THREAD_LIMIT → IsReading 0 (at_first threads)
 kept_at_first threads few = record {

@@ -14,7 +14,6 @@ use Rattle.script_lang.specs.declared.command.Placed.{Placed}
 use Rattle.script_lang.specs.declared.command.Target.{Target}
 use Rattle.script_lang.specs.declared.command.Target.TheVariants.{Global, Variable, Handle}
 use Rattle.script_lang.specs.declared.reading.Known.{Known}
-use Rattle.script_lang.specs.declared.reading.Opened.{Opened}
 use Rattle.script_lang.specs.declared.reading.Reading.{Reading}
 use Rattle.script_lang.specs.Reading.{at_first, lines_read}
 use Rattle.script_lang.specs.Spans.{start}

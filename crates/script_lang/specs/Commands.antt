@@ -1,5 +1,5 @@
 -- Commands, from their words (our own).
-use Rattle.std.specs.Prelude.{ℕ, Bool, true, false, not, ◌||◌, List, position, codes, Option, Some, None, option_map, option_and_then, Ok, Err, if◌then◌else◌}
+use Rattle.std.specs.Prelude.{ℕ, Bool, true, false, List, position, codes, Option, Some, None, option_map, option_and_then, Ok, Err, if◌then◌else◌}
 use Rattle.std.specs.Str.{bytes_eq}
 use Rattle.lc_base.specs.declared.reason.Reason.TheVariants.{BadLine, NoThread, NotBuilt}
 use Rattle.lc_base.specs.declared.reason.LinePart.TheVariants.{Command as CommandPart, Argument}

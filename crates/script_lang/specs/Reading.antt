@@ -1,5 +1,5 @@
 -- What a bundle's lines give, line after line (our own).
-use Rattle.std.specs.Prelude.{ℕ, ◌+◌, ◌==◌, nat_le, Bool, true, false, not, ◌&&◌, ◌||◌, List, [], ◌∷◌, ◌++◌, length, map, position, codes, Option, Some, None, is_some, option_map, option_and_then, Ok, Err, if◌then◌else◌}
+use Rattle.std.specs.Prelude.{ℕ, ◌+◌, ◌==◌, nat_le, Bool, false, not, ◌&&◌, ◌||◌, List, [], ◌∷◌, ◌++◌, length, position, codes, Option, Some, None, is_some, option_map, option_and_then, Ok, Err, if◌then◌else◌}
 use Rattle.std.specs.List.{list_any}
 use Rattle.std.specs.Str.{bytes_eq}
 use Rattle.lc_base.specs.declared.block.Block.{Block}
@@ -21,7 +21,7 @@ use Rattle.script_lang.specs.declared.table.Directive.{Directive}
 use Rattle.script_lang.specs.declared.table.Directive.TheVariants as directives
 use Rattle.script_lang.specs.Commands.{command, is_over}
 use Rattle.script_lang.specs.Names.{is_formed, is_locale_name, is_charmap_name, is_thread_name}
-use Rattle.script_lang.specs.Spans.{Span, start, whole_line, from_word, next_word}
+use Rattle.script_lang.specs.Spans.{Span, start, whole_line, next_word}
 use Rattle.script_lang.specs.Tables.{first_named, directives_table}
 
 -- ---- what was read so far

@@ -1,5 +1,5 @@
 -- What the code's pieces of a text stand for.
-use Rattle.std.specs.Prelude.{◌<◌, ℕ, List}
+use Rattle.std.specs.Prelude.{◌<◌}
 use Rattle.script_lang.specs.declared.word.Quoting.{Quoting}
 use Rattle.script_lang.specs.declared.word.Quoting.TheVariants.{Text, Escape, High, Low, Closed}
 use Rattle.script_lang.specs.declared.word.WrittenHandle as code
