@@ -1,3 +1,6 @@
 pub mod Examples
+pub mod Joined
+pub mod Numbered
+pub mod Plans
 pub mod SerialRuns
 pub mod VariableLemmas

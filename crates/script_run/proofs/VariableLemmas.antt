@@ -1,9 +1,8 @@
--- Variables by their last bindings.
-use Rattle.std.proofs.Common.{◌≡◌, ℕ, Bool, true, false, cond, List, [], ◌∷◌, ◌++◌, Option, Some, None, refl, sym, ◌∙◌, ap}
+-- Variables as a map in the order of their names, and as bindings.
+use Rattle.std.proofs.Common.{◌≡◌, ℕ, Bool, true, false, cond, List, [], ◌∷◌, map, Option, Some, None, refl, sym, ◌∙◌, ap}
 use Rattle.std.specs.BTreeMap.{is_at, insert_entry}
 use Rattle.std.specs.Cmp.Lexicographic.{slice_cmp}
 use Rattle.std.specs.Map.{lookup}
-use Rattle.std.specs.Option.{option_or}
 use Rattle.std.specs.Ordering.{nat_cmp, is_eq, match_ordering}
 use Rattle.std.specs.declared.cmp.Ordering.{Ordering}
 use Rattle.std.specs.declared.cmp.Ordering.TheVariants.{Less, Equal, Greater}
@@ -13,7 +12,7 @@ use Rattle.std.proofs.lemmas.Map.Text.{is_eq-slice_cmp}
 use Rattle.std.proofs.lemmas.Slice.Eq.{bytes_eq-Decides}
 use Rattle.std.proofs.lemmas.Cmp.{nat_list_eq_equiv}
 use Rattle.handle_table.specs.declared.handle.Handle.{Handle}
-use Rattle.script_run.specs.Serial.{Bindings, bound}
+use Rattle.script_run.specs.Variables.{bound, binding_of}
 
 abbrev name_cmp : {A : Type 0} → List ℕ → Vec ℕ A → Ordering
 name_cmp name key = slice_cmp nat_cmp name key.items
@@ -69,31 +68,21 @@ lookup_insert {A} name key n (e ∷ es) =
 eq_sym : (xs ys : List ℕ) → bytes_eq xs ys ≡ bytes_eq ys xs
 eq_sym xs ys = nat_list_eq_equiv.symm xs ys
 
-or_some : (b : Bool) (h : Handle) (o : Option Handle) → option_or (cond b (Some h) None) o ≡ cond b (Some h) o
-or_some true h o = refl
-or_some false h o = refl
-
-or_or : (a b c : Option Handle) → option_or (option_or a b) c ≡ option_or a (option_or b c)
-or_or (Some x) b c = refl
-or_or None b c = refl
-
--- the last binding decides
-bound_push : (bindings : Bindings) (name variable : List ℕ) (h : Handle) → bound (bindings ++ (variable, h) ∷ []) name ≡ option_or (cond (bytes_eq variable name) (Some h) None) (bound bindings name)
-bound_push [] name variable h = elim (bytes_eq variable name) as (λ b. option_or None (cond b (Some h) None) ≡ option_or (cond b (Some h) None) None) [
-  | true ↦ refl
-  | false ↦ refl
-]
-bound_push (b ∷ bs) name variable h = ap (λ (o : Option Handle). option_or o (cond (bytes_eq b.0 name) (Some b.1) None)) (bound_push bs name variable h) ∙ or_or (cond (bytes_eq variable name) (Some h) None) (bound bs name) (cond (bytes_eq b.0 name) (Some b.1) None)
+-- what a map has for a name is what its entries bind it to
+pub bound_lookup : {A : Type 0} (name : List ℕ) (es : List (Vec ℕ A × Handle)) → lookup (is_at (name_cmp name)) es ≡ bound (map binding_of es) name
+bound_lookup name [] = refl
+bound_lookup {A} name (e ∷ es) =
+    ap (λ (b : Bool). cond b (Some e.1) (lookup (is_at (name_cmp name)) es)) (is_eq-slice_cmp name e.0.items ∙ eq_sym name e.0.items)
+    ∙ ap (λ (o : Option Handle). cond (bytes_eq e.0.items name) (Some e.1) o) (bound_lookup name es)
 
 -- one more binding
-pub bound_insert : {A : Type 0} (key : Vec ℕ A) (variable : List ℕ) (h : Handle) (es after : List (Vec ℕ A × Handle)) (bindings : Bindings)
-    → key.items ≡ variable → after ≡ insert_entry key_cmp es key h → ((name : List ℕ) → lookup (is_at (name_cmp name)) es ≡ bound bindings name)
-    → (name : List ℕ) → lookup (is_at (name_cmp name)) after ≡ bound (bindings ++ (variable, h) ∷ []) name
-bound_insert {A} key variable h es after bindings own grown before name =
-    ap (λ (xs : List (Vec ℕ A × Handle)). lookup (is_at (name_cmp name)) xs) grown
+pub bound_insert : {A : Type 0} (key : Vec ℕ A) (variable : List ℕ) (h : Handle) (es after : List (Vec ℕ A × Handle))
+    → key.items ≡ variable → after ≡ insert_entry key_cmp es key h
+    → (name : List ℕ) → bound (map binding_of after) name ≡ bound ((variable, h) ∷ map binding_of es) name
+bound_insert {A} key variable h es after own grown name =
+    ap (λ (xs : List (Vec ℕ A × Handle)). bound (map binding_of xs) name) grown
+    ∙ sym (bound_lookup name (insert_entry key_cmp es key h))
     ∙ lookup_insert name key h es
     ∙ ap (λ (bs : List ℕ). cond (bytes_eq name bs) (Some h) (lookup (is_at (name_cmp name)) es)) own
     ∙ ap (λ (b : Bool). cond b (Some h) (lookup (is_at (name_cmp name)) es)) (eq_sym name variable)
-    ∙ ap (λ (o : Option Handle). cond (bytes_eq variable name) (Some h) o) (before name)
-    ∙ sym (or_some (bytes_eq variable name) h (bound bindings name))
-    ∙ sym (bound_push bindings name variable h)
+    ∙ ap (λ (o : Option Handle). cond (bytes_eq variable name) (Some h) o) (bound_lookup name es)

@@ -1,3 +1,7 @@
 pub mod Plan
+pub mod Names
+pub mod Variables
 pub mod Serial
 pub mod Thread
+pub mod Session
+pub mod Seen

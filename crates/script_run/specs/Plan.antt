@@ -1,27 +1,50 @@
--- The accepted bundle with its compiled category (our own).
-use Rattle.std.specs.Prelude.{List, [], ◌∷◌, ℕ, Ok}
+-- The accepted bundle with its compiled locales (our own).
+use Rattle.std.specs.Prelude.{ℕ, ◌<◌, List, length, Ok, IfOk}
+use Rattle.std.specs.List.{All}
 use Rattle.lc_base.specs.Reading.{Reads, ◌>>=◌}
-use Rattle.locale_reader.specs.declared.source.Entry.{Entry}
-use Rattle.locale_reader.specs.declared.source.Body.{Body}
-use Rattle.locale_reader.specs.declared.source.Body.TheVariants.{Copy, Entries}
-use Rattle.locale_reader.specs.declared.source.Section.{Section}
-use Rattle.numeric_cat.specs.Numeric.{numeric_values}
-use Rattle.script_run.specs.declared.plan.Plan.{Plan}
-use Rattle.script_lang.specs.Accepted.{bundle_of}
+use Rattle.category_store.specs.Catalog.{Catalog}
+use Rattle.category_store.specs.Library.{catalog, numbers, opening}
+use Rattle.script_lang.specs.declared.bundle.Bundle.{Bundle}
+use Rattle.script_lang.specs.Accepted.{IsAccepted, bundle_of}
+use Rattle.script_run.specs.declared.plan.Counts.{Counts}
 
--- the keyword list of a section
-abbrev pub listed : Body → List Entry
-listed (Entries list) = list
-listed (Copy place name) = []
+-- a bundle, and what its charmaps, locales and later versions make
+pub record PlanData : Type 0 where
+  pub bundle : Bundle
+  pub library : Catalog
 
--- the keyword list of the first section
-abbrev pub entries_of : List Section → List Entry
-entries_of [] = []
-entries_of (section ∷ sections) = listed section.body
+-- the plan of a bundle, or the first fault of its charmaps, sources, copies and categories
+abbrev pub compiled : Bundle → Reads PlanData
+compiled bundle = catalog bundle.charmaps bundle.locales bundle.later bundle.native >>= λ library. Ok (record { bundle = bundle; library = library })
 
--- the bundle that a text spells, and the values that its LC_NUMERIC defines
-unfoldable pub plan_of : List ℕ → Reads Plan
-plan_of text = do
-  bundle ← bundle_of text
-  values ← numeric_values (entries_of bundle.source.sections)
-  Ok (record { bundle = bundle; numeric = values })
+-- the plan of a text: the faults of its lines come first, then those of its names, and then those of what it compiles
+abbrev pub plan_of : List ℕ → Reads PlanData
+plan_of text = bundle_of text >>= compiled
+
+-- how many blocks, threads, rounds and commands a bundle has; later versions are not counted
+abbrev pub counts : Bundle → Counts
+counts bundle = record {
+  locales = length bundle.locales;
+  charmaps = length bundle.charmaps;
+  threads = length bundle.threads;
+  rounds = bundle.rounds;
+  commands = length bundle.commands;
+}
+
+-- the counts of a text whose plan has no fault
+abbrev pub counts_of : List ℕ → Reads Counts
+counts_of text = plan_of text >>= λ plan. Ok (counts plan.bundle)
+
+-- ---- what holds of each plan
+
+-- the numbers that names give are on the shelf of the library
+abbrev pub AreOnShelf : Catalog → List ℕ → Type 0
+AreOnShelf library ns = All (λ n. n < length (opening library)) ns
+
+abbrev pub IsNumbered : Catalog → Type 0
+IsNumbered library = (name : List ℕ) (mask : ℕ) → IfOk (numbers library name mask) (AreOnShelf library)
+
+-- the bundle is accepted, and its names are numbered
+pub record IsSound (plan : PlanData) : Type 0 where
+  pub accepted : IsAccepted plan.bundle
+  pub numbered : IsNumbered plan.library

@@ -1,27 +1,27 @@
--- What a script on one thread prints, by the history of its calls (our own; XSH newlocale, freelocale, uselocale, setlocale and nl_langinfo for the calls).
-use Rattle.std.specs.Prelude.{ℕ, zero, suc, ◌+◌, List, [], ◌∷◌, ◌++◌, length, codes, Option, Some, None, if◌then◌else◌}
-use Rattle.std.specs.Option.{option_map, option_or}
-use Rattle.std.specs.Str.{bytes_eq}
-use Rattle.lc_base.specs.declared.category.Category.TheVariants.{Numeric}
+-- What a script prints that is run thread by thread, by the history of its calls (our own; XSH newlocale, freelocale, uselocale, setlocale and nl_langinfo for the calls).
+use Rattle.std.specs.Prelude.{ℕ, ◌+◌, nat_lt, List, [], ◌∷◌, length, Option, Some, None, Result, Ok, Err, if◌then◌else◌}
+use Rattle.lc_base.specs.declared.category.Category.{Category}
 use Rattle.lc_base.specs.Mask.{category_bit}
 use Rattle.mask_compose.specs.Parts.{Parts}
-use Rattle.mask_compose.specs.Offer.{Offered}
+use Rattle.category_store.specs.Catalog.{Catalog}
+use Rattle.category_store.specs.Library.{numbers, opening}
 use Rattle.handle_table.specs.declared.handle.Handle.{Handle}
 use Rattle.handle_table.specs.declared.handle.Named.{Named}
 use Rattle.handle_table.specs.declared.handle.Named.TheVariants as names
+use Rattle.handle_table.specs.declared.op.Refusal.{Refusal}
+use Rattle.handle_table.specs.declared.op.Refusal.TheVariants as refusals
 use Rattle.handle_table.specs.Entry as table
 use Rattle.handle_table.specs.Entry.{History, Setting}
-use Rattle.handle_table.specs.History.{sets, global}
+use Rattle.handle_table.specs.History.{sets, global, selection}
 use Rattle.handle_table.specs.Answer.{answer, entry, own}
-use Rattle.numeric_cat.specs.NumericValues.{NumericValues}
-use Rattle.numeric_cat.specs.Numeric.{posix_values}
-use Rattle.script_lang.specs.declared.bundle.Item.{Item}
-use Rattle.script_lang.specs.declared.bundle.Item.TheVariants.{Radixchar, Thousep}
-use Rattle.script_lang.specs.declared.bundle.Target.{Target}
-use Rattle.script_lang.specs.declared.bundle.Target.TheVariants.{Global, Variable}
-use Rattle.script_lang.specs.declared.bundle.Command.{Command}
-use Rattle.script_lang.specs.declared.bundle.Command.TheVariants.{Info, Setlocale, New, Free, Use}
-use Rattle.script_run.specs.declared.plan.Plan.{Plan}
+use Rattle.script_lang.specs.declared.command.Item.{Item}
+use Rattle.script_lang.specs.declared.command.Categories.{Categories}
+use Rattle.script_lang.specs.declared.command.Categories.TheVariants.{All, One}
+use Rattle.script_lang.specs.declared.command.Target.{Target}
+use Rattle.script_lang.specs.declared.command.Target.TheVariants as targets
+use Rattle.script_lang.specs.declared.command.Command.{Command}
+use Rattle.script_lang.specs.declared.command.Command.TheVariants as commands
+use Rattle.script_lang.specs.declared.command.Placed.{Placed}
 use Rattle.script_lang.specs.declared.output.OutLine.{OutLine}
 use Rattle.script_lang.specs.declared.output.Places.{Places}
 use Rattle.script_lang.specs.declared.output.Places.TheVariants as places
@@ -29,140 +29,154 @@ use Rattle.script_lang.specs.declared.output.Why.{Why}
 use Rattle.script_lang.specs.declared.output.Why.TheVariants as whys
 use Rattle.script_lang.specs.declared.output.Said.{Said}
 use Rattle.script_lang.specs.declared.output.Said.TheVariants as said
+use Rattle.script_run.specs.Plan.{PlanData}
+use Rattle.script_run.specs.Names.{object_name, item_text}
+use Rattle.script_run.specs.Variables.{Bindings, bound}
 
--- ---- parts and names: 0 is the POSIX locale, and 1 the bundle's
+-- the table of a plan: its threads, so many rows and generations, and what its locale names offer at first
+abbrev pub setting : PlanData → ℕ → ℕ → Setting
+setting plan rows generations = record { threads = length plan.bundle.threads; rows = rows; generations = generations; opening = opening plan.library }
 
--- the POSIX locale in each category
-abbrev pub posix_parts : Parts
-posix_parts = record { ctype = 0; numeric = 0; monetary = 0; time = 0; messages = 0 }
+-- ---- what a command asks of the table: an op, or why it is refused without an entry
 
--- the LC_NUMERIC of the bundle's locale, and the POSIX locale's other categories
-abbrev pub locale_parts : Parts
-locale_parts = record { ctype = 0; numeric = 1; monetary = 0; time = 0; messages = 0 }
+abbrev pub Asks : Type 0
+Asks = Result table.Op Why
 
--- the mask of LC_NUMERIC alone
-abbrev pub numeric_bit : ℕ
-numeric_bit = category_bit Numeric
+infixl 10 ◌>>=◌
+abbrev pub ◌>>=◌ : {A B : Type 0} → Result A Why → (A → Result B Why) → Result B Why
+(Ok x) >>= f = f x
+(Err why) >>= f = Err why
 
--- the POSIX locale has all categories, and the bundle's LC_NUMERIC alone
-abbrev pub opening : List Offered
-opening = record { object = posix_parts; available = 31 } ∷ record { object = locale_parts; available = numeric_bit } ∷ []
+-- what a command names: a variable that nothing bound is Unset
+abbrev pub handle_or_unset : Option Handle → Result Named Why
+handle_or_unset None = Err whys.Unset
+handle_or_unset (Some h) = Ok (names.Of h)
 
--- one thread with 16 rows of 65535 generations
-abbrev pub setting : Setting
-setting = record { threads = 1; rows = 16; generations = 65535; opening = opening }
+abbrev pub named : Bindings → Target → Result Named Why
+named bindings targets.Global = Ok names.Global
+named bindings (targets.Variable variable) = handle_or_unset (bound bindings variable)
+named bindings (targets.Handle h) = Ok (names.Of h)
 
--- the bundle's locale for LC_NUMERIC
-abbrev pub numeric_names : List ℕ
-numeric_names = 0 ∷ 1 ∷ 0 ∷ 0 ∷ 0 ∷ []
+-- a mask: a number with a bit that no category has is BadMask
+abbrev pub mask_of : ℕ → Result ℕ Why
+mask_of bits = if nat_lt 31 bits then Err whys.BadMask else Ok bits
 
--- the values of a part
-abbrev pub values_of : Plan → ℕ → NumericValues
-values_of plan zero = posix_values
-values_of plan (suc n) = plan.numeric
+-- the categories of a categories
+abbrev pub categories_mask : Categories → ℕ
+categories_mask All = 31
+categories_mask (One category) = category_bit category
 
--- the name of a part
-abbrev pub part_name : Plan → ℕ → List ℕ
-part_name plan zero = codes "C"
-part_name plan (suc n) = plan.bundle.name
+-- the numbers of names: a locale that no block names is NoData
+abbrev pub numbers_or_no_data : Result (List ℕ) Category → Result (List ℕ) Why
+numbers_or_no_data (Ok ns) = Ok ns
+numbers_or_no_data (Err category) = Err (whys.Table (refusals.NoData category))
 
--- the text of an item (XSH nl_langinfo)
-abbrev pub item_text : NumericValues → Item → List ℕ
-item_text values Radixchar = values.decimal_point
-item_text values Thousep = values.thousands_sep
+abbrev pub named_numbers : Catalog → List ℕ → ℕ → Result (List ℕ) Why
+named_numbers library locale mask = numbers_or_no_data (numbers library locale mask)
 
--- ---- variables
+-- newlocale without a base
+abbrev pub new_op : Catalog → ℕ → List ℕ → Asks
+new_op library bits locale = mask_of bits >>= λ mask. named_numbers library locale mask >>= λ ns. Ok (table.New mask ns None)
 
--- what variables stand for, the oldest binding first
-abbrev pub Bindings : Type 0
-Bindings = List (List ℕ × Handle)
+-- freelocale
+abbrev pub free_op : Bindings → Target → Asks
+free_op bindings target = named bindings target >>= λ h. Ok (table.Free h)
 
--- what a variable stands for: its last binding
-abbrev pub bound : Bindings → List ℕ → Option Handle
-bound [] variable = None
-bound (b ∷ bindings) variable = option_or (bound bindings variable) (if bytes_eq b.0 variable then Some b.1 else None)
+-- uselocale
+abbrev pub use_op : Bindings → Target → Asks
+use_op bindings target = named bindings target >>= λ h. Ok (table.Use h)
 
--- what a command names, where its variable is bound
-abbrev pub named : Bindings → Target → Option Named
-named bindings Global = Some names.Global
-named bindings (Variable variable) = option_map (λ h. names.Of h) (bound bindings variable)
+-- setlocale, which looks up only the categories that it sets
+abbrev pub set_op : Catalog → ℕ → List ℕ → Asks
+set_op library mask locale = named_numbers library locale mask >>= λ ns. Ok (table.SetGlobal mask ns)
 
--- the op of a command, where its variable is bound
-abbrev pub op_of_command : Bindings → Command → Option table.Op
-op_of_command bindings (New variable) = Some (table.New numeric_bit numeric_names None)
-op_of_command bindings (Free target) = option_map (λ n. table.Free n) (named bindings target)
-op_of_command bindings (Use target) = option_map (λ n. table.Use n) (named bindings target)
-op_of_command bindings Setlocale = Some (table.SetGlobal numeric_bit numeric_names)
-op_of_command bindings (Info item) = None
+abbrev pub setlocale_op : Catalog → Categories → List ℕ → Asks
+setlocale_op library categories locale = set_op library (categories_mask categories) locale
 
--- the variable that a command binds
-abbrev pub binds : Command → Option (List ℕ)
-binds (New variable) = Some variable
-binds (Free target) = None
-binds (Use target) = None
-binds Setlocale = None
-binds (Info item) = None
+-- the handle that a reply gives
+abbrev pub handle_given : table.Reply → Option Handle
+handle_given (table.Made h) = Some h
+handle_given (table.Got h) = Some h
+handle_given _ = None
 
--- the bindings after a reply to a command that binds this variable: a handle that was made is bound
+-- the bindings with one more, where there is a variable to bind and a handle to bind it to
+abbrev pub with_binding : Bindings → Option (List ℕ) → Option Handle → Bindings
+with_binding bindings None h = bindings
+with_binding bindings (Some variable) None = bindings
+with_binding bindings (Some variable) (Some h) = (variable, h) ∷ bindings
+
+-- the bindings after a reply to a command that binds this variable
 abbrev pub bindings_after : Bindings → Option (List ℕ) → table.Reply → Bindings
-bindings_after bindings (Some variable) (table.Made h) = bindings ++ (variable, h) ∷ []
-bindings_after bindings _ _ = bindings
+bindings_after bindings variable reply = with_binding bindings variable (handle_given reply)
 
 -- ---- replies
 
--- the printed form of a refusal
-abbrev pub why_of : table.Refusal → Why
-why_of (table.NoData category) = whys.NoData category
-why_of table.GlobalHandle = whys.GlobalHandle
-why_of table.NeverMade = whys.NeverMade
-why_of table.Stale = whys.Stale
-why_of table.TooMany = whys.TooMany
-why_of table.AlreadyHeld = whys.AlreadyHeld
-why_of table.NotHeld = whys.NotHeld
-why_of table.EmptyCell = whys.EmptyCell
+-- the printed form of a refusal of the table
+abbrev pub refusal_shown : table.Refusal → Refusal
+refusal_shown (table.NoData category) = refusals.NoData category
+refusal_shown table.GlobalHandle = refusals.GlobalHandle
+refusal_shown table.NeverMade = refusals.NeverMade
+refusal_shown table.Stale = refusals.Stale
+refusal_shown table.TooMany = refusals.TooMany
+refusal_shown table.AlreadyHeld = refusals.AlreadyHeld
+refusal_shown table.NotHeld = refusals.NotHeld
+refusal_shown table.EmptyCell = refusals.EmptyCell
 
--- the printed form of a reply of the table
-abbrev pub shown : Plan → table.Reply → Said
-shown plan (table.Made h) = said.Handle h
-shown plan table.Freed = said.Freed
-shown plan (table.Was former now) = said.Was former
-shown plan (table.Held object) = said.Held
-shown plan table.Released = said.Released
-shown plan (table.Set version object) = said.Name (part_name plan object.numeric)
-shown plan (table.Installed count) = said.Installed count
-shown plan table.Posted = said.Posted
-shown plan (table.Got h) = said.Handle h
-shown plan (table.Pinned count) = said.Pins count
-shown plan table.Ended = said.Ended
-shown plan (table.Refused refusal) = said.Refused (why_of refusal)
+-- the printed form of a reply of the table; a change of the global locale tells the name of what the command chose
+abbrev pub shown : Catalog → Categories → table.Reply → Said
+shown library categories (table.Made h) = said.Handle h
+shown library categories table.Freed = said.Freed
+shown library categories (table.Was former now) = said.Was former
+shown library categories (table.Held object) = said.Held
+shown library categories table.Released = said.Released
+shown library categories (table.Set version object) = said.Name (object_name library object categories)
+shown library categories (table.Installed count) = said.Installed count
+shown library categories table.Posted = said.Posted
+shown library categories (table.Got h) = said.Handle h
+shown library categories (table.Pinned count) = said.Pins count
+shown library categories table.Ended = said.Ended
+shown library categories (table.Refused refusal) = said.Refused (whys.Table (refusal_shown refusal))
 
--- the version that a reply prints
+-- the version that a reply prints: that of the global locale that it made
 abbrev pub version_made : table.Reply → Option ℕ
 version_made (table.Set version object) = Some version
 version_made _ = None
 
 -- ---- lines
 
--- a line of a command
-abbrev pub line : ℕ → Places → Option ℕ → Said → OutLine
-line index at version reply = record { round = 1; thread = 0; index = index; places = at; global = version; reply = reply }
+-- whose line it is: the round from 1, the thread from 0, and the index of the thread's line from 1
+pub record Caller : Type 0 where
+  pub round : ℕ
+  pub thread : ℕ
+  pub index : ℕ
 
--- the line of an info command: it reads the thread's own object, or the global locale with its version
-abbrev pub info_line : Plan → History → Option Parts → ℕ → Item → OutLine
-info_line plan H (Some object) index item = line index places.None None (said.Text (item_text (values_of plan object.numeric) item))
-info_line plan H None index item = line index places.None (Some (sets H)) (said.Text (item_text (values_of plan (global setting H).numeric) item))
+abbrev pub line : Caller → Places → Option ℕ → Said → OutLine
+line at place version reply = record { round = at.round; thread = at.thread; index = at.index; places = place; global = version; reply = reply }
 
--- the line of a command that names a variable that is not bound
-abbrev pub unset_line : ℕ → OutLine
-unset_line index = line index places.None None (said.Refused whys.Unset)
+-- a line that tells of the global locale, with its version
+abbrev pub global_line : History → Caller → Said → OutLine
+global_line H at reply = line at places.None (Some (sets H)) reply
 
--- the line of an op with the place of its entry
-abbrev pub placed_line : Plan → ℕ → ℕ → table.Reply → OutLine
-placed_line plan place index reply = line index (places.One place) (version_made reply) (shown plan reply)
+-- an item of the thread's own object, or of the global locale with its version
+abbrev pub info_line : Setting → Catalog → History → Caller → Item → Option Parts → OutLine
+info_line c library H at item (Some object) = line at places.None None (said.Text (item_text library object item))
+info_line c library H at item None = global_line H at (said.Text (item_text library (global c H) item))
 
--- the closing line of the thread
-abbrev pub end_line : History → ℕ → OutLine
-end_line H index = record { round = 2; thread = 0; index = index; places = places.One (length H); global = None; reply = said.Ended }
+-- the name of the global locale with its version, whatever the thread has selected
+abbrev pub name_line : Setting → Catalog → History → Caller → Categories → OutLine
+name_line c library H at categories = global_line H at (said.Name (object_name library (global c H) categories))
+
+-- a line that makes no entry
+abbrev pub told_line : Caller → Said → OutLine
+told_line at reply = line at places.None None reply
+
+-- the line of an entry at a place
+abbrev pub placed_line : Catalog → ℕ → Caller → Categories → table.Reply → OutLine
+placed_line library place at categories reply = line at (places.One place) (version_made reply) (shown library categories reply)
+
+-- the line of the next entry
+abbrev pub entry_line : Catalog → History → Caller → Categories → table.Reply → OutLine
+entry_line library H at categories reply = placed_line library (length H) at categories reply
 
 -- what a command leaves: the history, the bindings and its line
 pub record Step : Type 0 where
@@ -170,28 +184,44 @@ pub record Step : Type 0 where
   pub bindings : Bindings
   pub line : OutLine
 
--- a command that makes the entry of an op, or none where its variable is not bound
-abbrev pub op_step : Plan → History → Bindings → ℕ → Option (List ℕ) → Option table.Op → Step
-op_step plan H bindings index variable None = record { history = H; bindings = bindings; line = unset_line index }
-op_step plan H bindings index variable (Some op) =
-    let reply = answer setting H 0 op in
-    record { history = entry setting H 0 op ∷ H; bindings = bindings_after bindings variable reply; line = placed_line plan (length H) index reply }
+-- a command that makes no entry
+abbrev pub tells : History → Bindings → OutLine → Step
+tells H bindings l = record { history = H; bindings = bindings; line = l }
+
+-- a command that makes the entry of an op, or is refused without one
+abbrev pub asks : Setting → Catalog → History → Bindings → Caller → Option (List ℕ) → Categories → Asks → Step
+asks c library H bindings at variable categories (Err why) = tells H bindings (told_line at (said.Refused why))
+asks c library H bindings at variable categories (Ok op) =
+    let reply = answer c H at.thread op in
+    record { history = entry c H at.thread op ∷ H; bindings = bindings_after bindings variable reply; line = entry_line library H at categories reply }
 
 -- one command after a history
-abbrev pub step : Plan → History → Bindings → ℕ → Command → Step
-step plan H bindings index (Info item) = record { history = H; bindings = bindings; line = info_line plan H (own H 0) index item }
-step plan H bindings index (New variable) = op_step plan H bindings index (binds (New variable)) (op_of_command bindings (New variable))
-step plan H bindings index (Free target) = op_step plan H bindings index None (op_of_command bindings (Free target))
-step plan H bindings index (Use target) = op_step plan H bindings index None (op_of_command bindings (Use target))
-step plan H bindings index Setlocale = op_step plan H bindings index None (op_of_command bindings Setlocale)
+abbrev pub step : Setting → Catalog → History → Bindings → Caller → Command → Step
+step c library H b at (commands.New variable bits locale) = asks c library H b at (Some variable) All (new_op library bits locale)
+step c library H b at (commands.Free target) = asks c library H b at None All (free_op b target)
+step c library H b at (commands.Use target) = asks c library H b at None All (use_op b target)
+step c library H b at commands.Selected = tells H b (told_line at (said.Is (selection H at.thread)))
+step c library H b at (commands.Setlocale categories locale) = asks c library H b at None categories (setlocale_op library categories locale)
+step c library H b at (commands.LocaleName categories) = tells H b (name_line c library H at categories)
+step c library H b at (commands.Info item) = tells H b (info_line c library H at item (own H at.thread))
 
--- the lines from a command on, after a history and with these bindings
-abbrev pub serial_from : Plan → History → Bindings → ℕ → List Command → List OutLine
-serial_from plan H bindings index [] = end_line H index ∷ []
-serial_from plan H bindings index (command ∷ commands) =
-    let after = step plan H bindings index command in
-    after.line ∷ serial_from plan after.history after.bindings (index + 1) commands
+-- the closing line of a thread: its end
+abbrev pub end_line : Setting → Catalog → History → Caller → OutLine
+end_line c library H at = entry_line library H at All (answer c H at.thread table.End)
 
--- the lines of a bundle
-abbrev pub serial_lines : Plan → List OutLine
-serial_lines plan = serial_from plan [] [] 1 plan.bundle.commands
+-- the lines of one thread from a command on, after a history and with these bindings, and its closing line in the round
+-- after the last
+abbrev pub lines_from : Setting → Catalog → ℕ → History → Bindings → ℕ → List Placed → List OutLine
+lines_from c library rounds H b index [] = end_line c library H (record { round = rounds + 1; thread = 0; index = index }) ∷ []
+lines_from c library rounds H b index (p ∷ ps) =
+    let after = step c library H b (record { round = p.round; thread = 0; index = index }) p.command in
+    after.line ∷ lines_from c library rounds after.history after.bindings (index + 1) ps
+
+-- the lines of a plan with these threads: one so far, which makes all commands; without a thread there are none
+abbrev pub lines_with : Setting → PlanData → List (List ℕ) → List OutLine
+lines_with c plan [] = []
+lines_with c plan (name ∷ names) = lines_from c plan.library plan.bundle.rounds [] [] 1 plan.bundle.commands
+
+-- the lines of a plan, for so many rows of each thread and generations of each row
+abbrev pub serial_lines : ℕ → ℕ → PlanData → List OutLine
+serial_lines rows generations plan = lines_with (setting plan rows generations) plan plan.bundle.threads

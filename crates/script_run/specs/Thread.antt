@@ -1,32 +1,28 @@
--- What the runner of a thread keeps beside the table, and when it is right.
-use Rattle.std.specs.Prelude.{◌≡◌, ℕ, ◌+◌, ◌<◌, ◌≤◌, List}
-use Rattle.std.specs.BTreeMap.{get_by}
-use Rattle.std.specs.Cmp.Lexicographic.{slice_cmp}
-use Rattle.std.specs.Ordering.{nat_cmp}
-use Rattle.std.specs.declared.vec.Vec.{Vec}
+-- What a thread keeps beside the table, and when it is right.
+use Rattle.std.specs.Prelude.{◌≡◌, ℕ, ◌+◌, ◌<◌, ◌≤◌, List, Option}
+use Rattle.mask_compose.specs.Parts.{Parts}
+use Rattle.handle_table.specs.declared.handle.Named.{Named}
 use Rattle.handle_table.specs.Entry.{History}
+use Rattle.handle_table.specs.History.{selection}
 use Rattle.handle_table.specs.Answer.{own}
-use Rattle.handle_table.specs.Table.{StandsFor, steps}
-use Rattle.script_run.specs.declared.thread.Thread.{Thread}
-use Rattle.script_run.specs.declared.variables.Variables.{Variables}
-use Rattle.script_run.specs.Serial.{Bindings, bound, setting}
+use Rattle.script_run.specs.Variables.{Bindings, bound}
 
--- each variable is kept with what its bindings say
-abbrev pub HoldsLast : Variables → Bindings → Type 0
-HoldsLast variables bindings = (variable : List ℕ) → get_by (λ (key : Vec ℕ _). slice_cmp nat_cmp variable key.items) variables.handles ≡ bound bindings variable
+-- the thread's number, the object that it has taken up (none where it goes by the global locale), what it has selected, and
+-- what its variables stand for
+pub record ThreadData : Type 0 where
+  pub number : ℕ
+  pub own : Option Parts
+  pub selected : Named
+  pub variables : Bindings
 
--- the runner is at this history, with these bindings
-pub record IsAt (t : Thread) (H : History) (bindings : Bindings) : Type 0 where
-  pub stands : StandsFor t.table H
-  pub own : t.own ≡ own H 0
-  pub bound : HoldsLast t.bound bindings
+-- the thread keeps what a history and these bindings say
+pub record Follows (t : ThreadData) (H : History) (bindings : Bindings) : Type 0 where
+  pub own : t.own ≡ own H t.number
+  pub selected : t.selected ≡ selection H t.number
+  pub variables : (variable : List ℕ) → bound t.variables variable ≡ bound bindings variable
 
--- the table can make another step
-pub record IsReady (t : Thread) : Type 0 where
-  pub setting : t.table.setting ≡ setting
-  pub steps : steps t.table < 2147483647
-
--- the table is for the same setting, and has made a step more at most
-pub record KeepsTable (old new : Thread) : Type 0 where
-  pub setting : new.table.setting ≡ old.table.setting
-  pub steps : steps new.table ≤ steps old.table + 1
+-- nothing but the variables may differ
+pub record KeepsAllButVariables (old new : ThreadData) : Type 0 where
+  pub number : new.number ≡ old.number
+  pub own : new.own ≡ old.own
+  pub selected : new.selected ≡ old.selected

@@ -1,11 +1,13 @@
 //! The script of a bundle, run on a table of locale objects.
 #![tactic(auto)]
 
+mod asks;
+mod names;
 mod plan;
 mod script;
-mod share;
+mod session;
 mod thread;
 mod variables;
 
-pub use plan::{Plan, prepare};
+pub use plan::{Counts, Plan, check, prepare};
 pub use script::serial;

@@ -1,47 +1,107 @@
-//! A bundle with its compiled locale.
+//! A bundle with its compiled locales.
 
-ghost use Rattle.std.specs.Prelude.{◌≡◌};
-ghost use Rattle.std.specs.Option.{option_copied};
+ghost use Rattle.std.specs.Prelude.{◌≡◌, ◌<◌, ◌^◌, length};
 ghost use Rattle.lc_base.specs.Reading.{Gives};
-ghost use Rattle.numeric_cat.specs.Numeric.{numeric_values};
-ghost use Rattle.script_run.specs.Plan.{listed, entries_of, plan_of};
+ghost use Rattle.script_lang.specs.Accepted.{IsAccepted};
+ghost use Rattle.script_run.specs.Plan.{IsSound, plan_of, counts, counts_of};
 
-use lc_base::{List, TextFault};
-use locale_reader::{Body, Section};
-use numeric_cat::Numeric;
-use script_lang::{Bundle, read_bundle};
+use category_store::Library;
+use lc_base::{ByteText, List, TextFault};
+use script_lang::Bundle;
 use std::alloc::Global;
+use std::marker::Model;
 
-/// An accepted bundle.
-#[derive(Debug, Drop)]
+/// An accepted bundle with its compiled locales.
+#[derive(Drop)]
 pub struct Plan {
-    pub bundle: Bundle,
-    /// The `LC_NUMERIC` of its locale.
-    pub numeric: Numeric,
+    bundle: Bundle,
+    library: Library,
 }
 
-/// Reads a bundle and compiles its locale.
-#[tactic(auto, unfolding(crate::specs::Plan::plan_of))]
+impl Model for Plan {
+    ghost use Rattle.script_run.specs.Plan.{PlanData, IsSound};
+
+    ghost Value = { PlanData };
+
+    ghost view = { λ p. record { bundle = p.bundle; library = p.library } };
+
+    ghost invariant = { λ p. IsSound (record { bundle = p.bundle; library = p.library }) };
+}
+
+impl Plan {
+    /// The names of the threads, by their numbers.
+    pub fn threads(&self) -> &List<ByteText>
+        ensures { result.now ≡ self.now.bundle.threads }
+    {
+        &self.bundle.threads
+    }
+
+    /// The bundle.
+    pub(crate) fn bundle(&self) -> &Bundle
+        ensures bundle { result.now ≡ self.now.bundle }
+        ensures sound { IsSound self.now }
+    {
+        &self.bundle
+    }
+
+    /// Its compiled locales.
+    pub(crate) fn library(&self) -> &Library
+        ensures { result.now ≡ self.now.library }
+    {
+        &self.library
+    }
+}
+
+/// How many of each a bundle has.
+#[derive(Clone, Copy, Debug, PartialEq, Eq)]
+pub struct Counts {
+    /// `.locale` blocks; later versions are not counted.
+    pub locales: u32,
+    pub charmaps: u32,
+    pub threads: u32,
+    /// One more than the `.round` lines.
+    pub rounds: u32,
+    pub commands: u32,
+}
+
+/// Reads a bundle and compiles its locales.
+///
+/// The refusal is the bundle's first fault: of its lines, then of its names, then of its charmaps,
+/// its locale sources, its copies and its categories.
 pub fn prepare(alloc: Global, text: &[u8]) -> Result<Plan, TextFault>
+    requires { length text.now < 2 ^ 31 }
     ensures { Gives (λ plan. plan) result (plan_of text.now) }
 {
-    let bundle = read_bundle(alloc, text)?;
-    let numeric = compile(alloc, &bundle.source.sections)?;
-    Ok(Plan { bundle, numeric })
+    let bundle = Bundle::read(alloc, text)?;
+    let native = bundle.native.as_ref().map(|name| name.as_bytes());
+    let library = Library::build(
+        alloc,
+        &bundle.charmaps,
+        &bundle.locales,
+        &bundle.later,
+        native,
+    )?;
+    Ok(Plan { bundle, library })
 }
 
-/// The category of the first section's keyword list. Where there is no section, or it copies, the
-/// list is empty, and the category is the POSIX locale's.
-fn compile(alloc: Global, sections: &List<Section>) -> Result<Numeric, TextFault>
-    ensures { Gives (λ numeric. numeric) result (numeric_values (entries_of sections.now)) }
+/// Counts what an accepted bundle has. The refusals are those of `prepare`.
+pub fn check(alloc: Global, text: &[u8]) -> Result<Counts, TextFault>
+    requires { length text.now < 2 ^ 31 }
+    ensures { Gives (λ counts. counts) result (counts_of text.now) }
 {
-    match sections.as_slice().first() {
-        Some(
-            Section {
-                body: Body::Entries(entries),
-                ..
-            },
-        ) => Numeric::build(alloc, entries),
-        _ => Ok(Numeric::posix(alloc)?),
+    let plan = prepare(alloc, text)?;
+    Ok(counts_in(&plan.bundle))
+}
+
+fn counts_in(bundle: &Bundle) -> Counts
+    requires { IsAccepted bundle.now }
+    ensures { result ≡ counts bundle.now }
+{
+    Counts {
+        locales: bundle.locales.len() as u32,
+        charmaps: bundle.charmaps.len() as u32,
+        threads: bundle.threads.len() as u32,
+        rounds: bundle.rounds,
+        commands: bundle.commands.len() as u32,
     }
 }

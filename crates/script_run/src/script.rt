@@ -1,76 +1,156 @@
 //! Runs a script on one thread.
 
-ghost use Rattle.std.specs.Prelude.{◌≡◌, ◌≤◌, [], length, IfOk, OnOk, Some};
-ghost use Rattle.numeric_cat.specs.Numeric.{posix_values};
+ghost use Rattle.std.specs.Prelude.{◌≡◌, ◌≤◌, ◌+◌, ◌∷◌, [], List, ℕ, length, IfOk, OnOk, Some, None};
+ghost use Rattle.std.specs.Option.{option_copied};
 ghost use Rattle.handle_table.specs.Entry.{History};
 ghost use Rattle.handle_table.specs.Answer.{own};
 ghost use Rattle.handle_table.specs.Table.{Fits};
-ghost use Rattle.handle_table.specs.Seen.{op_of, reply_of, refusal_of};
-ghost use Rattle.script_lang.specs.declared.bundle.TheConstants.{COMMAND_LIMIT};
+ghost use Rattle.handle_table.specs.Seen.{op_of, reply_of};
+ghost use Rattle.category_store.specs.Library.{opening};
+ghost use Rattle.script_lang.specs.declared.bundle.TheConstants.{ROUND_LIMIT, COMMAND_LIMIT};
+ghost use Rattle.script_run.specs.Variables.{Bindings};
+ghost use Rattle.script_run.specs.Seen.{caller, asked as asked_of};
+ghost use Rattle.script_run.specs.Names.{item_text};
 ghost use Rattle.script_lang.specs.declared.output.Said.TheVariants.{Text};
-ghost use Rattle.script_run.specs.Thread.{IsAt, IsReady, KeepsTable};
-ghost use Rattle.script_run.specs.Serial.{setting, Bindings, binds, bindings_after, item_text, values_of, part_name, why_of, shown, version_made, line, info_line, end_line, placed_line, op_step, step, serial_from, serial_lines};
+ghost use Rattle.script_run.specs.Session.{IsAt, IsReady, GoesOn, IsFresh};
+ghost use Rattle.script_run.specs.Plan.{IsNumbered};
+ghost use Rattle.script_run.specs.Serial.{bindings_after, handle_given, shown, version_made, line, info_line, name_line, told_line, placed_line, end_line, asks, step, lines_from, serial_lines};
 
+use crate::asks::{free_op, new_op, setlocale_op, use_op};
+use crate::names::{item_text, object_name};
 use crate::plan::Plan;
-use crate::share::Share;
-use crate::thread::{Thread, bind, op_of_command, serve, start};
-use handle_table::{Op, Refusal, Reply};
-use lc_base::{ByteText, Category, List};
+use crate::session::Session;
+use crate::thread::Thread;
+use category_store::{Library, Share};
+use handle_table::{Handle, Op, Reply, Table};
+use lc_base::{ByteText, List};
 use mask_compose::Object;
-use numeric_cat::Numeric;
-use script_lang::{Command, Item, OutLine, Places, Said, Why};
+use script_lang::{Categories, Command, Item, OutLine, Placed, Places, Said, Why};
 use std::alloc::{AllocError, Global};
 
-/// The lines of the script's commands and of the thread's end.
-pub fn serial(alloc: Global, plan: &Plan) -> Result<List<OutLine>, AllocError>
-    ensures { IfOk result (λ lines. lines ≡ serial_lines plan.now) }
+/// Whose line it is: the round from 1, the thread from 0, and the index of its line from 1.
+#[derive(Clone, Copy)]
+struct Caller {
+    round: u32,
+    thread: u32,
+    index: u32,
+}
+
+/// The lines of the script's commands and of the thread's end, for a table with so many rows a
+/// thread and generations a row. A plan without threads has none.
+pub fn serial(
+    alloc: Global,
+    plan: &Plan,
+    rows: u32,
+    generations: u32,
+) -> Result<List<OutLine>, AllocError>
+    requires some_row { 1 ≤ rows }
+    requires rows { rows ≤ 64 }
+    requires some_generation { 1 ≤ generations }
+    requires generations { generations ≤ 2147483647 }
+    ensures { IfOk result (λ lines. lines ≡ serial_lines rows generations plan.now) }
 {
-    let posix = Numeric::posix(alloc)?;
-    let lines = lines_of(alloc, plan, &posix, plan.bundle.commands.as_slice())?;
+    let bundle = plan.bundle();
+    if bundle.threads.is_empty() {
+        return Ok(List::of(Vec::new(alloc)));
+    }
+    let threads = bundle.threads.len() as u32;
+    let library = plan.library();
+    let shelf = library.opening(alloc)?;
+    let mut session = Session {
+        table: Table::new(alloc, threads, rows, generations, shelf)?,
+        thread: Thread::new(alloc, 0),
+    };
+    let lines = lines_of(
+        alloc,
+        library,
+        bundle.rounds,
+        bundle.commands.as_slice(),
+        &mut session,
+    )?;
     Ok(List::of(lines))
 }
 
-/// The lines of commands and of the thread's end.
+/// The lines of a thread's commands and of its end.
 fn lines_of(
     alloc: Global,
-    plan: &Plan,
-    posix: &Numeric,
-    commands: &[Command],
+    library: &Library,
+    rounds: u32,
+    commands: &[Placed],
+    session: &mut Session,
 ) -> Result<Vec<OutLine>, AllocError>
+    requires fresh { IsFresh library.now session.old }
+    requires numbered { IsNumbered library.now }
+    requires rounds { rounds ≤ ROUND_LIMIT }
     requires few { length commands.now ≤ COMMAND_LIMIT }
-    requires posix { posix.now ≡ posix_values }
-    ensures { IfOk result (λ lines. lines.items ≡ serial_from plan.now [] [] 1 commands.now) }
+    ensures { IfOk result (λ lines. lines.items ≡ lines_from session.old.table.setting library.now rounds [] [] 1 commands.now) }
 {
-    let mut thread = start(alloc)?;
     let mut lines = Vec::new(alloc);
-    for (i, command) in commands.iter().enumerate() {
-        lines.push(command_line(alloc, plan, posix, &mut thread, i as u32 + 1, command)?)?;
+    for (i, placed) in commands.iter().enumerate() {
+        let at = Caller {
+            round: placed.round,
+            thread: 0,
+            index: i as u32 + 1,
+        };
+        lines.push(command_line(alloc, library, session, at, &placed.command)?)?;
     }
-    lines.push(end_line(&mut thread, commands.len() as u32 + 1))?;
+    let at = Caller {
+        round: rounds + 1,
+        thread: 0,
+        index: commands.len() as u32 + 1,
+    };
+    lines.push(end_line(alloc, library, session, at)?)?;
     Ok(lines)
 }
 
 /// The line of a command.
 fn command_line(
     alloc: Global,
-    plan: &Plan,
-    posix: &Numeric,
-    thread: &mut Thread,
-    index: u32,
+    library: &Library,
+    session: &mut Session,
+    at: Caller,
     command: &Command,
 ) -> Result<OutLine, AllocError>
-    requires posix { posix.now ≡ posix_values }
-    requires ready { IsReady thread.old }
-    ensures line { IfOk result (λ l. (H : History) (b : Bindings) → IsAt thread.old H b → l ≡ (step plan.now H b index command.now).line) }
-    ensures at { OnOk result ((H : History) (b : Bindings) → IsAt thread.old H b → IsAt thread.new (step plan.now H b index command.now).history (step plan.now H b index command.now).bindings) }
-    ensures kept { OnOk result (KeepsTable thread.old thread.new) }
+    requires ready { IsReady session.old }
+    requires caller { at.thread ≡ session.old.thread.number }
+    requires shelf { session.old.table.setting.opening ≡ opening library.now }
+    requires numbered { IsNumbered library.now }
+    ensures line { IfOk result (λ l. (H : History) (b : Bindings) → IsAt session.old H b → l ≡ (step session.old.table.setting library.now H b (caller at) command.now).line) }
+    ensures at { OnOk result ((H : History) (b : Bindings) → IsAt session.old H b → IsAt session.new (step session.old.table.setting library.now H b (caller at) command.now).history (step session.old.table.setting library.now H b (caller at) command.now).bindings) }
+    ensures on { OnOk result (GoesOn session.old session.new) }
 {
-    if let Command::Info(item) = command {
-        return info_line(alloc, plan, posix, thread, index, *item);
-    }
-    match op_of_command(&thread.bound, command) {
-        None => Ok(line_with(index, Places::None, None, Said::Refused(Why::Unset))),
-        Some(op) => op_line(alloc, plan, thread, index, command, op),
+    match command {
+        Command::New {
+            variable,
+            mask,
+            locale,
+        } => {
+            let asked = new_op(library, *mask, locale);
+            asked_line(
+                alloc,
+                library,
+                session,
+                at,
+                Some(variable),
+                Categories::All,
+                asked,
+            )
+        }
+        Command::Free(target) => {
+            let asked = free_op(&session.thread, target);
+            asked_line(alloc, library, session, at, None, Categories::All, asked)
+        }
+        Command::Use(target) => {
+            let asked = use_op(&session.thread, target);
+            asked_line(alloc, library, session, at, None, Categories::All, asked)
+        }
+        Command::Selected => Ok(told_line(at, Said::Is(session.thread.selected()))),
+        Command::Setlocale { categories, locale } => {
+            let asked = setlocale_op(library, *categories, locale);
+            asked_line(alloc, library, session, at, None, *categories, asked)
+        }
+        Command::LocaleName(categories) => name_line(alloc, library, session, at, *categories),
+        Command::Info(item) => info_line(alloc, library, session, at, *item),
     }
 }
 
@@ -78,147 +158,151 @@ fn command_line(
 /// version.
 fn info_line(
     alloc: Global,
-    plan: &Plan,
-    posix: &Numeric,
-    thread: &Thread,
-    index: u32,
+    library: &Library,
+    session: &Session,
+    at: Caller,
     item: Item,
 ) -> Result<OutLine, AllocError>
-    requires posix { posix.now ≡ posix_values }
-    requires setting { thread.now.table.setting ≡ setting }
-    ensures { IfOk result (λ l. (H : History) (b : Bindings) → IsAt thread.now H b → l ≡ info_line plan.now H (own H 0) index item) }
+    ensures { IfOk result (λ l. (H : History) (b : Bindings) → IsAt session.now H b → l ≡ info_line session.now.table.setting library.now H (caller at) item (own H session.now.thread.number)) }
 {
-    if let Some(own) = &thread.own {
-        let text = text_of(alloc, plan, posix, own, item)?;
-        return Ok(line_with(index, Places::None, None, text));
+    match session.thread.own() {
+        Some(object) => {
+            let text = text_of(alloc, library, object, item)?;
+            Ok(told_line(at, text))
+        }
+        None => {
+            let global = session.table.global();
+            let text = text_of(alloc, library, global.peek(), item)?;
+            Ok(line(at, Places::None, Some(global.version()), text))
+        }
     }
-    let global = thread.table.global();
-    let text = text_of(alloc, plan, posix, global.peek(), item)?;
-    Ok(line_with(index, Places::None, Some(global.version()), text))
 }
 
 /// The text of an item of an object.
 fn text_of(
     alloc: Global,
-    plan: &Plan,
-    posix: &Numeric,
+    library: &Library,
     object: &Object<Share>,
     item: Item,
 ) -> Result<Said, AllocError>
-    requires posix { posix.now ≡ posix_values }
-    ensures { IfOk result (λ said. said ≡ Text (item_text (values_of plan.now object.now.numeric) item)) }
+    ensures { IfOk result (λ said. said ≡ Text (item_text library.now object.now item)) }
 {
-    let values = values_of(plan, posix, *object.part(Category::Numeric));
-    Ok(Said::Text(ByteText::of(alloc, item_text(values, item))?))
+    Ok(Said::Text(ByteText::of(alloc, item_text(library, object, item))?))
 }
 
-/// The line of a command that makes the entry of an op.
-fn op_line(
+/// The line of a setlocale that asks: the name of the global locale with its version.
+fn name_line(
     alloc: Global,
-    plan: &Plan,
-    thread: &mut Thread,
-    index: u32,
-    command: &Command,
-    op: Op<Share>,
+    library: &Library,
+    session: &Session,
+    at: Caller,
+    categories: Categories,
 ) -> Result<OutLine, AllocError>
-    requires ready { IsReady thread.old }
-    requires op { Fits setting (op_of op) }
-    ensures line { IfOk result (λ l. (H : History) (b : Bindings) → IsAt thread.old H b → l ≡ (op_step plan.now H b index (binds command.now) (Some (op_of op))).line) }
-    ensures at { OnOk result ((H : History) (b : Bindings) → IsAt thread.old H b → IsAt thread.new (op_step plan.now H b index (binds command.now) (Some (op_of op))).history (op_step plan.now H b index (binds command.now) (Some (op_of op))).bindings) }
-    ensures kept { OnOk result (KeepsTable thread.old thread.new) }
+    ensures { IfOk result (λ l. (H : History) (b : Bindings) → IsAt session.now H b → l ≡ name_line session.now.table.setting library.now H (caller at) categories) }
 {
-    let place = u64::from(thread.table.steps());
-    let reply = serve(thread, op);
-    let line = reply_line(alloc, plan, index, place, &reply)?;
-    bind_made(thread, alloc, command, &reply)?;
-    Ok(line)
+    let global = session.table.global();
+    let name = object_name(alloc, library, global.peek(), categories)?;
+    Ok(line(at, Places::None, Some(global.version()), Said::Name(name)))
 }
 
-/// The line of an op with this place and reply.
-fn reply_line(
+/// The line of a command that makes the entry of an op, or is refused without one.
+fn asked_line(
     alloc: Global,
-    plan: &Plan,
-    index: u32,
-    place: u64,
-    reply: &Reply<Share>,
+    library: &Library,
+    session: &mut Session,
+    at: Caller,
+    variable: Option<&ByteText>,
+    categories: Categories,
+    asked: Result<Op<Share>, Why>,
 ) -> Result<OutLine, AllocError>
-    ensures { IfOk result (λ l. l ≡ placed_line plan.now place index (reply_of reply.now)) }
+    requires ready { IsReady session.old }
+    requires caller { at.thread ≡ session.old.thread.number }
+    requires fits { IfOk asked (λ op. Fits session.old.table.setting (op_of op)) }
+    ensures line { IfOk result (λ l. (H : History) (b : Bindings) → IsAt session.old H b → l ≡ (asks session.old.table.setting library.now H b (caller at) (option_copied variable.entry) categories (asked_of asked)).line) }
+    ensures at { OnOk result ((H : History) (b : Bindings) → IsAt session.old H b → IsAt session.new (asks session.old.table.setting library.now H b (caller at) (option_copied variable.entry) categories (asked_of asked)).history (asks session.old.table.setting library.now H b (caller at) (option_copied variable.entry) categories (asked_of asked)).bindings) }
+    ensures on { OnOk result (GoesOn session.old session.new) }
 {
-    let said = said(alloc, plan, reply)?;
-    Ok(line_with(index, Places::One(place), version_made(reply), said))
-}
-
-/// Binds the handle that a command made to its variable.
-fn bind_made(
-    thread: &mut Thread,
-    alloc: Global,
-    command: &Command,
-    reply: &Reply<Share>,
-) -> Result<(), AllocError>
-    ensures at { OnOk result ((H : History) (b : Bindings) → IsAt thread.old H b → IsAt thread.new H (bindings_after b (binds command.now) (reply_of reply.now))) }
-    ensures table { OnOk result (thread.new.table ≡ thread.old.table) }
-{
-    if let Command::New(variable) = command {
-        if let Reply::Made(handle) = reply {
-            return bind(thread, alloc, variable, *handle);
+    match asked {
+        Err(why) => Ok(told_line(at, Said::Refused(why))),
+        Ok(op) => {
+            let place = u64::from(session.table.steps());
+            let reply = session.serve(op);
+            let line = entry_line(alloc, library, at, place, categories, &reply)?;
+            bind_given(alloc, session, variable, &reply)?;
+            Ok(line)
         }
     }
-    Ok(())
 }
 
-/// The closing line of the thread.
-fn end_line(thread: &mut Thread, index: u32) -> OutLine
-    requires ready { IsReady thread.old }
-    ensures { (H : History) (b : Bindings) → IsAt thread.old H b → result ≡ end_line H index }
+/// Binds a variable to the handle that a reply gives.
+fn bind_given(
+    alloc: Global,
+    session: &mut Session,
+    variable: Option<&ByteText>,
+    reply: &Reply<Share>,
+) -> Result<(), AllocError>
+    ensures at { OnOk result ((H : History) (b : Bindings) → IsAt session.old H b → IsAt session.new H (bindings_after b (option_copied variable.entry) (reply_of reply.now))) }
+    ensures table { OnOk result (session.new.table ≡ session.old.table) }
+    ensures number { OnOk result (session.new.thread.number ≡ session.old.thread.number) }
 {
-    let place = u64::from(thread.table.steps());
-    let _ = serve(thread, Op::End);
-    OutLine {
-        round: 2,
-        thread: 0,
-        index,
-        places: Places::One(place),
-        global: None,
-        reply: Said::Ended,
+    let Some(variable) = variable else {
+        return Ok(());
+    };
+    match handle_given(reply) {
+        Some(handle) => session.thread.bind(alloc, variable.as_bytes(), handle),
+        None => Ok(()),
     }
 }
 
-/// The text of an item.
-fn item_text(values: &Numeric, item: Item) -> &[u8]
-    ensures { result.now ≡ item_text values.now item }
+/// The handle that a reply gives.
+fn handle_given(reply: &Reply<Share>) -> Option<Handle>
+    ensures { result ≡ handle_given (reply_of reply.now) }
 {
-    match item {
-        Item::Radixchar => values.decimal_point(),
-        Item::Thousep => values.thousands_sep(),
+    match reply {
+        Reply::Made(handle) | Reply::Got(handle) => Some(*handle),
+        _ => None,
     }
 }
 
-/// The values of a part.
-fn values_of<'a>(plan: &'a Plan, posix: &'a Numeric, part: Share) -> &'a Numeric
-    requires { posix.now ≡ posix_values }
-    ensures { result.now ≡ values_of plan.now part.number }
+/// The closing line of the thread: its end.
+fn end_line(
+    alloc: Global,
+    library: &Library,
+    session: &mut Session,
+    at: Caller,
+) -> Result<OutLine, AllocError>
+    requires ready { IsReady session.old }
+    requires caller { at.thread ≡ session.old.thread.number }
+    ensures { IfOk result (λ l. (H : History) (b : Bindings) → IsAt session.old H b → l ≡ end_line session.old.table.setting library.now H (caller at)) }
 {
-    if part.number == 0 {
-        posix
-    } else {
-        &plan.numeric
-    }
+    let place = u64::from(session.table.steps());
+    let reply = session.serve(Op::End);
+    entry_line(alloc, library, at, place, Categories::All, &reply)
 }
 
-/// The name of a part.
-fn part_name(plan: &Plan, part: Share) -> &[u8]
-    ensures { result.now ≡ part_name plan.now part.number }
+/// The line of an entry with this place.
+fn entry_line(
+    alloc: Global,
+    library: &Library,
+    at: Caller,
+    place: u64,
+    categories: Categories,
+    reply: &Reply<Share>,
+) -> Result<OutLine, AllocError>
+    ensures { IfOk result (λ l. l ≡ placed_line library.now place (caller at) categories (reply_of reply.now)) }
 {
-    if part.number == 0 {
-        b"C"
-    } else {
-        plan.bundle.name.as_bytes()
-    }
+    let said = shown(alloc, library, categories, reply)?;
+    Ok(line(at, Places::One(place), version_made(reply), said))
 }
 
 /// The printed form of a reply of the table.
-fn said(alloc: Global, plan: &Plan, reply: &Reply<Share>) -> Result<Said, AllocError>
-    ensures { IfOk result (λ said. said ≡ shown plan.now (reply_of reply.now)) }
+fn shown(
+    alloc: Global,
+    library: &Library,
+    categories: Categories,
+    reply: &Reply<Share>,
+) -> Result<Said, AllocError>
+    ensures { IfOk result (λ said. said ≡ shown library.now categories (reply_of reply.now)) }
 {
     match reply {
         Reply::Made(handle) | Reply::Got(handle) => Ok(Said::Handle(*handle)),
@@ -226,31 +310,14 @@ fn said(alloc: Global, plan: &Plan, reply: &Reply<Share>) -> Result<Said, AllocE
         Reply::Was { former, .. } => Ok(Said::Was(*former)),
         Reply::Held(_) => Ok(Said::Held),
         Reply::Released => Ok(Said::Released),
-        Reply::Set { object, .. } => {
-            let name = part_name(plan, *object.part(Category::Numeric));
-            Ok(Said::Name(ByteText::of(alloc, name)?))
-        }
+        Reply::Set { object, .. } => Ok(Said::Name(object_name(
+            alloc, library, object, categories,
+        )?)),
         Reply::Installed(count) => Ok(Said::Installed(*count)),
         Reply::Posted => Ok(Said::Posted),
         Reply::Pins(count) => Ok(Said::Pins(*count)),
         Reply::Ended => Ok(Said::Ended),
-        Reply::Refused(refusal) => Ok(Said::Refused(why_of(*refusal))),
-    }
-}
-
-/// The printed form of a refusal of the table.
-fn why_of(refusal: Refusal) -> Why
-    ensures { result ≡ why_of (refusal_of refusal) }
-{
-    match refusal {
-        Refusal::NoData(category) => Why::NoData(category),
-        Refusal::GlobalHandle => Why::GlobalHandle,
-        Refusal::NeverMade => Why::NeverMade,
-        Refusal::Stale => Why::Stale,
-        Refusal::TooMany => Why::TooMany,
-        Refusal::AlreadyHeld => Why::AlreadyHeld,
-        Refusal::NotHeld => Why::NotHeld,
-        Refusal::EmptyCell => Why::EmptyCell,
+        Reply::Refused(refusal) => Ok(Said::Refused(Why::Table(*refusal))),
     }
 }
 
@@ -264,14 +331,20 @@ fn version_made(reply: &Reply<Share>) -> Option<u32>
     }
 }
 
-/// A line of a command.
-fn line_with(index: u32, places: Places, global: Option<u32>, reply: Said) -> OutLine
-    ensures { result ≡ line index places global reply }
+/// A line of a command that tells something without an entry.
+fn told_line(at: Caller, reply: Said) -> OutLine
+    ensures { result ≡ told_line (caller at) reply }
+{
+    line(at, Places::None, None, reply)
+}
+
+fn line(at: Caller, places: Places, global: Option<u32>, reply: Said) -> OutLine
+    ensures { result ≡ line (caller at) places global reply }
 {
     OutLine {
-        round: 1,
-        thread: 0,
-        index,
+        round: at.round,
+        thread: at.thread,
+        index: at.index,
         places,
         global,
         reply,

@@ -1,115 +1,114 @@
-//! A thread that runs its commands on a table.
+//! What a thread keeps beside the table.
 
-ghost use Rattle.std.specs.Prelude.{◌≡◌, ◌+◌, ◌<◌, ◌++◌, ◌∷◌, [], ◌^◌, IfOk, IfSome, OnOk, OnErr, Some};
-ghost use Rattle.std.specs.Option.{option_map};
-ghost use Rattle.handle_table.specs.Entry.{History};
-ghost use Rattle.handle_table.specs.Answer.{answer, entry, own_after};
-ghost use Rattle.handle_table.specs.Table.{Fits, steps};
+ghost use Rattle.std.specs.Prelude.{◌≡◌, ◌∷◌, [], ℕ, List, OnOk, OnErr, None, if◌then◌else◌};
+ghost use Rattle.std.specs.Option.{option_copied};
+ghost use Rattle.handle_table.specs.declared.handle.Named.TheVariants as names;
+ghost use Rattle.handle_table.specs.Entry.{is_accepted};
+ghost use Rattle.handle_table.specs.History.{selection_after};
+ghost use Rattle.handle_table.specs.Answer.{own_after};
 ghost use Rattle.handle_table.specs.Seen.{op_of, reply_of};
-ghost use Rattle.script_run.specs.Thread.{HoldsLast, IsAt, IsReady, KeepsTable};
-ghost use Rattle.script_run.specs.Serial.{setting, Bindings, named, op_of_command};
+ghost use Rattle.script_run.specs.Variables.{bound};
+ghost use Rattle.script_run.specs.Thread.{KeepsAllButVariables};
 
-use crate::share::{Share, opening};
 use crate::variables::Variables;
-use handle_table::{Handle, Named, Op, Reply, Table};
-use lc_base::{ByteText, Category, Mask};
+use category_store::Share;
+use handle_table::{Handle, Named, Op, Reply};
 use mask_compose::Object;
-use script_lang::{Command, Target};
 use std::alloc::{AllocError, Global};
+use std::marker::Model;
 
-/// The bundle's locale for `LC_NUMERIC`.
-const NUMERIC_NAMES: [u32; 5] = [0, 1, 0, 0, 0];
-
-/// A thread with its table.
+/// A thread of the script.
 #[derive(Drop)]
 pub struct Thread {
-    pub table: Table<Share>,
-    /// The thread's own object; `None` where it goes by the global locale.
-    pub own: Option<Object<Share>>,
-    pub bound: Variables,
+    number: u32,
+    /// The object that it has taken up; `None` where it goes by the global locale.
+    own: Option<Object<Share>>,
+    selected: Named,
+    variables: Variables,
 }
 
-/// A thread before its first command.
-pub fn start(alloc: Global) -> Result<Thread, AllocError>
-    ensures at { IfOk result (λ thread. IsAt thread [] []) }
-    ensures setting { IfOk result (λ thread. thread.table.setting ≡ setting) }
-    ensures steps { IfOk result (λ thread. steps thread.table ≡ 0) }
-{
-    Ok(Thread {
-        table: Table::new(alloc, 1, 16, 65535, opening(alloc)?)?,
-        own: None,
-        bound: Variables::new(alloc),
-    })
+impl Model for Thread {
+    ghost use Rattle.script_run.specs.Thread.{ThreadData};
+
+    ghost Value = { ThreadData };
+
+    ghost view = { λ t. record { number = t.number; own = t.own; selected = t.selected; variables = t.variables } };
 }
 
-/// Answers an op of the thread.
-pub fn serve(thread: &mut Thread, op: Op<Share>) -> Reply<Share>
-    requires ready { IsReady thread.old }
-    requires op { Fits setting (op_of op) }
-    ensures reply { (H : History) (b : Bindings) → IsAt thread.old H b → reply_of result ≡ answer setting H 0 (op_of op) }
-    ensures at { (H : History) (b : Bindings) → IsAt thread.old H b → IsAt thread.new (entry setting H 0 (op_of op) ∷ H) b }
-    ensures kept { KeepsTable thread.old thread.new }
-{
-    let reply = thread.table.step(0, op);
-    follow_own(&mut thread.own, &reply);
-    reply
-}
+impl Thread {
+    /// A thread before its first command.
+    pub fn new(alloc: Global, number: u32) -> Thread
+        ensures { result ≡ record { number = number; own = None; selected = names.Global; variables = [] } }
+    {
+        Thread {
+            number,
+            own: None,
+            selected: Named::Global,
+            variables: Variables::new(alloc),
+        }
+    }
 
-/// The own object after a reply.
-fn follow_own(own: &mut Option<Object<Share>>, reply: &Reply<Share>)
-    ensures { own.new ≡ own_after (reply_of reply.now) own.old }
-{
-    match reply {
-        Reply::Was { now, .. } => *own = now.as_ref().map(|object| object.share()),
-        Reply::Ended => *own = None,
-        _ => {}
+    /// Its number, from 0.
+    pub fn number(&self) -> u32
+        ensures { result ≡ self.now.number }
+    {
+        self.number
+    }
+
+    /// The object that it has taken up; `None` where it goes by the global locale.
+    pub fn own(&self) -> Option<&Object<Share>>
+        ensures { option_copied result ≡ self.now.own }
+    {
+        self.own.as_ref()
+    }
+
+    /// What it has selected.
+    pub fn selected(&self) -> Named
+        ensures { result ≡ self.now.selected }
+    {
+        self.selected
+    }
+
+    /// What a variable stands for.
+    pub fn variable(&self, variable: &[u8]) -> Option<Handle>
+        ensures { result ≡ bound self.now.variables variable.now }
+    {
+        self.variables.get(variable)
+    }
+
+    /// Follows the reply to an op of the thread: what it selects if the op is accepted, and the
+    /// object that it takes up.
+    pub fn follow(&mut self, next: Named, reply: &Reply<Share>)
+        ensures { self.new ≡ record self.old {
+          own = own_after (reply_of reply.now) self.old.own;
+          selected = (if is_accepted (reply_of reply.now) then next else self.old.selected);
+        } }
+    {
+        match reply {
+            Reply::Refused(_) => return,
+            Reply::Was { now, .. } => self.own = now.as_ref().map(|object| object.share()),
+            Reply::Ended => self.own = None,
+            _ => {}
+        }
+        self.selected = next;
+    }
+
+    /// Binds a variable to a handle.
+    pub fn bind(&mut self, alloc: Global, variable: &[u8], handle: Handle) -> Result<(), AllocError>
+        ensures bound { OnOk result ((v : List ℕ) → bound self.new.variables v ≡ bound ((variable.now, handle) ∷ self.old.variables) v) }
+        ensures others { OnOk result (KeepsAllButVariables self.old self.new) }
+    {
+        self.variables.bind(alloc, variable, handle)
     }
 }
 
-/// Binds a variable to a handle.
-pub fn bind(
-    thread: &mut Thread,
-    alloc: Global,
-    variable: &ByteText,
-    handle: Handle,
-) -> Result<(), AllocError>
-    ensures at { OnOk result ((H : History) (b : Bindings) → IsAt thread.old H b → IsAt thread.new H (b ++ (variable.now, handle) ∷ [])) }
-    ensures table { OnOk result (thread.new.table ≡ thread.old.table) }
+/// What a thread has selected after an accepted op.
+pub fn selection_after(op: &Op<Share>, before: Named) -> Named
+    ensures { result ≡ selection_after (op_of op.now) before }
 {
-    thread.bound.bind(alloc, variable.as_bytes(), handle)
-}
-
-/// The op of a command that makes an entry, where its variable is bound.
-pub fn op_of_command(bound: &Variables, command: &Command) -> Option<Op<Share>>
-    ensures op { (b : Bindings) → HoldsLast bound.now b → option_map op_of result ≡ op_of_command b command.now }
-    ensures fits { IfSome result (λ op. Fits setting (op_of op)) }
-{
-    match command {
-        Command::Info(_) => None,
-        Command::Setlocale => Some(Op::SetGlobal {
-            mask: Mask::one(Category::Numeric),
-            names: NUMERIC_NAMES,
-        }),
-        Command::New(_) => Some(Op::New {
-            mask: Mask::one(Category::Numeric),
-            names: NUMERIC_NAMES,
-            base: None,
-        }),
-        Command::Free(target) => Some(Op::Free {
-            h: named(bound, target)?,
-        }),
-        Command::Use(target) => Some(Op::Use {
-            to: named(bound, target)?,
-        }),
-    }
-}
-
-/// What a command names, where its variable is bound.
-fn named(bound: &Variables, target: &Target) -> Option<Named>
-    ensures { (b : Bindings) → HoldsLast bound.now b → result ≡ named b target.now }
-{
-    match target {
-        Target::Global => Some(Named::Global),
-        Target::Variable(variable) => Some(Named::Of(bound.get(variable.as_bytes())?)),
+    match op {
+        Op::Use { to } => *to,
+        Op::End => Named::Global,
+        _ => before,
     }
 }

@@ -1,37 +1,29 @@
-use Rattle.std.proofs.Common.{◌≡◌, refl, sym, ap, ◌∙◌, arith, Some, None}
-use Rattle.handle_table.specs.Entry.{History}
-use Rattle.handle_table.specs.Seen.{op_of}
-use Rattle.script_run.specs.Serial.{Bindings, Step, binds, op_step, step}
-use Rattle.script_run.specs.Thread.{IsAt}
-use Rattle.script_run.proofs.SerialRuns.{step_is, step_unset, if_ok, on_ok}
+use Rattle.std.proofs.Common.{ℕ, None, sym, ap, ◌∙◌}
+use Rattle.std.proofs.lemmas.Result.{IfOk-weaker}
+use Rattle.handle_table.specs.Answer.{own}
+use Rattle.script_lang.specs.declared.command.Categories.TheVariants.{All}
+use Rattle.script_run.specs.Seen.{caller}
+use Rattle.script_run.specs.Serial.{Asks, asks, info_line}
+use Rattle.script_run.proofs.SerialRuns.{free_is, use_is}
 use Rattle.script_run.proofs.script.command_line.Goals as goal
 
-pub returns-in-Some : goal.returns-in-Some
-returns-in-Some c =
-    let plan = c.args.plan.now in
-    let command = c.args.command.now in
-    let index = c.args.index in
-    let op = op_of c.in-Some.op in
-    let same : (H : History) (b : Bindings) → IsAt c.args.thread.now H b → step plan H b index command ≡ op_step plan H b index (binds command) (Some op)
-    = λ H b at. step_is plan H b index command op (sym (c.in-Some.ensures.op b at.bound)) in
-    record {
-      line = if_ok c.op_line.result _ _ (λ l f H b at. f H b at ∙ ap (λ (s : Step). s.line) (sym (same H b at))) c.op_line.ensures.line;
-      at = on_ok c.op_line.result _ _ (λ f H b at. rw (same H b at) (f H b at)) c.op_line.ensures.at;
-      kept = c.op_line.ensures.kept;
-    }
+pub asked_line-requires-clause-fits : goal.asked_line-requires-clause-fits
+asked_line-requires-clause-fits c = IfOk-weaker c.new_op-asked.result _ _ (λ op f. f c.args.session.now.table.setting c.requires.shelf) c.new_op-asked.ensures.fits
+
+pub asked_line-requires-in-Setlocale-clause-fits : goal.asked_line-requires-in-Setlocale-clause-fits
+asked_line-requires-in-Setlocale-clause-fits c = IfOk-weaker c.setlocale_op-asked.result _ _ (λ op f. f c.args.session.now.table.setting c.requires.shelf) c.setlocale_op-asked.ensures.fits
+
+pub returns-in-Free-clause-line : goal.returns-in-Free-clause-line
+returns-in-Free-clause-line c =
+    rw c.in-Free.is (IfOk-weaker c.asked_line-in-Free.result _ _ (λ l f H b here. f H b here ∙ ap (λ (a : Asks). (asks c.args.session.now.table.setting c.args.library.now H b (caller c.args.at) None All a).line) (free_is c.args.session.now.thread H b _ _ c.free_op-asked.ensures.asked here.follows)) c.asked_line-in-Free.ensures.line)
+
+pub returns-in-Use-clause-line : goal.returns-in-Use-clause-line
+returns-in-Use-clause-line c =
+    rw c.in-Use.is (IfOk-weaker c.asked_line-in-Use.result _ _ (λ l f H b here. f H b here ∙ ap (λ (a : Asks). (asks c.args.session.now.table.setting c.args.library.now H b (caller c.args.at) None All a).line) (use_is c.args.session.now.thread H b _ _ c.use_op-asked.ensures.asked here.follows)) c.asked_line-in-Use.ensures.line)
+
+pub returns-in-LocaleName-clause-line : goal.returns-in-LocaleName-clause-line
+returns-in-LocaleName-clause-line c = rw c.in-LocaleName.is c.name_line.ensures
 
 pub returns-in-Info-clause-line : goal.returns-in-Info-clause-line
-returns-in-Info-clause-line c = rw c.in-Info.is c.info_line.ensures
-
-pub returns-in-None : goal.returns-in-None
-returns-in-None c =
-    let plan = c.args.plan.now in
-    let command = c.args.command.now in
-    let index = c.args.index in
-    let same : (H : History) (b : Bindings) → IsAt c.args.thread.now H b → step plan H b index command ≡ op_step plan H b index (binds command) None
-    = λ H b at. step_unset plan H b index command c.in_default.not-Info (sym (c.in-None.ensures.op b at.bound)) in
-    record {
-      line = λ H b at. c.line_with.ensures ∙ ap (λ (s : Step). s.line) (sym (same H b at));
-      at = λ H b at. rw (same H b at) at;
-      kept = record { setting = refl; steps = omega arith };
-    }
+returns-in-Info-clause-line c =
+    rw c.in-Info.is (IfOk-weaker c.info_line.result _ _ (λ l f H b here. f H b here ∙ ap (λ (n : ℕ). info_line c.args.session.now.table.setting c.args.library.now H (caller c.args.at) c.in-Info.item (own H n)) (sym c.requires.caller)) c.info_line.ensures)
