@@ -5,5 +5,4 @@ pub mod CellLemmas
 pub mod LineSteps
 pub mod Sections
 pub mod NumberLemmas
-mod Examples
 mod CellExamples

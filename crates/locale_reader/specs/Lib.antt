@@ -1,7 +1,5 @@
 pub use Rattle.lc_base.specs.Lines
 pub use Rattle.lc_base.specs.Reading
-pub mod Texts
-pub mod NumericSection
 pub mod Keywords
 pub mod Values
 pub mod Cells

@@ -7,7 +7,6 @@ mod keyword_line;
 mod keywords;
 mod locale;
 mod number;
-mod numeric;
 mod opened;
 mod source;
 #[cfg(test)]
@@ -18,5 +17,4 @@ mod words;
 
 pub use cells::{ValueRef, ValueWalk, Values};
 pub use locale::read_locale;
-pub use numeric::read_numeric;
 pub use source::{Body, Entry, LocaleSource, Section, Value};

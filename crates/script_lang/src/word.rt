@@ -10,7 +10,7 @@ ghost use Rattle.script_lang.specs.Seen.{seen_handle, IsQuoting};
 
 use crate::command::Categories;
 use crate::names::is_thread_name;
-use lc_base::{ByteText, Category, Mask};
+use lc_base::{ByteText, CATEGORIES, Category, Mask};
 use std::alloc::{AllocError, Global};
 
 /// What stands before a byte of a quoted text.
@@ -35,15 +35,6 @@ pub struct WrittenHandle<'a> {
     pub row: u32,
     pub generation: u32,
 }
-
-/// The categories in the order of their bits.
-const CATEGORIES: [Category; 5] = [
-    Category::Ctype,
-    Category::Numeric,
-    Category::Monetary,
-    Category::Time,
-    Category::Messages,
-];
 
 /// The word for all categories.
 const ALL: &[u8] = b"LC_ALL";
