@@ -1,16 +1,12 @@
 -- Bundles, and what their scripts print, at worked examples.
-use Rattle.std.proofs.Common.{◌≡◌, ℕ, List, [], ◌∷◌, Option, Some, None, Ok, Err, refl}
+use Rattle.std.proofs.Common.{◌≡◌, ℕ, List, [], ◌∷◌, Option, Some, None, refl}
 use Rattle.std.specs.Prelude.{codes}
 use Rattle.lc_base.specs.declared.category.Category.TheVariants as categories
 use Rattle.lc_base.specs.declared.block.Block.{Block}
 use Rattle.numeric_cat.specs.NumericValues.{NumericValues}
-use Rattle.numeric_cat.specs.Numeric.{posix_values}
 use Rattle.category_store.specs.Catalog.{Locale, Catalog}
-use Rattle.handle_table.specs.declared.handle.Handle.{Handle}
 use Rattle.handle_table.specs.declared.handle.Named.TheVariants as named
-use Rattle.handle_table.specs.declared.op.Refusal.TheVariants as refusals
 use Rattle.handle_table.specs.Entry as table
-use Rattle.script_lang.specs.declared.bundle.Bundle.{Bundle}
 use Rattle.script_lang.specs.declared.command.Item.TheVariants.{Radixchar, Thousep}
 use Rattle.script_lang.specs.declared.command.Categories.TheVariants.{All, One}
 use Rattle.script_lang.specs.declared.command.Target.{Target}
@@ -24,7 +20,6 @@ use Rattle.script_lang.specs.declared.output.Places.TheVariants as places
 use Rattle.script_lang.specs.declared.output.Said.{Said}
 use Rattle.script_lang.specs.declared.output.Said.TheVariants as said
 use Rattle.script_lang.specs.declared.output.Why.TheVariants as whys
-use Rattle.script_run.specs.declared.plan.Counts.{Counts}
 use Rattle.script_run.specs.Plan.{PlanData, counts}
 use Rattle.script_run.specs.Names.{joint_name, object_name}
 use Rattle.script_run.specs.Variables.{bound}

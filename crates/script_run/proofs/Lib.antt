@@ -1,6 +1,5 @@
 pub mod Examples
 pub mod Joined
 pub mod Numbered
-pub mod Plans
 pub mod SerialRuns
 pub mod VariableLemmas

@@ -19,7 +19,6 @@ use Rattle.script_run.specs.Variables.{Bindings}
 use Rattle.script_run.specs.Thread.{ThreadData, Follows}
 use Rattle.script_run.specs.Session.{IsAt, IsReady, GoesOn, IsFresh}
 use Rattle.script_run.specs.Serial.{Caller, Step, setting, Asks, handle_or_unset, named, free_op, use_op, bindings_after, placed_line, entry_line, asks, step, end_line, lines_from, lines_with, serial_lines}
-use Rattle.script_run.specs.Serial as serial
 
 -- ---- entries
 
