@@ -9,21 +9,41 @@ use Rattle.lc_base.specs.declared.place.Place.{Place}
 use Rattle.lc_base.specs.declared.reason.Reason.{Reason}
 use Rattle.lc_base.specs.Faults.{Rose}
 use Rattle.lc_base.specs.Bytes.{CameExactly}
-use Rattle.lc_base.specs.Reading.{Reads}
-use Rattle.script_run.specs.declared.plan.Plan.{Plan}
+use Rattle.lc_base.specs.Reading.{Reads, ◌>>=◌}
 use Rattle.locale_cli.specs.declared.top.TheConstants.{INPUT_LIMIT}
 use Rattle.locale_cli.specs.declared.answer.Status.{Status}
 use Rattle.locale_cli.specs.declared.answer.Status.TheVariants.{Done, Usage, Refused, ReadFault, WriteFault, Memory, TooLarge}
-use Rattle.locale_cli.specs.Answer.{answer_to, answer_of}
-use Rattle.script_run.specs.Plan.{plan_of}
+use Rattle.locale_cli.specs.declared.words.Mode.{Mode}
+use Rattle.locale_cli.specs.declared.words.Mode.TheVariants.{Check}
+use Rattle.locale_cli.specs.Answer.{output, status_for, text_for, answer_of}
+use Rattle.script_run.specs.Plan.{PlanData, counts, plan_of}
 use Rattle.script_lang.specs.Refusal.{refusal_line}
 use Rattle.locale_cli.specs.Run.{SourceStep, SinkStep, Told, Ran}
-use Rattle.locale_cli.specs.Status.{too_large_line, WholeInput, IsRefused, due_status, IsDue, StayedSound}
+use Rattle.locale_cli.specs.Status.{too_large_line, WholeInput, IsDone, IsChecked, IsRefused, IsCutShort, status_of, due_status, IsDue, StayedSound}
+
+-- what is printed of a plan, or its fault
+abbrev printed_of : Mode → Reads PlanData → Reads (List ℕ)
+printed_of mode r = r >>= λ plan. Ok (output mode plan)
 
 -- a refused answer is that of a refused bundle
-refused_is : (input : List ℕ) (r : Reads Plan) → plan_of input ≡ r → Refused ≡ (answer_to r).status → (fault : Place × Reason) × (plan_of input ≡ Err fault) × ((answer_to r).text ≡ refusal_line fault.0 fault.1)
-refused_is input (Ok plan) e d = absurd cc
-refused_is input (Err fault) e d = (fault, e, refl)
+refused_is : (mode : Mode) (input : List ℕ) (r : Reads PlanData) → plan_of input ≡ r → Refused ≡ status_for (printed_of mode r) → (fault : Place × Reason) × (plan_of input ≡ Err fault) × (text_for (printed_of mode r) ≡ refusal_line fault.0 fault.1)
+refused_is mode input (Ok plan) e d = absurd cc
+refused_is mode input (Err fault) e d = (fault, e, refl)
+
+-- an answer with the status 0 is that of an accepted bundle
+done_is : (mode : Mode) (input : List ℕ) (r : Reads PlanData) → plan_of input ≡ r → Done ≡ status_for (printed_of mode r) → (plan : PlanData) × (plan_of input ≡ Ok plan) × (text_for (printed_of mode r) ≡ output mode plan)
+done_is mode input (Ok plan) e d = (plan, e, refl)
+done_is mode input (Err fault) e d = absurd cc
+
+-- no answer has the status of a failed write
+not_cut : (mode : Mode) (r : Reads PlanData) → WriteFault ≡ status_for (printed_of mode r) → ⊥
+not_cut mode (Ok plan) e = cc
+not_cut mode (Err fault) e = cc
+
+-- each mode has the same status
+status_is : (mode : Mode) (r : Reads PlanData) → status_of r ≡ status_for (printed_of mode r)
+status_is mode (Ok plan) = refl
+status_is mode (Err fault) = refl
 
 -- the status is another one
 other : {P : Type 0} (a b r : Status) → (a ≡ b → ⊥) → r ≡ a → r ≡ b → P
@@ -33,21 +53,60 @@ other a b r differ e f = absurd (differ (sym e ∙ f))
 sound_fell : {P : Type 0} (before after : ℕ) → Rose before after → StayedSound before after → P
 sound_fell before after rose sound = absurd (let lt = rose sound.not_last in omega (arith, sound.same))
 
-pub ran_refused : (s : SourceStep) (k : SinkStep) (U : Type 0) (r : Status) → Ran s k U r → r ≡ Refused → IsRefused s.left s.left' k.written k.written'
-ran_refused s k U r (inl (inl a)) e =
+pub ran_refused : (mode : Mode) (s : SourceStep) (k : SinkStep) (U : Type 0) (r : Status) → Ran mode s k U r → r ≡ Refused → IsRefused s.left s.left' k.written k.written'
+ran_refused mode s k U r (inl (inl a)) e =
     elim a.3 [
       | inl t ↦
-          let d = refused_is a.0 (plan_of a.0) refl (sym e ∙ t.0) in
+          let d = refused_is mode a.0 (plan_of a.0) refl (sym e ∙ t.0) in
           (a.0, d.0, a.1, d.1, subst (λ (x : List ℕ). Appends k.written k.written' x) d.2 t.1)
       | inr f ↦ other Refused WriteFault r (λ q. cc) e f.0
     ]
-ran_refused s k U r (inl (inr a)) e =
+ran_refused mode s k U r (inl (inr a)) e =
     elim a.2 [
       | inl t ↦ other Refused TooLarge r (λ q. cc) e t.0
       | inr f ↦ other Refused WriteFault r (λ q. cc) e f.0
     ]
-ran_refused s k U r (inr (u, inl f)) e = other Refused ReadFault r (λ q. cc) e f.0
-ran_refused s k U r (inr (u, inr m)) e = other Refused Memory r (λ q. cc) e m.0
+ran_refused mode s k U r (inr (u, inl f)) e = other Refused ReadFault r (λ q. cc) e f.0
+ran_refused mode s k U r (inr (u, inr m)) e = other Refused Memory r (λ q. cc) e m.0
+
+pub ran_done : (mode : Mode) (s : SourceStep) (k : SinkStep) (U : Type 0) (r : Status) → Ran mode s k U r → r ≡ Done → IsDone mode s.left s.left' k.written k.written'
+ran_done mode s k U r (inl (inl a)) e =
+    elim a.3 [
+      | inl t ↦
+          let d = done_is mode a.0 (plan_of a.0) refl (sym e ∙ t.0) in
+          (a.0, d.0, a.1, d.1, subst (λ (x : List ℕ). Appends k.written k.written' x) d.2 t.1)
+      | inr f ↦ other Done WriteFault r (λ q. cc) e f.0
+    ]
+ran_done mode s k U r (inl (inr a)) e =
+    elim a.2 [
+      | inl t ↦ other Done TooLarge r (λ q. cc) e t.0
+      | inr f ↦ other Done WriteFault r (λ q. cc) e f.0
+    ]
+ran_done mode s k U r (inr (u, inl f)) e = other Done ReadFault r (λ q. cc) e f.0
+ran_done mode s k U r (inr (u, inr m)) e = other Done Memory r (λ q. cc) e m.0
+
+-- the front of what was due was written
+pub ran_cut : (mode : Mode) (s : SourceStep) (k : SinkStep) (U : Type 0) (r : Status) → Ran mode s k U r → r ≡ WriteFault → IsCutShort mode s.left s.left' k.written k.written'
+ran_cut mode s k U r (inl (inl a)) e =
+    elim a.3 [
+      | inl t ↦ absurd (not_cut mode (plan_of a.0) (sym e ∙ t.0))
+      | inr f ↦ inl (a.0, a.1, f.1)
+    ]
+ran_cut mode s k U r (inl (inr a)) e =
+    elim a.2 [
+      | inl t ↦ other WriteFault TooLarge r (λ q. cc) e t.0
+      | inr f ↦ inr (a.0, f.1)
+    ]
+ran_cut mode s k U r (inr (u, inl f)) e = other WriteFault ReadFault r (λ q. cc) e f.0
+ran_cut mode s k U r (inr (u, inr m)) e = other WriteFault Memory r (λ q. cc) e m.0
+
+-- words name one mode
+pub same_mode : (o : Option Mode) (m n : Mode) → o ≡ Some m → o ≡ Some n → m ≡ n
+same_mode o m n p q = cc
+
+-- the counts of an accepted bundle
+pub is_checked : (left left' written written' : Option (List ℕ)) → IsDone Check left left' written written' → IsChecked left left' written written'
+is_checked left left' written written' d = (d.0, counts d.1.bundle, d.2, ap (λ (r : Reads PlanData). r >>= λ plan. Ok (counts plan.bundle)) d.3, d.4)
 
 -- ---- which counts stay
 
@@ -55,16 +114,16 @@ pub told_sound : (status : Status) (text : List ℕ) (r : Status) (k : SinkStep)
 told_sound status text r k (inl t) sound = t.2
 told_sound status text r k (inr f) sound = absurd (sound f.0)
 
-pub ran_read_sound : (s : SourceStep) (k : SinkStep) (U : Type 0) (r : Status) → Ran s k U r → r ≢ ReadFault → s.faults' ≡ s.faults
-ran_read_sound s k U r (inl (inl a)) sound = a.2
-ran_read_sound s k U r (inl (inr a)) sound = a.1
-ran_read_sound s k U r (inr (u, inl f)) sound = absurd (sound f.0)
-ran_read_sound s k U r (inr (u, inr m)) sound = m.1
+pub ran_read_sound : (mode : Mode) (s : SourceStep) (k : SinkStep) (U : Type 0) (r : Status) → Ran mode s k U r → r ≢ ReadFault → s.faults' ≡ s.faults
+ran_read_sound mode s k U r (inl (inl a)) sound = a.2
+ran_read_sound mode s k U r (inl (inr a)) sound = a.1
+ran_read_sound mode s k U r (inr (u, inl f)) sound = absurd (sound f.0)
+ran_read_sound mode s k U r (inr (u, inr m)) sound = m.1
 
-pub ran_write_sound : (s : SourceStep) (k : SinkStep) (U : Type 0) (r : Status) → (U → k.faults' ≡ k.faults) → Ran s k U r → r ≢ WriteFault → k.faults' ≡ k.faults
-ran_write_sound s k U r still (inl (inl a)) sound = told_sound (answer_of a.0).status (answer_of a.0).text r k a.3 sound
-ran_write_sound s k U r still (inl (inr a)) sound = told_sound TooLarge too_large_line r k a.2 sound
-ran_write_sound s k U r still (inr u) sound = still u.0
+pub ran_write_sound : (mode : Mode) (s : SourceStep) (k : SinkStep) (U : Type 0) (r : Status) → (U → k.faults' ≡ k.faults) → Ran mode s k U r → r ≢ WriteFault → k.faults' ≡ k.faults
+ran_write_sound mode s k U r still (inl (inl a)) sound = told_sound (answer_of mode a.0).status (answer_of mode a.0).text r k a.3 sound
+ran_write_sound mode s k U r still (inl (inr a)) sound = told_sound TooLarge too_large_line r k a.2 sound
+ran_write_sound mode s k U r still (inr u) sound = still u.0
 
 -- ---- the status that is due
 
@@ -84,10 +143,10 @@ large_is None left' n c = tt
 large_is (Some xs) None n c = absurd c.1
 large_is (Some xs) (Some ys) n c = omega (arith, ap length c.1, length-append c.0 ys, c.2)
 
-due_whole : (x input : List ℕ) → x ≡ input → length input ≤ INPUT_LIMIT → due_status x ≡ (answer_of input).status
-due_whole x input e le =
+due_whole : (mode : Mode) (x input : List ℕ) → x ≡ input → length input ≤ INPUT_LIMIT → due_status x ≡ (answer_of mode input).status
+due_whole mode x input e le =
     let small : nat_lt INPUT_LIMIT (length x) ≡ false = rw e (le-ltb _ _ le) in
-    rw small (ap (λ (z : List ℕ). (answer_of z).status) e)
+    rw small (ap (λ (z : List ℕ). status_of (plan_of z)) e ∙ status_is mode (plan_of input))
 
 due_large : (x : List ℕ) → INPUT_LIMIT + 1 ≤ length x → due_status x ≡ TooLarge
 due_large x le =
@@ -106,30 +165,30 @@ is_due TooLarge due e = e
 fault_due : (r due : Status) (f : Status) → IsDue f due → r ≡ f → IsDue r due
 fault_due r due f h e = subst (λ (x : Status). IsDue x due) (sym e) h
 
-pub ran_due : (s : SourceStep) (k : SinkStep) (U : Type 0) (r : Status) → Ran s k U r → IfSome s.left (λ input. IsDue r (due_status input))
-ran_due s k U r (inl (inl a)) =
+pub ran_due : (mode : Mode) (s : SourceStep) (k : SinkStep) (U : Type 0) (r : Status) → Ran mode s k U r → IfSome s.left (λ input. IsDue r (due_status input))
+ran_due mode s k U r (inl (inl a)) =
     elim a.3 [
-      | inl t ↦ IfSome_then s.left (whole_is s.left s.left' a.0 a.1) (λ x e. is_due r (due_status x) (due_whole x a.0 e a.1.within ∙ sym t.0))
+      | inl t ↦ IfSome_then s.left (whole_is s.left s.left' a.0 a.1) (λ x e. is_due r (due_status x) (due_whole mode x a.0 e a.1.within ∙ sym t.0))
       | inr f ↦ if_all s.left (λ x. IsDue r (due_status x)) (λ x. fault_due r (due_status x) WriteFault tt f.0)
     ]
-ran_due s k U r (inl (inr a)) =
+ran_due mode s k U r (inl (inr a)) =
     elim a.2 [
       | inl t ↦ IfSome_then s.left (large_is s.left s.left' (INPUT_LIMIT + 1) a.0) (λ x le. is_due r (due_status x) (due_large x le ∙ sym t.0))
       | inr f ↦ if_all s.left (λ x. IsDue r (due_status x)) (λ x. fault_due r (due_status x) WriteFault tt f.0)
     ]
-ran_due s k U r (inr (u, inl f)) = if_all s.left (λ x. IsDue r (due_status x)) (λ x. fault_due r (due_status x) ReadFault tt f.0)
-ran_due s k U r (inr (u, inr m)) = if_all s.left (λ x. IsDue r (due_status x)) (λ x. fault_due r (due_status x) Memory tt m.0)
+ran_due mode s k U r (inr (u, inl f)) = if_all s.left (λ x. IsDue r (due_status x)) (λ x. fault_due r (due_status x) ReadFault tt f.0)
+ran_due mode s k U r (inr (u, inr m)) = if_all s.left (λ x. IsDue r (due_status x)) (λ x. fault_due r (due_status x) Memory tt m.0)
 
-pub ran_complete : (s : SourceStep) (k : SinkStep) (U : Type 0) (r : Status) → Ran s k U r → StayedSound s.faults s.faults' → StayedSound k.faults k.faults' → IfSome s.left (λ input. (r ≡ due_status input) ⊎ (r ≡ Memory))
-ran_complete s k U r (inl (inl a)) source sink =
+pub ran_complete : (mode : Mode) (s : SourceStep) (k : SinkStep) (U : Type 0) (r : Status) → Ran mode s k U r → StayedSound s.faults s.faults' → StayedSound k.faults k.faults' → IfSome s.left (λ input. (r ≡ due_status input) ⊎ (r ≡ Memory))
+ran_complete mode s k U r (inl (inl a)) source sink =
     elim a.3 [
-      | inl t ↦ IfSome_then s.left (whole_is s.left s.left' a.0 a.1) (λ x e. inl (t.0 ∙ sym (due_whole x a.0 e a.1.within)))
+      | inl t ↦ IfSome_then s.left (whole_is s.left s.left' a.0 a.1) (λ x e. inl (t.0 ∙ sym (due_whole mode x a.0 e a.1.within)))
       | inr f ↦ sound_fell k.faults k.faults' f.2 sink
     ]
-ran_complete s k U r (inl (inr a)) source sink =
+ran_complete mode s k U r (inl (inr a)) source sink =
     elim a.2 [
       | inl t ↦ IfSome_then s.left (large_is s.left s.left' (INPUT_LIMIT + 1) a.0) (λ x le. inl (t.0 ∙ sym (due_large x le)))
       | inr f ↦ sound_fell k.faults k.faults' f.2 sink
     ]
-ran_complete s k U r (inr (u, inl f)) source sink = sound_fell s.faults s.faults' f.1 source
-ran_complete s k U r (inr (u, inr m)) source sink = if_all s.left (λ x. (r ≡ due_status x) ⊎ (r ≡ Memory)) (λ x. inr m.0)
+ran_complete mode s k U r (inr (u, inl f)) source sink = sound_fell s.faults s.faults' f.1 source
+ran_complete mode s k U r (inr (u, inr m)) source sink = if_all s.left (λ x. (r ≡ due_status x) ⊎ (r ≡ Memory)) (λ x. inr m.0)

@@ -1,23 +1,51 @@
 -- The answer to an input (our own).
-use Rattle.std.specs.Prelude.{ℕ, List, [], ◌∷◌, Ok, Err}
-use Rattle.lc_base.specs.Reading.{Reads}
-use Rattle.script_run.specs.declared.plan.Plan.{Plan}
+use Rattle.std.specs.Prelude.{ℕ, List, ◌++◌, codes, Ok, Err}
+use Rattle.std.specs.Fmt.{decimal}
+use Rattle.lc_base.specs.Reading.{Reads, ◌>>=◌}
+use Rattle.script_lang.specs.Output.{newline, printed}
+use Rattle.script_lang.specs.Refusal.{refusal_line}
+use Rattle.script_run.specs.declared.plan.Counts.{Counts}
+use Rattle.script_run.specs.Plan.{PlanData, counts, plan_of}
+use Rattle.script_run.specs.Serial.{serial_lines}
+use Rattle.locale_cli.specs.declared.words.Mode.{Mode}
+use Rattle.locale_cli.specs.declared.words.Mode.TheVariants.{Check, Serial}
+use Rattle.locale_cli.specs.declared.answer.TheConstants.{DEFAULT_ROWS, DEFAULT_GENERATIONS}
+use Rattle.locale_cli.specs.declared.answer.Status.{Status}
 use Rattle.locale_cli.specs.declared.answer.Status.TheVariants.{Done, Refused}
 use Rattle.locale_cli.specs.declared.answer.Answer.{Answer}
-use Rattle.script_lang.specs.Output.{printed}
-use Rattle.script_run.specs.Plan.{plan_of}
-use Rattle.script_lang.specs.Refusal.{refusal_line}
-use Rattle.script_run.specs.Serial.{serial_lines}
+
+-- the line of counts
+abbrev pub counts_line : Counts → List ℕ
+counts_line c =
+    codes "ok: locales " ++ decimal c.locales ++
+    codes " charmaps " ++ decimal c.charmaps ++
+    codes " threads " ++ decimal c.threads ++
+    codes " rounds " ++ decimal c.rounds ++
+    codes " commands " ++ decimal c.commands ++ newline
+
+-- the lines of a script, whose threads have the default rows and generations
+abbrev pub serial_text : PlanData → List ℕ
+serial_text plan = printed (serial_lines DEFAULT_ROWS DEFAULT_GENERATIONS plan) plan.bundle.threads
 
 -- what an accepted bundle prints
-abbrev pub serial_text : Plan → List ℕ
-serial_text plan = printed (serial_lines plan) (plan.bundle.thread ∷ [])
+abbrev pub output : Mode → PlanData → List ℕ
+output Check plan = counts_line (counts plan.bundle)
+output Serial plan = serial_text plan
 
--- the status and the text for a plan or a fault
-abbrev pub answer_to : Reads Plan → Answer
-answer_to (Ok plan) = record { status = Done; text = serial_text plan }
-answer_to (Err (place, reason)) = record { status = Refused; text = refusal_line place reason }
+-- what an input prints, or its first fault
+abbrev pub output_of : Mode → List ℕ → Reads (List ℕ)
+output_of mode input = plan_of input >>= λ plan. Ok (output mode plan)
+
+-- the status for an output or a fault
+abbrev pub status_for : Reads (List ℕ) → Status
+status_for (Ok text) = Done
+status_for (Err fault) = Refused
+
+-- the text for an output or a fault
+abbrev pub text_for : Reads (List ℕ) → List ℕ
+text_for (Ok text) = text
+text_for (Err (place, reason)) = refusal_line place reason
 
 -- the status and the text for an input that was read whole
-abbrev pub answer_of : List ℕ → Answer
-answer_of input = answer_to (plan_of input)
+abbrev pub answer_of : Mode → List ℕ → Answer
+answer_of mode input = let out = output_of mode input in record { status = status_for out; text = text_for out }

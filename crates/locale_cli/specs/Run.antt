@@ -6,6 +6,7 @@ use Rattle.lc_base.specs.Bytes.{CameExactly, CameAtMost, AddsPrefix}
 use Rattle.locale_cli.specs.declared.top.TheConstants.{INPUT_LIMIT}
 use Rattle.locale_cli.specs.declared.answer.Status.{Status}
 use Rattle.locale_cli.specs.declared.answer.Status.TheVariants.{ReadFault, WriteFault, Memory, TooLarge}
+use Rattle.locale_cli.specs.declared.words.Mode.{Mode}
 use Rattle.locale_cli.specs.Answer.{answer_of}
 use Rattle.locale_cli.specs.Status.{too_large_line, WholeInput}
 
@@ -30,8 +31,8 @@ pub record SourceStep : Type 0 where
   pub faults' : ℕ
 
 -- the whole input came without a fault and was answered
-abbrev pub AnsweredWhole : SourceStep → SinkStep → Status → Type 0
-AnsweredWhole s k result = (input : List ℕ) × WholeInput s.left s.left' input × (s.faults' ≡ s.faults) × Told (answer_of input).status (answer_of input).text result k
+abbrev pub AnsweredWhole : Mode → SourceStep → SinkStep → Status → Type 0
+AnsweredWhole mode s k result = (input : List ℕ) × WholeInput s.left s.left' input × (s.faults' ≡ s.faults) × Told (answer_of mode input).status (answer_of mode input).text result k
 
 -- more bytes came than the limit allows, without a fault
 abbrev pub AnsweredLarge : SourceStep → SinkStep → Status → Type 0
@@ -46,7 +47,7 @@ abbrev pub LackedMemory : SourceStep → Status → Type 0
 LackedMemory s result = (result ≡ Memory) × (s.faults' ≡ s.faults)
 
 -- the input was answered, whole or too large; or nothing was written, since the source failed or memory was wanting
-abbrev pub Ran : SourceStep → SinkStep → Type 0 → Status → Type 0
-Ran s k Unwritten result =
-    (AnsweredWhole s k result ⊎ AnsweredLarge s k result)
+abbrev pub Ran : Mode → SourceStep → SinkStep → Type 0 → Status → Type 0
+Ran mode s k Unwritten result =
+    (AnsweredWhole mode s k result ⊎ AnsweredLarge s k result)
     ⊎ (Unwritten × (FailedToRead s result ⊎ LackedMemory s result))

@@ -4,13 +4,15 @@ use Rattle.std.specs.Io.KnownBytes.{Appends, Consumes, IsAtEnd}
 use Rattle.lc_base.specs.declared.place.Place.{Place}
 use Rattle.lc_base.specs.declared.reason.Reason.{Reason}
 use Rattle.lc_base.specs.Bytes.{CameExactly, AddsPrefix}
-use Rattle.script_run.specs.declared.plan.Plan.{Plan}
+use Rattle.lc_base.specs.Reading.{Reads}
+use Rattle.script_run.specs.declared.plan.Counts.{Counts}
 use Rattle.locale_cli.specs.declared.top.TheConstants.{INPUT_LIMIT}
 use Rattle.locale_cli.specs.declared.answer.Status.{Status}
 use Rattle.locale_cli.specs.declared.answer.Status.TheVariants.{Done, Usage, Refused, ReadFault, WriteFault, Memory, TooLarge}
-use Rattle.locale_cli.specs.Answer.{answer_of, serial_text}
+use Rattle.locale_cli.specs.declared.words.Mode.{Mode}
+use Rattle.locale_cli.specs.Answer.{answer_of, output, counts_line}
 use Rattle.script_lang.specs.Output.{newline}
-use Rattle.script_run.specs.Plan.{plan_of}
+use Rattle.script_run.specs.Plan.{PlanData, plan_of, counts_of}
 use Rattle.script_lang.specs.Refusal.{refusal_line}
 
 -- what is written for wrong words
@@ -21,21 +23,21 @@ usage_line = codes "refused: usage" ++ newline
 abbrev pub too_large_line : List ℕ
 too_large_line = codes "refused: too large" ++ newline
 
--- what is written for a text that is of no form that is built
-abbrev pub not_built_line : List ℕ
-not_built_line = codes "refused: 1:1 NotBuilt" ++ newline
-
 -- all bytes of the source came, within the limit
 pub record WholeInput (old new : Option (List ℕ)) (input : List ℕ) : Type 0 where
   pub came : Consumes old new input
   pub ended : IsAtEnd new
   pub within : length input ≤ INPUT_LIMIT
 
--- status 0: the whole input is an accepted bundle, and its lines were written
-abbrev pub IsDone : Option (List ℕ) → Option (List ℕ) → Option (List ℕ) → Option (List ℕ) → Type 0
-IsDone left left' written written' = (input : List ℕ) × (plan : Plan) × WholeInput left left' input × (plan_of input ≡ Ok plan) × Appends written written' (serial_text plan)
+-- status 0: the whole input is an accepted bundle, and what the mode prints of it was written
+abbrev pub IsDone : Mode → Option (List ℕ) → Option (List ℕ) → Option (List ℕ) → Option (List ℕ) → Type 0
+IsDone mode left left' written written' = (input : List ℕ) × (plan : PlanData) × WholeInput left left' input × (plan_of input ≡ Ok plan) × Appends written written' (output mode plan)
 
--- status 3: the whole input is no accepted bundle, and the line of its first fault was written
+-- status 0 of `check`: the whole input is an accepted bundle, and its counts were written
+abbrev pub IsChecked : Option (List ℕ) → Option (List ℕ) → Option (List ℕ) → Option (List ℕ) → Type 0
+IsChecked left left' written written' = (input : List ℕ) × (counts : Counts) × WholeInput left left' input × (counts_of input ≡ Ok counts) × Appends written written' (counts_line counts)
+
+-- status 3: the whole input is no accepted bundle, and the line of its first fault, with its place, was written
 abbrev pub IsRefused : Option (List ℕ) → Option (List ℕ) → Option (List ℕ) → Option (List ℕ) → Type 0
 IsRefused left left' written written' = (input : List ℕ) × (fault : Place × Reason) × WholeInput left left' input × (plan_of input ≡ Err fault) × Appends written written' (refusal_line fault.0 fault.1)
 
@@ -44,14 +46,19 @@ abbrev pub IsTooLarge : Option (List ℕ) → Option (List ℕ) → Option (List
 IsTooLarge left left' written written' = CameExactly left left' (INPUT_LIMIT + 1) × Appends written written' too_large_line
 
 -- status 5, for right words: the front of what was to be written was written
-abbrev pub IsCutShort : Option (List ℕ) → Option (List ℕ) → Option (List ℕ) → Option (List ℕ) → Type 0
-IsCutShort left left' written written' =
-    ((input : List ℕ) × WholeInput left left' input × AddsPrefix written written' (answer_of input).text)
+abbrev pub IsCutShort : Mode → Option (List ℕ) → Option (List ℕ) → Option (List ℕ) → Option (List ℕ) → Type 0
+IsCutShort mode left left' written written' =
+    ((input : List ℕ) × WholeInput left left' input × AddsPrefix written written' (answer_of mode input).text)
     ⊎ (CameExactly left left' (INPUT_LIMIT + 1) × AddsPrefix written written' too_large_line)
 
--- the status for an input, whatever its length
+-- the status for a plan or a fault
+abbrev pub status_of : Reads PlanData → Status
+status_of (Ok plan) = Done
+status_of (Err fault) = Refused
+
+-- the status for an input, whatever its length; it is the same in each mode
 abbrev pub due_status : List ℕ → Status
-due_status input = if nat_lt INPUT_LIMIT (length input) then TooLarge else (answer_of input).status
+due_status input = if nat_lt INPUT_LIMIT (length input) then TooLarge else status_of (plan_of input)
 
 -- the status is the one that is due, unless the source or the sink failed or memory was wanting
 abbrev pub IsDue : Status → Status → Type 0

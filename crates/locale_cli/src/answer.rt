@@ -1,14 +1,25 @@
 //! The answer to an input that was read whole.
 
-ghost use Rattle.std.specs.Prelude.{◌≡◌, IfOk};
-ghost use Rattle.locale_cli.specs.Answer.{answer_of, serial_text};
+ghost use Rattle.std.specs.Prelude.{◌≡◌, ◌<◌, ◌^◌, ◌++◌, length, IfOk, OnOk};
+ghost use Rattle.std.specs.Fmt.{decimal};
+ghost use Rattle.lc_base.specs.Reading.{Gives};
+ghost use Rattle.locale_cli.specs.Answer.{answer_of, counts_line, serial_text, output_of};
+ghost use Rattle.locale_cli.specs.declared.words.Mode.TheVariants.{Check, Serial};
 ghost use Rattle.locale_cli.specs.StatusCode.{status_code};
 ghost use Rattle.script_lang.specs.Refusal.{refusal_line};
 
-use lc_base::{ByteText, List, Place, Reason, TextFault};
+use crate::words::Mode;
+use itoa::Buffer;
+use lc_base::{ByteText, Place, Reason, TextFault};
 use script_lang::{print, push_refusal};
-use script_run::{Plan, prepare, serial};
+use script_run::{Counts, Plan, check, prepare, serial};
 use std::alloc::{AllocError, Global};
+
+/// The rows of each thread.
+pub const DEFAULT_ROWS: u32 = 16;
+
+/// How many objects a row has in all its time.
+pub const DEFAULT_GENERATIONS: u32 = 65535;
 
 /// How the program ended.
 #[derive(Clone, Copy, Debug, PartialEq, Eq)]
@@ -54,13 +65,18 @@ pub struct Answer {
 }
 
 /// The answer to an input.
-pub fn answer_to(alloc: Global, input: &[u8]) -> Result<Answer, AllocError>
-    ensures { IfOk result (λ a. a ≡ answer_of input.now) }
+pub fn answer_to(alloc: Global, mode: Mode, input: &[u8]) -> Result<Answer, AllocError>
+    requires { length input.now < 2 ^ 31 }
+    ensures { IfOk result (λ a. a ≡ answer_of mode input.now) }
 {
-    match prepare(alloc, input) {
-        Ok(plan) => Ok(Answer {
+    let output = match mode {
+        Mode::Check => checked(alloc, input),
+        Mode::Serial => run(alloc, input),
+    };
+    match output {
+        Ok(text) => Ok(Answer {
             status: Status::Done,
-            text: serial_text(alloc, &plan)?,
+            text,
         }),
         Err(TextFault::At(place, reason)) => Ok(Answer {
             status: Status::Refused,
@@ -70,14 +86,53 @@ pub fn answer_to(alloc: Global, input: &[u8]) -> Result<Answer, AllocError>
     }
 }
 
-/// What an accepted bundle prints.
+/// The line of counts of a bundle.
+fn checked(alloc: Global, input: &[u8]) -> Result<ByteText, TextFault>
+    requires { length input.now < 2 ^ 31 }
+    ensures { Gives (λ text. text) result (output_of Check input.now) }
+{
+    let counts = check(alloc, input)?;
+    Ok(counts_line(alloc, &counts)?)
+}
+
+/// The lines of a bundle's script.
+fn run(alloc: Global, input: &[u8]) -> Result<ByteText, TextFault>
+    requires { length input.now < 2 ^ 31 }
+    ensures { Gives (λ text. text) result (output_of Serial input.now) }
+{
+    let plan = prepare(alloc, input)?;
+    Ok(serial_text(alloc, &plan)?)
+}
+
+/// The line of counts.
+fn counts_line(alloc: Global, counts: &Counts) -> Result<ByteText, AllocError>
+    ensures { IfOk result (λ text. text ≡ counts_line counts.now) }
+{
+    let mut line = Vec::new(alloc);
+    push_count(&mut line, b"ok: locales ", counts.locales)?;
+    push_count(&mut line, b" charmaps ", counts.charmaps)?;
+    push_count(&mut line, b" threads ", counts.threads)?;
+    push_count(&mut line, b" rounds ", counts.rounds)?;
+    push_count(&mut line, b" commands ", counts.commands)?;
+    line.push(b'\n')?;
+    Ok(ByteText::from_vec(line))
+}
+
+/// Adds a label and a number.
+fn push_count(line: &mut Vec<u8>, label: &[u8], count: u32) -> Result<(), AllocError>
+    ensures { OnOk result (line.new.items ≡ line.old.items ++ label.now ++ decimal count) }
+{
+    line.extend_from_slice(label)?;
+    let mut buffer = Buffer::new();
+    line.extend_from_slice(buffer.format(count).as_bytes())
+}
+
+/// The lines of an accepted bundle's script.
 fn serial_text(alloc: Global, plan: &Plan) -> Result<ByteText, AllocError>
     ensures { IfOk result (λ text. text ≡ serial_text plan.now) }
 {
-    let lines = serial(alloc, plan)?;
-    let mut threads = Vec::new(alloc);
-    threads.push(ByteText::of(alloc, plan.bundle.thread.as_bytes())?)?;
-    print(alloc, &lines, &List::of(threads))
+    let lines = serial(alloc, plan, DEFAULT_ROWS, DEFAULT_GENERATIONS)?;
+    print(alloc, &lines, plan.threads())
 }
 
 /// The line of a refused bundle.

@@ -39,8 +39,6 @@ const WHOLE_WRITES: Writes<'static> = Writes {
     failing: &[],
 };
 
-const NOT_BUILT: &[u8] = b"refused: 1:1 NotBuilt\n";
-
 /// A bundle with one command.
 const BUNDLE: &[u8] =
     b".locale a UTF-8\nLC_NUMERIC\ndecimal_point \",\"\nthousands_sep \".\"\nEND LC_NUMERIC\n.end\n.thread A\ninfo RADIXCHAR\n";
@@ -48,10 +46,13 @@ const BUNDLE: &[u8] =
 /// What it prints.
 const PRINTED: &[u8] = b"1 A 1 - g0 text \".\"\n2 A 2 0 - ended\n";
 
-/// The words of the command line `serial`.
-fn serial(alloc: Global) -> Result<Vec<ByteText>, AllocError> {
+/// What it has.
+const COUNTED: &[u8] = b"ok: locales 1 charmaps 0 threads 1 rounds 1 commands 1\n";
+
+/// The words of a command line of one word.
+fn words(alloc: Global, mode: &[u8]) -> Result<Vec<ByteText>, AllocError> {
     let mut words = Vec::new(alloc);
-    words.push(ByteText::of(alloc, b"serial")?)?;
+    words.push(ByteText::of(alloc, mode)?)?;
     Ok(words)
 }
 
@@ -59,6 +60,7 @@ fn serial(alloc: Global) -> Result<Vec<ByteText>, AllocError> {
 /// counted.
 fn row<R: Abort + AllocGlobal>(
     rt: &R,
+    mode: &[u8],
     input: &[u8],
     reads: &Reads<'_>,
     writes: &Writes<'_>,
@@ -70,7 +72,12 @@ fn row<R: Abort + AllocGlobal>(
     let mut source = MemSource::new(ByteText::of(alloc, input)?, reads.step, failing);
     let failing = List::of(Vec::from_slice(alloc, writes.failing)?);
     let mut sink = MemSink::new(alloc, writes.room, writes.step, failing)?;
-    let got = top(alloc, serial(alloc)?.as_slice(), &mut source, &mut sink);
+    let got = top(
+        alloc,
+        words(alloc, mode)?.as_slice(),
+        &mut source,
+        &mut sink,
+    );
     assert_eq!(rt; sink.bytes(), written);
     assert_eq!(rt; got, status);
     assert_eq!(rt; source.faults(), u64::from(status == Status::ReadFault));
@@ -84,13 +91,22 @@ fn faults_of_source_and_sink(rt: HostRuntime) -> Result<(), Fail> {
         step: 1,
         failing: &[],
     };
-    row(&rt, BUNDLE, &one_byte, &WHOLE_WRITES, Status::Done, PRINTED)?;
+    row(
+        &rt,
+        b"serial",
+        BUNDLE,
+        &one_byte,
+        &WHOLE_WRITES,
+        Status::Done,
+        PRINTED,
+    )?;
     let first_read = Reads {
         step: 8,
         failing: &[0],
     };
     row(
         &rt,
+        b"serial",
         BUNDLE,
         &first_read,
         &WHOLE_WRITES,
@@ -103,6 +119,7 @@ fn faults_of_source_and_sink(rt: HostRuntime) -> Result<(), Fail> {
     };
     row(
         &rt,
+        b"serial",
         BUNDLE,
         &later_read,
         &WHOLE_WRITES,
@@ -115,6 +132,7 @@ fn faults_of_source_and_sink(rt: HostRuntime) -> Result<(), Fail> {
     };
     row(
         &rt,
+        b"serial",
         BUNDLE,
         &never_reached,
         &WHOLE_WRITES,
@@ -128,6 +146,7 @@ fn faults_of_source_and_sink(rt: HostRuntime) -> Result<(), Fail> {
     };
     row(
         &rt,
+        b"serial",
         BUNDLE,
         &WHOLE_READS,
         &little_room,
@@ -141,6 +160,7 @@ fn faults_of_source_and_sink(rt: HostRuntime) -> Result<(), Fail> {
     };
     row(
         &rt,
+        b"serial",
         BUNDLE,
         &WHOLE_READS,
         &first_write,
@@ -154,6 +174,7 @@ fn faults_of_source_and_sink(rt: HostRuntime) -> Result<(), Fail> {
     };
     row(
         &rt,
+        b"serial",
         BUNDLE,
         &WHOLE_READS,
         &later_write,
@@ -167,12 +188,42 @@ fn faults_of_source_and_sink(rt: HostRuntime) -> Result<(), Fail> {
     };
     row(
         &rt,
+        b"serial",
         BUNDLE,
         &WHOLE_READS,
         &byte_by_byte,
         Status::Done,
         PRINTED,
     )?;
+    Ok(())
+}
+
+/// A bundle is refused in each mode with the same line.
+fn refused_row<R: Abort + AllocGlobal>(rt: &R, mode: &[u8]) -> Result<(), AllocError> {
+    row(
+        rt,
+        mode,
+        b" .thread A\n",
+        &WHOLE_READS,
+        &WHOLE_WRITES,
+        Status::Refused,
+        b"refused: 1:2 BadLine thread\n",
+    )
+}
+
+#[test]
+fn each_mode(rt: HostRuntime) -> Result<(), Fail> {
+    row(
+        &rt,
+        b"check",
+        BUNDLE,
+        &WHOLE_READS,
+        &WHOLE_WRITES,
+        Status::Done,
+        COUNTED,
+    )?;
+    refused_row(&rt, b"check")?;
+    refused_row(&rt, b"serial")?;
     Ok(())
 }
 
@@ -185,15 +236,17 @@ fn one_byte_too_many(rt: HostRuntime) -> Result<(), Fail> {
     let mut input = newlines(rt.alloc(), INPUT_LIMIT)?;
     row(
         &rt,
+        b"serial",
         input.as_slice(),
         &WHOLE_READS,
         &WHOLE_WRITES,
-        Status::Refused,
-        NOT_BUILT,
+        Status::Done,
+        b"",
     )?;
     input.push(b'\n')?;
     row(
         &rt,
+        b"serial",
         input.as_slice(),
         &WHOLE_READS,
         &WHOLE_WRITES,
@@ -266,7 +319,7 @@ fn stream_row<R: Abort + AllocGlobal>(
         call: 0,
         failing: failing_write,
     });
-    let words = serial(rt.alloc())?;
+    let words = words(rt.alloc(), b"serial")?;
     let got = top(rt.alloc(), words.as_slice(), &mut source, &mut sink);
     assert_eq!(rt; got, status, "{failing_read} {failing_write}");
     assert_eq!(rt; source.faults(), u64::from(status == Status::ReadFault));
@@ -301,7 +354,7 @@ fn long_streams_pass(rt: HostRuntime) -> Result<(), Fail> {
     assert!(rt; input.len() > 70_000);
     assert!(rt; printed.len() > 70_000);
     let mut held: Vec<u8> = Vec::new(rt.alloc());
-    let words = serial(rt.alloc())?;
+    let words = words(rt.alloc(), b"serial")?;
     let got = top(
         rt.alloc(),
         words.as_slice(),

@@ -1,12 +1,14 @@
 //! The program as a function of words, a source and a sink.
 
-ghost use Rattle.std.specs.Prelude.{◌≡◌, ◌≢◌, ◌+◌, ◌↔◌, ◌⊎◌, IsSome, IfSome, None};
+ghost use Rattle.std.specs.Prelude.{◌≡◌, ◌≢◌, ◌+◌, ◌↔◌, ◌⊎◌, IsSome, IfSome, Some, None};
 ghost use Rattle.std.specs.Io.KnownBytes.{Appends};
 ghost use Rattle.lc_base.specs.Faults.{Rose};
 ghost use Rattle.lc_base.specs.Bytes.{CameAtMost, AddsPrefix};
+ghost use Rattle.locale_cli.specs.declared.words.Mode.{Mode};
+ghost use Rattle.locale_cli.specs.declared.words.Mode.TheVariants.{Check};
 ghost use Rattle.locale_cli.specs.Words.{mode_of};
 ghost use Rattle.locale_cli.specs.Run.{Told, Ran};
-ghost use Rattle.locale_cli.specs.Status.{usage_line, not_built_line, IsDone, IsRefused, IsTooLarge, IsCutShort, due_status, IsDue, StayedSound};
+ghost use Rattle.locale_cli.specs.Status.{usage_line, IsDone, IsChecked, IsRefused, IsTooLarge, IsCutShort, due_status, IsDue, StayedSound};
 
 use crate::answer::{Status, answer_to};
 use crate::words::{Mode, mode_of};
@@ -28,11 +30,9 @@ pub fn top<S: Source, K: Sink>(
     ensures usage_only { result ≡ Status.Usage → (mode_of words.now ≡ None) × Appends (K.written sink.old) (K.written sink.new) usage_line }
     ensures unread { mode_of words.now ≡ None → source.new ≡ source.old }
 
-    ensures done { result ≡ Status.Done → IsDone (S.left source.old) (S.left source.new) (K.written sink.old) (K.written sink.new) }
+    ensures done { (mode : Mode) → mode_of words.now ≡ Some mode → result ≡ Status.Done → IsDone mode (S.left source.old) (S.left source.new) (K.written sink.old) (K.written sink.new) }
+    ensures checked { mode_of words.now ≡ Some Check → result ≡ Status.Done → IsChecked (S.left source.old) (S.left source.new) (K.written sink.old) (K.written sink.new) }
     ensures refused { result ≡ Status.Refused → IsRefused (S.left source.old) (S.left source.new) (K.written sink.old) (K.written sink.new) }
-    // The only fault of a bundle so far is that its form is not built.
-    ensures not_built { result ≡ Status.Refused → Appends (K.written sink.old) (K.written sink.new) not_built_line }
-
     ensures too_large { result ≡ Status.TooLarge → IsTooLarge (S.left source.old) (S.left source.new) (K.written sink.old) (K.written sink.new) }
 
     // A fault comes just where its count rose.
@@ -41,7 +41,7 @@ pub fn top<S: Source, K: Sink>(
     ensures read_short { result ≡ Status.ReadFault → CameAtMost (S.left source.old) (S.left source.new) INPUT_LIMIT }
     ensures write_fault { result ≡ Status.WriteFault → Rose (K.faults sink.old) (K.faults sink.new) }
     ensures write_sound { result ≢ Status.WriteFault → K.faults sink.new ≡ K.faults sink.old }
-    ensures cut_short { result ≡ Status.WriteFault → IsSome (mode_of words.now) → IsCutShort (S.left source.old) (S.left source.new) (K.written sink.old) (K.written sink.new) }
+    ensures cut_short { (mode : Mode) → mode_of words.now ≡ Some mode → result ≡ Status.WriteFault → IsCutShort mode (S.left source.old) (S.left source.new) (K.written sink.old) (K.written sink.new) }
     ensures usage_cut { result ≡ Status.WriteFault → mode_of words.now ≡ None → AddsPrefix (K.written sink.old) (K.written sink.new) usage_line }
     ensures unwritten { (result ≡ Status.ReadFault) ⊎ (result ≡ Status.Memory) → sink.new ≡ sink.old }
 
@@ -52,13 +52,13 @@ pub fn top<S: Source, K: Sink>(
 {
     match mode_of(words) {
         None => tell(sink, Status::Usage, b"refused: usage\n"),
-        Some(Mode::Serial) => run(alloc, source, sink),
+        Some(mode) => run(alloc, mode, source, sink),
     }
 }
 
 /// Reads the whole source, and writes the answer to it.
-fn run<S: Source, K: Sink>(alloc: Global, source: &mut S, sink: &mut K) -> Status
-    ensures { Ran
+fn run<S: Source, K: Sink>(alloc: Global, mode: Mode, source: &mut S, sink: &mut K) -> Status
+    ensures { Ran mode
         (record { left = S.left source.old; left' = S.left source.new; faults = S.faults source.old; faults' = S.faults source.new })
         (record { written = K.written sink.old; written' = K.written sink.new; faults = K.faults sink.old; faults' = K.faults sink.new })
         (sink.new ≡ sink.old) result }
@@ -71,7 +71,7 @@ fn run<S: Source, K: Sink>(alloc: Global, source: &mut S, sink: &mut K) -> Statu
         Err(ReadRefusal::ReadFault) => return Status::ReadFault,
         Err(ReadRefusal::Memory) => return Status::Memory,
     };
-    match answer_to(alloc, text.as_bytes()) {
+    match answer_to(alloc, mode, text.as_bytes()) {
         Ok(answer) => tell(sink, answer.status, answer.text.as_bytes()),
         Err(_) => Status::Memory,
     }
