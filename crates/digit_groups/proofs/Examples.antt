@@ -1,0 +1,70 @@
+-- Digits in groups, and how wide they are.
+use Rattle.std.proofs.Common.{◌≡◌, ℕ, List, [], ◌∷◌, refl}
+use Rattle.std.specs.Prelude.{codes, ℤ, pos, negsuc}
+use Rattle.digit_groups.specs.Groups.{grouped, grouped_width, separated, separators}
+
+-- seven digits
+abbrev seven : List ℤ → List ℕ
+seven sizes = grouped (codes "1234567") sizes (codes ",")
+
+-- the last size repeats
+threes : seven (pos 3 ∷ []) ≡ codes "1,234,567"
+unfolding separated
+threes = refl
+
+three_and_twos : seven (pos 3 ∷ pos 2 ∷ []) ≡ codes "12,34,567"
+unfolding separated
+three_and_twos = refl
+
+ones_twos_threes : seven (pos 1 ∷ pos 2 ∷ pos 3 ∷ []) ≡ codes "1,234,56,7"
+unfolding separated
+ones_twos_threes = refl
+
+-- at -1 grouping ends
+one_group : seven (pos 3 ∷ negsuc 0 ∷ []) ≡ codes "1234,567"
+unfolding separated
+one_group = refl
+
+no_group : seven (negsuc 0 ∷ pos 3 ∷ []) ≡ codes "1234567"
+unfolding separated
+no_group = refl
+
+-- a 0 is dropped with all after it
+zero_behind : seven (pos 3 ∷ pos 0 ∷ negsuc 0 ∷ []) ≡ codes "1,234,567"
+unfolding separated
+zero_behind = refl
+
+zero_alone : seven (pos 0 ∷ pos 3 ∷ []) ≡ codes "1234567"
+unfolding separated
+zero_alone = refl
+
+empty_list : seven [] ≡ codes "1234567"
+unfolding separated
+empty_list = refl
+
+-- no separator stands before the first digit
+whole_groups : grouped (codes "123456") (pos 3 ∷ []) (codes ",") ≡ codes "123,456"
+unfolding separated
+whole_groups = refl
+
+one_wide_group : seven (pos 126 ∷ []) ≡ codes "1234567"
+unfolding separated
+one_wide_group = refl
+
+-- separators of several bytes, and of none
+wide_separator : grouped (codes "1234567") (pos 3 ∷ []) (codes "::") ≡ codes "1::234::567"
+unfolding separated
+wide_separator = refl
+
+empty_separator : grouped (codes "1234567") (pos 3 ∷ []) [] ≡ codes "1234567"
+unfolding separated
+empty_separator = refl
+
+-- widths
+nine_digits : grouped_width 9 (pos 3 ∷ pos 2 ∷ []) 1 ≡ 12
+unfolding separators
+nine_digits = refl
+
+no_digits : grouped_width 0 (pos 3 ∷ []) 1 ≡ 0
+unfolding separators
+no_digits = refl

@@ -1,0 +1,149 @@
+//! Digits with a separator between groups of them (XBD 7.3.3 and 7.3.4).
+#![tactic(auto)]
+
+ghost use Rattle.std.specs.Prelude.{◌≡◌, true, drop, ◌+◌, ◌*◌, ◌≤◌, List, ℕ, ◌++◌, length, OnOk, OnErr, IfSome};
+ghost use Rattle.std.specs.List.{list_all};
+ghost use Rattle.digit_groups.specs.Groups.{is_size, sizes_used, separated, separators, grouped, grouped_width, last_group, before_last};
+
+use lc_base::ByteText;
+use std::alloc::{AllocError, Global};
+use std::mem::replace;
+
+#[cfg(test)]
+mod tests;
+
+/// Appends digits with `sep` between their groups. The first size is that of the group next to the
+/// radix, the next one that of the group before it. The last one repeats; -1 ends the grouping, and
+/// the list of sizes ends at its first 0.
+///
+/// After a refusal `out` is as before.
+pub fn group(
+    alloc: Global,
+    digits: &[u8],
+    sizes: &[i32],
+    sep: &[u8],
+    out: &mut ByteText,
+) -> Result<(), AllocError>
+    ensures ok { OnOk result (out.new ≡ out.old ++ grouped digits.now sizes.now sep.now) }
+    ensures err { OnErr result (out.new ≡ out.old) }
+{
+    let mut bytes = replace(out, ByteText::from_vec(Vec::new(alloc))).into_vec();
+    let added = add_groups(&mut bytes, digits, sizes_used(sizes), sep);
+    *out = ByteText::from_vec(bytes);
+    added
+}
+
+/// How many bytes `n` digits have once they are grouped, with a separator of `sep_len` bytes.
+pub fn width_of(n: usize, sizes: &[i32], sep_len: usize) -> usize
+    requires few { n ≤ 65536 }
+    requires short { sep_len ≤ 65536 }
+    ensures is { result ≡ grouped_width n sizes.now sep_len }
+    ensures most { result ≤ n + n * sep_len }
+
+    // What that width means: any digits with any separator are as wide as their numbers say.
+    ensures length { (digits sep : List ℕ) → length digits ≡ n → length (grouped digits sizes.now sep) ≡ grouped_width n sizes.now (length sep) }
+{
+    n + separators(n, sizes_used(sizes)) * sep_len
+}
+
+/// The sizes before the first 0.
+fn sizes_used(sizes: &[i32]) -> &[i32]
+    ensures is { result.now ≡ sizes_used sizes.now }
+    ensures sizes { list_all is_size result.now ≡ true }
+{
+    for (i, size) in sizes.iter().enumerate() {
+        if *size == 0 {
+            return &sizes[..i];
+        }
+    }
+    sizes
+}
+
+/// The size of the group next to the radix, where digits stand before it.
+fn last_group(sizes: &[i32], n: usize) -> Option<usize>
+    ensures { result ≡ last_group sizes.now n }
+{
+    let size = *sizes.first()?;
+    if size < 0 || size as usize >= n {
+        return None;
+    }
+    Some(size as usize)
+}
+
+/// The sizes of the groups before the one next to the radix.
+fn before_last(sizes: &[i32]) -> &[i32]
+    ensures { result.now ≡ before_last sizes.now }
+{
+    match sizes {
+        [_, next, others @ ..] => &sizes[1..],
+        _ => sizes,
+    }
+}
+
+/// How many separators stand in `n` digits.
+fn separators(n: usize, sizes: &[i32]) -> usize
+    requires { list_all is_size sizes.now ≡ true }
+    ensures is { result ≡ separators sizes.now n }
+    ensures few { result ≤ n }
+{
+    let mut left = n;
+    let mut rest = sizes;
+    let mut count = 0;
+    while let Some(size) = last_group(rest, left) {
+        left -= size;
+        rest = before_last(rest);
+        count += 1;
+    }
+    count
+}
+
+/// Writes a piece over the bytes before `end`, and says where it begins.
+fn write_before(target: &mut [u8], end: usize, piece: &[u8]) -> usize
+    requires room { length piece.now ≤ end }
+    requires within { end ≤ length target.old }
+    ensures begins { result + length piece.now ≡ end }
+    ensures written { drop result target.new ≡ piece.now ++ drop end target.old }
+{
+    let start = end - piece.len();
+    target[start..end].copy_from_slice(piece);
+    start
+}
+
+/// Writes grouped digits over bytes, from their end on.
+fn write_groups(target: &mut [u8], digits: &[u8], sizes: &[i32], sep: &[u8])
+    requires sizes { list_all is_size sizes.now ≡ true }
+    requires room { length target.old ≡ length digits.now + separators sizes.now (length digits.now) * length sep.now }
+    ensures { target.new ≡ separated digits.now sizes.now sep.now }
+{
+    let mut end = target.len();
+    let mut left = digits.len();
+    let mut rest = sizes;
+    while let Some(size) = last_group(rest, left) {
+        end = write_before(target, end, &digits[left - size..left]);
+        end = write_before(target, end, sep);
+        left -= size;
+        rest = before_last(rest);
+    }
+    write_before(target, end, &digits[..left]);
+}
+
+/// Where a list of `start` bytes ends once grouped digits stand behind it, if there can be so many.
+fn end_of(start: usize, digits: usize, separators: usize, sep_len: usize) -> Option<usize>
+    ensures { IfSome result (λ end. end ≡ start + (digits + separators * sep_len)) }
+{
+    start.checked_add(digits.checked_add(separators.checked_mul(sep_len)?)?)
+}
+
+/// Appends grouped digits.
+fn add_groups(out: &mut Vec<u8>, digits: &[u8], sizes: &[i32], sep: &[u8]) -> Result<(), AllocError>
+    requires { list_all is_size sizes.now ≡ true }
+    ensures ok { OnOk result (out.new.items ≡ out.old.items ++ separated digits.now sizes.now sep.now) }
+    ensures err { OnErr result (out.new.items ≡ out.old.items) }
+{
+    let start = out.len();
+    let count = separators(digits.len(), sizes);
+    let end = end_of(start, digits.len(), count, sep.len()).ok_or(AllocError)?;
+    out.resize(end, 0)?;
+    write_groups(&mut out[start..], digits, sizes, sep);
+    Ok(())
+}
