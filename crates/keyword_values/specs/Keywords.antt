@@ -1,0 +1,43 @@
+-- Keywords of a keyword list and their values (XBD 7.3.3 to 7.3.6). The first line with a keyword counts, and a value of another kind than the keyword's counts as none; a source has neither.
+use Rattle.std.specs.Prelude.{ℕ, ℤ, List, [], ◌∷◌, Option, Some, None, if◌then◌else◌}
+use Rattle.std.specs.Str.{bytes_eq}
+use Rattle.lc_base.specs.declared.place.Place.{Place}
+use Rattle.locale_reader.specs.declared.source.Value.{Value}
+use Rattle.locale_reader.specs.declared.source.Value.TheVariants.{Text, Number, Chars, Pair}
+use Rattle.locale_reader.specs.declared.source.Entry.{Entry}
+
+-- the operands of the first line with this keyword
+abbrev pub operands : List Entry → List ℕ → Option (List (Place × Value))
+operands [] keyword = None
+operands (e ∷ es) keyword = if bytes_eq e.keyword keyword then Some e.values else operands es keyword
+
+-- the text that operands begin with, or else the POSIX value
+abbrev pub text_or : List ℕ → Option (List (Place × Value)) → List ℕ
+text_or posix None = posix
+text_or posix (Some []) = posix
+text_or posix (Some ((place, Text text) ∷ vs)) = text
+text_or posix (Some ((place, Number n) ∷ vs)) = posix
+text_or posix (Some ((place, Chars a b) ∷ vs)) = posix
+text_or posix (Some ((place, Pair a b) ∷ vs)) = posix
+
+-- the number that operands begin with, or else the POSIX value
+abbrev pub number_or : ℤ → Option (List (Place × Value)) → ℤ
+number_or posix None = posix
+number_or posix (Some []) = posix
+number_or posix (Some ((place, Text text) ∷ vs)) = posix
+number_or posix (Some ((place, Number n) ∷ vs)) = n
+number_or posix (Some ((place, Chars a b) ∷ vs)) = posix
+number_or posix (Some ((place, Pair a b) ∷ vs)) = posix
+
+-- the numbers among values
+abbrev pub numbers : List (Place × Value) → List ℤ
+numbers [] = []
+numbers ((place, Text text) ∷ vs) = numbers vs
+numbers ((place, Number n) ∷ vs) = n ∷ numbers vs
+numbers ((place, Chars a b) ∷ vs) = numbers vs
+numbers ((place, Pair a b) ∷ vs) = numbers vs
+
+-- the numbers of operands, or else the POSIX value
+abbrev pub numbers_or : List ℤ → Option (List (Place × Value)) → List ℤ
+numbers_or posix None = posix
+numbers_or posix (Some vs) = numbers vs
