@@ -4,6 +4,7 @@
 mod block;
 mod category;
 mod fault;
+mod item;
 mod lines;
 mod list;
 mod memory;
@@ -18,6 +19,7 @@ mod whole;
 pub use block::{Block, Later};
 pub use category::{CATEGORIES, Category, Mask};
 pub use fault::TextFault;
+pub use item::Item;
 pub use lines::{after, ended_line, next_line};
 pub use list::{ByteText, List};
 pub use memory::{MemSink, MemSource};
