@@ -1,0 +1,155 @@
+//! The locale category `LC_MONETARY` (XBD 7.3.3).
+#![tactic(auto)]
+
+ghost use Rattle.std.specs.Prelude.{◌≡◌, IfOk};
+ghost use Rattle.lc_base.specs.Reading.{Gives};
+ghost use Rattle.keyword_values.specs.Rules.{first_fault};
+ghost use Rattle.monetary_cat.specs.Monetary.{rules, monetary_values, posix_values, values_of};
+
+use keyword_values::{Rule, first_fault, numbers_or};
+use lc_base::{List, Place, Reason, TextFault};
+use locale_reader::Entry;
+use std::alloc::{AllocError, Global};
+use std::marker::Model;
+
+mod keys;
+#[cfg(test)]
+mod tests;
+mod values;
+
+pub use keys::{MonNumber, MonText};
+use values::{Numbers, Texts, international_of, local_of, texts_of};
+
+/// The keywords, with what their operands must be.
+const RULES: [(&[u8], Rule); 21] = [
+    (b"int_curr_symbol", Rule::EmptyOrFour),
+    (b"currency_symbol", Rule::AnyText),
+    (b"mon_decimal_point", Rule::AnyText),
+    (b"mon_thousands_sep", Rule::AnyText),
+    (b"mon_grouping", Rule::Between(-1, 126)),
+    (b"positive_sign", Rule::AnyText),
+    (b"negative_sign", Rule::AnyText),
+    (b"int_frac_digits", Rule::Between(-1, 18)),
+    (b"frac_digits", Rule::Between(-1, 18)),
+    (b"p_cs_precedes", Rule::Between(-1, 1)),
+    (b"p_sep_by_space", Rule::Between(-1, 2)),
+    (b"n_cs_precedes", Rule::Between(-1, 1)),
+    (b"n_sep_by_space", Rule::Between(-1, 2)),
+    (b"p_sign_posn", Rule::Between(-1, 4)),
+    (b"n_sign_posn", Rule::Between(-1, 4)),
+    (b"int_p_cs_precedes", Rule::Between(-1, 1)),
+    (b"int_n_cs_precedes", Rule::Between(-1, 1)),
+    (b"int_p_sep_by_space", Rule::Between(-1, 2)),
+    (b"int_n_sep_by_space", Rule::Between(-1, 2)),
+    (b"int_p_sign_posn", Rule::Between(-1, 4)),
+    (b"int_n_sign_posn", Rule::Between(-1, 4)),
+];
+
+/// The values of the keywords of `LC_MONETARY`, of the locale or else of the POSIX locale.
+#[derive(Debug, Drop)]
+pub struct Monetary {
+    texts: Texts,
+    mon_grouping: List<i32>,
+    local: Numbers,
+    international: Numbers,
+}
+
+impl Model for Monetary {
+    ghost use Rattle.monetary_cat.specs.MonetaryValues.{MonetaryValues};
+
+    ghost Value = { MonetaryValues };
+
+    ghost view = { λ m. record {
+      texts = m.texts;
+      mon_grouping = m.mon_grouping;
+      local = m.local;
+      international = m.international;
+    } };
+}
+
+impl Monetary {
+    ghost use Rattle.monetary_cat.specs.MonetaryValues.{text_of, number_of};
+
+    /// The category that a keyword list defines. A keyword that is absent has its POSIX value: an
+    /// empty text, or -1.
+    ///
+    /// Refused, at the operand, with `BadCurrency` where int_curr_symbol has neither 0 nor 4 bytes and
+    /// with `BadNumber` where a number is out of its range.
+    pub fn build(alloc: Global, entries: &List<Entry>) -> Result<Monetary, TextFault>
+        ensures { Gives (λ m. m) result (monetary_values entries.now) }
+    {
+        match fault_of(entries) {
+            Some((place, reason)) => Err(TextFault::At(place, reason)),
+            None => Ok(values_of(alloc, entries)?),
+        }
+    }
+
+    /// The category of the POSIX locale.
+    pub fn posix(alloc: Global) -> Result<Monetary, AllocError>
+        ensures { IfOk result (λ m. m ≡ posix_values) }
+    {
+        values_of(alloc, &List::of(Vec::new(alloc)))
+    }
+
+    /// The text of a keyword.
+    pub fn text(&self, key: MonText) -> &[u8]
+        ensures { result.now ≡ text_of self.now key }
+    {
+        match key {
+            MonText::IntCurrSymbol => self.texts.int_curr_symbol.as_bytes(),
+            MonText::CurrencySymbol => self.texts.currency_symbol.as_bytes(),
+            MonText::MonDecimalPoint => self.texts.mon_decimal_point.as_bytes(),
+            MonText::MonThousandsSep => self.texts.mon_thousands_sep.as_bytes(),
+            MonText::PositiveSign => self.texts.positive_sign.as_bytes(),
+            MonText::NegativeSign => self.texts.negative_sign.as_bytes(),
+        }
+    }
+
+    /// The number of a keyword.
+    pub fn number(&self, key: MonNumber) -> i32
+        ensures { result ≡ number_of self.now key }
+    {
+        match key {
+            MonNumber::IntFracDigits => self.international.frac_digits,
+            MonNumber::FracDigits => self.local.frac_digits,
+            MonNumber::PCsPrecedes => self.local.p_cs_precedes,
+            MonNumber::PSepBySpace => self.local.p_sep_by_space,
+            MonNumber::NCsPrecedes => self.local.n_cs_precedes,
+            MonNumber::NSepBySpace => self.local.n_sep_by_space,
+            MonNumber::PSignPosn => self.local.p_sign_posn,
+            MonNumber::NSignPosn => self.local.n_sign_posn,
+            MonNumber::IntPCsPrecedes => self.international.p_cs_precedes,
+            MonNumber::IntNCsPrecedes => self.international.n_cs_precedes,
+            MonNumber::IntPSepBySpace => self.international.p_sep_by_space,
+            MonNumber::IntNSepBySpace => self.international.n_sep_by_space,
+            MonNumber::IntPSignPosn => self.international.p_sign_posn,
+            MonNumber::IntNSignPosn => self.international.n_sign_posn,
+        }
+    }
+
+    /// The sizes of groups, the first next to the radix, each from -1 to 126.
+    pub fn grouping(&self) -> &[i32]
+        ensures { result.now ≡ self.now.mon_grouping }
+    {
+        self.mon_grouping.as_slice()
+    }
+}
+
+/// The first operand that breaks the rule of its keyword.
+fn fault_of(entries: &List<Entry>) -> Option<(Place, Reason)>
+    ensures { result ≡ first_fault rules entries.now }
+{
+    first_fault(&RULES, entries)
+}
+
+/// The values that a keyword list gives, good or not.
+fn values_of(alloc: Global, entries: &List<Entry>) -> Result<Monetary, AllocError>
+    ensures { IfOk result (λ m. m ≡ values_of entries.now) }
+{
+    Ok(Monetary {
+        texts: texts_of(alloc, entries)?,
+        mon_grouping: numbers_or(alloc, -1, entries, b"mon_grouping")?,
+        local: local_of(entries),
+        international: international_of(entries),
+    })
+}
