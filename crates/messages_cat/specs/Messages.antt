@@ -1,0 +1,21 @@
+-- The values of LC_MESSAGES's keywords (XBD 7.3.6).
+use Rattle.std.specs.Prelude.{List, [], codes, Ok}
+use Rattle.lc_base.specs.Reading.{Reads}
+use Rattle.locale_reader.specs.declared.source.Entry.{Entry}
+use Rattle.keyword_values.specs.Keywords.{operands, text_or}
+use Rattle.messages_cat.specs.MessagesValues.{MessagesValues}
+
+-- the values, where each keyword that is absent has its POSIX value
+abbrev pub values_of : List Entry → MessagesValues
+values_of list = record {
+  yesexpr = text_or (codes "^[yY]") (operands list (codes "yesexpr"));
+  noexpr = text_or (codes "^[nN]") (operands list (codes "noexpr"));
+}
+
+-- the values of the POSIX locale
+abbrev pub posix_values : MessagesValues
+posix_values = values_of []
+
+-- the values that a keyword list defines; no list breaks a rule
+abbrev pub messages_values : List Entry → Reads MessagesValues
+messages_values list = Ok (values_of list)

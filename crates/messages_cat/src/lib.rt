@@ -1,0 +1,73 @@
+//! The locale category `LC_MESSAGES` (XBD 7.3.6).
+#![tactic(auto)]
+
+ghost use Rattle.std.specs.Prelude.{◌≡◌, IfOk};
+ghost use Rattle.lc_base.specs.Reading.{Gives};
+ghost use Rattle.messages_cat.specs.Messages.{messages_values, values_of, posix_values};
+
+use keyword_values::text_or;
+use lc_base::{ByteText, List, TextFault};
+use locale_reader::Entry;
+use std::alloc::{AllocError, Global};
+use std::marker::Model;
+
+#[cfg(test)]
+mod tests;
+
+/// What a user answers in the POSIX locale to say yes, and no: extended regular expressions.
+const POSIX_YES: &[u8] = b"^[yY]";
+
+const POSIX_NO: &[u8] = b"^[nN]";
+
+/// The values of the keywords of `LC_MESSAGES`, of the locale or else of the POSIX locale.
+#[derive(Debug, Drop)]
+pub struct Messages {
+    yesexpr: ByteText,
+    noexpr: ByteText,
+}
+
+impl Model for Messages {
+    ghost use Rattle.messages_cat.specs.MessagesValues.{MessagesValues};
+
+    ghost Value = { MessagesValues };
+
+    ghost view = { λ m. record { yesexpr = m.yesexpr; noexpr = m.noexpr } };
+}
+
+impl Messages {
+    /// The category that a keyword list defines. A keyword that is absent has its POSIX value.
+    ///
+    /// Refused for want of memory alone.
+    pub fn build(alloc: Global, entries: &List<Entry>) -> Result<Messages, TextFault>
+        ensures { Gives (λ m. m) result (messages_values entries.now) }
+    {
+        Ok(Messages {
+            yesexpr: text_or(alloc, POSIX_YES, entries, b"yesexpr")?,
+            noexpr: text_or(alloc, POSIX_NO, entries, b"noexpr")?,
+        })
+    }
+
+    /// The category of the POSIX locale.
+    pub fn posix(alloc: Global) -> Result<Messages, AllocError>
+        ensures { IfOk result (λ m. m ≡ posix_values) }
+    {
+        Ok(Messages {
+            yesexpr: ByteText::of(alloc, POSIX_YES)?,
+            noexpr: ByteText::of(alloc, POSIX_NO)?,
+        })
+    }
+
+    /// The extended regular expression of an answer that says yes.
+    pub fn yesexpr(&self) -> &[u8]
+        ensures { result.now ≡ self.now.yesexpr }
+    {
+        self.yesexpr.as_bytes()
+    }
+
+    /// The extended regular expression of an answer that says no.
+    pub fn noexpr(&self) -> &[u8]
+        ensures { result.now ≡ self.now.noexpr }
+    {
+        self.noexpr.as_bytes()
+    }
+}
