@@ -1,0 +1,90 @@
+-- Texts of times, by their definitions.
+use Rattle.std.proofs.Common.{◌≡◌, ℕ, ◌+◌, List, [], ◌∷◌, Some, Result, Ok, Err, refl}
+use Rattle.std.specs.Prelude.{codes, negsuc}
+use Rattle.std.specs.Fmt.{digits}
+use Rattle.lc_base.specs.declared.place.Place.{Place}
+use Rattle.locale_reader.specs.declared.source.Value.{Value}
+use Rattle.locale_reader.specs.declared.source.Value.TheVariants.{Text}
+use Rattle.locale_reader.specs.declared.source.Entry.{Entry}
+use Rattle.time_cat.specs.Conversions.{conversion}
+use Rattle.time_cat.specs.Formats.{pieces}
+use Rattle.time_cat.specs.Eras.{split, few_digits, year_of, date, end_number, segment}
+use Rattle.time_cat.specs.Times.{TmValues}
+use Rattle.time_cat.specs.TimeValues.{TimeValues}
+use Rattle.time_cat.specs.Values.{values_of, posix_values}
+use Rattle.time_cat.specs.Shown.{expanded}
+use Rattle.strftime_fields.specs.declared.fault.TimeFault.{TimeFault}
+use Rattle.strftime_fields.specs.declared.fault.TimeFault.TheVariants.{BadFormat, TooBig}
+use Rattle.strftime_fields.specs.Answers.{answer}
+
+-- a day at 14:05:06, an hour and a half west of UTC
+abbrev day : ℕ → ℕ → ℕ → ℕ → ℕ → TmValues
+day year mon mday wday yday = record { year = year; mon = mon; mday = mday; hour = 14; min = 5; sec = 6; wday = wday; yday = yday; offset = Some (negsuc 89); zone = codes "CET" }
+
+abbrev Answer : Type 0
+Answer = Result (List ℕ) TimeFault
+
+abbrev posix : ℕ → ℕ → ℕ → ℕ → ℕ → List ℕ → Answer
+posix year mon mday wday yday format = answer posix_values (day year mon mday wday yday) format 4096
+
+date_and_time : posix 2021 1 3 0 2 (codes "%c") ≡ Ok (codes "Sun Jan  3 14:05:06 2021")
+unfolding values_of expanded pieces conversion digits
+date_and_time = refl
+
+weeks : posix 2021 1 3 0 2 (codes "%U %W %V %G %g %u") ∷ posix 2024 12 30 1 364 (codes "%U %W %V %G %g %u") ∷ posix 2023 1 1 0 0 (codes "%U %W %V %G %g %u") ∷ [] ≡ Ok (codes "01 00 53 2020 20 7") ∷ Ok (codes "52 53 01 2025 25 1") ∷ Ok (codes "01 00 52 2022 22 7") ∷ []
+unfolding values_of expanded pieces conversion digits
+weeks = refl
+
+small_year : posix 5 1 1 6 0 (codes "%Y %F %C %y") ≡ Ok (codes "5 0005-01-01 00 05")
+unfolding values_of expanded pieces conversion digits
+small_year = refl
+
+zone : posix 2021 1 3 0 2 (codes "%z %Z") ≡ Ok (codes "-0130 CET")
+unfolding values_of expanded pieces conversion
+zone = refl
+
+formats : posix 2021 1 3 0 2 (codes "%x %X %r") ≡ Ok (codes "01/03/21 14:05:06 02:05:06 PM")
+unfolding values_of expanded pieces conversion
+formats = refl
+
+names : posix 2021 1 3 0 2 (codes "%a %A %b %B %h %p") ≡ Ok (codes "Sun Sunday Jan January Jan PM")
+unfolding values_of expanded pieces conversion
+names = refl
+
+numbers : posix 2021 1 3 0 2 (codes "%d %e %H %I %M %S %m %j %w") ≡ Ok (codes "03  3 14 02 05 06 01 003 0")
+unfolding values_of expanded pieces conversion digits
+numbers = refl
+
+no_eras : posix 2021 1 3 0 2 (codes "%EC %Ey %EY %Ex %EX") ≡ Ok (codes "20 21 2021 01/03/21 14:05:06")
+unfolding values_of expanded pieces conversion digits
+no_eras = refl
+
+-- a `%` that begins no conversion goes before a text that is too long
+faults : answer posix_values (day 2021 1 3 0 2) (codes "a%d%Q") 0 ∷ answer posix_values (day 2021 1 3 0 2) (codes "%F") 9 ∷ answer posix_values (day 2021 1 3 0 2) (codes "%F") 10 ∷ [] ≡ Err (BadFormat 3) ∷ Err TooBig ∷ Ok (codes "2021-01-03") ∷ []
+unfolding values_of expanded pieces conversion
+faults = refl
+
+-- ---- eras
+
+abbrev at : ℕ → ℕ → Place
+at line column = record { line = line; column = column }
+
+abbrev operands : ℕ → List (List ℕ) → List (Place × Value)
+operands column [] = []
+operands column (t ∷ ts) = (at 2 column, Text t) ∷ operands (column + 10) ts
+
+abbrev line : List ℕ → List (List ℕ) → List Entry
+line keyword texts = record { place = at 2 1; keyword = keyword; values = operands 20 texts } ∷ []
+
+abbrev segments : List (List ℕ)
+segments = codes "+:1:2019/05/01:+*:Reiwa:%EC %Ey" ∷ codes "+:1:1989/01/08:2019/04/30:Heisei:%EC %Ey" ∷ codes "-:1:10/12/31:-543/01/01:B:%Ey" ∷ []
+
+abbrev japanese : TimeValues
+japanese = values_of (line (codes "era") segments)
+
+abbrev in_era : ℕ → ℕ → ℕ → Answer
+in_era year mon mday = answer japanese (day year mon mday 0 0) (codes "%EY") 4096
+
+era_years : in_era 2019 5 1 ∷ in_era 2019 4 30 ∷ in_era 1989 1 7 ∷ in_era 2021 2 3 ∷ in_era 7 1 1 ∷ [] ≡ Ok (codes "Reiwa 1") ∷ Ok (codes "Heisei 31") ∷ Ok (codes "1989") ∷ Ok (codes "Reiwa 3") ∷ Ok (codes "-2") ∷ []
+unfolding values_of expanded pieces conversion digits split few_digits year_of date end_number segment
+era_years = refl

@@ -1,0 +1,4 @@
+pub mod Appending
+pub mod Answers
+pub mod Calendar
+pub mod Cost

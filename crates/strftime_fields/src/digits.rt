@@ -1,0 +1,64 @@
+//! Numbers as they are written.
+
+ghost use Rattle.std.specs.Prelude.{◌≡◌, ◌≤◌, length, decimal};
+ghost use Rattle.std.specs.Fmt.{signed_decimal};
+ghost use Rattle.time_cat.specs.Shown.{last_digit, two, three, four, laid_out};
+ghost use Rattle.strftime_fields.specs.Appending.{Appends};
+
+use crate::fault::TimeFault;
+use crate::output::put;
+use itoa::Buffer;
+use time_cat::Layout;
+
+/// The last decimal digit.
+pub fn last_digit(n: u32) -> u8
+    ensures { result ≡ last_digit n }
+{
+    b'0' + (n % 10) as u8
+}
+
+/// The last two digits.
+pub fn two(n: u32) -> [u8; 2]
+    ensures { result ≡ two n }
+{
+    [last_digit(n / 10), last_digit(n)]
+}
+
+/// The last three digits.
+pub fn three(n: u32) -> [u8; 3]
+    ensures { result ≡ three n }
+{
+    [last_digit(n / 100), last_digit(n / 10), last_digit(n)]
+}
+
+/// Adds a number without padding.
+pub fn put_bare(out: &mut Vec<u8>, max: usize, n: u32) -> Result<(), TimeFault>
+    requires { length out.old.items ≤ max }
+    ensures { Appends max out.old.items (decimal n) out.new.items result }
+{
+    let mut buffer = Buffer::new();
+    put(out, max, buffer.format(n).as_bytes())
+}
+
+/// Adds a number without padding, perhaps behind a `-`.
+pub fn put_signed(out: &mut Vec<u8>, max: usize, n: i32) -> Result<(), TimeFault>
+    requires { length out.old.items ≤ max }
+    ensures { Appends max out.old.items (signed_decimal n) out.new.items result }
+{
+    let mut buffer = Buffer::new();
+    put(out, max, buffer.format(n).as_bytes())
+}
+
+/// Adds a number as it is written.
+pub fn put_number(out: &mut Vec<u8>, max: usize, layout: Layout, n: u32) -> Result<(), TimeFault>
+    requires { length out.old.items ≤ max }
+    ensures { Appends max out.old.items (laid_out layout n) out.new.items result }
+{
+    match layout {
+        Layout::Bare => put_bare(out, max, n),
+        Layout::Two => put(out, max, &two(n)),
+        Layout::Three => put(out, max, &three(n)),
+        Layout::Spaced if n < 10 => put(out, max, &[b' ', last_digit(n)]),
+        Layout::Spaced => put(out, max, &two(n)),
+    }
+}

@@ -1,0 +1,37 @@
+//! Why there is no text.
+
+ghost use Rattle.std.specs.Prelude.{◌≡◌};
+ghost use Rattle.strftime_fields.specs.declared.fault.TimeFault.TheVariants.{Memory};
+
+use std::alloc::{AllocError, AllocFailed};
+use thiserror::Error;
+
+/// Why a time has no text.
+#[derive(Clone, Copy, Debug, PartialEq, Eq, Error)]
+pub enum TimeFault {
+    /// The `%` at this byte of the format, counted from 0, begins no conversion.
+    #[error("no conversion at byte {at}")]
+    BadFormat { at: usize },
+    /// The text is longer than it may be.
+    #[error("the text is too long")]
+    TooBig,
+    /// Memory was wanting.
+    #[error("memory was wanting")]
+    Memory,
+}
+
+impl From<AllocError> for TimeFault {
+    ghost from_gives = { λ _ e. e ≡ Memory };
+
+    fn from(_e: AllocError) -> TimeFault {
+        TimeFault::Memory
+    }
+}
+
+impl<T: Drop> From<AllocFailed<T>> for TimeFault {
+    ghost from_gives = { λ _ e. e ≡ Memory };
+
+    fn from(_e: AllocFailed<T>) -> TimeFault {
+        TimeFault::Memory
+    }
+}

@@ -1,0 +1,17 @@
+//! The text of a time by a format of the locale (XSH strftime).
+#![tactic(auto)]
+
+mod digits;
+mod expand;
+mod fault;
+mod output;
+mod plain;
+#[cfg(test)]
+mod tests;
+mod text;
+mod weeks;
+
+pub use fault::TimeFault;
+pub use text::{strftime, strftime_counted};
+pub use time_cat::{Tm, TmField, TmRange};
+pub use weeks::{WeekOfYear, iso_week, weeks_hold};

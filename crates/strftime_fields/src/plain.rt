@@ -1,0 +1,282 @@
+//! What conversions give, and the formats for which they stand.
+
+ghost use Rattle.std.specs.Prelude.{◌≡◌, ◌∷◌, ◌≤◌, length, count_by, Some, IfSome, option_map};
+ghost use Rattle.std.specs.Option.{option_copied};
+ghost use Rattle.time_cat.specs.Faults.{IsFormat};
+ghost use Rattle.time_cat.specs.Formats.{pieces, is_conversion};
+ghost use Rattle.time_cat.specs.declared.conversion.Shows.TheVariants.{EraName, EraYear};
+ghost use Rattle.time_cat.specs.Hits.{hit};
+ghost use Rattle.time_cat.specs.Shown.{quantity as value_of, alternative, name_text, slashed_date, dashed_date, short_time, full_time, hours_and_minutes, offset_text, era_of, or_plain, format_for, plain_text, or_text, laid_out};
+ghost use Rattle.strftime_fields.specs.Appending.{Appends};
+
+use crate::digits::{last_digit, put_bare, put_number, put_signed, two};
+use crate::fault::TimeFault;
+use crate::output::{put, put_byte};
+use crate::weeks::{behind_monday, iso_week, monday_week, sunday_week};
+use time_cat::{EraHit, Layout, Named, Quantity, Shows, Time, Tm};
+
+/// A number of a time.
+fn number(quantity: Quantity, tm: &Tm) -> u32
+    ensures { result ≡ value_of quantity tm.now }
+{
+    match quantity {
+        Quantity::Century => tm.year() / 100,
+        Quantity::YearOfCentury => tm.year() % 100,
+        Quantity::Year => tm.year(),
+        Quantity::WeekYear => iso_week(tm.year(), tm.yday(), tm.wday()).year,
+        Quantity::WeekYearOfCentury => iso_week(tm.year(), tm.yday(), tm.wday()).year % 100,
+        Quantity::Month => tm.mon(),
+        Quantity::Day => tm.mday(),
+        Quantity::YearDay => tm.yday() + 1,
+        Quantity::Hour => tm.hour(),
+        Quantity::HalfDayHour => (tm.hour() + 11) % 12 + 1,
+        Quantity::Minute => tm.min(),
+        Quantity::Second => tm.sec(),
+        Quantity::IsoWeekday => behind_monday(tm.wday()) + 1,
+        Quantity::Weekday => tm.wday(),
+        Quantity::SundayWeek => sunday_week(tm.yday(), tm.wday()),
+        Quantity::MondayWeek => monday_week(tm.yday(), tm.wday()),
+        Quantity::IsoWeek => iso_week(tm.year(), tm.yday(), tm.wday()).week,
+    }
+}
+
+/// The alternative digit at a number.
+fn alternative(t: &Time, n: u32) -> Option<&[u8]>
+    ensures { option_copied result ≡ alternative t.now.alt_digits n }
+{
+    if n < 256 { t.alt_digit(n as u8) } else { None }
+}
+
+/// A name of the locale.
+fn name<'a>(t: &'a Time, tm: &Tm, named: Named) -> &'a [u8]
+    ensures { result.now ≡ name_text t.now tm.now named }
+{
+    match named {
+        Named::ShortWeekday => t.abday(tm.wday() as u8),
+        Named::Weekday => t.day(tm.wday() as u8),
+        Named::ShortMonth => t.abmon((tm.mon() - 1) as u8),
+        Named::Month => t.mon((tm.mon() - 1) as u8),
+        Named::HalfDay if tm.hour() < 12 => t.am_pm(0),
+        Named::HalfDay => t.am_pm(1),
+    }
+}
+
+/// Month, day and year of the century.
+fn slashed_date(tm: &Tm) -> [u8; 8]
+    ensures { result ≡ slashed_date tm.now }
+{
+    let (year, month, day) = (tm.year(), tm.mon(), tm.mday());
+    [
+        last_digit(month / 10),
+        last_digit(month),
+        b'/',
+        last_digit(day / 10),
+        last_digit(day),
+        b'/',
+        last_digit(year / 10),
+        last_digit(year),
+    ]
+}
+
+/// Year, month and day.
+fn dashed_date(tm: &Tm) -> [u8; 10]
+    ensures { result ≡ dashed_date tm.now }
+{
+    let (year, month, day) = (tm.year(), tm.mon(), tm.mday());
+    [
+        last_digit(year / 1000),
+        last_digit(year / 100),
+        last_digit(year / 10),
+        last_digit(year),
+        b'-',
+        last_digit(month / 10),
+        last_digit(month),
+        b'-',
+        last_digit(day / 10),
+        last_digit(day),
+    ]
+}
+
+/// Hour and minute.
+fn short_time(tm: &Tm) -> [u8; 5]
+    ensures { result ≡ short_time tm.now }
+{
+    let (hour, minute) = (tm.hour(), tm.min());
+    [
+        last_digit(hour / 10),
+        last_digit(hour),
+        b':',
+        last_digit(minute / 10),
+        last_digit(minute),
+    ]
+}
+
+/// Hour, minute and second.
+fn full_time(tm: &Tm) -> [u8; 8]
+    ensures { result ≡ full_time tm.now }
+{
+    let (hour, minute, second) = (tm.hour(), tm.min(), tm.sec());
+    [
+        last_digit(hour / 10),
+        last_digit(hour),
+        b':',
+        last_digit(minute / 10),
+        last_digit(minute),
+        b':',
+        last_digit(second / 10),
+        last_digit(second),
+    ]
+}
+
+/// Hours and minutes behind a sign.
+fn signed_minutes(sign: u8, minutes: u32) -> [u8; 5]
+    ensures { result ≡ sign ∷ hours_and_minutes minutes }
+{
+    let (hours, rest) = (minutes / 60, minutes % 60);
+    [
+        sign,
+        last_digit(hours / 10),
+        last_digit(hours),
+        last_digit(rest / 10),
+        last_digit(rest),
+    ]
+}
+
+/// An offset with its sign.
+#[tactic(auto, using(crate::proofs::Offsets::west, crate::proofs::Offsets::east))]
+fn offset_bytes(minutes: i32) -> [u8; 5]
+    ensures { result ≡ offset_text (Some minutes) }
+{
+    if minutes < 0 {
+        signed_minutes(b'-', minutes.unsigned_abs())
+    } else {
+        signed_minutes(b'+', minutes.unsigned_abs())
+    }
+}
+
+/// Adds an offset, or nothing.
+fn put_offset(out: &mut Vec<u8>, max: usize, offset: Option<i32>) -> Result<(), TimeFault>
+    requires { length out.old.items ≤ max }
+    ensures { Appends max out.old.items (offset_text offset) out.new.items result }
+{
+    match offset {
+        None => Ok(()),
+        Some(minutes) => put(out, max, &offset_bytes(minutes)),
+    }
+}
+
+/// The era of the date.
+fn era_of<'a>(t: &'a Time, tm: &Tm) -> Option<EraHit<'a>>
+    ensures is { option_map hit result ≡ era_of t.now tm.now }
+    ensures format { IfSome result (λ found. IsFormat 1 found.format.now) }
+{
+    t.era_at(tm.year() as i32, tm.mon() as u8, tm.mday() as u8)
+}
+
+/// A format of eras, or else the plain one where it is empty.
+fn or_plain<'a>(format: &'a [u8], plain: &'a [u8]) -> &'a [u8]
+    ensures is { result.now ≡ or_plain format.now plain.now }
+    ensures few { count_by is_conversion (pieces format.now) ≤ 16 → count_by is_conversion (pieces plain.now) ≤ 16 → count_by is_conversion (pieces result.now) ≤ 16 }
+{
+    match format {
+        [] => plain,
+        [_, ..] => format,
+    }
+}
+
+/// The format for which a conversion stands, if it stands for one. It has at most 16 conversions.
+pub fn format_for<'a>(t: &'a Time, tm: &Tm, shows: Shows) -> Option<&'a [u8]>
+    ensures is { option_copied result ≡ format_for t.now tm.now shows }
+    ensures few { IfSome result (λ format. count_by is_conversion (pieces format.now) ≤ 16) }
+{
+    match shows {
+        Shows::Format(key) => Some(t.text(key)),
+        Shows::EraFormat(key, plain) => Some(or_plain(t.text(key), t.text(plain))),
+        Shows::EraFull => match era_of(t, tm) {
+            None => None,
+            Some(hit) => Some(hit.format),
+        },
+        Shows::Name(_)
+        | Shows::Number(_, _)
+        | Shows::Alternative(_, _)
+        | Shows::EraName
+        | Shows::EraYear
+        | Shows::SlashedDate
+        | Shows::DashedDate
+        | Shows::ShortTime
+        | Shows::FullTime
+        | Shows::Offset
+        | Shows::Zone
+        | Shows::Sign(_) => None,
+    }
+}
+
+/// Adds the era's name, or else the century.
+fn put_era_name(out: &mut Vec<u8>, max: usize, t: &Time, tm: &Tm) -> Result<(), TimeFault>
+    requires { length out.old.items ≤ max }
+    ensures { Appends max out.old.items (plain_text t.now tm.now EraName) out.new.items result }
+{
+    match era_of(t, tm) {
+        None => put(out, max, &two(tm.year() / 100)),
+        Some(hit) => put(out, max, hit.name),
+    }
+}
+
+/// Adds the year in the era, or else the year of the century.
+fn put_era_year(out: &mut Vec<u8>, max: usize, t: &Time, tm: &Tm) -> Result<(), TimeFault>
+    requires { length out.old.items ≤ max }
+    ensures { Appends max out.old.items (plain_text t.now tm.now EraYear) out.new.items result }
+{
+    match era_of(t, tm) {
+        None => put(out, max, &two(tm.year())),
+        Some(hit) => put_signed(out, max, hit.year),
+    }
+}
+
+/// Adds an alternative digit, or else the number.
+fn put_alternative(
+    out: &mut Vec<u8>,
+    max: usize,
+    t: &Time,
+    layout: Layout,
+    n: u32,
+) -> Result<(), TimeFault>
+    requires { length out.old.items ≤ max }
+    ensures { Appends max out.old.items (or_text (alternative t.now.alt_digits n) (laid_out layout n)) out.new.items result }
+{
+    match alternative(t, n) {
+        None => put_number(out, max, layout, n),
+        Some(digit) => put(out, max, digit),
+    }
+}
+
+/// Adds what a conversion gives that stands for no format.
+pub fn put_plain(
+    out: &mut Vec<u8>,
+    max: usize,
+    t: &Time,
+    tm: &Tm,
+    shows: Shows,
+) -> Result<(), TimeFault>
+    requires { length out.old.items ≤ max }
+    ensures { Appends max out.old.items (plain_text t.now tm.now shows) out.new.items result }
+{
+    match shows {
+        Shows::Name(named) => put(out, max, name(t, tm, named)),
+        Shows::Number(quantity, layout) => put_number(out, max, layout, number(quantity, tm)),
+        Shows::Alternative(quantity, layout) => {
+            put_alternative(out, max, t, layout, number(quantity, tm))
+        }
+        Shows::Format(_) | Shows::EraFormat(_, _) => Ok(()),
+        Shows::EraName => put_era_name(out, max, t, tm),
+        Shows::EraYear => put_era_year(out, max, t, tm),
+        Shows::EraFull => put_bare(out, max, tm.year()),
+        Shows::SlashedDate => put(out, max, &slashed_date(tm)),
+        Shows::DashedDate => put(out, max, &dashed_date(tm)),
+        Shows::ShortTime => put(out, max, &short_time(tm)),
+        Shows::FullTime => put(out, max, &full_time(tm)),
+        Shows::Offset => put_offset(out, max, tm.offset()),
+        Shows::Zone => put(out, max, tm.zone()),
+        Shows::Sign(byte) => put_byte(out, max, byte),
+    }
+}

@@ -1,0 +1,91 @@
+//! The text of a time (XSH strftime).
+
+ghost use Rattle.std.specs.Prelude.{◌≡◌, ◌+◌, ◌*◌, ◌≤◌, ◌<◌, length, None, Some};
+ghost use Rattle.time_cat.specs.Formats.{pieces, bad_place};
+ghost use Rattle.time_cat.specs.Shown.{conversions_of};
+ghost use Rattle.strftime_fields.specs.Answers.{answer, Answers};
+
+use crate::expand::put_format;
+use crate::fault::TimeFault;
+use lc_base::ByteText;
+use std::alloc::Global;
+use std::marker::Brand;
+use std::sync::ledger::{Blank, Ledger};
+use time_cat::{Step, Steps, Time, Tm, step_at};
+
+/// How many formats lie within one another: the caller's, and those of the ranks 4 to 1.
+const LEVELS: u8 = 5;
+
+/// Where a `%` stands that begins no conversion.
+#[tactic(auto, using(crate::proofs::Left::pieces_at_start))]
+fn bad_byte<L: Ledger>(format: &[u8], steps: &mut Steps<L>) -> Option<usize>
+    ensures is { result ≡ bad_place (pieces format.now) }
+    ensures cost { steps.new ≤ steps.old + conversions_of format.now }
+{
+    let mut at = 0;
+    'reading: loop {
+        match step_at(format, at, steps) {
+            Step::End => return None,
+            Step::Bad => return Some(at),
+            Step::Byte(_) => at += 1,
+            Step::Conv { next, .. } => at = next,
+        }
+    }
+}
+
+/// The text of a time by a format, of at most `max` bytes; each conversion that is read is a step.
+///
+/// `BadFormat` comes exactly where a `%` of the format begins no conversion, at the first one, and
+/// `TooBig` exactly where none does and the text is longer than `max`.
+pub fn strftime_counted<L: Ledger>(
+    alloc: Global,
+    t: &Time,
+    format: &[u8],
+    tm: &Tm,
+    max: usize,
+    steps: &mut Steps<L>,
+) -> Result<ByteText, TimeFault>
+    ensures answer { Answers result (answer t.now tm.now format.now max) }
+    ensures cost { steps.new ≤ steps.old + 69906 * conversions_of format.now }
+{
+    if let Some(at) = bad_byte(format, steps) {
+        return Err(TimeFault::BadFormat { at });
+    }
+    let mut out = Vec::new(alloc);
+    put_format(LEVELS, t, tm, max, format, steps, &mut out)?;
+    Ok(ByteText::from_vec(out))
+}
+
+/// The same with a ledger that has not begun.
+fn strftime_from<L: Ledger>(
+    alloc: Global,
+    t: &Time,
+    format: &[u8],
+    tm: &Tm,
+    max: usize,
+    blank: Blank,
+) -> Result<ByteText, TimeFault>
+    requires name { blank.name ≡ L.name }
+    requires parts { blank.parts ≡ L.parts }
+    requires some { 0 < blank.parts }
+    ensures { Answers result (answer t.now tm.now format.now max) }
+{
+    let mut steps = Steps::<L>::new(blank);
+    strftime_counted(alloc, t, format, tm, max, &mut steps)
+}
+
+/// The text of a time by a format, of at most `max` bytes (XSH strftime).
+///
+/// `BadFormat` comes exactly where a `%` of the format begins no conversion, at the first one, and
+/// `TooBig` exactly where none does and the text is longer than `max`.
+pub fn strftime(
+    alloc: Global,
+    t: &Time,
+    format: &[u8],
+    tm: &Tm,
+    max: usize,
+) -> Result<ByteText, TimeFault>
+    ensures { Answers result (answer t.now tm.now format.now max) }
+{
+    strftime_from::<Brand>(alloc, t, format, tm, max, Blank::new(1))
+}
