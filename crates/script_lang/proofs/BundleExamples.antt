@@ -15,7 +15,7 @@ use Rattle.script_lang.specs.Names.{is_formed, is_locale_name, is_charmap_name, 
 use Rattle.script_lang.specs.Spans.{next_word}
 use Rattle.script_lang.specs.Tables.{directives_table, commands_table, items_table}
 use Rattle.script_lang.specs.Words.{text_of_word, decimal_number, categories_of_word, mask_of_word, variable_of_word, cut_at, handle_of_word}
-use Rattle.script_lang.specs.Commands.{argument, read_as, no_more, is_over, base_word, command, target, item, new_words, new_command, free_command, use_command, setlocale_command, info_command}
+use Rattle.script_lang.specs.Commands.{argument, read_as, no_more, is_over, base_word, command, target, new_words, new_command, free_command, use_command, setlocale_command, info_words}
 use Rattle.script_lang.specs.Reading.{at_first, new_thread, one_word, two_words, three_words, charmap_line, locale_line, later_line, native_line, thread_line, round_line, directive_line, command_line, outside, line_read}
 use Rattle.script_lang.specs.Accepted.{bundle_with, bundle_of}
 
@@ -58,11 +58,11 @@ whole : bundle_of (codes ".thread A\n.locale a c\n#y\n\n .end\n.end\nfree A.0.1\
   rounds = 1;
   commands = record { round = 1; thread = 0; command = Free (targets.Handle (record { owner = 0; row = 0; generation = 1 })) } ∷ [];
 })
-unfolding bundle_of bundle_with line_read outside directive_line command_line charmap_line locale_line later_line native_line thread_line round_line one_word two_words three_words command new_command new_words free_command use_command setlocale_command info_command target item next_word argument no_more read_as is_over base_word text_of_word mask_of_word categories_of_word variable_of_word decimal_number cut_at handle_of_word is_formed is_locale_name is_charmap_name is_thread_name directives_table commands_table items_table
+unfolding bundle_of bundle_with line_read outside directive_line command_line charmap_line locale_line later_line native_line thread_line round_line one_word two_words three_words command new_command new_words free_command use_command setlocale_command info_words target next_word argument no_more read_as is_over base_word text_of_word mask_of_word categories_of_word variable_of_word decimal_number cut_at handle_of_word is_formed is_locale_name is_charmap_name is_thread_name directives_table commands_table items_table
 whole = refl
 
 empty : bundle_of [] ≡ Ok (record { charmaps = []; locales = []; later = []; native = None; threads = []; rounds = 1; commands = [] })
-unfolding bundle_of bundle_with line_read outside directive_line command_line charmap_line locale_line later_line native_line thread_line round_line one_word two_words three_words command new_command new_words free_command use_command setlocale_command info_command target item next_word argument no_more read_as is_over base_word text_of_word mask_of_word categories_of_word variable_of_word decimal_number cut_at handle_of_word is_formed is_locale_name is_charmap_name is_thread_name directives_table commands_table items_table
+unfolding bundle_of bundle_with line_read outside directive_line command_line charmap_line locale_line later_line native_line thread_line round_line one_word two_words three_words command new_command new_words free_command use_command setlocale_command info_words target next_word argument no_more read_as is_over base_word text_of_word mask_of_word categories_of_word variable_of_word decimal_number cut_at handle_of_word is_formed is_locale_name is_charmap_name is_thread_name directives_table commands_table items_table
 empty = refl
 
 -- ---- first faults
@@ -72,65 +72,65 @@ refused line column reason = Err (record { line = line; column = column }, reaso
 
 -- a block without an end, behind which no line is read
 not_closed : bundle_of (codes ".charmap a\n.end x\n") ≡ refused 1 1 reasons.NoEnd
-unfolding bundle_of bundle_with line_read outside directive_line command_line charmap_line locale_line later_line native_line thread_line round_line one_word two_words three_words command new_command new_words free_command use_command setlocale_command info_command target item next_word argument no_more read_as is_over base_word text_of_word mask_of_word categories_of_word variable_of_word decimal_number cut_at handle_of_word is_formed is_locale_name is_charmap_name is_thread_name directives_table commands_table items_table
+unfolding bundle_of bundle_with line_read outside directive_line command_line charmap_line locale_line later_line native_line thread_line round_line one_word two_words three_words command new_command new_words free_command use_command setlocale_command info_words target next_word argument no_more read_as is_over base_word text_of_word mask_of_word categories_of_word variable_of_word decimal_number cut_at handle_of_word is_formed is_locale_name is_charmap_name is_thread_name directives_table commands_table items_table
 not_closed = refl
 
 -- a fault of a line goes before one of a name, wherever it stands
 line_first : bundle_of (codes ".charmap a\n.end\n.charmap a\n.end\nfree x\n") ≡ refused 5 1 (reasons.BadLine parts.Thread)
-unfolding bundle_of bundle_with line_read outside directive_line command_line charmap_line locale_line later_line native_line thread_line round_line one_word two_words three_words command new_command new_words free_command use_command setlocale_command info_command target item next_word argument no_more read_as is_over base_word text_of_word mask_of_word categories_of_word variable_of_word decimal_number cut_at handle_of_word is_formed is_locale_name is_charmap_name is_thread_name directives_table commands_table items_table
+unfolding bundle_of bundle_with line_read outside directive_line command_line charmap_line locale_line later_line native_line thread_line round_line one_word two_words three_words command new_command new_words free_command use_command setlocale_command info_words target next_word argument no_more read_as is_over base_word text_of_word mask_of_word categories_of_word variable_of_word decimal_number cut_at handle_of_word is_formed is_locale_name is_charmap_name is_thread_name directives_table commands_table items_table
 line_first = refl
 
 -- a name that was given before
 name_twice : bundle_of (codes ".charmap a\n.end\n.charmap  a\n.end\n") ≡ refused 3 11 reasons.NameTwice
-unfolding bundle_of bundle_with line_read outside directive_line command_line charmap_line locale_line later_line native_line thread_line round_line one_word two_words three_words command new_command new_words free_command use_command setlocale_command info_command target item next_word argument no_more read_as is_over base_word text_of_word mask_of_word categories_of_word variable_of_word decimal_number cut_at handle_of_word is_formed is_locale_name is_charmap_name is_thread_name directives_table commands_table items_table
+unfolding bundle_of bundle_with line_read outside directive_line command_line charmap_line locale_line later_line native_line thread_line round_line one_word two_words three_words command new_command new_words free_command use_command setlocale_command info_words target next_word argument no_more read_as is_over base_word text_of_word mask_of_word categories_of_word variable_of_word decimal_number cut_at handle_of_word is_formed is_locale_name is_charmap_name is_thread_name directives_table commands_table items_table
 name_twice = refl
 
 -- a key that was given before; the names of later versions may be given twice
 key_twice : bundle_of (codes ".later k a UTF-8\n.end\n.later k a cs\n.end\n") ≡ refused 3 8 reasons.NameTwice
-unfolding bundle_of bundle_with line_read outside directive_line command_line charmap_line locale_line later_line native_line thread_line round_line one_word two_words three_words command new_command new_words free_command use_command setlocale_command info_command target item next_word argument no_more read_as is_over base_word text_of_word mask_of_word categories_of_word variable_of_word decimal_number cut_at handle_of_word is_formed is_locale_name is_charmap_name is_thread_name directives_table commands_table items_table
+unfolding bundle_of bundle_with line_read outside directive_line command_line charmap_line locale_line later_line native_line thread_line round_line one_word two_words three_words command new_command new_words free_command use_command setlocale_command info_words target next_word argument no_more read_as is_over base_word text_of_word mask_of_word categories_of_word variable_of_word decimal_number cut_at handle_of_word is_formed is_locale_name is_charmap_name is_thread_name directives_table commands_table items_table
 key_twice = refl
 
 -- a charset that no charmap has
 no_charmap : bundle_of (codes ".locale a cs\n.end\n.native b\n") ≡ refused 1 11 reasons.NoCharmap
-unfolding bundle_of bundle_with line_read outside directive_line command_line charmap_line locale_line later_line native_line thread_line round_line one_word two_words three_words command new_command new_words free_command use_command setlocale_command info_command target item next_word argument no_more read_as is_over base_word text_of_word mask_of_word categories_of_word variable_of_word decimal_number cut_at handle_of_word is_formed is_locale_name is_charmap_name is_thread_name directives_table commands_table items_table
+unfolding bundle_of bundle_with line_read outside directive_line command_line charmap_line locale_line later_line native_line thread_line round_line one_word two_words three_words command new_command new_words free_command use_command setlocale_command info_words target next_word argument no_more read_as is_over base_word text_of_word mask_of_word categories_of_word variable_of_word decimal_number cut_at handle_of_word is_formed is_locale_name is_charmap_name is_thread_name directives_table commands_table items_table
 no_charmap = refl
 
 -- a native locale that only a later version has
 no_native : bundle_of (codes ".later k a POSIX\n.end\n.native a\n") ≡ refused 3 9 reasons.NoNative
-unfolding bundle_of bundle_with line_read outside directive_line command_line charmap_line locale_line later_line native_line thread_line round_line one_word two_words three_words command new_command new_words free_command use_command setlocale_command info_command target item next_word argument no_more read_as is_over base_word text_of_word mask_of_word categories_of_word variable_of_word decimal_number cut_at handle_of_word is_formed is_locale_name is_charmap_name is_thread_name directives_table commands_table items_table
+unfolding bundle_of bundle_with line_read outside directive_line command_line charmap_line locale_line later_line native_line thread_line round_line one_word two_words three_words command new_command new_words free_command use_command setlocale_command info_words target next_word argument no_more read_as is_over base_word text_of_word mask_of_word categories_of_word variable_of_word decimal_number cut_at handle_of_word is_formed is_locale_name is_charmap_name is_thread_name directives_table commands_table items_table
 no_native = refl
 
 -- a thread that is not named goes before a charset behind it
 no_thread : bundle_of (codes ".thread A\nuse B.0.1\n.locale a b\n.end\n") ≡ refused 2 5 reasons.NoThread
-unfolding bundle_of bundle_with line_read outside directive_line command_line charmap_line locale_line later_line native_line thread_line round_line one_word two_words three_words command new_command new_words free_command use_command setlocale_command info_command target item next_word argument no_more read_as is_over base_word text_of_word mask_of_word categories_of_word variable_of_word decimal_number cut_at handle_of_word is_formed is_locale_name is_charmap_name is_thread_name directives_table commands_table items_table
+unfolding bundle_of bundle_with line_read outside directive_line command_line charmap_line locale_line later_line native_line thread_line round_line one_word two_words three_words command new_command new_words free_command use_command setlocale_command info_words target next_word argument no_more read_as is_over base_word text_of_word mask_of_word categories_of_word variable_of_word decimal_number cut_at handle_of_word is_formed is_locale_name is_charmap_name is_thread_name directives_table commands_table items_table
 no_thread = refl
 
 -- a second native locale
 second_native : bundle_of (codes ".native C\n.native C\n") ≡ refused 2 1 (reasons.BadLine parts.Directive)
-unfolding bundle_of bundle_with line_read outside directive_line command_line charmap_line locale_line later_line native_line thread_line round_line one_word two_words three_words command new_command new_words free_command use_command setlocale_command info_command target item next_word argument no_more read_as is_over base_word text_of_word mask_of_word categories_of_word variable_of_word decimal_number cut_at handle_of_word is_formed is_locale_name is_charmap_name is_thread_name directives_table commands_table items_table
+unfolding bundle_of bundle_with line_read outside directive_line command_line charmap_line locale_line later_line native_line thread_line round_line one_word two_words three_words command new_command new_words free_command use_command setlocale_command info_words target next_word argument no_more read_as is_over base_word text_of_word mask_of_word categories_of_word variable_of_word decimal_number cut_at handle_of_word is_formed is_locale_name is_charmap_name is_thread_name directives_table commands_table items_table
 second_native = refl
 
 -- an end outside of blocks
 end_outside : bundle_of (codes ".end\n") ≡ refused 1 1 (reasons.BadLine parts.Directive)
-unfolding bundle_of bundle_with line_read outside directive_line command_line charmap_line locale_line later_line native_line thread_line round_line one_word two_words three_words command new_command new_words free_command use_command setlocale_command info_command target item next_word argument no_more read_as is_over base_word text_of_word mask_of_word categories_of_word variable_of_word decimal_number cut_at handle_of_word is_formed is_locale_name is_charmap_name is_thread_name directives_table commands_table items_table
+unfolding bundle_of bundle_with line_read outside directive_line command_line charmap_line locale_line later_line native_line thread_line round_line one_word two_words three_words command new_command new_words free_command use_command setlocale_command info_words target next_word argument no_more read_as is_over base_word text_of_word mask_of_word categories_of_word variable_of_word decimal_number cut_at handle_of_word is_formed is_locale_name is_charmap_name is_thread_name directives_table commands_table items_table
 end_outside = refl
 
 -- a directive behind blanks is a command
 directive_behind_blanks : bundle_of (codes ".thread A\n .thread A\n") ≡ refused 2 2 (reasons.BadLine parts.Command)
-unfolding bundle_of bundle_with line_read outside directive_line command_line charmap_line locale_line later_line native_line thread_line round_line one_word two_words three_words command new_command new_words free_command use_command setlocale_command info_command target item next_word argument no_more read_as is_over base_word text_of_word mask_of_word categories_of_word variable_of_word decimal_number cut_at handle_of_word is_formed is_locale_name is_charmap_name is_thread_name directives_table commands_table items_table
+unfolding bundle_of bundle_with line_read outside directive_line command_line charmap_line locale_line later_line native_line thread_line round_line one_word two_words three_words command new_command new_words free_command use_command setlocale_command info_words target next_word argument no_more read_as is_over base_word text_of_word mask_of_word categories_of_word variable_of_word decimal_number cut_at handle_of_word is_formed is_locale_name is_charmap_name is_thread_name directives_table commands_table items_table
 directive_behind_blanks = refl
 
 -- a second round is not built
 second_round : bundle_of (codes ".round \n") ≡ refused 1 1 reasons.NotBuilt
-unfolding bundle_of bundle_with line_read outside directive_line command_line charmap_line locale_line later_line native_line thread_line round_line one_word two_words three_words command new_command new_words free_command use_command setlocale_command info_command target item next_word argument no_more read_as is_over base_word text_of_word mask_of_word categories_of_word variable_of_word decimal_number cut_at handle_of_word is_formed is_locale_name is_charmap_name is_thread_name directives_table commands_table items_table
+unfolding bundle_of bundle_with line_read outside directive_line command_line charmap_line locale_line later_line native_line thread_line round_line one_word two_words three_words command new_command new_words free_command use_command setlocale_command info_words target next_word argument no_more read_as is_over base_word text_of_word mask_of_word categories_of_word variable_of_word decimal_number cut_at handle_of_word is_formed is_locale_name is_charmap_name is_thread_name directives_table commands_table items_table
 second_round = refl
 
 -- neither is a second thread
 second_thread : bundle_of (codes ".thread A\n.thread A\n.thread B\n") ≡ refused 3 1 reasons.NotBuilt
-unfolding bundle_of bundle_with line_read outside directive_line command_line charmap_line locale_line later_line native_line thread_line round_line one_word two_words three_words command new_command new_words free_command use_command setlocale_command info_command target item next_word argument no_more read_as is_over base_word text_of_word mask_of_word categories_of_word variable_of_word decimal_number cut_at handle_of_word is_formed is_locale_name is_charmap_name is_thread_name directives_table commands_table items_table
+unfolding bundle_of bundle_with line_read outside directive_line command_line charmap_line locale_line later_line native_line thread_line round_line one_word two_words three_words command new_command new_words free_command use_command setlocale_command info_words target next_word argument no_more read_as is_over base_word text_of_word mask_of_word categories_of_word variable_of_word decimal_number cut_at handle_of_word is_formed is_locale_name is_charmap_name is_thread_name directives_table commands_table items_table
 second_thread = refl
 
 -- comments and lines of blanks are skipped
 comments : bundle_of (codes "# a\n\t#b\n \t\n\nx") ≡ refused 5 1 (reasons.BadLine parts.Thread)
-unfolding bundle_of bundle_with line_read outside directive_line command_line charmap_line locale_line later_line native_line thread_line round_line one_word two_words three_words command new_command new_words free_command use_command setlocale_command info_command target item next_word argument no_more read_as is_over base_word text_of_word mask_of_word categories_of_word variable_of_word decimal_number cut_at handle_of_word is_formed is_locale_name is_charmap_name is_thread_name directives_table commands_table items_table
+unfolding bundle_of bundle_with line_read outside directive_line command_line charmap_line locale_line later_line native_line thread_line round_line one_word two_words three_words command new_command new_words free_command use_command setlocale_command info_words target next_word argument no_more read_as is_over base_word text_of_word mask_of_word categories_of_word variable_of_word decimal_number cut_at handle_of_word is_formed is_locale_name is_charmap_name is_thread_name directives_table commands_table items_table
 comments = refl

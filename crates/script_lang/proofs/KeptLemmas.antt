@@ -7,7 +7,7 @@ use Rattle.lc_base.specs.declared.block.Later.{Later}
 use Rattle.script_lang.specs.declared.bundle.TheConstants.{THREAD_LIMIT, ROUND_LIMIT, COMMAND_LIMIT}
 use Rattle.script_lang.specs.declared.bundle.Bundle.{Bundle}
 use Rattle.script_lang.specs.declared.command.Command.{Command}
-use Rattle.script_lang.specs.declared.command.Command.TheVariants.{New, Free, Use, Selected, Setlocale, LocaleName, Info}
+use Rattle.script_lang.specs.declared.command.Command.TheVariants.{New, Free, Use, Selected, Setlocale, LocaleName, Read}
 use Rattle.script_lang.specs.declared.command.Placed.{Placed}
 use Rattle.script_lang.specs.declared.command.Target.{Target}
 use Rattle.script_lang.specs.declared.command.Target.TheVariants.{Global, Variable, Handle}
@@ -89,7 +89,7 @@ are_owned_more n m le (Use t) h = owned_more n m le t h
 are_owned_more n m le Selected h = tt
 are_owned_more n m le (Setlocale categories locale) h = tt
 are_owned_more n m le (LocaleName categories) h = tt
-are_owned_more n m le (Info item) h = tt
+are_owned_more n m le (Read read) h = tt
 
 placed_more : (n m : ℕ) → n ≤ m → (ps : List Placed) → All (IsPlaced n) ps → All (IsPlaced m) ps
 placed_more n m le ps all k d lt = let p = all k d lt in record { thread = omega (arith, p.thread); owned = are_owned_more n m le _ p.owned }

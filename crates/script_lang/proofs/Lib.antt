@@ -1,6 +1,8 @@
+pub mod ArgumentLemmas
 pub mod KeptLemmas
 pub mod ReadLemmas
 pub mod StepLemmas
 pub mod WordLemmas
 mod WordExamples
 mod BundleExamples
+mod ReadExamples

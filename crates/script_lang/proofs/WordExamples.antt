@@ -7,15 +7,16 @@ use Rattle.lc_base.specs.declared.reason.Reason.TheVariants as reasons
 use Rattle.lc_base.specs.declared.reason.LinePart.TheVariants as parts
 use Rattle.lc_base.specs.Reading.{Reads}
 use Rattle.script_lang.specs.declared.command.Categories.TheVariants as chosen
-use Rattle.script_lang.specs.declared.command.Item.TheVariants as items
+use Rattle.lc_base.specs.declared.item.Item.TheVariants as items
 use Rattle.script_lang.specs.declared.command.Target.TheVariants as targets
 use Rattle.script_lang.specs.declared.command.Command.{Command}
-use Rattle.script_lang.specs.declared.command.Command.TheVariants.{New, Free, Use, Selected, Setlocale, LocaleName, Info}
+use Rattle.script_lang.specs.declared.command.Command.TheVariants.{New, Free, Use, Selected, Setlocale, LocaleName, Read}
+use Rattle.script_lang.specs.declared.command.Read.TheVariants.{Info}
 use Rattle.script_lang.specs.Names.{is_formed, is_locale_name, is_charmap_name, is_thread_name}
 use Rattle.script_lang.specs.Spans.{Span, whole_line, next_word}
 use Rattle.script_lang.specs.Words.{text_of_word, decimal_number, categories_of_word, mask_of_word, variable_of_word, cut_at, handle_of_word}
 use Rattle.script_lang.specs.Tables.{commands_table, items_table}
-use Rattle.script_lang.specs.Commands.{argument, read_as, no_more, is_over, base_word, command, target, item, new_words, new_command, free_command, use_command, setlocale_command, info_command}
+use Rattle.script_lang.specs.Commands.{argument, read_as, no_more, is_over, base_word, command, target, new_words, new_command, free_command, use_command, setlocale_command, info_words}
 
 -- ---- names
 
@@ -271,16 +272,16 @@ set_by_number : spoken (codes "setlocale 31 a") ≡ refused 11 (reasons.BadLine 
 unfolding command setlocale_command next_word argument no_more read_as is_over base_word text_of_word mask_of_word categories_of_word variable_of_word decimal_number cut_at is_formed is_locale_name is_charmap_name is_thread_name commands_table items_table
 set_by_number = refl
 
-info_radix : spoken (codes "info RADIXCHAR") ≡ Ok (Info items.Radixchar)
-unfolding command info_command item next_word argument no_more read_as is_over base_word text_of_word mask_of_word categories_of_word variable_of_word decimal_number cut_at is_formed is_locale_name is_charmap_name is_thread_name commands_table items_table
+info_radix : spoken (codes "info RADIXCHAR") ≡ Ok (Read (Info items.Radixchar))
+unfolding command info_words next_word argument no_more read_as is_over base_word text_of_word mask_of_word categories_of_word variable_of_word decimal_number cut_at is_formed is_locale_name is_charmap_name is_thread_name commands_table items_table
 info_radix = refl
 
-info_not_built : spoken (codes "info ABMON_12 x") ≡ refused 6 reasons.NotBuilt
-unfolding command info_command item next_word argument no_more read_as is_over base_word text_of_word mask_of_word categories_of_word variable_of_word decimal_number cut_at is_formed is_locale_name is_charmap_name is_thread_name commands_table items_table
-info_not_built = refl
+info_and_more : spoken (codes "info ABMON_12 x") ≡ refused 15 (reasons.BadLine parts.Argument)
+unfolding command info_words next_word argument no_more read_as is_over base_word text_of_word mask_of_word categories_of_word variable_of_word decimal_number cut_at is_formed is_locale_name is_charmap_name is_thread_name commands_table items_table
+info_and_more = refl
 
 info_unknown : spoken (codes "info ABMON_13") ≡ refused 6 (reasons.BadLine parts.Argument)
-unfolding command info_command item next_word argument no_more read_as is_over base_word text_of_word mask_of_word categories_of_word variable_of_word decimal_number cut_at is_formed is_locale_name is_charmap_name is_thread_name commands_table items_table
+unfolding command info_words next_word argument no_more read_as is_over base_word text_of_word mask_of_word categories_of_word variable_of_word decimal_number cut_at is_formed is_locale_name is_charmap_name is_thread_name commands_table items_table
 info_unknown = refl
 
 not_built : spoken (codes "hold") ≡ refused 1 reasons.NotBuilt

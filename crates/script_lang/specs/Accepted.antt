@@ -9,7 +9,7 @@ use Rattle.lc_base.specs.Reading.{Reads, ◌>>=◌}
 use Rattle.script_lang.specs.declared.bundle.TheConstants.{CHARMAP_LIMIT, LOCALE_LIMIT, LATER_LIMIT, THREAD_LIMIT, ROUND_LIMIT, COMMAND_LIMIT}
 use Rattle.script_lang.specs.declared.bundle.Bundle.{Bundle}
 use Rattle.script_lang.specs.declared.command.Command.{Command}
-use Rattle.script_lang.specs.declared.command.Command.TheVariants.{New, Free, Use, Selected, Setlocale, LocaleName, Info}
+use Rattle.script_lang.specs.declared.command.Command.TheVariants.{New, Free, Use, Selected, Setlocale, LocaleName, Read}
 use Rattle.script_lang.specs.declared.command.Placed.{Placed}
 use Rattle.script_lang.specs.declared.command.Target.{Target}
 use Rattle.script_lang.specs.declared.command.Target.TheVariants.{Global, Variable, Handle}
@@ -62,7 +62,7 @@ AreOwned threads (Use named) = IsOwned threads named
 AreOwned threads Selected = Unit {0}
 AreOwned threads (Setlocale categories locale) = Unit {0}
 AreOwned threads (LocaleName categories) = Unit {0}
-AreOwned threads (Info item) = Unit {0}
+AreOwned threads (Read read) = Unit {0}
 
 -- a command is one of so many threads', and names no other
 pub record IsPlaced (threads : ℕ) (p : Placed) : Type 0 where

@@ -1,21 +1,29 @@
 -- Commands, from their words (our own).
-use Rattle.std.specs.Prelude.{ℕ, Bool, true, false, List, position, codes, Option, Some, None, option_map, option_and_then, Ok, Err, if◌then◌else◌}
+use Rattle.std.specs.Prelude.{ℕ, zero, suc, ℤ, Bool, true, false, List, [], ◌∷◌, position, codes, Option, Some, None, option_map, option_and_then, Ok, Err, if◌then◌else◌}
 use Rattle.std.specs.Str.{bytes_eq}
-use Rattle.lc_base.specs.declared.reason.Reason.TheVariants.{BadLine, NoThread, NotBuilt}
+use Rattle.lc_base.specs.declared.reason.Reason.TheVariants.{BadLine, OverLimit, NoThread, NotBuilt}
+use Rattle.lc_base.specs.declared.reason.Limit.TheVariants as limits
 use Rattle.lc_base.specs.declared.reason.LinePart.TheVariants.{Command as CommandPart, Argument}
 use Rattle.lc_base.specs.Reading.{Reads, ◌>>=◌}
 use Rattle.script_lang.specs.declared.bundle.Bundle.{Bundle}
 use Rattle.script_lang.specs.declared.command.Command.{Command}
-use Rattle.script_lang.specs.declared.command.Command.TheVariants.{New, Free, Use, Selected, Setlocale, LocaleName, Info}
-use Rattle.script_lang.specs.declared.command.Item.{Item}
+use Rattle.script_lang.specs.declared.command.Command.TheVariants as commands
+use Rattle.script_lang.specs.declared.command.Command.TheVariants.{New, Free, Use, Selected, Setlocale, LocaleName}
+use Rattle.script_lang.specs.declared.command.Read.{Read}
+use Rattle.script_lang.specs.declared.command.Read.TheVariants.{Info, Conv, Class, Upper, Lower, Money, Time}
 use Rattle.script_lang.specs.declared.command.Target.{Target}
 use Rattle.script_lang.specs.declared.command.Target.TheVariants.{Global, Variable, Handle}
+use Rattle.script_lang.specs.declared.given.TheConstants.{DEFAULT_MAX, AMOUNT_LIMIT, FORMAT_LIMIT}
+use Rattle.script_lang.specs.declared.given.WrittenTime.{WrittenTime}
+use Rattle.script_lang.specs.declared.table.Question.{Question}
+use Rattle.script_lang.specs.declared.table.Question.TheVariants as questions
 use Rattle.script_lang.specs.declared.table.Verb.{Verb}
 use Rattle.script_lang.specs.declared.table.Verb.TheVariants as verbs
 use Rattle.script_lang.specs.Names.{is_thread_name}
 use Rattle.script_lang.specs.Spans.{Span, next_word, end_of}
 use Rattle.script_lang.specs.Tables.{first_named, commands_table, items_table}
-use Rattle.script_lang.specs.Words.{text_of_word, categories_of_word, mask_of_word, variable_of_word, WrittenHandle, handle_of_word}
+use Rattle.script_lang.specs.Words.{text_of_word, quoted_of_word, bounded, zone_of_word, decimal_number, behind_front, max_number, categories_of_word, mask_of_word, variable_of_word, class_of_word, WrittenHandle, handle_of_word}
+use Rattle.script_lang.specs.Numbers.{short_number, offset_of_word, three_numbers, Amount, amount_of_word}
 
 -- ---- words of a command
 
@@ -59,9 +67,69 @@ target known w =
     if is_thread_name w.bytes then Ok (Variable w.bytes) else
     (or_wrong w (handle_of_word w.bytes) >>= handle known w)
 
--- the item of a word
-unfoldable pub item : Span → Reads Item
-item w = or_wrong w (first_named items_table w.bytes) >>= λ row. elim row [ None ↦ Err (w.place, NotBuilt) | Some i ↦ Ok i ]
+-- the most bytes of a text, which a word in front of the format may give, and what follows it
+unfoldable pub max_bytes : Span → Reads (ℕ × Span)
+max_bytes s = argument s >>= λ x. elim (behind_front (codes "max=") x.0.bytes) [
+  | None ↦ Ok (DEFAULT_MAX, s)
+  | Some digits ↦ (or_wrong x.0 (max_number digits) >>= λ n. Ok (n, x.1))
+]
+
+-- what is there, or else a format that is too long
+abbrev pub or_too_long : {A : Type 0} → Span → Option A → Reads A
+or_too_long w None = Err (w.place, OverLimit limits.Format)
+or_too_long w (Some a) = Ok a
+
+-- a format, which stands in quotes, and what follows it
+unfoldable pub format : Span → Reads (List ℕ × Span)
+format s = argument s >>= λ x. or_wrong x.0 (quoted_of_word x.0.bytes) >>= λ text. or_too_long x.0 (bounded FORMAT_LIMIT text) >>= λ text. Ok (text, x.1)
+
+-- amounts to the end of the line, of which there may be so many; one more that is well formed is one too many
+abbrev pub amounts_from : ℕ → Span → Reads (List Amount)
+amounts_from zero s = elim (next_word s) [
+  | None ↦ Ok []
+  | Some x ↦ (or_wrong x.0 (amount_of_word x.0.bytes) >>= λ amount. Err (x.0.place, OverLimit limits.Amounts))
+]
+amounts_from (suc n) s = elim (next_word s) [
+  | None ↦ Ok []
+  | Some x ↦ (or_wrong x.0 (amount_of_word x.0.bytes) >>= λ amount. amounts_from n x.1 >>= λ more. Ok (amount ∷ more))
+]
+
+-- all that is left are amounts
+unfoldable pub amounts : Span → Reads (List Amount)
+amounts s = amounts_from AMOUNT_LIMIT s
+
+-- minutes east of UTC, which may be left out, and what follows them
+unfoldable pub offset : Span → Reads (Option ℤ × Span)
+offset s = if is_over s then Ok (None, s) else (read_as offset_of_word s >>= λ minutes. Ok (Some minutes.0, minutes.1))
+
+-- the name of a time zone, which is empty where it is left out, and what follows it
+unfoldable pub zone : Span → Reads (List ℕ × Span)
+zone s = if is_over s then Ok ([], s) else read_as zone_of_word s
+
+-- a date, a clock, the days of the week and of the year, and the zone; and what follows them
+unfoldable pub moment : Span → Reads (WrittenTime × Span)
+moment s = do
+  date ← read_as (three_numbers 45) s
+  clock ← read_as (three_numbers 58) date.1
+  wday ← read_as short_number clock.1
+  yday ← read_as short_number wday.1
+  offset ← offset yday.1
+  zone ← zone offset.1
+  Ok (
+    record {
+      year = date.0.0;
+      mon = date.0.1;
+      mday = date.0.2;
+      hour = clock.0.0;
+      min = clock.0.1;
+      sec = clock.0.2;
+      wday = wday.0;
+      yday = yday.0;
+      offset = offset.0;
+      zone = zone.0;
+    },
+    zone.1,
+  )
 
 -- ---- commands, each by its words in order; what follows the first word is given
 
@@ -113,13 +181,61 @@ setlocale_command s = read_as categories_of_word s >>= λ categories.
     if is_over categories.1 then Ok (LocaleName categories.0) else
     (read_as text_of_word categories.1 >>= λ locale. no_more locale.1 >>= λ over. Ok (Setlocale categories.0 locale.0))
 
--- `info ITEM`
-unfoldable pub info_command : Span → Reads Command
-info_command s = do
-  word ← argument s
-  item ← item word.0
-  over ← no_more word.1
-  Ok (Info item)
+-- ---- what is read, by the words that say it
+
+-- `ITEM`, of `info`
+unfoldable pub info_words : Span → Reads Read
+info_words s = do
+  item ← read_as (first_named items_table) s
+  over ← no_more item.1
+  Ok (Info item.0)
+
+-- no words, of `conv`
+unfoldable pub conv_words : Span → Reads Read
+conv_words s = no_more s >>= λ over. Ok Conv
+
+-- `NAME W`, of `class`
+unfoldable pub class_words : Span → Reads Read
+class_words s = do
+  class ← read_as class_of_word s
+  value ← read_as decimal_number class.1
+  over ← no_more value.1
+  Ok (Class class.0 value.0)
+
+-- `W`, and nothing else
+unfoldable pub lone_value : Span → Reads ℕ
+lone_value s = read_as decimal_number s >>= λ value. no_more value.1 >>= λ over. Ok value.0
+
+-- `MAX F AMOUNTS`, of `money`
+unfoldable pub money_words : Span → Reads Read
+money_words s = do
+  max ← max_bytes s
+  format ← format max.1
+  amounts ← amounts format.1
+  Ok (Money max.0 format.0 amounts)
+
+-- `MAX F DATE CLOCK WDAY YDAY OFFSET ZONE`, of `time`
+unfoldable pub time_words : Span → Reads Read
+time_words s = do
+  max ← max_bytes s
+  format ← format max.1
+  time ← moment format.1
+  over ← no_more time.1
+  Ok (Time max.0 format.0 time.0)
+
+-- the words of what is read
+abbrev pub read_words : Question → Span → Reads Read
+read_words questions.Info s = info_words s
+read_words questions.Conv s = conv_words s
+read_words questions.Class s = class_words s
+read_words questions.Upper s = lone_value s >>= λ value. Ok (Upper value)
+read_words questions.Lower s = lone_value s >>= λ value. Ok (Lower value)
+read_words questions.Money s = money_words s
+read_words questions.Time s = time_words s
+
+-- a command that reads
+abbrev pub read_command : Question → Span → Reads Command
+read_command question s = read_words question s >>= λ read. Ok (commands.Read read)
 
 -- the command of a verb
 abbrev pub command_of : Option Bundle → Verb → Span → Reads Command
@@ -127,7 +243,7 @@ command_of known verbs.New s = new_command s
 command_of known verbs.Free s = free_command known s
 command_of known verbs.Use s = use_command known s
 command_of known verbs.Setlocale s = setlocale_command s
-command_of known verbs.Info s = info_command s
+command_of known (verbs.Read question) s = read_command question s
 
 -- the command whose first word is w, with what follows it
 unfoldable pub command : Option Bundle → Span → Span → Reads Command

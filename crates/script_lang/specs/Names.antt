@@ -2,7 +2,7 @@
 use Rattle.std.specs.Prelude.{ℕ, ◌==◌, nat_lt, nat_le, Bool, not, ◌&&◌, ◌||◌, List, length, slice_index, codes}
 use Rattle.std.specs.List.{list_all}
 use Rattle.std.specs.Str.{bytes_eq}
-use Rattle.script_lang.specs.declared.names.TheConstants.{LOCALE_NAME_LIMIT, THREAD_NAME_LIMIT}
+use Rattle.script_lang.specs.declared.names.TheConstants.{LOCALE_NAME_LIMIT, THREAD_NAME_LIMIT, CLASS_NAME_LIMIT}
 
 -- `A` to `Z` or `a` to `z`
 abbrev pub is_letter : ℕ → Bool
@@ -35,3 +35,7 @@ is_charmap_name name = is_formed name && not (bytes_eq name (codes "UTF-8")) && 
 -- a letter and up to 15 letters and digits, and not `GLOBAL`
 unfoldable pub is_thread_name : List ℕ → Bool
 is_thread_name name = nat_lt 0 (length name) && nat_le (length name) THREAD_NAME_LIMIT && is_letter (slice_index name 0) && list_all is_letter_or_digit name && not (bytes_eq name (codes "GLOBAL"))
+
+-- the name of a character class: 1 to 14 letters and digits
+unfoldable pub is_class_name : List ℕ → Bool
+is_class_name name = nat_lt 0 (length name) && nat_le (length name) CLASS_NAME_LIMIT && list_all is_letter_or_digit name

@@ -1,5 +1,5 @@
 -- The printed lines (our own).
-use Rattle.std.specs.Prelude.{ℕ, ◌+◌, ◌/◌, ◌%◌, ◌==◌, nat_lt, ◌||◌, List, [], ◌∷◌, ◌++◌, slice_index_or, codes, Option, Some, None, if◌then◌else◌}
+use Rattle.std.specs.Prelude.{ℕ, Bool, ◌+◌, ◌/◌, ◌%◌, ◌==◌, nat_lt, ◌||◌, List, [], ◌∷◌, ◌++◌, slice_index_or, codes, Option, Some, None, if◌then◌else◌}
 use Rattle.std.specs.List.{flat_map}
 use Rattle.std.specs.Fmt.{decimal}
 use Rattle.lc_base.specs.Categories.{category_name}
@@ -15,6 +15,8 @@ use Rattle.handle_table.specs.declared.handle.Handle.{Handle}
 use Rattle.handle_table.specs.declared.handle.Named.{Named}
 use Rattle.handle_table.specs.declared.handle.Named.TheVariants.{Global, Of}
 use Rattle.script_lang.specs.declared.output.OutLine.{OutLine}
+use Rattle.time_cat.specs.declared.tm.TmField.{TmField}
+use Rattle.time_cat.specs.declared.tm.TmField.TheVariants as fields
 
 -- one space
 abbrev pub space : List ℕ
@@ -70,11 +72,40 @@ refusal_text refusals.AlreadyHeld = codes "AlreadyHeld"
 refusal_text refusals.NotHeld = codes "NotHeld"
 refusal_text refusals.EmptyCell = codes "EmptyCell"
 
+-- a field of a time (XBD time.h, struct tm)
+abbrev pub field_text : TmField → List ℕ
+field_text fields.Year = codes "year"
+field_text fields.Mon = codes "mon"
+field_text fields.Mday = codes "mday"
+field_text fields.Hour = codes "hour"
+field_text fields.Min = codes "min"
+field_text fields.Sec = codes "sec"
+field_text fields.Wday = codes "wday"
+field_text fields.Yday = codes "yday"
+field_text fields.Offset = codes "offset"
+
 -- why a command is refused
 abbrev pub why_text : Why → List ℕ
 why_text whys.Unset = codes "Unset"
 why_text whys.BadMask = codes "BadMask"
 why_text (whys.Table refusal) = refusal_text refusal
+why_text whys.NoClass = codes "NoClass"
+why_text (whys.TmRange field) = codes "TmRange " ++ field_text field
+why_text (whys.BadFormat at) = codes "BadFormat " ++ decimal at
+why_text (whys.MissingAmount at) = codes "MissingAmount " ++ decimal at
+why_text whys.TooBig = codes "TooBig"
+
+-- texts in quotes, each behind a space
+abbrev pub texts_text : List (List ℕ) → List ℕ
+texts_text texts = flat_map (λ text. space ++ quoted text) texts
+
+-- numbers, each behind a space
+abbrev pub numbers_text : List ℕ → List ℕ
+numbers_text numbers = flat_map (λ n. space ++ decimal n) numbers
+
+-- whether a value is of a class
+abbrev pub class_text : Bool → List ℕ
+class_text is = if is then codes "yes" else codes "no"
 
 -- a reply, where the threads have these names
 abbrev pub reply_text : List (List ℕ) → Said → List ℕ
@@ -89,6 +120,9 @@ reply_text names (said.Installed count) = codes "installed " ++ decimal count
 reply_text names said.Posted = codes "posted"
 reply_text names (said.Pins count) = codes "pins " ++ decimal count
 reply_text names (said.Text text) = codes "text " ++ quoted text
+reply_text names (said.Conv texts numbers) = codes "conv" ++ texts_text texts ++ numbers_text numbers
+reply_text names (said.Class is) = class_text is
+reply_text names (said.Value value) = codes "value " ++ decimal value
 reply_text names said.Ended = codes "ended"
 reply_text names (said.Refused why) = codes "refused " ++ why_text why
 

@@ -12,7 +12,8 @@ use Rattle.script_lang.specs.declared.command.Categories.{Categories}
 use Rattle.script_lang.specs.declared.command.Categories.TheVariants.{All, One}
 use Rattle.script_lang.specs.declared.word.Quoting.{Quoting}
 use Rattle.script_lang.specs.declared.word.Quoting.TheVariants.{Text, Escape, High, Low, Closed}
-use Rattle.script_lang.specs.Names.{is_thread_name}
+use Rattle.script_lang.specs.declared.given.TheConstants.{ZONE_LIMIT, MAX_LIMIT}
+use Rattle.script_lang.specs.Names.{is_thread_name, is_class_name}
 
 -- ---- texts
 
@@ -56,6 +57,19 @@ text_of_word [] = None
 text_of_word (c ∷ cs) =
     if c == 34 then unquoted Text cs else (if list_all is_plain_byte (c ∷ cs) then Some (c ∷ cs) else None)
 
+-- the text of a word in quotes
+unfoldable pub quoted_of_word : List ℕ → Option (List ℕ)
+quoted_of_word [] = None
+quoted_of_word (c ∷ cs) = if c == 34 then unquoted Text cs else None
+
+-- a text of at most so many bytes
+abbrev pub bounded : ℕ → List ℕ → Option (List ℕ)
+bounded most text = if nat_le (length text) most then Some text else None
+
+-- the name of a time zone, plain or in quotes
+unfoldable pub zone_of_word : List ℕ → Option (List ℕ)
+zone_of_word w = option_and_then (bounded ZONE_LIMIT) (text_of_word w)
+
 -- ---- numbers
 
 -- the value of digits, if it has 32 bits
@@ -65,6 +79,14 @@ small_value ds = if nat_lt (digits_value 10 ds) (2 ^ 32) then Some (digits_value
 -- a number of 32 bits in decimal digits, perhaps with leading zeros
 unfoldable pub decimal_number : List ℕ → Option ℕ
 decimal_number w = if (length w == 0) || not (list_all is_ascii_digit w) then None else small_value w
+
+-- what stands behind this front, where a word begins with it
+unfoldable pub behind_front : List ℕ → List ℕ → Option (List ℕ)
+behind_front front w = if bytes_eq (take (length front) w) front then Some (drop (length front) w) else None
+
+-- a number up to 4096
+unfoldable pub max_number : List ℕ → Option ℕ
+max_number w = option_and_then (λ n. if nat_le n MAX_LIMIT then Some n else None) (decimal_number w)
 
 -- ---- categories
 
@@ -99,6 +121,10 @@ mask_of_word w =
 -- a variable
 unfoldable pub variable_of_word : List ℕ → Option (List ℕ)
 variable_of_word w = if is_thread_name w then Some w else None
+
+-- the name of a character class
+unfoldable pub class_of_word : List ℕ → Option (List ℕ)
+class_of_word w = if is_class_name w then Some w else None
 
 -- a text around the first byte c, where there is one
 unfoldable pub cut_at : ℕ → List ℕ → Option (List ℕ × List ℕ)

@@ -1,6 +1,7 @@
 //! Commands, from their words.
 
 ghost use Rattle.std.specs.Prelude.{◌≡◌, ℕ, ◌<◌, ◌≤◌, IfOk, IfSome, option_map};
+ghost use Rattle.lc_base.specs.declared.item.Item.{Item};
 ghost use Rattle.std.specs.Option.{option_copied};
 ghost use Rattle.lc_base.specs.declared.fault.TextFault.TheVariants.{At};
 ghost use Rattle.lc_base.specs.declared.reason.Reason.TheVariants.{BadLine};
@@ -9,19 +10,24 @@ ghost use Rattle.lc_base.specs.Reading.{Gives};
 ghost use Rattle.script_lang.specs.Seen.{seen_handle};
 ghost use Rattle.script_lang.specs.Accepted.{thread_count, IsOwned, AreOwned};
 ghost use Rattle.script_lang.specs.Spans.{span, spans};
-ghost use Rattle.script_lang.specs.Words.{text_of_word, categories_of_word, mask_of_word, variable_of_word, handle_of_word};
-ghost use Rattle.script_lang.specs.Commands.{or_wrong, argument, read_as, no_more, is_over, thread_number, handle, target, item, base_word, new_words, new_command, free_command, selection, use_command, setlocale_command, info_command, command_of, command};
+ghost use Rattle.script_lang.specs.Words.{text_of_word, categories_of_word, mask_of_word, variable_of_word, class_of_word, decimal_number, handle_of_word};
+ghost use Rattle.script_lang.specs.Numbers.{short_number, three_numbers};
+ghost use Rattle.script_lang.specs.Tables.{first_named, items_table};
+ghost use Rattle.script_lang.specs.Commands.{or_wrong, argument, read_as, no_more, is_over, thread_number, handle, target, max_bytes, format, amounts, offset, zone, moment, base_word, new_words, new_command, free_command, selection, use_command, setlocale_command, info_words, conv_words, class_words, lone_value, money_words, time_words, read_words, read_command, command_of, command};
 
 use crate::bundle::{Bundle, THREAD_LIMIT};
-use crate::command::{Categories, Command, Item, Target};
+use crate::command::{Categories, Command, Read, Target};
+use crate::given::{AMOUNT_LIMIT, DEFAULT_MAX, Format, WrittenAmount, WrittenTime};
 use crate::names::is_thread_name;
+use crate::number::{amount_of_word, offset_of_word, short_number, three_numbers};
 use crate::piece::Piece;
-use crate::table::{Verb, command_named, item_named};
+use crate::table::{Question, Verb, command_named, item_named};
 use crate::word::{
-    WrittenHandle, categories_of_word, handle_of_word, mask_of_word, text_of_word, variable_of_word,
+    WrittenHandle, behind_front, categories_of_word, class_of_word, decimal_number, handle_of_word,
+    mask_of_word, max_number, quoted_of_word, text_of_word, variable_of_word, zone_of_word,
 };
 use handle_table::Handle;
-use lc_base::{ByteText, LinePart, Place, Reason, TextFault};
+use lc_base::{ByteText, Item, Limit, LinePart, List, Place, Reason, TextFault};
 use std::alloc::Global;
 
 /// The refusal of a wrong, missing or needless word at this place.
@@ -157,16 +163,170 @@ fn target(alloc: Global, known: Option<&Bundle>, word: Piece<'_>) -> Result<Targ
     }
 }
 
-/// The item of a word.
-#[tactic(auto, unfolding(crate::specs::Commands::item))]
-fn item(word: Piece<'_>) -> Result<Item, TextFault>
-    ensures { Gives (λ x. x) result (item (span word.entry)) }
+/// An item, and what follows it.
+#[tactic(auto, unfolding(crate::specs::Commands::read_as))]
+fn item(rest: Piece<'_>) -> Result<(Item, Piece<'_>), TextFault>
+    ensures { Gives (λ x. (x.0, span x.1)) result (read_as (first_named items_table) (span rest.entry)) }
 {
+    let (word, rest) = argument(rest)?;
     match item_named(word.bytes) {
-        Some(Some(item)) => Ok(item),
-        Some(None) => Err(TextFault::At(word.place, Reason::NotBuilt)),
+        Some(item) => Ok((item, rest)),
         None => Err(wrong_word(word.place)),
     }
+}
+
+/// The name of a class, and what follows it.
+#[tactic(auto, unfolding(crate::specs::Commands::read_as))]
+fn class(alloc: Global, rest: Piece<'_>) -> Result<(ByteText, Piece<'_>), TextFault>
+    ensures { Gives (λ x. (x.0, span x.1)) result (read_as class_of_word (span rest.entry)) }
+{
+    let (word, rest) = argument(rest)?;
+    match class_of_word(alloc, word.bytes)? {
+        Some(name) => Ok((name, rest)),
+        None => Err(wrong_word(word.place)),
+    }
+}
+
+/// A wide value, and what follows it.
+#[tactic(auto, unfolding(crate::specs::Commands::read_as))]
+fn value(rest: Piece<'_>) -> Result<(u32, Piece<'_>), TextFault>
+    ensures { Gives (λ x. (x.0, span x.1)) result (read_as decimal_number (span rest.entry)) }
+{
+    let (word, rest) = argument(rest)?;
+    match decimal_number(word.bytes) {
+        Some(value) => Ok((value, rest)),
+        None => Err(wrong_word(word.place)),
+    }
+}
+
+/// The most bytes of a text, which a word in front of the format may give, and what follows it.
+#[tactic(auto, unfolding(crate::specs::Commands::max_bytes))]
+fn max_bytes(rest: Piece<'_>) -> Result<(u32, Piece<'_>), TextFault>
+    ensures { Gives (λ x. (x.0, span x.1)) result (max_bytes (span rest.entry)) }
+{
+    let (word, behind) = argument(rest)?;
+    let Some(digits) = behind_front(b"max=", word.bytes) else {
+        return Ok((DEFAULT_MAX, rest));
+    };
+    match max_number(digits) {
+        Some(max) => Ok((max, behind)),
+        None => Err(wrong_word(word.place)),
+    }
+}
+
+/// A format, and what follows it.
+#[tactic(auto, unfolding(crate::specs::Commands::format))]
+fn format(alloc: Global, rest: Piece<'_>) -> Result<(Format, Piece<'_>), TextFault>
+    ensures { Gives (λ x. (x.0, span x.1)) result (format (span rest.entry)) }
+{
+    let (word, rest) = argument(rest)?;
+    let Some(text) = quoted_of_word(alloc, word.bytes)? else {
+        return Err(wrong_word(word.place));
+    };
+    match Format::of(text) {
+        Some(format) => Ok((format, rest)),
+        None => Err(TextFault::At(word.place, Reason::OverLimit(Limit::Format))),
+    }
+}
+
+/// The amounts to the end of the line.
+#[tactic(auto, unfolding(crate::specs::Commands::amounts))]
+fn amounts(alloc: Global, rest: Piece<'_>) -> Result<List<WrittenAmount>, TextFault>
+    ensures { Gives (λ x. x) result (amounts (span rest.entry)) }
+{
+    let mut amounts = Vec::new(alloc);
+    let mut left = rest;
+    while let Some((word, behind)) = left.next_word() {
+        let Some(amount) = amount_of_word(word.bytes) else {
+            return Err(wrong_word(word.place));
+        };
+        if amounts.len() == AMOUNT_LIMIT {
+            return Err(TextFault::At(word.place, Reason::OverLimit(Limit::Amounts)));
+        }
+        amounts.push(amount)?;
+        left = behind;
+    }
+    Ok(List::of(amounts))
+}
+
+/// Three numbers with a byte between them, and what follows them.
+#[tactic(auto, unfolding(crate::specs::Commands::read_as))]
+fn numbers(between: u8, rest: Piece<'_>) -> Result<((i32, i32, i32), Piece<'_>), TextFault>
+    ensures { Gives (λ x. (x.0, span x.1)) result (read_as (three_numbers between) (span rest.entry)) }
+{
+    let (word, rest) = argument(rest)?;
+    match three_numbers(between, word.bytes) {
+        Some(numbers) => Ok((numbers, rest)),
+        None => Err(wrong_word(word.place)),
+    }
+}
+
+/// A number of a time, and what follows it.
+#[tactic(auto, unfolding(crate::specs::Commands::read_as))]
+fn number(rest: Piece<'_>) -> Result<(i32, Piece<'_>), TextFault>
+    ensures { Gives (λ x. (x.0, span x.1)) result (read_as short_number (span rest.entry)) }
+{
+    let (word, rest) = argument(rest)?;
+    match short_number(word.bytes) {
+        Some(number) => Ok((number, rest)),
+        None => Err(wrong_word(word.place)),
+    }
+}
+
+/// Minutes east of UTC, which may be left out, and what follows them.
+#[tactic(auto, unfolding(crate::specs::Commands::offset, crate::specs::Commands::read_as))]
+fn offset(rest: Piece<'_>) -> Result<(Option<i32>, Piece<'_>), TextFault>
+    ensures { Gives (λ x. (x.0, span x.1)) result (offset (span rest.entry)) }
+{
+    if is_over(rest) {
+        return Ok((None, rest));
+    }
+    let (word, rest) = argument(rest)?;
+    match offset_of_word(word.bytes) {
+        Some(minutes) => Ok((Some(minutes), rest)),
+        None => Err(wrong_word(word.place)),
+    }
+}
+
+/// The name of a time zone, which may be left out, and what follows it.
+#[tactic(auto, unfolding(crate::specs::Commands::zone, crate::specs::Commands::read_as))]
+fn zone(alloc: Global, rest: Piece<'_>) -> Result<(ByteText, Piece<'_>), TextFault>
+    ensures { Gives (λ x. (x.0, span x.1)) result (zone (span rest.entry)) }
+{
+    if is_over(rest) {
+        return Ok((ByteText::from_vec(Vec::new(alloc)), rest));
+    }
+    let (word, rest) = argument(rest)?;
+    match zone_of_word(alloc, word.bytes)? {
+        Some(zone) => Ok((zone, rest)),
+        None => Err(wrong_word(word.place)),
+    }
+}
+
+/// A date, a clock, the days of the week and of the year, and the zone; and what follows them.
+#[tactic(auto, unfolding(crate::specs::Commands::moment))]
+fn moment(alloc: Global, rest: Piece<'_>) -> Result<(WrittenTime, Piece<'_>), TextFault>
+    ensures { Gives (λ x. (x.0, span x.1)) result (moment (span rest.entry)) }
+{
+    let ((year, mon, mday), rest) = numbers(b'-', rest)?;
+    let ((hour, min, sec), rest) = numbers(b':', rest)?;
+    let (wday, rest) = number(rest)?;
+    let (yday, rest) = number(rest)?;
+    let (offset, rest) = offset(rest)?;
+    let (zone, rest) = zone(alloc, rest)?;
+    let time = WrittenTime {
+        year,
+        mon,
+        mday,
+        hour,
+        min,
+        sec,
+        wday,
+        yday,
+        offset,
+        zone,
+    };
+    Ok((time, rest))
 }
 
 /// The base of `new`, its fourth word.
@@ -267,16 +427,94 @@ fn setlocale_command(alloc: Global, rest: Piece<'_>) -> Result<Command, TextFaul
     Ok(Command::Setlocale { categories, locale })
 }
 
-/// `info ITEM`.
-#[tactic(auto, unfolding(crate::specs::Commands::info_command))]
-fn info_command(rest: Piece<'_>) -> Result<Command, TextFault>
-    ensures is { Gives (λ x. x) result (info_command (span rest.entry)) }
+/// `ITEM`, of `info`.
+#[tactic(auto, unfolding(crate::specs::Commands::info_words))]
+fn info_words(rest: Piece<'_>) -> Result<Read, TextFault>
+    ensures { Gives (λ x. x) result (info_words (span rest.entry)) }
+{
+    let (item, rest) = item(rest)?;
+    no_more(rest)?;
+    Ok(Read::Info(item))
+}
+
+/// No words, of `conv`.
+#[tactic(auto, unfolding(crate::specs::Commands::conv_words))]
+fn conv_words(rest: Piece<'_>) -> Result<Read, TextFault>
+    ensures { Gives (λ x. x) result (conv_words (span rest.entry)) }
+{
+    no_more(rest)?;
+    Ok(Read::Conv)
+}
+
+/// `NAME W`, of `class`.
+#[tactic(auto, unfolding(crate::specs::Commands::class_words))]
+fn class_words(alloc: Global, rest: Piece<'_>) -> Result<Read, TextFault>
+    ensures { Gives (λ x. x) result (class_words (span rest.entry)) }
+{
+    let (class, rest) = class(alloc, rest)?;
+    let (value, rest) = value(rest)?;
+    no_more(rest)?;
+    Ok(Read::Class { class, value })
+}
+
+/// `W`, and nothing else.
+#[tactic(auto, unfolding(crate::specs::Commands::lone_value))]
+fn lone_value(rest: Piece<'_>) -> Result<u32, TextFault>
+    ensures { Gives (λ x. x) result (lone_value (span rest.entry)) }
+{
+    let (value, rest) = value(rest)?;
+    no_more(rest)?;
+    Ok(value)
+}
+
+/// `MAX F AMOUNTS`, of `money`.
+#[tactic(auto, unfolding(crate::specs::Commands::money_words))]
+fn money_words(alloc: Global, rest: Piece<'_>) -> Result<Read, TextFault>
+    ensures { Gives (λ x. x) result (money_words (span rest.entry)) }
+{
+    let (max, rest) = max_bytes(rest)?;
+    let (format, rest) = format(alloc, rest)?;
+    let amounts = amounts(alloc, rest)?;
+    Ok(Read::Money {
+        max,
+        format,
+        amounts,
+    })
+}
+
+/// `MAX F DATE CLOCK WDAY YDAY OFFSET ZONE`, of `time`.
+#[tactic(auto, unfolding(crate::specs::Commands::time_words))]
+fn time_words(alloc: Global, rest: Piece<'_>) -> Result<Read, TextFault>
+    ensures { Gives (λ x. x) result (time_words (span rest.entry)) }
+{
+    let (max, rest) = max_bytes(rest)?;
+    let (format, rest) = format(alloc, rest)?;
+    let (time, rest) = moment(alloc, rest)?;
+    no_more(rest)?;
+    Ok(Read::Time { max, format, time })
+}
+
+/// The words of what is read.
+fn read_words(alloc: Global, question: Question, rest: Piece<'_>) -> Result<Read, TextFault>
+    ensures { Gives (λ x. x) result (read_words question (span rest.entry)) }
+{
+    match question {
+        Question::Info => info_words(rest),
+        Question::Conv => conv_words(rest),
+        Question::Class => class_words(alloc, rest),
+        Question::Upper => Ok(Read::Upper(lone_value(rest)?)),
+        Question::Lower => Ok(Read::Lower(lone_value(rest)?)),
+        Question::Money => money_words(alloc, rest),
+        Question::Time => time_words(alloc, rest),
+    }
+}
+
+/// A command that reads.
+fn read_command(alloc: Global, question: Question, rest: Piece<'_>) -> Result<Command, TextFault>
+    ensures is { Gives (λ x. x) result (read_command question (span rest.entry)) }
     ensures owned { (n : ℕ) → IfOk result (AreOwned n) }
 {
-    let (word, rest) = argument(rest)?;
-    let item = item(word)?;
-    no_more(rest)?;
-    Ok(Command::Info(item))
+    Ok(Command::Read(read_words(alloc, question, rest)?))
 }
 
 /// The command of a verb.
@@ -295,7 +533,7 @@ fn command_of(
         Verb::Free => free_command(alloc, known, rest),
         Verb::Use => use_command(alloc, known, rest),
         Verb::Setlocale => setlocale_command(alloc, rest),
-        Verb::Info => info_command(rest),
+        Verb::Read(question) => read_command(alloc, question, rest),
     }
 }
 

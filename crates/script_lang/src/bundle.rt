@@ -72,7 +72,7 @@ impl Bundle {
     }
 
     /// The number of a thread.
-    pub fn thread_number(&self, name: &[u8]) -> Option<u32>
+    pub(crate) fn thread_number(&self, name: &[u8]) -> Option<u32>
         requires { length self.now.threads ≤ THREAD_LIMIT }
         ensures is { result ≡ position (λ t. bytes_eq t name.now) self.now.threads }
         ensures within { IfSome result (λ n. n < length self.now.threads) }

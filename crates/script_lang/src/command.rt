@@ -1,16 +1,8 @@
 //! The commands of a script.
 
+use crate::given::{Format, WrittenAmount, WrittenTime};
 use handle_table::Handle;
-use lc_base::{ByteText, Category};
-
-/// An item of nl_langinfo (XSH nl_langinfo).
-#[derive(Clone, Copy, Debug, PartialEq, Eq)]
-pub enum Item {
-    /// The radix character.
-    Radixchar,
-    /// The separator of thousands.
-    Thousep,
-}
+use lc_base::{ByteText, Category, Item, List};
 
 /// What a command names.
 #[derive(Debug, Drop)]
@@ -29,6 +21,40 @@ pub enum Categories {
     /// `LC_ALL`.
     All,
     One(Category),
+}
+
+/// What a command reads from an object.
+#[derive(Debug, Drop)]
+pub enum Read {
+    /// `info ITEM`: nl_langinfo.
+    Info(Item),
+    /// `conv`: localeconv.
+    Conv,
+    /// `class NAME W`: iswctype.
+    Class {
+        /// The name of the class.
+        class: ByteText,
+        /// The wide value.
+        value: u32,
+    },
+    /// `upper W`: towupper.
+    Upper(u32),
+    /// `lower W`: towlower.
+    Lower(u32),
+    /// `money MAX F AMOUNTS`: strfmon.
+    Money {
+        /// The most bytes of the text.
+        max: u32,
+        format: Format,
+        amounts: List<WrittenAmount>,
+    },
+    /// `time MAX F DATE CLOCK WDAY YDAY OFFSET ZONE`: strftime.
+    Time {
+        /// The most bytes of the text.
+        max: u32,
+        format: Format,
+        time: WrittenTime,
+    },
 }
 
 /// A command. The bits of a mask are kept as they are written, also bits that no category has.
@@ -58,8 +84,8 @@ pub enum Command {
     },
     /// `setlocale CAT`: setlocale that asks for the name.
     LocaleName(Categories),
-    /// `info ITEM`: nl_langinfo.
-    Info(Item),
+    /// A command that reads the thread's own object, or the global locale.
+    Read(Read),
 }
 
 /// A command with its place in the script.

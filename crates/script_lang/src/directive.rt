@@ -1,14 +1,16 @@
 //! Directives of a bundle.
 
-ghost use Rattle.std.specs.Prelude.{◌≡◌, ◌+◌, ◌<◌, ◌≤◌, ◌^◌, length, IfOk, IsSome, option_map};
+ghost use Rattle.std.specs.Prelude.{◌≡◌, ◌+◌, ◌<◌, ◌≤◌, ◌^◌, ◌&&◌, length, is_some, [], IfOk, IsSome, option_map};
 ghost use Rattle.std.specs.Option.{option_copied};
 ghost use Rattle.lc_base.specs.declared.fault.TextFault.TheVariants.{At};
 ghost use Rattle.lc_base.specs.declared.reason.Reason.TheVariants.{BadLine};
 ghost use Rattle.lc_base.specs.declared.reason.LinePart.TheVariants.{Directive as DirectivePart};
 ghost use Rattle.lc_base.specs.Reading.{Gives};
+ghost use Rattle.script_lang.specs.declared.reading.BlockKind.TheVariants.{Charmap as CharmapKind, Locale as LocaleKind, Later as LaterKind};
 ghost use Rattle.script_lang.specs.Kept.{IsReading};
+ghost use Rattle.script_lang.specs.Names.{is_formed, is_locale_name};
 ghost use Rattle.script_lang.specs.Spans.{start, span, spans, whole_line};
-ghost use Rattle.script_lang.specs.Reading.{lacks_charset, lacks_locale, one_word, two_words, three_words, charmap_line, locale_line, later_line, native_line, new_thread, thread_named, thread_line, round_line, line_of_directive, directive_line};
+ghost use Rattle.script_lang.specs.Reading.{has_block, has_key, lacks_charset, lacks_locale, one_word, two_words, three_words, with_open, with_native, with_thread, with_round, charmap_line, locale_line, later_line, native_line, new_thread, thread_named, thread_line, round_line, line_of_directive, directive_line};
 
 use crate::arguments::is_over;
 use crate::bundle::{
@@ -21,7 +23,7 @@ use crate::piece::Piece;
 use crate::reading::{BlockKind, Known, Reading};
 use crate::steps::{with_current, with_native, with_open, with_round, with_thread};
 use crate::table::{Directive, directive_named};
-use lc_base::{ByteText, Limit, LinePart, Place, Reason, TextFault};
+use lc_base::{Block, ByteText, Later, Limit, LinePart, List, Place, Reason, TextFault};
 use std::alloc::Global;
 
 /// A refusal at the beginning of a line.
@@ -72,6 +74,34 @@ fn lacks_locale(known: Option<&Known>, name: &[u8]) -> bool
     }
 }
 
+/// Whether a block has this name already, where names are looked for.
+fn is_taken(known: Option<&Known>, blocks: &List<Block>, name: &[u8]) -> bool
+    ensures { result ≡ (is_some (option_copied known.entry) && has_block blocks.now name.now) }
+{
+    known.is_some() && has_block(blocks, name)
+}
+
+/// Whether a later version has this key already, where names are looked for.
+fn is_key_taken(known: Option<&Known>, later: &List<Later>, key: &[u8]) -> bool
+    ensures { result ≡ (is_some (option_copied known.entry) && has_key later.now key.now) }
+{
+    known.is_some() && has_key(later, key)
+}
+
+/// Whether these can name a locale and its charset.
+fn are_locale_words(name: &[u8], charset: &[u8]) -> bool
+    ensures { result ≡ (is_locale_name name.now && is_formed charset.now) }
+{
+    is_locale_name(name) && is_formed(charset)
+}
+
+/// Whether these can name a later version, its locale and its charset.
+fn are_later_words(key: &[u8], name: &[u8], charset: &[u8]) -> bool
+    ensures { result ≡ (is_locale_name key.now && is_locale_name name.now && is_formed charset.now) }
+{
+    is_locale_name(key) && are_locale_words(name, charset)
+}
+
 /// Just one word.
 #[tactic(auto, unfolding(crate::specs::Reading::one_word))]
 fn one_word(rest: Piece<'_>) -> Option<Piece<'_>>
@@ -103,8 +133,34 @@ fn three_words(rest: Piece<'_>) -> Option<(Piece<'_>, Piece<'_>, Piece<'_>)>
     Some((first, second, third))
 }
 
-/// `.charmap NAME`.
+/// The name in `.charmap NAME`, where its block may begin.
 #[tactic(auto, unfolding(crate::specs::Reading::charmap_line))]
+fn charmap_word<'a>(
+    known: Option<&Known>,
+    reading: &Reading,
+    number: u32,
+    rest: Piece<'a>,
+) -> Result<Piece<'a>, TextFault>
+    ensures is { Gives (λ name. with_open reading.now CharmapKind name.bytes.now [] number) result (charmap_line (option_copied known.entry) reading.now number (span rest.entry)) }
+    ensures room { IfOk result (λ name. length reading.now.bundle.charmaps < CHARMAP_LIMIT) }
+    ensures some { IfOk result (λ name. 0 < length rest.entry.bytes.now) }
+{
+    let Some(name) = one_word(rest) else {
+        return Err(wrong_directive(number));
+    };
+    if !is_charmap_name(name.bytes) {
+        return Err(wrong_directive(number));
+    }
+    if reading.bundle.charmaps.len() >= CHARMAP_LIMIT {
+        return Err(at_start(number, Reason::OverLimit(Limit::Charmaps)));
+    }
+    if is_taken(known, &reading.bundle.charmaps, name.bytes) {
+        return Err(TextFault::At(name.place, Reason::NameTwice));
+    }
+    Ok(name)
+}
+
+/// `.charmap NAME`.
 fn charmap_line(
     alloc: Global,
     known: Option<&Known>,
@@ -117,23 +173,41 @@ fn charmap_line(
     ensures is { Gives (λ r. r) result (charmap_line (option_copied known.entry) reading number (span rest.entry)) }
     ensures kept { IfOk result (IsReading 0) }
 {
-    let Some(name) = one_word(rest) else {
-        return Err(wrong_directive(number));
-    };
-    if !is_charmap_name(name.bytes) {
-        return Err(wrong_directive(number));
-    }
-    if reading.bundle.charmaps.len() >= CHARMAP_LIMIT {
-        return Err(at_start(number, Reason::OverLimit(Limit::Charmaps)));
-    }
-    if known.is_some() && has_block(&reading.bundle.charmaps, name.bytes) {
-        return Err(TextFault::At(name.place, Reason::NameTwice));
-    }
+    let name = charmap_word(known, &reading, number, rest)?;
     Ok(with_open(alloc, reading, BlockKind::Charmap, name.bytes, b"", number)?)
 }
 
-/// `.locale NAME CHARSET`.
+/// The words of `.locale NAME CHARSET`, where its block may begin.
 #[tactic(auto, unfolding(crate::specs::Reading::locale_line))]
+fn locale_words<'a>(
+    known: Option<&Known>,
+    reading: &Reading,
+    number: u32,
+    rest: Piece<'a>,
+) -> Result<(Piece<'a>, Piece<'a>), TextFault>
+    ensures is { Gives (λ words. with_open reading.now LocaleKind words.0.bytes.now words.1.bytes.now number) result (locale_line (option_copied known.entry) reading.now number (span rest.entry)) }
+    ensures room { IfOk result (λ words. length reading.now.bundle.locales < LOCALE_LIMIT) }
+    ensures some { IfOk result (λ words. 0 < length rest.entry.bytes.now) }
+{
+    let Some((name, charset)) = two_words(rest) else {
+        return Err(wrong_directive(number));
+    };
+    if !are_locale_words(name.bytes, charset.bytes) {
+        return Err(wrong_directive(number));
+    }
+    if reading.bundle.locales.len() >= LOCALE_LIMIT {
+        return Err(at_start(number, Reason::OverLimit(Limit::Locales)));
+    }
+    if is_taken(known, &reading.bundle.locales, name.bytes) {
+        return Err(TextFault::At(name.place, Reason::NameTwice));
+    }
+    if lacks_charset(known, charset.bytes) {
+        return Err(TextFault::At(charset.place, Reason::NoCharmap));
+    }
+    Ok((name, charset))
+}
+
+/// `.locale NAME CHARSET`.
 fn locale_line(
     alloc: Global,
     known: Option<&Known>,
@@ -146,21 +220,7 @@ fn locale_line(
     ensures is { Gives (λ r. r) result (locale_line (option_copied known.entry) reading number (span rest.entry)) }
     ensures kept { IfOk result (IsReading 0) }
 {
-    let Some((name, charset)) = two_words(rest) else {
-        return Err(wrong_directive(number));
-    };
-    if !(is_locale_name(name.bytes) && is_formed(charset.bytes)) {
-        return Err(wrong_directive(number));
-    }
-    if reading.bundle.locales.len() >= LOCALE_LIMIT {
-        return Err(at_start(number, Reason::OverLimit(Limit::Locales)));
-    }
-    if known.is_some() && has_block(&reading.bundle.locales, name.bytes) {
-        return Err(TextFault::At(name.place, Reason::NameTwice));
-    }
-    if lacks_charset(known, charset.bytes) {
-        return Err(TextFault::At(charset.place, Reason::NoCharmap));
-    }
+    let (name, charset) = locale_words(known, &reading, number, rest)?;
     Ok(with_open(
         alloc,
         reading,
@@ -171,8 +231,37 @@ fn locale_line(
     )?)
 }
 
-/// `.later KEY NAME CHARSET`.
+/// The words of `.later KEY NAME CHARSET`, where its block may begin.
 #[tactic(auto, unfolding(crate::specs::Reading::later_line))]
+fn later_words<'a>(
+    known: Option<&Known>,
+    reading: &Reading,
+    number: u32,
+    rest: Piece<'a>,
+) -> Result<(Piece<'a>, Piece<'a>, Piece<'a>), TextFault>
+    ensures is { Gives (λ words. with_open reading.now (LaterKind words.0.bytes.now) words.1.bytes.now words.2.bytes.now number) result (later_line (option_copied known.entry) reading.now number (span rest.entry)) }
+    ensures room { IfOk result (λ words. length reading.now.bundle.later < LATER_LIMIT) }
+    ensures some { IfOk result (λ words. 0 < length rest.entry.bytes.now) }
+{
+    let Some((key, name, charset)) = three_words(rest) else {
+        return Err(wrong_directive(number));
+    };
+    if !are_later_words(key.bytes, name.bytes, charset.bytes) {
+        return Err(wrong_directive(number));
+    }
+    if reading.bundle.later.len() >= LATER_LIMIT {
+        return Err(at_start(number, Reason::OverLimit(Limit::Later)));
+    }
+    if is_key_taken(known, &reading.bundle.later, key.bytes) {
+        return Err(TextFault::At(key.place, Reason::NameTwice));
+    }
+    if lacks_charset(known, charset.bytes) {
+        return Err(TextFault::At(charset.place, Reason::NoCharmap));
+    }
+    Ok((key, name, charset))
+}
+
+/// `.later KEY NAME CHARSET`.
 fn later_line(
     alloc: Global,
     known: Option<&Known>,
@@ -185,27 +274,37 @@ fn later_line(
     ensures is { Gives (λ r. r) result (later_line (option_copied known.entry) reading number (span rest.entry)) }
     ensures kept { IfOk result (IsReading 0) }
 {
-    let Some((key, name, charset)) = three_words(rest) else {
-        return Err(wrong_directive(number));
-    };
-    if !(is_locale_name(key.bytes) && is_locale_name(name.bytes) && is_formed(charset.bytes)) {
-        return Err(wrong_directive(number));
-    }
-    if reading.bundle.later.len() >= LATER_LIMIT {
-        return Err(at_start(number, Reason::OverLimit(Limit::Later)));
-    }
-    if known.is_some() && has_key(&reading.bundle.later, key.bytes) {
-        return Err(TextFault::At(key.place, Reason::NameTwice));
-    }
-    if lacks_charset(known, charset.bytes) {
-        return Err(TextFault::At(charset.place, Reason::NoCharmap));
-    }
+    let (key, name, charset) = later_words(known, &reading, number, rest)?;
     let kind = BlockKind::Later(ByteText::of(alloc, key.bytes)?);
     Ok(with_open(alloc, reading, kind, name.bytes, charset.bytes, number)?)
 }
 
-/// `.native NAME`.
+/// The name in `.native NAME`, where it may be the native locale's.
 #[tactic(auto, unfolding(crate::specs::Reading::native_line))]
+fn native_word<'a>(
+    known: Option<&Known>,
+    reading: &Reading,
+    number: u32,
+    rest: Piece<'a>,
+) -> Result<Piece<'a>, TextFault>
+    ensures { Gives (λ name. with_native reading.now name.bytes.now) result (native_line (option_copied known.entry) reading.now number (span rest.entry)) }
+{
+    let Some(name) = one_word(rest) else {
+        return Err(wrong_directive(number));
+    };
+    if !is_formed(name.bytes) {
+        return Err(wrong_directive(number));
+    }
+    if reading.bundle.native.is_some() {
+        return Err(wrong_directive(number));
+    }
+    if lacks_locale(known, name.bytes) {
+        return Err(TextFault::At(name.place, Reason::NoNative));
+    }
+    Ok(name)
+}
+
+/// `.native NAME`.
 fn native_line(
     alloc: Global,
     known: Option<&Known>,
@@ -217,19 +316,25 @@ fn native_line(
     ensures is { Gives (λ r. r) result (native_line (option_copied known.entry) reading number (span rest.entry)) }
     ensures kept { IfOk result (IsReading 0) }
 {
-    let Some(name) = one_word(rest) else {
-        return Err(wrong_directive(number));
-    };
-    if !is_formed(name.bytes) || reading.bundle.native.is_some() {
-        return Err(wrong_directive(number));
-    }
-    if lacks_locale(known, name.bytes) {
-        return Err(TextFault::At(name.place, Reason::NoNative));
-    }
+    let name = native_word(known, &reading, number, rest)?;
     Ok(with_native(alloc, reading, name.bytes)?)
 }
 
-/// A thread that was not named before. A second one is not built yet.
+/// Whether one more thread may begin. A second one is not built yet.
+fn more_threads(reading: &Reading, number: u32, name: &[u8]) -> Result<(), TextFault>
+    ensures is { Gives (λ x. with_thread reading.now name.now) result (new_thread reading.now number name.now) }
+    ensures room { IfOk result (λ x. length reading.now.bundle.threads < THREAD_LIMIT) }
+{
+    if reading.bundle.threads.len() >= THREAD_LIMIT {
+        return Err(at_start(number, Reason::OverLimit(Limit::Threads)));
+    }
+    if reading.bundle.threads.len() >= BUILT_THREADS {
+        return Err(at_start(number, Reason::NotBuilt));
+    }
+    Ok(())
+}
+
+/// A thread that was not named before.
 fn new_thread(
     alloc: Global,
     reading: Reading,
@@ -240,12 +345,7 @@ fn new_thread(
     ensures is { Gives (λ r. r) result (new_thread reading number name.now) }
     ensures kept { IfOk result (IsReading 0) }
 {
-    if reading.bundle.threads.len() >= THREAD_LIMIT {
-        return Err(at_start(number, Reason::OverLimit(Limit::Threads)));
-    }
-    if reading.bundle.threads.len() >= BUILT_THREADS {
-        return Err(at_start(number, Reason::NotBuilt));
-    }
+    more_threads(&reading, number, name)?;
     Ok(with_thread(alloc, reading, name)?)
 }
 
@@ -287,12 +387,11 @@ fn thread_line(
     thread_named(alloc, reading, number, name.bytes)
 }
 
-/// `.round`. A second round is not built yet.
+/// Whether one more round may begin. A second one is not built yet.
 #[tactic(auto, unfolding(crate::specs::Reading::round_line))]
-fn round_line(reading: Reading, number: u32, rest: Piece<'_>) -> Result<Reading, TextFault>
-    requires { IsReading 0 reading }
-    ensures is { Gives (λ r. r) result (round_line reading number (span rest.entry)) }
-    ensures kept { IfOk result (IsReading 0) }
+fn more_rounds(reading: &Reading, number: u32, rest: Piece<'_>) -> Result<(), TextFault>
+    ensures is { Gives (λ x. with_round reading.now) result (round_line reading.now number (span rest.entry)) }
+    ensures room { IfOk result (λ x. reading.now.bundle.rounds < ROUND_LIMIT) }
 {
     if !is_over(rest) {
         return Err(wrong_directive(number));
@@ -303,6 +402,16 @@ fn round_line(reading: Reading, number: u32, rest: Piece<'_>) -> Result<Reading,
     if reading.bundle.rounds >= BUILT_ROUNDS {
         return Err(at_start(number, Reason::NotBuilt));
     }
+    Ok(())
+}
+
+/// `.round`.
+fn round_line(reading: Reading, number: u32, rest: Piece<'_>) -> Result<Reading, TextFault>
+    requires { IsReading 0 reading }
+    ensures is { Gives (λ r. r) result (round_line reading number (span rest.entry)) }
+    ensures kept { IfOk result (IsReading 0) }
+{
+    more_rounds(&reading, number, rest)?;
     Ok(with_round(reading))
 }
 

@@ -5,12 +5,13 @@ ghost use Rattle.std.specs.Option.{option_copied};
 ghost use Rattle.lc_base.specs.Lines.{lines_of, ended};
 ghost use Rattle.lc_base.specs.Reading.{Gives};
 ghost use Rattle.script_lang.specs.Spans.{span, whole_line};
-ghost use Rattle.script_lang.specs.Reading.{asked, begins_with, command_line, outside, more_blocks, with_block, with_line, inside, line_read, at_first, lines_read};
-ghost use Rattle.script_lang.specs.Accepted.{thread_count, IsAccepted, IsSized, finished, bundle_with, known_of};
+ghost use Rattle.script_lang.specs.Reading.{asked, begins_with, command_line, outside, with_command, more_blocks, with_block, with_line, inside, line_read, at_first, lines_read};
+ghost use Rattle.script_lang.specs.Accepted.{AreOwned, thread_count, IsAccepted, IsSized, finished, bundle_with, known_of};
 ghost use Rattle.script_lang.specs.Kept.{HasRoomFor, IsBegun, IsCurrent, begun_size, IsReading};
 
 use crate::arguments::command;
 use crate::bundle::{Bundle, COMMAND_LIMIT, THREAD_LIMIT};
+use crate::command::Command;
 use crate::directive::directive_line;
 use crate::lists::with_value;
 use crate::piece::Piece;
@@ -29,8 +30,32 @@ fn asked<'a>(known: Option<&Known>, reading: &'a Reading) -> Option<&'a Bundle>
     }
 }
 
-/// A line with this first word and the rest of it.
+/// The thread and the command of a line with this first word and the rest of it.
 #[tactic(auto, using(crate::proofs::KeptLemmas::few_asked), unfolding(crate::specs::Reading::command_line))]
+fn thread_command(
+    alloc: Global,
+    known: Option<&Known>,
+    reading: &Reading,
+    word: Piece<'_>,
+    rest: Piece<'_>,
+) -> Result<(u32, Command), TextFault>
+    requires { IsReading 0 reading.now }
+    ensures is { Gives (λ x. with_command reading.now x.0 x.1) result (command_line (option_copied known.entry) reading.now (span word.entry) (span rest.entry)) }
+    ensures room { IfOk result (λ x. length reading.now.bundle.commands < COMMAND_LIMIT) }
+    ensures thread { IfOk result (λ x. x.0 < length reading.now.bundle.threads) }
+    ensures owned { IfOk result (λ x. AreOwned (length reading.now.bundle.threads) x.1) }
+{
+    let Some(thread) = reading.current else {
+        return Err(TextFault::At(word.place, Reason::BadLine(LinePart::Thread)));
+    };
+    if reading.bundle.commands.len() >= COMMAND_LIMIT {
+        return Err(TextFault::At(word.place, Reason::OverLimit(Limit::Commands)));
+    }
+    let command = command(alloc, asked(known, reading), word, rest)?;
+    Ok((thread, command))
+}
+
+/// A line with this first word and the rest of it.
 fn command_line(
     alloc: Global,
     known: Option<&Known>,
@@ -42,13 +67,7 @@ fn command_line(
     ensures is { Gives (λ r. r) result (command_line (option_copied known.entry) reading (span word.entry) (span rest.entry)) }
     ensures kept { IfOk result (IsReading 0) }
 {
-    let Some(thread) = reading.current else {
-        return Err(TextFault::At(word.place, Reason::BadLine(LinePart::Thread)));
-    };
-    if reading.bundle.commands.len() >= COMMAND_LIMIT {
-        return Err(TextFault::At(word.place, Reason::OverLimit(Limit::Commands)));
-    }
-    let command = command(alloc, asked(known, &reading), word, rest)?;
+    let (thread, command) = thread_command(alloc, known, &reading, word, rest)?;
     Ok(with_command(reading, thread, command)?)
 }
 

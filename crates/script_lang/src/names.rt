@@ -2,13 +2,16 @@
 
 ghost use Rattle.std.specs.Prelude.{◌≡◌};
 ghost use Rattle.std.specs.List.{list_all};
-ghost use Rattle.script_lang.specs.Names.{is_letter, is_letter_or_digit, is_name_byte, is_formed, is_locale_name, is_charmap_name, is_thread_name};
+ghost use Rattle.script_lang.specs.Names.{is_letter, is_letter_or_digit, is_name_byte, is_formed, is_locale_name, is_charmap_name, is_thread_name, is_class_name};
 
 /// The most bytes of a locale's or a charmap's name.
 pub const LOCALE_NAME_LIMIT: usize = 64;
 
 /// The most bytes of a thread's name.
 pub const THREAD_NAME_LIMIT: usize = 16;
+
+/// The most bytes of a character class's name.
+pub const CLASS_NAME_LIMIT: usize = 14;
 
 /// Whether a name has 1 to 64 letters, digits, `_`, `.`, `-` and `@`.
 #[tactic(auto, unfolding(crate::specs::Names::is_formed))]
@@ -44,6 +47,14 @@ pub fn is_thread_name(name: &[u8]) -> bool
         && is_letter(name[0])
         && are_letters_or_digits(name)
         && name != b"GLOBAL".as_slice()
+}
+
+/// Whether a character class may have this name: 1 to 14 letters and digits.
+#[tactic(auto, unfolding(crate::specs::Names::is_class_name))]
+pub fn is_class_name(name: &[u8]) -> bool
+    ensures { result ≡ is_class_name name.now }
+{
+    !name.is_empty() && name.len() <= CLASS_NAME_LIMIT && are_letters_or_digits(name)
 }
 
 fn are_name_bytes(name: &[u8]) -> bool

@@ -3,12 +3,13 @@
 ghost use Rattle.std.specs.Prelude.{◌≡◌, ◌++◌, ◌<◌, [], slice_index_or, IfOk, OnOk};
 ghost use Rattle.std.specs.Fmt.{decimal};
 ghost use Rattle.std.specs.List.{flat_map};
-ghost use Rattle.script_lang.specs.Output.{hex_digit, escaped, quoted, places_text, version_text, handle_text, named_text, refusal_text, why_text, reply_text, caller_text, outcome_text, line_text, printed};
+ghost use Rattle.script_lang.specs.Output.{hex_digit, escaped, quoted, places_text, version_text, handle_text, named_text, refusal_text, field_text, why_text, texts_text, numbers_text, class_text, reply_text, caller_text, outcome_text, line_text, printed};
 
 use handle_table::{Handle, Named, Refusal};
 use itoa::Buffer;
 use lc_base::{ByteText, List};
 use std::alloc::{AllocError, Global};
+use time_cat::TmField;
 
 /// The positions of a line's entries in the history.
 #[derive(Clone, Copy, Debug, PartialEq, Eq)]
@@ -30,6 +31,16 @@ pub enum Why {
     /// The table refuses it, or the runner does for want of a locale: no block of the bundle names the
     /// one that is named for this category.
     Table(Refusal),
+    /// The locale has no such class.
+    NoClass,
+    /// The first field of a time that is out of its range.
+    TmRange(TmField),
+    /// The `%` at this byte of the format begins no conversion.
+    BadFormat(usize),
+    /// No amount is left for the `%` at this byte of the format.
+    MissingAmount(usize),
+    /// The text is longer than it may be.
+    TooBig,
 }
 
 /// A printed reply.
@@ -56,8 +67,14 @@ pub enum Said {
     Posted,
     /// pins: their number.
     Pins(u32),
-    /// nl_langinfo.
+    /// nl_langinfo, strfmon and strftime.
     Text(ByteText),
+    /// localeconv: the ten fields that are texts, and the fourteen that are numbers.
+    Conv(List<ByteText>, List<u8>),
+    /// iswctype: whether the value is of the class.
+    Class(bool),
+    /// towupper and towlower.
+    Value(u32),
     /// The end of a thread.
     Ended,
     Refused(Why),
@@ -192,6 +209,16 @@ fn push_reply(out: &mut Vec<u8>, reply: &Said, threads: &List<ByteText>) -> Resu
             out.extend_from_slice(b"text ")?;
             push_quoted(out, text.as_bytes())
         }
+        Said::Conv(texts, numbers) => {
+            out.extend_from_slice(b"conv")?;
+            push_texts(out, texts.as_slice())?;
+            push_numbers(out, numbers.as_slice())
+        }
+        Said::Class(is) => push_class(out, *is),
+        Said::Value(value) => {
+            out.extend_from_slice(b"value ")?;
+            push_number(out, u64::from(*value))
+        }
         Said::Held => out.extend_from_slice(b"held"),
         Said::Released => out.extend_from_slice(b"released"),
         Said::Installed(count) => {
@@ -208,6 +235,38 @@ fn push_reply(out: &mut Vec<u8>, reply: &Said, threads: &List<ByteText>) -> Resu
             out.extend_from_slice(b"refused ")?;
             push_why(out, *why)
         }
+    }
+}
+
+/// Adds texts in quotes, each behind a space.
+fn push_texts(out: &mut Vec<u8>, texts: &[ByteText]) -> Result<(), AllocError>
+    ensures { OnOk result (out.new.items ≡ out.old.items ++ texts_text texts.now) }
+{
+    for text in texts {
+        out.push(b' ')?;
+        push_quoted(out, text.as_bytes())?;
+    }
+    Ok(())
+}
+
+/// Adds numbers, each behind a space.
+fn push_numbers(out: &mut Vec<u8>, numbers: &[u8]) -> Result<(), AllocError>
+    ensures { OnOk result (out.new.items ≡ out.old.items ++ numbers_text numbers.now) }
+{
+    for n in numbers {
+        out.push(b' ')?;
+        push_number(out, u64::from(*n))?;
+    }
+    Ok(())
+}
+
+fn push_class(out: &mut Vec<u8>, is: bool) -> Result<(), AllocError>
+    ensures { OnOk result (out.new.items ≡ out.old.items ++ class_text is) }
+{
+    if is {
+        out.extend_from_slice(b"yes")
+    } else {
+        out.extend_from_slice(b"no")
     }
 }
 
@@ -242,6 +301,39 @@ fn push_why(out: &mut Vec<u8>, why: Why) -> Result<(), AllocError>
         Why::Unset => out.extend_from_slice(b"Unset"),
         Why::BadMask => out.extend_from_slice(b"BadMask"),
         Why::Table(refusal) => push_table_refusal(out, refusal),
+        Why::NoClass => out.extend_from_slice(b"NoClass"),
+        Why::TmRange(field) => {
+            out.extend_from_slice(b"TmRange ")?;
+            out.extend_from_slice(field_name(field).as_bytes())
+        }
+        Why::BadFormat(at) => push_at(out, b"BadFormat ", at),
+        Why::MissingAmount(at) => push_at(out, b"MissingAmount ", at),
+        Why::TooBig => out.extend_from_slice(b"TooBig"),
+    }
+}
+
+/// Adds a word and a place in a format.
+fn push_at(out: &mut Vec<u8>, word: &[u8], at: usize) -> Result<(), AllocError>
+    ensures { OnOk result (out.new.items ≡ out.old.items ++ (word.now ++ decimal at)) }
+{
+    out.extend_from_slice(word)?;
+    push_number(out, at as u64)
+}
+
+/// The name of a field of a time.
+fn field_name(field: TmField) -> &'static str
+    ensures { result.now ≡ field_text field }
+{
+    match field {
+        TmField::Year => "year",
+        TmField::Mon => "mon",
+        TmField::Mday => "mday",
+        TmField::Hour => "hour",
+        TmField::Min => "min",
+        TmField::Sec => "sec",
+        TmField::Wday => "wday",
+        TmField::Yday => "yday",
+        TmField::Offset => "offset",
     }
 }
 

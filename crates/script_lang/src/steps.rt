@@ -1,6 +1,6 @@
 //! How a line changes what was read so far.
 
-ghost use Rattle.std.specs.Prelude.{◌≡◌, ◌+◌, ◌<◌, ◌≤◌, ◌^◌, length, IfOk};
+ghost use Rattle.std.specs.Prelude.{◌≡◌, ◌+◌, ◌<◌, ◌≤◌, ◌^◌, [], length, IfOk};
 ghost use Rattle.script_lang.specs.Accepted.{AreOwned};
 ghost use Rattle.script_lang.specs.Kept.{HasRoomFor, IsReading};
 ghost use Rattle.script_lang.specs.Reading.{at_first, with_open, with_native, with_current, with_thread, with_round, with_command};
@@ -34,6 +34,19 @@ pub fn at_first(alloc: Global, threads: List<ByteText>) -> Reading
     }
 }
 
+/// A block without a line, behind the line with this number.
+fn empty_block(alloc: Global, name: &[u8], charset: &[u8], number: u32) -> Result<Block, AllocError>
+    requires { number + 1 < 2 ^ 31 }
+    ensures { IfOk result (λ block. block ≡ record { name = name.now; charset = charset.now; first_line = number + 1; text = [] }) }
+{
+    Ok(Block {
+        name: ByteText::of(alloc, name)?,
+        charset: ByteText::of(alloc, charset)?,
+        first_line: number + 1,
+        text: ByteText::from_vec(Vec::new(alloc)),
+    })
+}
+
 /// A block begins behind the line with this number.
 #[tactic(auto, using(crate::proofs::KeptLemmas::kept_with_open))]
 pub fn with_open(
@@ -50,12 +63,7 @@ pub fn with_open(
     ensures is { IfOk result (λ r. r ≡ with_open reading kind name.now charset.now number) }
     ensures kept { IfOk result (IsReading 0) }
 {
-    let block = Block {
-        name: ByteText::of(alloc, name)?,
-        charset: ByteText::of(alloc, charset)?,
-        first_line: number + 1,
-        text: ByteText::from_vec(Vec::new(alloc)),
-    };
+    let block = empty_block(alloc, name, charset, number)?;
     let mut reading = reading;
     reading.begun = Some(Opened { kind, block });
     Ok(reading)

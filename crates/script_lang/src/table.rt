@@ -3,7 +3,7 @@
 ghost use Rattle.std.specs.Prelude.{◌≡◌, map};
 ghost use Rattle.script_lang.specs.Tables.{first_named, directives_table, commands_table, items_table};
 
-use crate::command::Item;
+use lc_base::Item;
 
 /// What a line that begins with `.` says.
 #[derive(Clone, Copy, PartialEq, Eq)]
@@ -22,6 +22,25 @@ pub enum Directive {
     Round,
 }
 
+/// What is read.
+#[derive(Clone, Copy, PartialEq, Eq)]
+pub enum Question {
+    /// nl_langinfo.
+    Info,
+    /// localeconv.
+    Conv,
+    /// iswctype.
+    Class,
+    /// towupper.
+    Upper,
+    /// towlower.
+    Lower,
+    /// strfmon.
+    Money,
+    /// strftime.
+    Time,
+}
+
 /// A command that is built.
 #[derive(Clone, Copy, PartialEq, Eq)]
 pub enum Verb {
@@ -33,8 +52,8 @@ pub enum Verb {
     Use,
     /// setlocale.
     Setlocale,
-    /// nl_langinfo.
-    Info,
+    /// A command that reads.
+    Read(Question),
 }
 
 const DIRECTIVES: [(&[u8], Directive); 6] = [
@@ -59,78 +78,78 @@ const COMMANDS: [(&[u8], Option<Verb>); 24] = [
     (b"post", None),
     (b"fetch", None),
     (b"pins", None),
-    (b"info", Some(Verb::Info)),
+    (b"info", Some(Verb::Read(Question::Info))),
     (b"info_l", None),
-    (b"conv", None),
-    (b"class", None),
+    (b"conv", Some(Verb::Read(Question::Conv))),
+    (b"class", Some(Verb::Read(Question::Class))),
     (b"class_l", None),
-    (b"upper", None),
-    (b"lower", None),
+    (b"upper", Some(Verb::Read(Question::Upper))),
+    (b"lower", Some(Verb::Read(Question::Lower))),
     (b"upper_l", None),
     (b"lower_l", None),
-    (b"money", None),
+    (b"money", Some(Verb::Read(Question::Money))),
     (b"money_l", None),
-    (b"time", None),
+    (b"time", Some(Verb::Read(Question::Time))),
     (b"time_l", None),
 ];
 
-/// The items of nl_langinfo, with what is built of them.
-const ITEMS: [(&[u8], Option<Item>); 55] = [
-    (b"CODESET", None),
-    (b"RADIXCHAR", Some(Item::Radixchar)),
-    (b"THOUSEP", Some(Item::Thousep)),
-    (b"YESEXPR", None),
-    (b"NOEXPR", None),
-    (b"CRNCYSTR", None),
-    (b"D_T_FMT", None),
-    (b"D_FMT", None),
-    (b"T_FMT", None),
-    (b"T_FMT_AMPM", None),
-    (b"AM_STR", None),
-    (b"PM_STR", None),
-    (b"DAY_1", None),
-    (b"DAY_2", None),
-    (b"DAY_3", None),
-    (b"DAY_4", None),
-    (b"DAY_5", None),
-    (b"DAY_6", None),
-    (b"DAY_7", None),
-    (b"ABDAY_1", None),
-    (b"ABDAY_2", None),
-    (b"ABDAY_3", None),
-    (b"ABDAY_4", None),
-    (b"ABDAY_5", None),
-    (b"ABDAY_6", None),
-    (b"ABDAY_7", None),
-    (b"MON_1", None),
-    (b"MON_2", None),
-    (b"MON_3", None),
-    (b"MON_4", None),
-    (b"MON_5", None),
-    (b"MON_6", None),
-    (b"MON_7", None),
-    (b"MON_8", None),
-    (b"MON_9", None),
-    (b"MON_10", None),
-    (b"MON_11", None),
-    (b"MON_12", None),
-    (b"ABMON_1", None),
-    (b"ABMON_2", None),
-    (b"ABMON_3", None),
-    (b"ABMON_4", None),
-    (b"ABMON_5", None),
-    (b"ABMON_6", None),
-    (b"ABMON_7", None),
-    (b"ABMON_8", None),
-    (b"ABMON_9", None),
-    (b"ABMON_10", None),
-    (b"ABMON_11", None),
-    (b"ABMON_12", None),
-    (b"ERA", None),
-    (b"ALT_DIGITS", None),
-    (b"ERA_D_FMT", None),
-    (b"ERA_T_FMT", None),
-    (b"ERA_D_T_FMT", None),
+/// The items of nl_langinfo.
+const ITEMS: [(&[u8], Item); 55] = [
+    (b"CODESET", Item::Codeset),
+    (b"RADIXCHAR", Item::Radixchar),
+    (b"THOUSEP", Item::Thousep),
+    (b"YESEXPR", Item::Yesexpr),
+    (b"NOEXPR", Item::Noexpr),
+    (b"CRNCYSTR", Item::Crncystr),
+    (b"D_T_FMT", Item::DTFmt),
+    (b"D_FMT", Item::DFmt),
+    (b"T_FMT", Item::TFmt),
+    (b"T_FMT_AMPM", Item::TFmtAmpm),
+    (b"AM_STR", Item::AmStr),
+    (b"PM_STR", Item::PmStr),
+    (b"DAY_1", Item::Day1),
+    (b"DAY_2", Item::Day2),
+    (b"DAY_3", Item::Day3),
+    (b"DAY_4", Item::Day4),
+    (b"DAY_5", Item::Day5),
+    (b"DAY_6", Item::Day6),
+    (b"DAY_7", Item::Day7),
+    (b"ABDAY_1", Item::Abday1),
+    (b"ABDAY_2", Item::Abday2),
+    (b"ABDAY_3", Item::Abday3),
+    (b"ABDAY_4", Item::Abday4),
+    (b"ABDAY_5", Item::Abday5),
+    (b"ABDAY_6", Item::Abday6),
+    (b"ABDAY_7", Item::Abday7),
+    (b"MON_1", Item::Mon1),
+    (b"MON_2", Item::Mon2),
+    (b"MON_3", Item::Mon3),
+    (b"MON_4", Item::Mon4),
+    (b"MON_5", Item::Mon5),
+    (b"MON_6", Item::Mon6),
+    (b"MON_7", Item::Mon7),
+    (b"MON_8", Item::Mon8),
+    (b"MON_9", Item::Mon9),
+    (b"MON_10", Item::Mon10),
+    (b"MON_11", Item::Mon11),
+    (b"MON_12", Item::Mon12),
+    (b"ABMON_1", Item::Abmon1),
+    (b"ABMON_2", Item::Abmon2),
+    (b"ABMON_3", Item::Abmon3),
+    (b"ABMON_4", Item::Abmon4),
+    (b"ABMON_5", Item::Abmon5),
+    (b"ABMON_6", Item::Abmon6),
+    (b"ABMON_7", Item::Abmon7),
+    (b"ABMON_8", Item::Abmon8),
+    (b"ABMON_9", Item::Abmon9),
+    (b"ABMON_10", Item::Abmon10),
+    (b"ABMON_11", Item::Abmon11),
+    (b"ABMON_12", Item::Abmon12),
+    (b"ERA", Item::Era),
+    (b"ALT_DIGITS", Item::AltDigits),
+    (b"ERA_D_FMT", Item::EraDFmt),
+    (b"ERA_T_FMT", Item::EraTFmt),
+    (b"ERA_D_T_FMT", Item::EraDTFmt),
 ];
 
 /// What a table gives for a word.
@@ -162,9 +181,9 @@ pub fn command_named(word: &[u8]) -> Option<Option<Verb>>
     first_named(&COMMANDS, word)
 }
 
-/// The item of a word; `Some(None)` where it is not built yet.
+/// The item of a word.
 #[tactic(auto, unfolding(crate::specs::Tables::items_table))]
-pub fn item_named(word: &[u8]) -> Option<Option<Item>>
+pub fn item_named(word: &[u8]) -> Option<Item>
     ensures { result ≡ first_named items_table word.now }
 {
     first_named(&ITEMS, word)

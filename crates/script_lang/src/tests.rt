@@ -8,7 +8,7 @@ use std::process::Abort;
 use std::test::Fail;
 
 /// Texts, each with its refusal, or nothing where it is accepted.
-const ROWS: [(&[u8], &[u8]); 37] = [
+const ROWS: [(&[u8], &[u8]); 48] = [
     (b"", b""),
     (
         b" \t\n# a\n\t#b\n.native C\n.native_\n",
@@ -110,6 +110,47 @@ const ROWS: [(&[u8], &[u8]); 37] = [
     ),
     (
         b".thread A\nfree A.4294967296.1\n",
+        b"refused: 2:6 BadLine argument\n",
+    ),
+    (
+        b".thread A\nmoney max=4096 \"%n\" 1 -0.5\ntime \"%F\" 2021-13-03 0:0:0 0 2 -90 UTC\nconv\nclass alpha 65\nupper 0\ninfo DAY_1\n",
+        b"",
+    ),
+    (
+        b".thread A\nclass abcdefghijklmno 65\n",
+        b"refused: 2:7 BadLine argument\n",
+    ),
+    (
+        b".thread A\nlower 4294967296\n",
+        b"refused: 2:7 BadLine argument\n",
+    ),
+    (
+        b".thread A\nmoney %n 1\n",
+        b"refused: 2:7 BadLine argument\n",
+    ),
+    (
+        b".thread A\nmoney max=4097 \"%n\" 1\n",
+        b"refused: 2:7 BadLine argument\n",
+    ),
+    (
+        b".thread A\nmoney \"%n\" 9223372036854775807 9223372036854775808\n",
+        b"refused: 2:32 BadLine argument\n",
+    ),
+    (
+        b".thread A\nmoney \"%n\" -9.223372036854775808 5.\n",
+        b"refused: 2:34 BadLine argument\n",
+    ),
+    (
+        b".thread A\ntime \"%F\" 2021-01-03 0:0:0 0\n",
+        b"refused: 2:29 BadLine argument\n",
+    ),
+    (
+        b".thread A\ntime \"%F\" 2021-01-03 0:0:0 0 2 UTC\n",
+        b"refused: 2:32 BadLine argument\n",
+    ),
+    (b".thread A\nmoney_l x \"%n\"\n", b"refused: 2:1 NotBuilt\n"),
+    (
+        b".thread A\ninfo DAY_8\n",
         b"refused: 2:6 BadLine argument\n",
     ),
 ];

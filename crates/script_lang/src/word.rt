@@ -1,15 +1,16 @@
 //! What words of a command mean.
 
-ghost use Rattle.std.specs.Prelude.{◌≡◌, ◌==◌, ◌<◌, ◌++◌, length, position, true, IfOk, IfSome, OnOk, option_map};
+ghost use Rattle.std.specs.Prelude.{◌≡◌, ◌==◌, ◌<◌, ◌≤◌, ◌++◌, length, position, true, IfOk, IfSome, OnOk, option_map};
 ghost use Rattle.std.specs.Char.{is_ascii_digit};
 ghost use Rattle.std.specs.List.{list_all, slice_split};
 ghost use Rattle.std.specs.Option.{option_copied, option_to_list};
 ghost use Rattle.script_lang.specs.declared.word.Quoting.TheVariants.{Text};
-ghost use Rattle.script_lang.specs.Words.{is_plain_byte, hex_value, quoted_step, is_closed, unquoted, text_of_word, small_value, decimal_number, category_named, categories_of_word, with_name, bits_with, is_comma, mask_of_word, variable_of_word, cut_at, handle_of_word};
+ghost use Rattle.script_lang.specs.Words.{is_plain_byte, hex_value, quoted_step, is_closed, unquoted, text_of_word, quoted_of_word, zone_of_word, small_value, decimal_number, behind_front, max_number, category_named, categories_of_word, with_name, bits_with, is_comma, mask_of_word, variable_of_word, class_of_word, cut_at, handle_of_word};
 ghost use Rattle.script_lang.specs.Seen.{seen_handle, IsQuoting};
 
 use crate::command::Categories;
-use crate::names::is_thread_name;
+use crate::given::{MAX_LIMIT, ZONE_LIMIT};
+use crate::names::{is_class_name, is_thread_name};
 use lc_base::{ByteText, CATEGORIES, Category, Mask};
 use std::alloc::{AllocError, Global};
 
@@ -137,8 +138,30 @@ pub fn text_of_word(alloc: Global, word: &[u8]) -> Result<Option<ByteText>, Allo
     }
 }
 
+/// The text of a word in quotes.
+#[tactic(auto, unfolding(crate::specs::Words::quoted_of_word))]
+pub fn quoted_of_word(alloc: Global, word: &[u8]) -> Result<Option<ByteText>, AllocError>
+    ensures { IfOk result (λ text. text ≡ quoted_of_word word.now) }
+{
+    match word {
+        [b'"', rest @ ..] => unquoted(alloc, rest),
+        _ => Ok(None),
+    }
+}
+
+/// The name of a time zone, plain or in quotes.
+#[tactic(auto, unfolding(crate::specs::Words::zone_of_word))]
+pub fn zone_of_word(alloc: Global, word: &[u8]) -> Result<Option<ByteText>, AllocError>
+    ensures { IfOk result (λ zone. zone ≡ zone_of_word word.now) }
+{
+    match text_of_word(alloc, word)? {
+        Some(zone) if zone.as_bytes().len() <= ZONE_LIMIT => Ok(Some(zone)),
+        _ => Ok(None),
+    }
+}
+
 /// Whether each byte is a digit.
-fn are_digits(bytes: &[u8]) -> bool
+pub fn are_digits(bytes: &[u8]) -> bool
     ensures { result ≡ list_all is_ascii_digit bytes.now }
 {
     bytes.iter().all(|byte| byte.is_ascii_digit())
@@ -163,13 +186,31 @@ fn value_of(digits: &[u8]) -> Option<u32>
 
 /// The number of decimal digits, perhaps with leading zeros, if it has 32 bits.
 #[tactic(auto, unfolding(crate::specs::Words::decimal_number))]
-fn decimal_number(word: &[u8]) -> Option<u32>
+pub fn decimal_number(word: &[u8]) -> Option<u32>
     ensures { result ≡ decimal_number word.now }
 {
     if word.is_empty() || !are_digits(word) {
         return None;
     }
     value_of(word)
+}
+
+/// What stands behind a front, where a word begins with it.
+pub fn behind_front<'a>(front: &[u8], word: &'a [u8]) -> Option<&'a [u8]>
+    ensures { option_copied result ≡ behind_front front.now word.now }
+{
+    word.strip_prefix(front)
+}
+
+/// A number up to 4096.
+#[tactic(auto, unfolding(crate::specs::Words::max_number))]
+pub fn max_number(word: &[u8]) -> Option<u32>
+    ensures { result ≡ max_number word.now }
+{
+    match decimal_number(word) {
+        Some(number) if number <= MAX_LIMIT => Some(number),
+        _ => None,
+    }
 }
 
 /// The category of a name.
@@ -239,6 +280,18 @@ pub fn variable_of_word(alloc: Global, word: &[u8]) -> Result<Option<ByteText>, 
     }
 }
 
+/// The name of a character class.
+#[tactic(auto, unfolding(crate::specs::Words::class_of_word))]
+pub fn class_of_word(alloc: Global, word: &[u8]) -> Result<Option<ByteText>, AllocError>
+    ensures { IfOk result (λ name. name ≡ class_of_word word.now) }
+{
+    if is_class_name(word) {
+        Ok(Some(ByteText::of(alloc, word)?))
+    } else {
+        Ok(None)
+    }
+}
+
 /// Where the first byte `c` stands.
 fn index_of(c: u8, bytes: &[u8]) -> Option<usize>
     ensures is { result ≡ position (λ b. b == c) bytes.now }
@@ -254,7 +307,7 @@ fn index_of(c: u8, bytes: &[u8]) -> Option<usize>
 
 /// The bytes around the first byte `c`.
 #[tactic(auto, unfolding(crate::specs::Words::cut_at))]
-fn cut_at(c: u8, bytes: &[u8]) -> Option<(&[u8], &[u8])>
+pub fn cut_at(c: u8, bytes: &[u8]) -> Option<(&[u8], &[u8])>
     ensures is { option_map (λ x. (x.0.now, x.1.now)) result ≡ cut_at c bytes.now }
     ensures shorter { IfSome result (λ x. length x.1.now < length bytes.now) }
 {

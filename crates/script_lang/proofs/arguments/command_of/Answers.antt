@@ -6,5 +6,5 @@ returns-in-New-clause-owned c = c.new_command.ensures.owned _
 pub returns-in-Setlocale-clause-owned : goal.returns-in-Setlocale-clause-owned
 returns-in-Setlocale-clause-owned c = c.setlocale_command.ensures.owned _
 
-pub returns-in-Info-clause-owned : goal.returns-in-Info-clause-owned
-returns-in-Info-clause-owned c = c.info_command.ensures.owned _
+pub returns-in-Read-clause-owned : goal.returns-in-Read-clause-owned
+returns-in-Read-clause-owned c = c.read_command.ensures.owned _
