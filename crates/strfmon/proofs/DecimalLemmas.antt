@@ -1,0 +1,56 @@
+-- Powers of ten and decimal digits.
+use Rattle.std.proofs.Common.{◌≡◌, ℕ, suc, zero, ◌+◌, ◌-◌, ◌/◌, ◌%◌, ◌^◌, ◌<◌, ◌≤◌, [], ◌∷◌, ◌++◌, length, replicate, lit<, lit≤, arith, refl}
+use Rattle.std.proofs.Math.Nat.{pow-le-pow_right, one-le-pow, div-le_self}
+use Rattle.std.proofs.lemmas.List.{length-append, length-replicate}
+use Rattle.std.proofs.lemmas.Int.Digits.{length-digits_of_step, length-digits_of-le}
+use Rattle.std.specs.Int.Digits.{digits_of}
+use Rattle.strfmon.specs.MoneyAmount.{MoneyAmount}
+use Rattle.strfmon.specs.Decimals.{last_digits, digit_count, fraction_digits, fraction_kept, magnitude}
+
+pub few_powers : (e : ℕ) → e ≤ 18 → 10 ^ e ≤ 1000000000000000000
+few_powers e small = let most : 10 ^ e ≤ 10 ^ 18 = pow-le-pow_right (lit< tt) small in most
+
+pub some_power : (e : ℕ) → 0 < 10 ^ e
+some_power e = let least : 1 ≤ 10 ^ e = one-le-pow e 10 (lit< tt) in least
+
+-- a part of what fits
+pub part_fits : (n d : ℕ) → n / d ≤ n
+part_fits n d = div-le_self n d
+
+-- ---- how many digits there are
+
+pub some_digits : (n : ℕ) → 1 ≤ digit_count n
+some_digits n = omega arith
+
+pub few_digits : (n : ℕ) → n < 2 ^ 64 → digit_count n ≤ 20
+few_digits n small =
+    let most : length (digits_of 10 n) ≤ 20 = length-digits_of-le 10 20 n (lit≤ tt) (omega arith) in
+    omega arith
+
+pub one_digit : (n : ℕ) → n < 10 → digit_count n ≡ 1
+one_digit n small =
+    let most : length (digits_of 10 n) ≤ 1 = length-digits_of-le 10 1 n (lit≤ tt) (omega arith) in
+    omega arith
+
+pub more_digits : (n : ℕ) → 10 ≤ n → digit_count n ≡ digit_count (n / 10) + 1
+more_digits n large =
+    let whole : length (digits_of 10 n) ≡ length (digits_of 10 (n / 10)) + 1 = length-digits_of_step 10 n (lit≤ tt) (omega arith) in
+    let some : 0 < n / 10 = omega arith in
+    let part : length (digits_of 10 (n / 10)) ≡ length (digits_of 10 (n / 10 / 10)) + 1 = length-digits_of_step 10 (n / 10) (lit≤ tt) some in
+    omega arith
+
+-- ---- the digits
+
+pub digit_before : (k n : ℕ) → 0 < k → last_digits k n ≡ last_digits (k - 1) (n / 10) ++ (48 + n % 10) ∷ []
+unfolding last_digits
+digit_before zero n some = absurd (omega arith)
+digit_before (suc k) n some = let same : suc k - 1 ≡ k = omega arith in rw same refl
+
+pub length-last_digits : (k n : ℕ) → length (last_digits k n) ≡ k
+unfolding last_digits
+length-last_digits zero n = refl
+length-last_digits (suc k) n = omega (arith, length-append (last_digits k (n / 10)) ((48 + n % 10) ∷ []), length-last_digits k (n / 10))
+
+pub length-fraction_digits : (p : ℕ) (a : MoneyAmount) → length (fraction_digits p a) ≡ p
+length-fraction_digits p a =
+    omega (arith, length-append (last_digits (fraction_kept p a) (magnitude p a)) (replicate (p - fraction_kept p a) 48), length-last_digits (fraction_kept p a) (magnitude p a), length-replicate {A = ℕ} (p - fraction_kept p a) 48)

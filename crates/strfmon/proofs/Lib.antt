@@ -1,0 +1,5 @@
+pub mod CellLemmas
+pub mod DecimalLemmas
+pub mod FormatLemmas
+pub mod MoneyLemmas
+mod Examples

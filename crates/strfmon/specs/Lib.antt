@@ -1,0 +1,7 @@
+pub mod MoneyAmount
+pub mod Decimals
+pub mod Formats
+pub mod Cells
+pub mod Looks
+pub mod Seen
+pub mod Money

@@ -1,0 +1,172 @@
+-- The text of a format with its amounts (XSH strfmon).
+use Rattle.std.specs.Prelude.{◌≡◌, ℕ, ℤ, pos, zero, suc, ◌-◌, nat_lt, nat_le, ◌==◌, int_lt, not, Bool, List, [], ◌∷◌, ◌++◌, length, replicate, codes, Option, Some, None, unwrap_or, option_map, Result, Ok, Err, if◌then◌else◌}
+use Rattle.digit_groups.specs.Groups.{grouped, grouped_width}
+use Rattle.monetary_cat.specs.MonetaryValues.{MonetaryValues, text_of, number_of}
+use Rattle.monetary_cat.specs.declared.keys.MonText.TheVariants.{MonDecimalPoint, MonThousandsSep}
+use Rattle.monetary_cat.specs.declared.keys.MonNumber.TheVariants.{IntFracDigits, FracDigits}
+use Rattle.strfmon.specs.declared.format.Conversion.{Conversion}
+use Rattle.strfmon.specs.declared.format.Piece.{Piece}
+use Rattle.strfmon.specs.declared.format.Piece.TheVariants.{Literal, Convert}
+use Rattle.strfmon.specs.declared.fault.MoneyFault.{MoneyFault}
+use Rattle.strfmon.specs.declared.fault.MoneyFault.TheVariants.{BadFormat, MissingAmount, TooBig, Memory}
+use Rattle.strfmon.specs.MoneyAmount.{MoneyAmount}
+use Rattle.strfmon.specs.Decimals.{whole_digits, fraction_digits}
+use Rattle.strfmon.specs.Formats.{pieces}
+use Rattle.strfmon.specs.Looks.{Look, look_of, parts_text, given}
+
+-- ---- the number
+
+-- fraction digits: those of the conversion, else those of the locale, else two (our own)
+abbrev pub precision_of : MonetaryValues → Conversion → ℕ
+precision_of v c = unwrap_or c.precision (given (number_of v (if c.international then IntFracDigits else FracDigits)) 2)
+
+-- the sizes of groups; `^` groups nothing
+abbrev pub sizes_of : MonetaryValues → Conversion → List ℤ
+sizes_of v c = if c.flags.no_groups then [] else v.mon_grouping
+
+-- the radix, which is `.` where the locale has none (our own)
+abbrev pub radix_of : MonetaryValues → List ℕ
+radix_of v = if length (text_of v MonDecimalPoint) == 0 then codes "." else text_of v MonDecimalPoint
+
+-- the radix and the fraction, where there is one
+abbrev pub fraction_text : MonetaryValues → ℕ → MoneyAmount → List ℕ
+fraction_text v p a = if p == 0 then [] else radix_of v ++ fraction_digits p a
+
+-- the digits in groups, the radix and the fraction
+abbrev pub number_text : MonetaryValues → Conversion → MoneyAmount → List ℕ
+number_text v c a = grouped (whole_digits (precision_of v c) a) (sizes_of v c) (text_of v MonThousandsSep) ++ fraction_text v (precision_of v c) a
+
+-- ---- alignment by `#n`
+
+-- how many whole digits are aligned to, where there are at most so many: more digits pass `#n` over, with its padding (our own)
+abbrev pub aligned_digits : Conversion → ℕ → Option ℕ
+aligned_digits c digits = elim c.whole_digits [
+  | None ↦ None
+  | Some n ↦ if nat_le digits n then Some n else None
+]
+
+-- the fill: the bytes that so many grouped digits have more than these
+abbrev pub fill_count : MonetaryValues → Conversion → ℕ → Option ℕ → ℕ
+fill_count v c digits None = 0
+fill_count v c digits (Some n) =
+    grouped_width n (sizes_of v c) (length (text_of v MonThousandsSep)) - grouped_width digits (sizes_of v c) (length (text_of v MonThousandsSep))
+
+-- how much longer the text of one look is than that of the other, where they are aligned
+abbrev pub pad_count : Option ℕ → List ℕ → List ℕ → ℕ
+pad_count None own other = 0
+pad_count (Some n) own other = length other - length own
+
+-- ---- a conversion
+
+-- spaces
+abbrev pub spaces : ℕ → List ℕ
+spaces n = replicate n 32
+
+-- a text with so many spaces behind it, or else before it
+abbrev pub with_spaces : Bool → ℕ → List ℕ → List ℕ
+with_spaces left n text = if left then text ++ spaces n else spaces n ++ text
+
+-- a text in a field of at least so many bytes
+abbrev pub in_field : Bool → ℕ → List ℕ → List ℕ
+in_field left width text = with_spaces left (width - length text) text
+
+-- whether an amount is below 0, also where it is rounded to 0
+abbrev pub is_negative : MoneyAmount → Bool
+is_negative a = int_lt a.units (pos 0)
+
+-- what stands before the number, the fill, the number and what stands behind it, with so many spaces and fill bytes
+abbrev pub text_parts : MonetaryValues → Conversion → MoneyAmount → Look → ℕ → ℕ → ℕ → List ℕ
+text_parts v c a look before fill after =
+    spaces before
+    ++ parts_text look look.before
+    ++ replicate fill (unwrap_or c.flags.fill 32)
+    ++ number_text v c a
+    ++ parts_text look look.after
+    ++ spaces after
+
+-- the same, aligned with the look of the other sign
+unfoldable pub text_with : MonetaryValues → Conversion → MoneyAmount → Look → Look → List ℕ
+text_with v c a own other =
+    let digits = length (whole_digits (precision_of v c) a) in
+    let aligned = aligned_digits c digits in
+    text_parts v c a own
+    (pad_count aligned (parts_text own own.before) (parts_text other other.before))
+    (fill_count v c digits aligned)
+    (pad_count aligned (parts_text own own.after) (parts_text other other.after))
+
+-- the text of an amount but for its field
+abbrev pub aligned_text : MonetaryValues → Conversion → MoneyAmount → List ℕ
+aligned_text v c a = text_with v c a (look_of v c (is_negative a)) (look_of v c (not (is_negative a)))
+
+-- the text of an amount
+abbrev pub conversion_text : MonetaryValues → Conversion → MoneyAmount → List ℕ
+conversion_text v c a = in_field c.flags.left c.width (aligned_text v c a)
+
+-- ---- a format
+
+-- the text of a piece, which is that of the first amount where it is a conversion
+abbrev pub piece_text : MonetaryValues → Piece → List MoneyAmount → List ℕ
+piece_text v (Literal b) amounts = b ∷ []
+piece_text v (Convert c) [] = []
+piece_text v (Convert c) (a ∷ amounts) = conversion_text v c a
+
+-- the amounts that a piece leaves
+abbrev pub amounts_behind : Piece → List MoneyAmount → List MoneyAmount
+amounts_behind (Literal b) amounts = amounts
+amounts_behind (Convert c) [] = []
+amounts_behind (Convert c) (a ∷ amounts) = amounts
+
+-- the text of pieces with their amounts; those that are left over are passed over
+unfoldable pub pieces_text : MonetaryValues → List (ℕ × Piece) → List MoneyAmount → List ℕ
+pieces_text v [] amounts = []
+pieces_text v (p ∷ ps) amounts = piece_text v p.1 amounts ++ pieces_text v ps (amounts_behind p.1 amounts)
+
+-- the place of the first conversion for which no amount is left of so many
+unfoldable pub missing : List (ℕ × Piece) → ℕ → Option ℕ
+missing [] n = None
+missing ((at, Literal b) ∷ ps) n = missing ps n
+missing ((at, Convert c) ∷ ps) zero = Some at
+missing ((at, Convert c) ∷ ps) (suc n) = missing ps n
+
+-- a text of at most so many bytes
+abbrev pub within : ℕ → List ℕ → Result (List ℕ) MoneyFault
+within max_len text = if nat_lt max_len (length text) then Err TooBig else Ok text
+
+-- the first refusal of a format with so many amounts: a bad conversion goes before a missing amount
+abbrev pub refusal : Result (List (ℕ × Piece)) ℕ → ℕ → Option MoneyFault
+refusal (Err at) amounts = Some (BadFormat at)
+refusal (Ok ps) amounts = option_map (λ at. MissingAmount at) (missing ps amounts)
+
+-- the same behind a piece that perhaps lacked its amount
+abbrev pub refusal_behind : Option MoneyFault → Result (List (ℕ × Piece)) ℕ → ℕ → Option MoneyFault
+refusal_behind lacking (Err at) amounts = Some (BadFormat at)
+refusal_behind None (Ok ps) amounts = refusal (Ok ps) amounts
+refusal_behind (Some fault) (Ok ps) amounts = Some fault
+
+-- the pieces, where no conversion is bad
+abbrev pub good_pieces : Result (List (ℕ × Piece)) ℕ → List (ℕ × Piece)
+good_pieces (Err at) = []
+good_pieces (Ok ps) = ps
+
+-- the text, or what goes before it
+abbrev pub unless_refused : Option MoneyFault → Result (List ℕ) MoneyFault → Result (List ℕ) MoneyFault
+unless_refused None answer = answer
+unless_refused (Some fault) answer = Err fault
+
+-- the text of a format with its amounts, of at most so many bytes, or the refusal
+abbrev pub money : MonetaryValues → List ℕ → List MoneyAmount → ℕ → Result (List ℕ) MoneyFault
+money v format amounts max_len =
+    unless_refused (refusal (pieces 0 0 format) (length amounts))
+    (within max_len (pieces_text v (good_pieces (pieces 0 0 format)) amounts))
+
+-- a refusal is that of the definition, or want of memory, which says nothing
+abbrev pub Refuses : MoneyFault → Result (List ℕ) MoneyFault → Type 0
+Refuses (BadFormat at) answer = answer ≡ Err (BadFormat at)
+Refuses (MissingAmount at) answer = answer ≡ Err (MissingAmount at)
+Refuses TooBig answer = answer ≡ Err TooBig
+Refuses Memory answer = Unit {0}
+
+-- a result, its text seen by view, is the answer, unless memory is wanting
+abbrev pub Answers : {X : Type 0} → (X → List ℕ) → Result X MoneyFault → Result (List ℕ) MoneyFault → Type 0
+Answers view (Ok x) answer = answer ≡ Ok (view x)
+Answers view (Err e) answer = Refuses e answer

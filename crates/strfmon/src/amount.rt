@@ -1,0 +1,59 @@
+//! Amounts of money.
+
+ghost use Rattle.std.specs.Prelude.{◌≡◌, ◌≤◌, ◌↔◌, IsSome, IfSome};
+ghost use Rattle.strfmon.specs.Money.{is_negative};
+
+use std::marker::Model;
+
+/// An amount of money: units / 10^scale.
+#[derive(Clone, Copy, Debug)]
+pub struct Amount {
+    units: i64,
+    scale: u8,
+}
+
+impl Model for Amount {
+    ghost use Rattle.std.specs.Prelude.{◌≤◌};
+    ghost use Rattle.strfmon.specs.MoneyAmount.{MoneyAmount};
+
+    ghost Value = { MoneyAmount };
+
+    ghost view = { λ a. record { units = a.units; scale = a.scale } };
+
+    ghost invariant = { λ a. a.scale ≤ 18 };
+
+    ghost inverse = { λ a. record { units = a.units; scale = a.scale } };
+}
+
+impl Amount {
+    /// units / 10^scale. `None` exactly where scale is over 18.
+    pub fn new(units: i64, scale: u8) -> Option<Amount>
+        ensures some { IsSome result ↔ (scale ≤ 18) }
+        ensures units { IfSome result (λ a. a.units ≡ units) }
+        ensures scale { IfSome result (λ a. a.scale ≡ scale) }
+    {
+        if scale > 18 {
+            return None;
+        }
+        Some(Amount { units, scale })
+    }
+
+    pub(crate) fn units(self) -> i64
+        ensures { result ≡ self.units }
+    {
+        self.units
+    }
+
+    pub(crate) fn is_negative(self) -> bool
+        ensures { result ≡ is_negative self }
+    {
+        self.units < 0
+    }
+
+    pub(crate) fn scale(self) -> u8
+        ensures is { result ≡ self.scale }
+        ensures small { result ≤ 18 }
+    {
+        self.scale
+    }
+}

@@ -1,0 +1,91 @@
+//! Amounts in decimal digits.
+
+ghost use Rattle.std.specs.Prelude.{◌≡◌, ◌+◌, ◌-◌, ◌^◌, ◌/◌, ◌<◌, ◌≤◌, length};
+ghost use Rattle.strfmon.specs.Decimals.{rounded, last_digits, digit_count, IsRounded};
+
+use crate::amount::Amount;
+
+/// An amount whose fraction is rounded.
+#[derive(Clone, Copy, Debug)]
+pub struct Decimal {
+    /// The magnitude, in units of the last fraction digit that is kept.
+    pub magnitude: u64,
+    /// How many fraction digits are kept.
+    pub kept: usize,
+    /// The whole part of the magnitude.
+    pub whole: u64,
+}
+
+/// 10^exponent.
+#[tactic(auto, using(crate::proofs::DecimalLemmas::few_powers, crate::proofs::DecimalLemmas::some_power))]
+fn power(exponent: usize) -> u64
+    requires { exponent ≤ 18 }
+    ensures is { result ≡ 10 ^ exponent }
+    ensures some { 0 < result }
+    ensures few { result ≤ 1000000000000000000 }
+{
+    10u64.pow(exponent as u32)
+}
+
+/// n / d as a whole number: the nearest one, and of two the even one.
+fn rounded(n: u64, d: u64) -> u64
+    requires some { 0 < d }
+    requires few { d ≤ 1000000000000000000 }
+    requires fits { n ≤ 2 ^ 63 }
+    ensures is { result ≡ rounded n d }
+    ensures fits { result ≤ 2 ^ 63 + 1 }
+{
+    let quotient = n / d;
+    let rest = 2 * (n % d);
+    if rest < d || (rest == d && quotient % 2 == 0) {
+        quotient
+    } else {
+        quotient + 1
+    }
+}
+
+#[tactic(auto, using(crate::proofs::DecimalLemmas::part_fits))]
+/// An amount rounded to at most so many fraction digits.
+pub fn decimal_of(amount: Amount, precision: usize) -> Decimal
+    ensures is { IsRounded result precision amount }
+    ensures few { result.kept ≤ 18 }
+    ensures short { result.kept ≤ precision }
+    ensures fits { result.whole ≤ 2 ^ 63 + 1 }
+{
+    let scale = usize::from(amount.scale());
+    let kept = precision.min(scale);
+    let magnitude = rounded(amount.units().unsigned_abs(), power(scale - kept));
+    Decimal {
+        magnitude,
+        kept,
+        whole: magnitude / power(kept),
+    }
+}
+
+/// How many digits a whole number has, at least one.
+pub fn digit_count(n: u64) -> usize
+    ensures is { result ≡ digit_count n }
+    ensures some { 1 ≤ result }
+    ensures few { result ≤ 20 }
+{
+    let mut left = n;
+    let mut count = 1;
+    while left >= 10 {
+        left /= 10;
+        count += 1;
+    }
+    count
+}
+
+/// Writes the last decimal digits of a number, as many as there is room for.
+pub fn write_digits(n: u64, target: &mut [u8])
+    ensures { target.new ≡ last_digits (length target.old) n }
+{
+    let mut left = n;
+    let mut at = target.len();
+    while at > 0 {
+        at -= 1;
+        target[at] = b'0' + (left % 10) as u8;
+        left /= 10;
+    }
+}

@@ -1,0 +1,40 @@
+//! Why amounts have no text.
+
+ghost use Rattle.std.specs.Prelude.{◌≡◌};
+ghost use Rattle.strfmon.specs.declared.fault.MoneyFault.TheVariants.{Memory};
+
+use std::alloc::{AllocError, AllocFailed};
+use thiserror::Error;
+
+/// Why a format and its amounts have no text.
+#[derive(Clone, Copy, Debug, PartialEq, Eq, Error)]
+pub enum MoneyFault {
+    /// The `%` at this byte of the format begins no conversion.
+    #[error("the `%` at byte {at} begins no conversion")]
+    BadFormat { at: usize },
+    /// No amount is left for the `%` at this byte of the format.
+    #[error("no amount is left for the `%` at byte {at}")]
+    MissingAmount { at: usize },
+    /// The text is longer than the limit.
+    #[error("the text is longer than the limit")]
+    TooBig,
+    /// Memory was wanting.
+    #[error("memory was wanting")]
+    Memory,
+}
+
+impl From<AllocError> for MoneyFault {
+    ghost from_gives = { λ _ e. e ≡ Memory };
+
+    fn from(_e: AllocError) -> MoneyFault {
+        MoneyFault::Memory
+    }
+}
+
+impl<T: Drop> From<AllocFailed<T>> for MoneyFault {
+    ghost from_gives = { λ _ e. e ≡ Memory };
+
+    fn from(_e: AllocFailed<T>) -> MoneyFault {
+        MoneyFault::Memory
+    }
+}

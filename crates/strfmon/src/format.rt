@@ -1,0 +1,257 @@
+//! Formats of amounts (XSH strfmon).
+
+ghost use Rattle.std.specs.Prelude.{◌≡◌, ◌+◌, ◌<◌, ◌≤◌, length, IfSome};
+ghost use Rattle.strfmon.specs.Formats.{mark_of, with_mark, with_fill, with_flag, flags, number, number_after, is_international, conversion, behind_percent, piece};
+
+/// How the sign of an amount shows.
+#[derive(Clone, Copy, Debug, PartialEq, Eq)]
+pub enum Signs {
+    /// By the locale's signs.
+    Plus,
+    /// By parentheses round negative amounts.
+    Parentheses,
+}
+
+/// A flag of one byte.
+#[derive(Clone, Copy, Debug, PartialEq, Eq)]
+pub enum Mark {
+    /// `^`: digits without groups.
+    NoGroups,
+    /// `+`: the locale's signs.
+    SignTexts,
+    /// `(`: negative amounts in parentheses.
+    InParentheses,
+    /// `!`: no symbol.
+    NoSymbol,
+    /// `-`: to the left of its field.
+    LeftAligned,
+}
+
+/// The flags of a conversion.
+#[derive(Clone, Copy, Debug, PartialEq, Eq)]
+pub struct Flags {
+    /// The byte after `=`, which fills in front of whole digits.
+    pub fill: Option<u8>,
+    pub no_groups: bool,
+    pub signs: Option<Signs>,
+    pub no_symbol: bool,
+    pub left: bool,
+}
+
+/// The conversion of one amount.
+#[derive(Clone, Copy, Debug, PartialEq, Eq)]
+pub struct Conversion {
+    pub flags: Flags,
+    /// The least number of bytes.
+    pub width: u8,
+    /// The whole digits to align to.
+    pub whole_digits: Option<u8>,
+    /// The fraction digits.
+    pub precision: Option<u8>,
+    /// `i`, and not `n`.
+    pub international: bool,
+}
+
+/// A part of a format.
+#[derive(Clone, Copy, Debug, PartialEq, Eq)]
+pub enum Piece {
+    /// A byte that is copied.
+    Literal(u8),
+    /// An amount.
+    Convert(Conversion),
+}
+
+const NO_FLAGS: Flags = Flags {
+    fill: None,
+    no_groups: false,
+    signs: None,
+    no_symbol: false,
+    left: false,
+};
+
+fn mark_of(byte: u8) -> Option<Mark>
+    ensures { result ≡ mark_of byte }
+{
+    match byte {
+        b'^' => Some(Mark::NoGroups),
+        b'+' => Some(Mark::SignTexts),
+        b'(' => Some(Mark::InParentheses),
+        b'!' => Some(Mark::NoSymbol),
+        b'-' => Some(Mark::LeftAligned),
+        _ => None,
+    }
+}
+
+/// The flags with one more, if it was not given before.
+fn with_mark(flags: Flags, mark: Mark) -> Option<Flags>
+    ensures { result ≡ with_mark flags mark }
+{
+    let mut more = flags;
+    let given = match mark {
+        Mark::NoGroups => {
+            more.no_groups = true;
+            flags.no_groups
+        }
+        Mark::SignTexts => {
+            more.signs = Some(Signs::Plus);
+            flags.signs.is_some()
+        }
+        Mark::InParentheses => {
+            more.signs = Some(Signs::Parentheses);
+            flags.signs.is_some()
+        }
+        Mark::NoSymbol => {
+            more.no_symbol = true;
+            flags.no_symbol
+        }
+        Mark::LeftAligned => {
+            more.left = true;
+            flags.left
+        }
+    };
+    if given { None } else { Some(more) }
+}
+
+/// The flags with a fill, if none was given before.
+fn with_fill(flags: Flags, byte: u8) -> Option<Flags>
+    ensures { result ≡ with_fill flags byte }
+{
+    if flags.fill.is_some() || byte < 0x20 || byte > 0x7e {
+        return None;
+    }
+    let mut more = flags;
+    more.fill = Some(byte);
+    Some(more)
+}
+
+/// The flags with the one that a byte and those behind it begin with, and how many bytes it takes.
+fn with_flag(flags: Flags, byte: u8, behind: &[u8]) -> Option<(Flags, usize)>
+    ensures is { result ≡ with_flag flags byte behind.now }
+    ensures within { IfSome result (λ r. r.1 ≤ length behind.now + 1) }
+{
+    if byte == b'=' {
+        return Some((with_fill(flags, *behind.first()?)?, 2));
+    }
+    match mark_of(byte) {
+        Some(mark) => Some((with_mark(flags, mark)?, 1)),
+        None => Some((flags, 0)),
+    }
+}
+
+/// The flags that bytes begin with, and how many bytes they take.
+fn flags_of(bytes: &[u8]) -> Option<(Flags, usize)>
+    ensures is { result ≡ flags bytes.now }
+    ensures within { IfSome result (λ r. r.1 ≤ length bytes.now) }
+{
+    let mut flags = NO_FLAGS;
+    let mut at = 0;
+    while at < bytes.len() {
+        let Some((more, used)) = with_flag(flags, bytes[at], &bytes[at + 1..]) else {
+            return None;
+        };
+        if used == 0 {
+            break;
+        }
+        flags = more;
+        at += used;
+    }
+    Some((flags, at))
+}
+
+/// The number that bytes begin with, and how many digits it has; it is at most 255.
+#[tactic(auto, unfolding(crate::specs::Formats::number_behind))]
+fn number(bytes: &[u8]) -> Option<(u8, usize)>
+    ensures is { result ≡ number bytes.now }
+    ensures within { IfSome result (λ r. r.1 ≤ length bytes.now) }
+{
+    let mut value: u16 = 0;
+    let mut count = 0;
+    for byte in bytes {
+        if !byte.is_ascii_digit() {
+            break;
+        }
+        value = value * 10 + u16::from(*byte - b'0');
+        if value > 255 {
+            return None;
+        }
+        count += 1;
+    }
+    Some((value as u8, count))
+}
+
+/// The number behind a sign, if the sign is there, and how many bytes both take.
+fn number_after(sign: u8, bytes: &[u8]) -> Option<(Option<u8>, usize)>
+    ensures is { result ≡ number_after sign bytes.now }
+    ensures within { IfSome result (λ r. r.1 ≤ length bytes.now) }
+{
+    match bytes {
+        [first, rest @ ..] if *first == sign => {
+            let (value, count) = number(rest)?;
+            if count == 0 {
+                return None;
+            }
+            Some((Some(value), count + 1))
+        }
+        _ => Some((None, 0)),
+    }
+}
+
+/// Whether a conversion ends with `i` or with `n`.
+fn is_international(bytes: &[u8]) -> Option<bool>
+    ensures is { result ≡ is_international bytes.now }
+    ensures some { IfSome result (λ r. 0 < length bytes.now) }
+{
+    match bytes.first()? {
+        b'i' => Some(true),
+        b'n' => Some(false),
+        _ => None,
+    }
+}
+
+/// The conversion that bytes behind a `%` begin with, and how many bytes it takes.
+fn conversion_of(bytes: &[u8]) -> Option<(Conversion, usize)>
+    ensures is { result ≡ conversion bytes.now }
+    ensures within { IfSome result (λ r. r.1 ≤ length bytes.now) }
+{
+    let (flags, mut at) = flags_of(bytes)?;
+    let (width, digits) = number(&bytes[at..])?;
+    at += digits;
+    let (whole_digits, more) = number_after(b'#', &bytes[at..])?;
+    at += more;
+    let (precision, more) = number_after(b'.', &bytes[at..])?;
+    at += more;
+    let international = is_international(&bytes[at..])?;
+    let conversion = Conversion {
+        flags,
+        width,
+        whole_digits,
+        precision,
+        international,
+    };
+    Some((conversion, at + 1))
+}
+
+/// What a `%` begins, and how many bytes behind it belong to it.
+fn behind_percent(bytes: &[u8]) -> Option<(Piece, usize)>
+    ensures is { result ≡ behind_percent bytes.now }
+    ensures within { IfSome result (λ r. r.1 ≤ length bytes.now) }
+{
+    if *bytes.first()? == b'%' {
+        return Some((Piece::Literal(b'%'), 1));
+    }
+    let (conversion, used) = conversion_of(bytes)?;
+    Some((Piece::Convert(conversion), used))
+}
+
+/// The piece that a byte begins, and how many of the bytes behind it belong to it.
+#[tactic(auto, unfolding(crate::specs::Formats::piece))]
+pub fn piece_of(byte: u8, behind: &[u8]) -> Option<(Piece, usize)>
+    ensures is { result ≡ piece byte behind.now }
+    ensures within { IfSome result (λ r. r.1 ≤ length behind.now) }
+{
+    if byte == b'%' {
+        behind_percent(behind)
+    } else {
+        Some((Piece::Literal(byte), 0))
+    }
+}

@@ -1,0 +1,192 @@
+//! The widths of an amount's text (XSH strfmon).
+
+ghost use Rattle.std.specs.Prelude.{◌≡◌, ◌+◌, ◌^◌, ◌<◌, ◌≤◌, ◌-◌, length, List, ℕ, IfSome};
+ghost use Rattle.std.specs.Option.{ForSome};
+ghost use Rattle.digit_groups.specs.Groups.{grouped, grouped_width};
+ghost use Rattle.strfmon.specs.Decimals.{whole_digits, IsRounded};
+ghost use Rattle.strfmon.specs.Looks.{parts_text};
+ghost use Rattle.strfmon.specs.Money.{precision_of, sizes_of, radix_of, fraction_text, aligned_digits, fill_count, pad_count, text_parts, text_with, with_spaces, conversion_text};
+ghost use Rattle.strfmon.specs.MoneyAmount.{MoneyAmount};
+ghost use Rattle.strfmon.specs.Seen.{seen};
+
+use crate::amount::Amount;
+use crate::decimal::{Decimal, decimal_of, digit_count};
+use crate::format::Conversion;
+use crate::look::{Look, given, look_of};
+use digit_groups::width_of;
+use monetary_cat::{MonNumber, MonText, Monetary};
+
+/// How many bytes of each kind stand round an amount, and how many there are in all.
+#[derive(Clone, Copy)]
+pub struct Layout {
+    /// Spaces before the look.
+    pub before: u128,
+    /// Fill bytes before the number.
+    pub fill: u128,
+    /// Spaces behind the look.
+    pub after: u128,
+    /// All bytes, those of the number and the look included.
+    pub width: u128,
+}
+
+/// An amount with all that its text shows.
+#[derive(Clone, Copy)]
+pub struct Laid<'a> {
+    pub look: Look<'a>,
+    pub decimal: Decimal,
+    /// The layout of its text but for the field.
+    pub layout: Layout,
+    /// Spaces of the field.
+    pub field: u128,
+}
+
+/// The fraction digits of a conversion.
+pub fn precision_of(m: &Monetary, c: &Conversion) -> usize
+    ensures is { result ≡ precision_of m.now c.now }
+    ensures small { result < 2 ^ 32 }
+{
+    let key = if c.international {
+        MonNumber::IntFracDigits
+    } else {
+        MonNumber::FracDigits
+    };
+    match c.precision {
+        Some(digits) => usize::from(digits),
+        None => given(m.number(key), 2),
+    }
+}
+
+/// The sizes of groups.
+pub fn sizes_of<'a>(m: &'a Monetary, c: &Conversion) -> &'a [i32]
+    ensures { result.now ≡ sizes_of m.now c.now }
+{
+    if c.flags.no_groups { &[] } else { m.grouping() }
+}
+
+/// The radix, which is `.` where the locale has none.
+pub fn radix_of(m: &Monetary) -> &[u8]
+    ensures { result.now ≡ radix_of m.now }
+{
+    let radix = m.text(MonText::MonDecimalPoint);
+    if radix.is_empty() { b"." } else { radix }
+}
+
+/// How many bytes grouped digits have.
+fn grouped_width(n: usize, sizes: &[i32], sep: &[u8]) -> u128
+    requires { n ≤ 255 }
+    ensures is { result ≡ grouped_width n sizes.now (length sep.now) }
+    ensures length { (digits : List ℕ) → length digits ≡ n → length (grouped digits sizes.now sep.now) ≡ result }
+    ensures fits { result < 2 ^ 80 }
+{
+    let separators = width_of(n, sizes, 1) - n;
+    n as u128 + separators as u128 * sep.len() as u128
+}
+
+/// The whole digits to align so many to.
+fn aligned_digits(c: &Conversion, digits: usize) -> Option<usize>
+    ensures is { result ≡ aligned_digits c.now digits }
+    ensures few { IfSome result (λ n. n ≤ 255) }
+{
+    let whole = usize::from(c.whole_digits?);
+    if digits <= whole { Some(whole) } else { None }
+}
+
+/// How many fill bytes stand before so many whole digits.
+fn fill_count(m: &Monetary, c: &Conversion, digits: usize, aligned: Option<usize>) -> u128
+    requires few { digits ≤ 255 }
+    requires aligned { ForSome aligned (λ n. n ≤ 255) }
+    ensures is { result ≡ fill_count m.now c.now digits aligned }
+    ensures fits { result < 2 ^ 80 }
+{
+    let Some(whole) = aligned else {
+        return 0;
+    };
+    let sizes = sizes_of(m, c);
+    let sep = m.text(MonText::MonThousandsSep);
+    grouped_width(whole, sizes, sep).saturating_sub(grouped_width(digits, sizes, sep))
+}
+
+/// How many spaces stand beside a look.
+fn pad_count(aligned: Option<usize>, own: u128, other: u128) -> u128
+    ensures is { (x y : List ℕ) → length x ≡ own → length y ≡ other → result ≡ pad_count aligned x y }
+    ensures fits { result ≤ other }
+{
+    match aligned {
+        Some(_) => other.saturating_sub(own),
+        None => 0,
+    }
+}
+
+/// How many bytes the radix and the fraction have.
+fn fraction_width(m: &Monetary, precision: usize) -> u128
+    requires { precision < 2 ^ 32 }
+    ensures is { (a : MoneyAmount) → result ≡ length (fraction_text m.now precision a) }
+    ensures fits { result < 2 ^ 80 }
+{
+    if precision == 0 {
+        return 0;
+    }
+    radix_of(m).len() as u128 + precision as u128
+}
+
+/// The layout of an amount with so many whole digits.
+pub fn layout_of(m: &Monetary, c: &Conversion, own: &Look, other: &Look, digits: usize) -> Layout
+    requires few { digits ≤ 255 }
+    requires own_before { length own.now.before.now ≤ 3 }
+    requires own_after { length own.now.after.now ≤ 3 }
+    requires other_before { length other.now.before.now ≤ 3 }
+    requires other_after { length other.now.after.now ≤ 3 }
+    ensures before { result.before ≡ pad_count (aligned_digits c.now digits) (parts_text (seen own.now) own.now.before.now) (parts_text (seen other.now) other.now.before.now) }
+    ensures fill { result.fill ≡ fill_count m.now c.now digits (aligned_digits c.now digits) }
+    ensures after { result.after ≡ pad_count (aligned_digits c.now digits) (parts_text (seen own.now) own.now.after.now) (parts_text (seen other.now) other.now.after.now) }
+    ensures within { result.before + result.fill + result.after ≤ result.width }
+    ensures fits { result.width < 2 ^ 82 }
+    ensures width { (a : MoneyAmount) → length (whole_digits (precision_of m.now c.now) a) ≡ digits → result.width ≡ length (text_with m.now c.now a (seen own.now) (seen other.now)) }
+{
+    let aligned = aligned_digits(c, digits);
+    let own_before = own.width(own.before);
+    let own_after = own.width(own.after);
+    let before = pad_count(aligned, own_before, other.width(other.before));
+    let after = pad_count(aligned, own_after, other.width(other.after));
+    let fill = fill_count(m, c, digits, aligned);
+    let sep = m.text(MonText::MonThousandsSep);
+    let whole = grouped_width(digits, sizes_of(m, c), sep);
+    let fraction = fraction_width(m, precision_of(m, c));
+    Layout {
+        before,
+        fill,
+        after,
+        width: before + own_before + fill + (whole + fraction) + own_after + after,
+    }
+}
+
+/// How many spaces fill a field with a text of so many bytes.
+fn field_spaces(width: u8, text: u128) -> u128
+    ensures is { result ≡ width - text }
+    ensures few { result ≤ 255 }
+{
+    u128::from(width).saturating_sub(text)
+}
+
+/// An amount laid out in a conversion.
+pub fn laid_out<'a>(m: &'a Monetary, c: &Conversion, amount: Amount) -> Laid<'a>
+    ensures few { result.decimal.kept ≤ 18 }
+    ensures short { result.decimal.kept ≤ precision_of m.now c.now }
+    ensures rounded { IsRounded result.decimal (precision_of m.now c.now) amount }
+    ensures text { with_spaces c.now.flags.left result.field (text_parts m.now c.now amount (seen result.look) result.layout.before result.layout.fill result.layout.after) ≡ conversion_text m.now c.now amount }
+    ensures width { result.layout.width + result.field ≡ length (conversion_text m.now c.now amount) }
+    ensures within { result.layout.before + result.layout.fill + result.layout.after ≤ result.layout.width }
+    ensures fits { result.layout.width + result.field < 2 ^ 127 }
+{
+    let negative = amount.is_negative();
+    let own = look_of(m, c, negative);
+    let other = look_of(m, c, !negative);
+    let decimal = decimal_of(amount, precision_of(m, c));
+    let layout = layout_of(m, c, &own, &other, digit_count(decimal.whole));
+    Laid {
+        look: own,
+        decimal,
+        layout,
+        field: field_spaces(c.width, layout.width),
+    }
+}
