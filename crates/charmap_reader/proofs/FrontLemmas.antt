@@ -1,25 +1,27 @@
 -- Fronts by their numbers.
-use Rattle.std.proofs.Common.{◌≡◌, ◌≢◌, ℕ, zero, suc, ◌+◌, ◌<◌, inl, inr, Bool, true, false, cond, List, [], ◌∷◌, ◌++◌, length, get_or, map, All, Option, Some, None, refl, sym, ◌∙◌, ap, subst, arith, length-append}
-use Rattle.std.specs.BTreeMap.{BTreeMap, is_at, insert_entry}
+use Rattle.std.proofs.Common.{◌≡◌, ℕ, ◌+◌, ◌-◌, ◌<◌, ◌⊎◌, inl, inr, ⊎_elim, Bool, true, false, cond, List, [], ◌∷◌, ◌++◌, length, get_or, take, All, Contains, Option, Some, None, Err, refl, sym, ◌∙◌, ap, subst, arith, length-append}
+use Rattle.std.specs.BTreeMap.{BTreeMap, is_at, insert_entry, values}
 use Rattle.std.specs.Cmp.Lexicographic.{slice_cmp}
-use Rattle.std.specs.Bool.{◌==◌}
-use Rattle.std.specs.List.{range_with_len}
+use Rattle.std.specs.List.Sorted.{IsPermutation, IsSortedBy, IsBinarySearchResult}
 use Rattle.std.specs.Map.{lookup, values_of}
-use Rattle.std.specs.Ordering.{nat_cmp, is_eq, match_ordering}
+use Rattle.std.specs.Option.{IfSome}
+use Rattle.std.specs.Ordering.{nat_cmp, is_eq, is_lt, match_ordering}
 use Rattle.std.specs.declared.cmp.Ordering.{Ordering}
 use Rattle.std.specs.declared.cmp.Ordering.TheVariants.{Less, Equal, Greater}
 use Rattle.std.specs.Str.{bytes_eq}
 use Rattle.std.specs.declared.vec.Vec.{Vec}
 use Rattle.std.proofs.Math.ListN.{get_or-append}
 use Rattle.std.proofs.Math.Seq.{get_or-append_seam}
-use Rattle.std.proofs.lemmas.Bool.{cases_eq, eq-eqb, eqb-true, false_from_ne_true}
-use Rattle.std.proofs.lemmas.List.Elements.{All-head, All-tail, All-weaker, All-same}
-use Rattle.std.proofs.lemmas.List.FromFn.{length-map-range_with_len, map-range_with_len_more}
-use Rattle.std.proofs.lemmas.Map.Views.{All-values-insert_entry}
+use Rattle.std.proofs.lemmas.Bool.{cases_eq, cases_lt, false_from_ne_true}
+use Rattle.std.proofs.lemmas.Cmp.{nat_list_cmp_total, tied_itself}
+use Rattle.std.proofs.lemmas.List.{take_at}
+use Rattle.std.proofs.lemmas.List.Elements.{All-weaker, All-same, All-nil, All-append, All-contains, All-contains_itself, Contains-append_left, Contains-append_right}
+use Rattle.std.proofs.lemmas.List.Sorted.{All-permutation, Contains-permutation, searchable_from_sorted}
+use Rattle.std.proofs.lemmas.Map.Views.{All-values-insert_entry, IfSome-lookup_from_All}
 use Rattle.std.proofs.lemmas.Map.Text.{is_eq-slice_cmp}
 use Rattle.std.proofs.lemmas.Slice.Eq.{bytes_eq-Decides}
 use Rattle.charmap_reader.specs.Portable.{Name}
-use Rattle.charmap_reader.specs.Fronts.{front_with, front_list, IsPlaceOf, number_under, IsNumbered}
+use Rattle.charmap_reader.specs.Fronts.{IsPlaceOf, number_under, comes_before, HasFront, LacksFront, IsPlaced}
 
 -- how a front compares to a key
 abbrev front_cmp : {A : Type 0} → Name → Vec ℕ A → Ordering
@@ -73,150 +75,204 @@ lookup_insert {A} front key n (e ∷ es) =
     )
     refl
 
--- the one place of a front stays when another front comes last
-place_kept : (front other : Name) (fronts : List Name) (o : Option ℕ) → front ≢ other → IsPlaceOf front fronts o → IsPlaceOf front (fronts ++ other ∷ []) o
-place_kept front other fronts None apart place = λ i within same.
-    elim (cases_eq i (length fronts)) [
-      | inl last ↦ apart (sym same ∙ ap (λ k. get_or (fronts ++ other ∷ []) k []) last ∙ get_or-append_seam fronts other [] [])
-      | inr earlier ↦
-          let below : i < length fronts = omega (arith, length-append fronts (other ∷ [])) in
-          place i below (sym (get_or-append fronts (other ∷ []) [] i below) ∙ same)
-    ]
-place_kept front other fronts (Some n) apart place = (
-  omega (arith, place.0, length-append fronts (other ∷ [])),
-  get_or-append fronts (other ∷ []) [] n place.0 ∙ place.1,
-  λ i within same.
-      elim (cases_eq i (length fronts)) [
-        | inl last ↦ absurd (apart (sym same ∙ ap (λ k. get_or (fronts ++ other ∷ []) k []) last ∙ get_or-append_seam fronts other [] []))
-        | inr earlier ↦
-            let below : i < length fronts = omega (arith, length-append fronts (other ∷ [])) in
-            place.2 i below (sym (get_or-append fronts (other ∷ []) [] i below) ∙ same)
-      ],
-)
+-- what is kept under a front after one more
+under_after : {A : Type 0} (recent after : BTreeMap (Vec ℕ A) ℕ) (key : Vec ℕ A) (front other : Name) (n : ℕ) → key.items ≡ front → after.entries ≡ insert_entry key_cmp recent.entries key n
+    → number_under after other ≡ cond (bytes_eq other front) (Some n) (number_under recent other)
+under_after {A} recent after key front other n own grown =
+    ap (λ (es : List (Vec ℕ A × ℕ)). lookup (is_at (front_cmp other)) es) grown ∙ lookup_insert other key n recent.entries ∙ ap (λ (bs : List ℕ). cond (bytes_eq other bs) (Some n) (number_under recent other)) own
 
--- a new front has the last place
-pub place_last : (front : Name) (fronts : List Name) → IsPlaceOf front fronts None → IsPlaceOf front (fronts ++ front ∷ []) (Some (length fronts))
-place_last front fronts none = (
-  omega (arith, length-append fronts (front ∷ [])),
-  get_or-append_seam fronts front [] [],
-  λ i within same.
-      elim (cases_eq i (length fronts)) [
-        | inl last ↦ last
-        | inr earlier ↦
-            let below : i < length fronts = omega (arith, length-append fronts (front ∷ [])) in
-            absurd (none i below (sym (get_or-append fronts (front ∷ []) [] i below) ∙ same))
-      ],
-)
+-- ---- the number of a front
 
--- one more front is found at its place, and the others at theirs
-placed_push : {A : Type 0} (fronts : List Name) (numbers after : BTreeMap (Vec ℕ A) ℕ) (key : Vec ℕ A) (front : Name) (n : ℕ)
-    → ((name : Name) → IsPlaceOf name fronts (number_under numbers name)) → IsPlaceOf front fronts None → key.items ≡ front → n ≡ length fronts → after.entries ≡ insert_entry key_cmp numbers.entries key n
-    → (name : Name) → IsPlaceOf name (fronts ++ front ∷ []) (number_under after name)
-placed_push {A} fronts numbers after key front n before new own last grown = λ other.
-    let found : number_under after other ≡ cond (bytes_eq other front) (Some n) (number_under numbers other) =
-    ap (λ (es : List (Vec ℕ A × ℕ)). lookup (is_at (front_cmp other)) es) grown ∙ lookup_insert other key n numbers.entries ∙ ap (λ (bs : List ℕ). cond (bytes_eq other bs) (Some n) (number_under numbers other)) own in
-    let P : Bool → Type 0 = λ b. bytes_eq other front ≡ b → IsPlaceOf other (fronts ++ front ∷ []) (cond b (Some n) (number_under numbers other)) in
-    let Q : Option ℕ → Type 0 = λ o. IsPlaceOf other (fronts ++ front ∷ []) o in
-    subst Q (sym found) (
+-- a search among sorted numbers that finds one
+pub found_at : (texts : List Name) (sorted : List ℕ) (text : Name) (at n : ℕ) → at < length sorted → ((d : ℕ) → slice_cmp nat_cmp (get_or texts (get_or sorted at d) []) text ≡ Equal) → n ≡ get_or sorted at n → HasFront texts sorted text n
+found_at texts sorted text at n within ties is =
+    ((at, within, sym is), ap (λ k. get_or texts k []) is ∙ tied_bytes (get_or texts (get_or sorted at n) []) text (ties n))
+
+-- a text ties with itself
+itself : (text : Name) → slice_cmp nat_cmp text text ≡ Equal
+itself text = tied_itself nat_list_cmp_total text
+
+-- a search that finds none
+pub absent_from : (texts : List Name) (sorted : List ℕ) (text : Name) (at : ℕ) → IsSortedBy (comes_before texts) sorted → IsBinarySearchResult (λ n. slice_cmp nat_cmp (get_or texts n []) text) sorted (Err at) → All (LacksFront texts text) sorted
+absent_from texts sorted text at rising search = λ k d within same.
+    let parted = search (searchable_from_sorted nat_list_cmp_total (λ (n : ℕ). get_or texts n []) sorted text rising) in
+    let ties : slice_cmp nat_cmp (get_or texts (get_or sorted k d) []) text ≡ Equal = ap (λ (t : Name). slice_cmp nat_cmp t text) same ∙ itself text in
+    ⊎_elim
+    (λ before.
+    let less : slice_cmp nat_cmp (get_or texts (get_or sorted k d) []) text ≡ Less = parted.0 k d (omega arith) before in
+    let both : Less ≡ Equal = sym less ∙ ties in
+    absurd (cc))
+    (λ behind.
+    let more : slice_cmp nat_cmp (get_or texts (get_or sorted k d) []) text ≡ Greater = parted.1 k d behind within in
+    let both : Greater ≡ Equal = sym more ∙ ties in
+    absurd (cc))
+    (cases_lt k at)
+
+-- a sorted number is the place of its front
+pub sorted_place : {A : Type 0} (fronts : List Name) (sorted : List ℕ) (recent : BTreeMap (Vec ℕ A) ℕ) (front : Name) (n : ℕ) → IsPlaced fronts sorted recent → HasFront fronts sorted front n → IsPlaceOf front fronts (Some n)
+sorted_place fronts sorted recent front n placed has =
+    let within : n < length fronts = All-contains (λ k. k < length fronts) sorted n placed.below has.0 in
+    (within, has.1, λ i below same. placed.apart i n below within (same ∙ sym has.1))
+
+-- else what is kept under the front says its place
+pub recent_place : {A : Type 0} (fronts : List Name) (sorted : List ℕ) (recent : BTreeMap (Vec ℕ A) ℕ) (front : Name) → IsPlaced fronts sorted recent → All (LacksFront fronts front) sorted → IsPlaceOf front fronts (number_under recent front)
+recent_place fronts sorted recent front placed lacks =
+    let P : Option ℕ → Type 0 = λ o. number_under recent front ≡ o → IsPlaceOf front fronts o in
     (
-    elim (bytes_eq other front) as P [
-      | true ↦ λ same.
-          let is : other ≡ front = (bytes_eq-Decides other front).0 same in
-          rw (is, last) (place_last front fronts new)
-      | false ↦ λ other_is.
-          let apart : other ≢ front = λ e. let both : true ≡ false = sym ((bytes_eq-Decides other front).1 e) ∙ other_is in absurd (cc) in
-          place_kept other front fronts (number_under numbers other) apart (before other)
+    elim (number_under recent front) as P [
+      | None ↦ λ none i below same. ⊎_elim
+          (λ among. All-contains (LacksFront fronts front) sorted i lacks among same)
+          (λ under.
+          let there : number_under recent front ≡ Some i = ap (λ (name : Name). number_under recent name) (sym same) ∙ under in
+          let both : None ≡ Some i = sym none ∙ there in
+          absurd (cc))
+          (placed.kept i below)
+      | Some n ↦ λ some.
+          let own = placed.own front n some in
+          (own.0, own.1, λ i below same. placed.apart i n below own.0 (same ∙ sym own.1))
     ]
     )
-    refl)
+    refl
 
 -- ---- one more front
 
--- another number than the one that is added is kept with the front that it had
-front_with-other : {A : Type 0} (es : List (Vec ℕ A × ℕ)) (key : Vec ℕ A) (n m : ℕ) → lookup (is_at (key_cmp key)) es ≡ None → (n == m) ≡ false → front_with (insert_entry key_cmp es key n) m ≡ front_with es m
-front_with-other [] key n m absent other = rw other refl
-front_with-other {A} (e ∷ es) key n m absent other =
-    let P : Ordering → Type 0 = λ o. key_cmp key e.0 ≡ o → cond (is_eq o) (Some e.1) (lookup (is_at (key_cmp key)) es) ≡ None
-    → front_with (match_ordering o ((key, n) ∷ e ∷ es) ((e.0, n) ∷ es) (e ∷ insert_entry key_cmp es key n)) m ≡ front_with (e ∷ es) m in
-    (
-    elim (key_cmp key e.0) as P [
-      | Less ↦ λ own none. rw other refl
-      | Equal ↦ λ own none. absurd (cc)
-      | Greater ↦ λ own none. ap (λ (name : Name). cond (e.1 == m) e.0.items name) (front_with-other es key n m none other)
+module _ {A : Type 0} (fronts : List Name) (sorted : List ℕ) (recent after : BTreeMap (Vec ℕ A) ℕ) (key : Vec ℕ A) (front : Name) (n : ℕ) (placed : IsPlaced fronts sorted recent) (new : IsPlaceOf front fronts None) (own : key.items ≡ front)
+    (last : n ≡ length fronts) (grown : after.entries ≡ insert_entry key_cmp recent.entries key n) where
+  -- the fronts with it
+  abbrev more : List Name
+  more = fronts ++ front ∷ []
+
+  long : length more ≡ length fronts + 1
+  long = length-append fronts (front ∷ [])
+
+  -- the others have their places
+  early : (i : ℕ) → i < length fronts → get_or more i [] ≡ get_or fronts i []
+  early i below = get_or-append fronts (front ∷ []) [] i below
+
+  -- and it has the last
+  late : (i : ℕ) → i ≡ n → get_or more i [] ≡ front
+  late i same = ap (λ k. get_or more k []) (same ∙ last) ∙ get_or-append_seam fronts front [] []
+
+  -- it is none of them
+  other_front : (i : ℕ) → i < length fronts → bytes_eq (get_or fronts i []) front ≡ false
+  other_front i below = false_from_ne_true (bytes_eq (get_or fronts i []) front) (λ t. new i below ((bytes_eq-Decides (get_or fronts i []) front).0 t))
+
+  rising_more : IsSortedBy (comes_before more) sorted
+  rising_more = λ k d low within.
+      let b = get_or sorted k d in
+      let a = get_or sorted (k + 1) d in
+      let b_below : b < length fronts = placed.below k d (omega arith) in
+      let a_below : a < length fronts = placed.below (k + 1) d within in
+      ap (λ (t : Name). is_lt (slice_cmp nat_cmp t (get_or more b []))) (early a a_below) ∙ ap (λ (t : Name). is_lt (slice_cmp nat_cmp (get_or fronts a []) t)) (early b b_below) ∙ placed.rising k d low within
+
+  waiting_more : All (λ k. k < length more) (values after)
+  waiting_more =
+      All-same (λ k. k < length more) (values_of after.entries) (values_of (insert_entry key_cmp recent.entries key n)) (ap values_of grown)
+      (All-values-insert_entry key_cmp key n (λ k. k < length more) recent.entries (All-weaker (λ k. k < length fronts) (λ k. k < length more) (λ k below. omega (arith, long)) (values_of recent.entries) placed.waiting) (omega (arith, long, last)))
+
+  own_more : (other : Name) (m : ℕ) → number_under after other ≡ Some m → (m < length more) × (get_or more m [] ≡ other)
+  own_more other m some =
+      let P : Bool → Type 0 = λ b. bytes_eq other front ≡ b → cond b (Some n) (number_under recent other) ≡ Some m → (m < length more) × (get_or more m [] ≡ other) in
+      (
+      elim (bytes_eq other front) as P [
+        | true ↦ λ same e.
+            let number : n ≡ m = cc in
+            (omega (arith, long, last), late m (sym number) ∙ sym ((bytes_eq-Decides other front).0 same))
+        | false ↦ λ differs e.
+            let old = placed.own other m e in
+            (omega (arith, long, old.0), early m old.0 ∙ old.1)
+      ]
+      )
+      refl
+      (sym (under_after recent after key front other n own grown) ∙ some)
+
+  kept_more : (i : ℕ) → i < length more → Contains sorted i ⊎ (number_under after (get_or more i []) ≡ Some i)
+  kept_more i within = elim (cases_eq i n) [
+    | inl same ↦
+        inr (ap (λ (name : Name). number_under after name) (late i same) ∙ under_after recent after key front front n own grown
+        ∙ ap (λ b. cond b (Some n) (number_under recent front)) ((bytes_eq-Decides front front).1 refl) ∙ ap {B = Option ℕ} (λ (k : ℕ). Some k) (sym same))
+    | inr other ↦
+        let below : i < length fronts = omega (arith, long, last) in
+        ⊎_elim
+        (λ among. inl among)
+        (λ under.
+        inr (ap (λ (name : Name). number_under after name) (early i below) ∙ under_after recent after key front (get_or fronts i []) n own grown
+        ∙ ap (λ b. cond b (Some n) (number_under recent (get_or fronts i []))) (other_front i below) ∙ under))
+        (placed.kept i below)
+  ]
+
+  apart_more : (i j : ℕ) → i < length more → j < length more → get_or more i [] ≡ get_or more j [] → i ≡ j
+  apart_more i j i_within j_within same = elim (cases_eq i n) [
+    | inl i_last ↦ elim (cases_eq j n) [
+      | inl j_last ↦ i_last ∙ sym j_last
+      | inr j_other ↦
+          let below : j < length fronts = omega (arith, long, last) in
+          absurd (new j below (sym (early j below) ∙ sym same ∙ late i i_last))
     ]
-    )
-    refl
-    absent
+    | inr i_other ↦
+        let i_below : i < length fronts = omega (arith, long, last) in
+        elim (cases_eq j n) [
+          | inl j_last ↦ absurd (new i i_below (sym (early i i_below) ∙ same ∙ late j j_last))
+          | inr j_other ↦
+              let j_below : j < length fronts = omega (arith, long, last) in
+              placed.apart i j i_below j_below (sym (early i i_below) ∙ same ∙ early j j_below)
+        ]
+  ]
 
--- the number that is added is kept with its front
-front_with-own : {A : Type 0} (es : List (Vec ℕ A × ℕ)) (key : Vec ℕ A) (n : ℕ) → lookup (is_at (key_cmp key)) es ≡ None → All (λ number. number < n) (values_of es) → front_with (insert_entry key_cmp es key n) n ≡ key.items
-front_with-own [] key n absent below = rw (eq-eqb n n refl) refl
-front_with-own {A} (e ∷ es) key n absent below =
-    let early : (e.1 == n) ≡ false = false_from_ne_true (e.1 == n) (λ t. let same : e.1 ≡ n = eqb-true e.1 n t in let less : e.1 < n = All-head (λ number. number < n) e.1 (values_of es) below in omega arith) in
-    let P : Ordering → Type 0 = λ o. key_cmp key e.0 ≡ o → cond (is_eq o) (Some e.1) (lookup (is_at (key_cmp key)) es) ≡ None
-    → front_with (match_ordering o ((key, n) ∷ e ∷ es) ((e.0, n) ∷ es) (e ∷ insert_entry key_cmp es key n)) n ≡ key.items in
-    (
-    elim (key_cmp key e.0) as P [
-      | Less ↦ λ own none. rw (eq-eqb n n refl) refl
-      | Equal ↦ λ own none. absurd (cc)
-      | Greater ↦ λ own none. rw early (front_with-own es key n none (All-tail (λ number. number < n) e.1 (values_of es) below))
-    ]
-    )
-    refl
-    absent
+  -- each has its one number
+  pub placed_push : IsPlaced (fronts ++ front ∷ []) sorted after
+  placed_push = record {
+    rising = rising_more;
+    below = All-weaker (λ k. k < length fronts) (λ k. k < length more) (λ k below. omega (arith, long)) sorted placed.below;
+    waiting = waiting_more;
+    own = own_more;
+    kept = kept_more;
+    apart = apart_more;
+  }
 
--- functions that agree below a bound map a range alike
-map_below : (f g : ℕ → Name) (a n : ℕ) → ((k : ℕ) → k < a + n → f k ≡ g k) → map f (range_with_len a n) ≡ map g (range_with_len a n)
-map_below f g a zero same = refl
-map_below f g a (suc n) same =
-    let first : f a ≡ g a = same a (omega arith) in
-    let rest : map f (range_with_len (a + 1) n) ≡ map g (range_with_len (a + 1) n) = map_below f g (a + 1) n (λ k within. same k (omega arith)) in
-    cc
+-- ---- the later ones among the earlier ones
 
--- the fronts after one more
-pub list_push : {A : Type 0} (numbers after : BTreeMap (Vec ℕ A) ℕ) (key : Vec ℕ A) (front : Name) (n : ℕ) → IsNumbered numbers → number_under numbers front ≡ None → key.items ≡ front → n ≡ length numbers.entries
-    → after.entries ≡ insert_entry key_cmp numbers.entries key n → length after.entries ≡ n + 1 → front_list after ≡ front_list numbers ++ front ∷ []
-list_push {A} numbers after key front n kept absent own last grown long =
-    let es = numbers.entries in
-    let none : lookup (is_at (key_cmp key)) es ≡ None = ap (λ (bs : Name). lookup (is_at (front_cmp bs)) es) own ∙ absent in
-    let new : List (Vec ℕ A × ℕ) = insert_entry key_cmp es key n in
-    let below : All (λ number. number < n) (values_of es) = rw last kept.below in
-    ap (λ (xs : List (Vec ℕ A × ℕ)). map (front_with xs) (range_with_len 0 (length after.entries))) grown
-    ∙ ap (λ k. map (front_with new) (range_with_len 0 k)) long
-    ∙ map-range_with_len_more (front_with new) 0 n n (omega arith)
-    ∙ ap (λ (bs : Name). map (front_with new) (range_with_len 0 n) ++ bs ∷ []) (front_with-own es key n none below ∙ own)
-    ∙ ap (λ (names : List Name). names ++ front ∷ []) (map_below (front_with new) (front_with es) 0 n (λ k within. front_with-other es key n k none (false_from_ne_true (n == k) (λ t. let same : n ≡ k = eqb-true n k t in omega arith)))
-    ∙ ap (λ k. map (front_with es) (range_with_len 0 k)) last)
+-- what a look-up finds is among the values
+value_among : {K : Type 0} (test : K → Bool) (es : List (K × ℕ)) (n : ℕ) → lookup test es ≡ Some n → Contains (values_of es) n
+value_among test es n found =
+    subst (λ (o : Option ℕ). IfSome o (Contains (values_of es))) found (IfSome-lookup_from_All (Contains (values_of es)) test es (All-contains_itself (values_of es)))
 
--- numbers below a count that is the same
-below_after : {A : Type 0} (after : BTreeMap (Vec ℕ A) ℕ) (n len : ℕ) → len ≡ n + 1 → All (λ number. number < n + 1) (values_of after.entries) → All (λ number. number < len) (values_of after.entries)
-below_after after n len same below = All-weaker (λ number. number < n + 1) (λ number. number < len) (λ number less. omega arith) (values_of after.entries) below
-
--- what is kept under a front that has no place
-pub nothing_under : (front : Name) (fronts : List Name) (o : Option ℕ) → IsPlaceOf front fronts None → IsPlaceOf front fronts o → o ≡ None
-nothing_under front fronts None none place = refl
-nothing_under front fronts (Some n) none place = absurd (none n place.0 place.1)
-
--- nor is anything under a key with its bytes
-pub no_key : {A : Type 0} (numbers : BTreeMap (Vec ℕ A) ℕ) (key : Vec ℕ A) (front : Name) → key.items ≡ front → number_under numbers front ≡ None → lookup (is_at (key_cmp key)) numbers.entries ≡ None
-no_key numbers key front own absent = ap (λ (bs : Name). lookup (is_at (front_cmp bs)) numbers.entries) own ∙ absent
-
--- one more front is kept with its number
-pub numbered_push : {A : Type 0} (numbers after : BTreeMap (Vec ℕ A) ℕ) (key : Vec ℕ A) (front : Name) (n : ℕ)
-    → IsNumbered numbers → IsPlaceOf front (front_list numbers) None → number_under numbers front ≡ None → key.items ≡ front → n ≡ length numbers.entries → after.entries ≡ insert_entry key_cmp numbers.entries key n → length after.entries ≡ n + 1
-    → IsNumbered after
-numbered_push {A} numbers after key front n kept new absent own last grown long =
-    let grows = list_push numbers after key front n kept absent own last grown long in
-    let count : n ≡ length (front_list numbers) = last ∙ sym (length-map-range_with_len (front_with numbers.entries) 0 (length numbers.entries)) in
+-- all numbers in order
+pub placed_settled : {A : Type 0} (fronts : List Name) (sorted numbers whole : List ℕ) (recent empty : BTreeMap (Vec ℕ A) ℕ) → IsPlaced fronts sorted recent → numbers ≡ sorted ++ values recent → IsPermutation numbers whole
+    → IsSortedBy (comes_before fronts) whole → empty.entries ≡ [] → IsPlaced fronts whole empty
+placed_settled {A} fronts sorted numbers whole recent empty placed joined moved rising none =
+    let P : ℕ → Type 0 = λ k. k < length fronts in
     record {
-      placed = λ other. rw grows (placed_push (front_list numbers) numbers after key front n kept.placed new own count grown other);
-      below = below_after after n (length after.entries) long (All-same (λ number. number < n + 1) (values_of after.entries) (values_of (insert_entry key_cmp numbers.entries key n)) (ap values_of grown) (All-values-insert_entry key_cmp key n (λ number. number < n + 1) numbers.entries (All-weaker (λ number. number < n) (λ number. number < n + 1) (λ number less. omega arith) (values_of numbers.entries) (rw last kept.below)) (omega arith)));
+      rising = rising;
+      below = All-permutation P numbers whole moved (All-same P numbers (sorted ++ values recent) joined (All-append P sorted (values recent) placed.below placed.waiting));
+      waiting = All-same P (values_of empty.entries) [] (ap values_of none) (All-nil P);
+      own = λ front n some.
+          let nothing : number_under empty front ≡ None = ap (λ (es : List (Vec ℕ A × ℕ)). lookup (is_at (front_cmp front)) es) none in
+          let both : None ≡ Some n = sym nothing ∙ some in
+          absurd (cc);
+      kept = λ i below.
+          inl (Contains-permutation numbers whole i moved (subst (λ (xs : List ℕ). Contains xs i) (sym joined) (⊎_elim
+          (λ among. Contains-append_left sorted (values recent) i among)
+          (λ under. Contains-append_right sorted (values recent) i (value_among (is_at (front_cmp (get_or fronts i []))) recent.entries i under))
+          (placed.kept i below))));
+      apart = placed.apart;
     }
 
--- so the front has the last number
-pub last_place : (front : Name) (fronts after : List Name) (n : ℕ) → IsPlaceOf front fronts None → after ≡ fronts ++ front ∷ [] → n ≡ length fronts → IsPlaceOf front after (Some n)
-last_place front fronts after n none grown last = rw (grown, last) (place_last front fronts none)
+-- others with the same entries serve as well
+pub placed_same : {A : Type 0} (fronts : List Name) (sorted : List ℕ) (recent after : BTreeMap (Vec ℕ A) ℕ) → after.entries ≡ recent.entries → IsPlaced fronts sorted recent → IsPlaced fronts sorted after
+placed_same {A} fronts sorted recent after same placed =
+    let under : (name : Name) → number_under after name ≡ number_under recent name = λ name. ap (λ (es : List (Vec ℕ A × ℕ)). lookup (is_at (front_cmp name)) es) same in
+    record {
+      rising = placed.rising;
+      below = placed.below;
+      waiting = All-same (λ k. k < length fronts) (values_of after.entries) (values_of recent.entries) (ap values_of same) placed.waiting;
+      own = λ name n some. placed.own name n (sym (under name) ∙ some);
+      kept = λ i below. ⊎_elim (λ among. inl among) (λ there. inr (under (get_or fronts i []) ∙ there)) (placed.kept i below);
+      apart = placed.apart;
+    }
 
--- there are as many fronts as entries
-pub list_length : {A : Type 0} (numbers : BTreeMap (Vec ℕ A) ℕ) → length numbers.entries ≡ length (front_list numbers)
-list_length numbers = sym (length-map-range_with_len (front_with numbers.entries) 0 (length numbers.entries))
+-- a front that was added last and is taken off leaves the others
+pub front_taken : (fronts after : List Name) (front : Name) → after ≡ fronts ++ front ∷ [] → take (length after - 1) after ≡ fronts
+front_taken fronts after front grown =
+    ap (λ (names : List Name). take (length names - 1) names) grown
+    ∙ take_at fronts (front ∷ []) (length (fronts ++ front ∷ []) - 1) (omega (arith, length-append fronts (front ∷ [])))

@@ -7,6 +7,7 @@ pub mod ShortBytes
 pub mod NameLemmas
 pub mod ValueLemmas
 pub mod ListedLemmas
+mod TextLemmas
 mod FrontLemmas
 mod TailLemmas
 mod BlockLemmas

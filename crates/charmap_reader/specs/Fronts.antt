@@ -1,20 +1,11 @@
 -- The fronts of the names of a charmap, by their numbers.
-use Rattle.std.specs.Prelude.{◌≡◌, ◌≢◌, ℕ, ◌<◌, ◌⊎◌, ◌==◌, List, [], ◌∷◌, ◌++◌, length, get_or, map, All, Option, Some, None, if◌then◌else◌}
+use Rattle.std.specs.Prelude.{◌≡◌, ◌≢◌, ℕ, ◌<◌, ◌⊎◌, Bool, List, [], ◌∷◌, ◌++◌, length, get_or, All, Contains, Option, Some, None}
 use Rattle.std.specs.BTreeMap.{BTreeMap, get_by, values}
 use Rattle.std.specs.Cmp.Lexicographic.{slice_cmp}
-use Rattle.std.specs.List.{range_with_len}
-use Rattle.std.specs.Ordering.{nat_cmp}
+use Rattle.std.specs.List.Sorted.{IsSortedBy}
+use Rattle.std.specs.Ordering.{nat_cmp, is_lt}
 use Rattle.std.specs.declared.vec.Vec.{Vec}
 use Rattle.charmap_reader.specs.Portable.{Name}
-
--- the front that is kept with a number
-abbrev pub front_with : {A : Type 0} → List (Vec ℕ A × ℕ) → ℕ → Name
-front_with [] number = []
-front_with (e ∷ es) number = if e.1 == number then e.0.items else front_with es number
-
--- the fronts in the order of their numbers
-abbrev pub front_list : {A : Type 0} → BTreeMap (Vec ℕ A) ℕ → List Name
-front_list numbers = map (front_with numbers.entries) (range_with_len 0 (length numbers.entries))
 
 -- an answer is the one place of a front, or none where it is not there
 abbrev pub IsPlaceOf : Name → List Name → Option ℕ → Type 0
@@ -29,7 +20,23 @@ Keeps old new = (new ≡ old) ⊎ ((front : Name) × (new ≡ old ++ front ∷ [
 abbrev pub number_under : {A : Type 0} → BTreeMap (Vec ℕ A) ℕ → Name → Option ℕ
 number_under numbers front = get_by (λ (key : Vec ℕ _). slice_cmp nat_cmp front key.items) numbers
 
--- each front is found at its one place, and no number is past their count
-pub record IsNumbered {A : Type 0} (numbers : BTreeMap (Vec ℕ A) ℕ) : Type 0 where
-  pub placed : (front : Name) → IsPlaceOf front (front_list numbers) (number_under numbers front)
-  pub below : All (λ number. number < length numbers.entries) (values numbers)
+-- whether the text of a number comes before that of another
+abbrev pub comes_before : List Name → ℕ → ℕ → Bool
+comes_before texts a b = is_lt (slice_cmp nat_cmp (get_or texts a []) (get_or texts b []))
+
+-- a number has a text, and is among these
+abbrev pub HasFront : List Name → List ℕ → Name → ℕ → Type 0
+HasFront texts numbers text n = Contains numbers n × (get_or texts n [] ≡ text)
+
+-- a number does not have a text
+abbrev pub LacksFront : List Name → Name → ℕ → Type 0
+LacksFront texts text n = get_or texts n [] ≢ text
+
+-- each front has one number, which stands either in the order of their bytes or under the front
+pub record IsPlaced {A : Type 0} (fronts : List Name) (sorted : List ℕ) (recent : BTreeMap (Vec ℕ A) ℕ) : Type 0 where
+  pub rising : IsSortedBy (comes_before fronts) sorted
+  pub below : All (λ n. n < length fronts) sorted
+  pub waiting : All (λ n. n < length fronts) (values recent)
+  pub own : (front : Name) (n : ℕ) → number_under recent front ≡ Some n → (n < length fronts) × (get_or fronts n [] ≡ front)
+  pub kept : (i : ℕ) → i < length fronts → Contains sorted i ⊎ (number_under recent (get_or fronts i []) ≡ Some i)
+  pub apart : (i j : ℕ) → i < length fronts → j < length fronts → get_or fronts i [] ≡ get_or fronts j [] → i ≡ j

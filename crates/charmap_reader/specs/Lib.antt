@@ -9,6 +9,7 @@ pub mod Subject
 pub mod Seen
 pub mod Encoding
 pub mod Tails
+pub mod Texts
 pub mod Fronts
 pub mod Spans
 pub mod Blocks

@@ -21,6 +21,7 @@ mod subject;
 mod tail;
 #[cfg(test)]
 mod tests;
+mod texts;
 mod unicode;
 
 pub use charmap::read_charmap;

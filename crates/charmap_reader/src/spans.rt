@@ -3,6 +3,7 @@
 ghost use Rattle.std.specs.Prelude.{◌≡◌, ◌+◌, ◌^◌, ◌<◌, [], find, IfOk, OnErr, MatchBool};
 ghost use Rattle.charmap_reader.specs.Spans.{last_of, end_of, is_in, Meets, IsClear, Adds, IsFirstFrom, IsNext};
 
+use crate::texts::number_of;
 use std::alloc::{AllocError, Global};
 use std::collections::BTreeMap;
 use std::marker::Model;
@@ -23,15 +24,15 @@ pub struct Block {
 #[derive(Clone, Copy, Debug)]
 pub struct Span {
     /// The number of the front.
-    pub front: usize,
+    pub front: u32,
     pub block: Block,
 }
 
 /// Where a tail stands: the number of its front, its width and its number.
-pub type Spot = (usize, u32, u32);
+pub type Spot = (u32, u32, u32);
 
 /// The spans that end at each spot.
-type Ends = BTreeMap<Spot, usize>;
+type Ends = BTreeMap<Spot, u32>;
 
 /// Spans of which no two have a name in common, in the order of the text.
 #[derive(Debug, Drop)]
@@ -54,7 +55,7 @@ impl Model for Spans {
 }
 
 /// The first end from a spot on.
-fn end_from(ends: &Ends, spot: Spot) -> Option<(Spot, usize)>
+fn end_from(ends: &Ends, spot: Spot) -> Option<(Spot, u32)>
     ensures { IsFirstFrom ends.now spot result }
 {
     let (end, at) = ends.range(spot..).next()?;
@@ -95,7 +96,7 @@ impl Spans {
         if end.0 != spot.0 || end.1 != spot.1 {
             return None;
         }
-        Some(self.spans[at])
+        Some(self.spans[at as usize])
     }
 
     /// The span that has a name.
@@ -130,7 +131,7 @@ impl Spans {
         if self.meets(&span) {
             return Ok(false);
         }
-        let at = self.spans.len();
+        let at = number_of(self.spans.len())?;
         self.spans.push(span)?;
         if let Err(_) = self.ends.insert(end_of(&span), at) {
             self.spans.pop();

@@ -14,6 +14,6 @@ invariant_of-self-in-Err c =
 pub invariant_of-self-in_default : goal.invariant_of-self-in_default
 invariant_of-self-in_default c =
     let clear : IsClear c.self.inside.spans.items c.args.span = rw (← c.self.view_is) at c.if-meets.ensures in
-    let at : c.len-at.result ≡ length c.self.inside.spans.items = search rules in
-    rw (c.in_ok-push.ensures.items) (indexed_push c.self.inside.spans.items c.self.inside.ends c.insert.new.self c.args.span c.len-at.result c.self.invariant clear.apart at
-    (λ q. c.in_default.ensures.updates.0 q ∙ ap (λ (end : Spot). cond (is_eq (spot_cmp end q)) (Some c.len-at.result) (ending_at c.self.inside.ends q)) c.end_of.ensures))
+    let at : c.in_ok-at.at ≡ length c.self.inside.spans.items = search rules in
+    rw (c.in_ok-push.ensures.items) (indexed_push c.self.inside.spans.items c.self.inside.ends c.insert.new.self c.args.span c.in_ok-at.at c.self.invariant clear.apart at
+    (λ q. c.in_default.ensures.updates.0 q ∙ ap (λ (end : Spot). cond (is_eq (spot_cmp end q)) (Some c.in_ok-at.at) (ending_at c.self.inside.ends q)) c.end_of.ensures))
