@@ -1,4 +1,3 @@
 pub use Rattle.lc_base.specs.Reading
-pub mod Keywords
 pub mod NumericValues
 pub mod Numeric
