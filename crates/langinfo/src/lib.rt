@@ -1,0 +1,11 @@
+//! What a program asks of a locale by nl_langinfo and localeconv (XSH nl_langinfo, localeconv).
+#![tactic(auto)]
+
+mod conv;
+mod items;
+mod keyword;
+#[cfg(test)]
+mod tests;
+
+pub use conv::{Lconv, localeconv};
+pub use items::nl_langinfo;
