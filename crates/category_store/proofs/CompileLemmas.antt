@@ -9,14 +9,19 @@ use Rattle.lc_base.specs.declared.category.Category.{Category}
 use Rattle.lc_base.specs.declared.category.Category.TheVariants.{Ctype, Numeric, Monetary, Time, Messages}
 use Rattle.lc_base.specs.Lines.{◌>>=◌ as ◌then◌}
 use Rattle.lc_base.specs.Reading.{Reads, ◌>>=◌}
+use Rattle.ctype_classes.specs.CtypeValues.{CtypeValues}
+use Rattle.ctype_classes.specs.Ctype.{posix_values as posix_classes}
 use Rattle.numeric_cat.specs.NumericValues.{NumericValues}
 use Rattle.numeric_cat.specs.Numeric.{posix_values}
+use Rattle.monetary_cat.specs.Monetary.{posix_values as posix_money}
+use Rattle.time_cat.specs.Values.{posix_values as posix_times}
+use Rattle.messages_cat.specs.Messages.{posix_values as posix_messages}
 use Rattle.category_store.specs.declared.kept.Kept.{Kept}
 use Rattle.category_store.specs.declared.row.Row.{Row}
 use Rattle.category_store.specs.Sources.{Source}
 use Rattle.category_store.specs.Copies.{end_of}
 use Rattle.category_store.specs.Written.{Written, written_for, written_at}
-use Rattle.category_store.specs.Compiled.{not_built, numeric_of, read_or, category_of, available, locale_of, locales_from}
+use Rattle.category_store.specs.Compiled.{ctype_of, numeric_of, monetary_of, time_of, messages_of, read_or, category_of, available, locale_of, locales_from}
 use Rattle.category_store.specs.Catalog.{Locale}
 use Rattle.category_store.specs.Kept.{slots, kept, given_or, kept_or, value_or, fault_in, kept_of, ends_fault, row_of, rows_from, row_at, locale_in, rows_fault}
 use Rattle.category_store.specs.Library.{posix_locale, locale_among}
@@ -71,17 +76,17 @@ five_same p q r s t make a x b y c z d u e v ea eb ec ed ee = rw (ea, eb, ec, ed
 -- a locale, or its first fault
 locale_told : (S : List Source) (n : ℕ) (s : Source) → locale_of S n s ≡ unless (ends_fault (kept_of S) (row_of S n s).ends) (locale_in (kept_of S) (row_of S n s))
 locale_told S n s =
-    five_same tt posix_values tt tt tt (λ _ numeric _ _ _. record { name = s.name; available = available S n; numeric = numeric })
-    (kept_or tt (slots not_built S Ctype) (end_of S Ctype n)) (category_of tt not_built S Ctype n)
+    five_same posix_classes posix_values posix_money posix_times posix_messages (λ ctype numeric monetary time messages. record { name = s.name; available = available S n; ctype = ctype; numeric = numeric; monetary = monetary; time = time; messages = messages })
+    (kept_or posix_classes (slots ctype_of S Ctype) (end_of S Ctype n)) (category_of posix_classes ctype_of S Ctype n)
     (kept_or posix_values (slots numeric_of S Numeric) (end_of S Numeric n)) (category_of posix_values numeric_of S Numeric n)
-    (kept_or tt (slots not_built S Monetary) (end_of S Monetary n)) (category_of tt not_built S Monetary n)
-    (kept_or tt (slots not_built S Time) (end_of S Time n)) (category_of tt not_built S Time n)
-    (kept_or tt (slots not_built S Messages) (end_of S Messages n)) (category_of tt not_built S Messages n)
-    (kept_or-is tt not_built S Ctype (end_of S Ctype n))
+    (kept_or posix_money (slots monetary_of S Monetary) (end_of S Monetary n)) (category_of posix_money monetary_of S Monetary n)
+    (kept_or posix_times (slots time_of S Time) (end_of S Time n)) (category_of posix_times time_of S Time n)
+    (kept_or posix_messages (slots messages_of S Messages) (end_of S Messages n)) (category_of posix_messages messages_of S Messages n)
+    (kept_or-is posix_classes ctype_of S Ctype (end_of S Ctype n))
     (kept_or-is posix_values numeric_of S Numeric (end_of S Numeric n))
-    (kept_or-is tt not_built S Monetary (end_of S Monetary n))
-    (kept_or-is tt not_built S Time (end_of S Time n))
-    (kept_or-is tt not_built S Messages (end_of S Messages n))
+    (kept_or-is posix_money monetary_of S Monetary (end_of S Monetary n))
+    (kept_or-is posix_times time_of S Time (end_of S Time n))
+    (kept_or-is posix_messages messages_of S Messages (end_of S Messages n))
 
 -- ---- all locales
 

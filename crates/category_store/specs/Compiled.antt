@@ -2,11 +2,18 @@
 use Rattle.std.specs.Prelude.{ℕ, ◌+◌, List, [], ◌∷◌, Option, Some, None, is_some, Ok, Err, if◌then◌else◌}
 use Rattle.lc_base.specs.declared.category.Category.{Category}
 use Rattle.lc_base.specs.declared.category.Category.TheVariants.{Ctype, Numeric, Monetary, Time, Messages}
-use Rattle.lc_base.specs.declared.reason.Reason.TheVariants.{NotBuilt}
 use Rattle.lc_base.specs.Mask.{category_bit}
 use Rattle.lc_base.specs.Reading.{Reads, ◌>>=◌}
+use Rattle.ctype_classes.specs.CtypeValues.{CtypeValues}
+use Rattle.ctype_classes.specs.Ctype.{ctype_values, posix_values as posix_classes}
 use Rattle.numeric_cat.specs.NumericValues.{NumericValues}
 use Rattle.numeric_cat.specs.Numeric.{numeric_values, posix_values}
+use Rattle.monetary_cat.specs.MonetaryValues.{MonetaryValues}
+use Rattle.monetary_cat.specs.Monetary.{monetary_values, posix_values as posix_money}
+use Rattle.time_cat.specs.TimeValues.{TimeValues}
+use Rattle.time_cat.specs.Values.{time_values, posix_values as posix_times}
+use Rattle.messages_cat.specs.MessagesValues.{MessagesValues}
+use Rattle.messages_cat.specs.Messages.{messages_values, posix_values as posix_messages}
 use Rattle.category_store.specs.Sources.{Source}
 use Rattle.category_store.specs.Copies.{section_at, end_of}
 use Rattle.category_store.specs.Written.{Written, written_at}
@@ -14,13 +21,25 @@ use Rattle.category_store.specs.Catalog.{Locale}
 
 -- ---- what keyword lists give, category by category
 
--- a category that is not built yet: a list for it is refused, at the header of its section
-abbrev pub not_built : Written → Reads (Unit {0})
-not_built written = Err (written.place, NotBuilt)
+-- LC_CTYPE, over the charset of the source in which the list is written (XBD 7.3.1)
+abbrev pub ctype_of : Written → Reads CtypeValues
+ctype_of written = ctype_values written.entries written.place written.charset
 
 -- LC_NUMERIC (XBD 7.3.4)
 abbrev pub numeric_of : Written → Reads NumericValues
 numeric_of written = numeric_values written.entries
+
+-- LC_MONETARY (XBD 7.3.3)
+abbrev pub monetary_of : Written → Reads MonetaryValues
+monetary_of written = monetary_values written.entries
+
+-- LC_TIME (XBD 7.3.5)
+abbrev pub time_of : Written → Reads TimeValues
+time_of written = time_values written.entries
+
+-- LC_MESSAGES (XBD 7.3.6)
+abbrev pub messages_of : Written → Reads MessagesValues
+messages_of written = messages_values written.entries
 
 -- ---- locales
 
@@ -45,12 +64,20 @@ available sources n =
 -- the locale of a source, compiled: its categories in their order
 abbrev pub locale_of : List Source → ℕ → Source → Reads Locale
 locale_of sources n s =
-    category_of tt not_built sources Ctype n >>= λ _.
+    category_of posix_classes ctype_of sources Ctype n >>= λ ctype.
     category_of posix_values numeric_of sources Numeric n >>= λ numeric.
-    category_of tt not_built sources Monetary n >>= λ _.
-    category_of tt not_built sources Time n >>= λ _.
-    category_of tt not_built sources Messages n >>= λ _.
-    Ok (record { name = s.name; available = available sources n; numeric = numeric })
+    category_of posix_money monetary_of sources Monetary n >>= λ monetary.
+    category_of posix_times time_of sources Time n >>= λ time.
+    category_of posix_messages messages_of sources Messages n >>= λ messages.
+    Ok (record {
+      name = s.name;
+      available = available sources n;
+      ctype = ctype;
+      numeric = numeric;
+      monetary = monetary;
+      time = time;
+      messages = messages;
+    })
 
 -- the locales of sources, of which the first has this number
 abbrev pub locales_from : List Source → ℕ → List Source → Reads (List Locale)

@@ -7,14 +7,18 @@ use Rattle.lc_base.specs.declared.category.Category.TheVariants.{Ctype, Numeric,
 use Rattle.lc_base.specs.declared.reason.Reason.{Reason}
 use Rattle.lc_base.specs.Lines.{◌>>=◌}
 use Rattle.lc_base.specs.Reading.{Reads}
+use Rattle.ctype_classes.specs.Ctype.{posix_values as posix_classes}
 use Rattle.numeric_cat.specs.Numeric.{posix_values}
+use Rattle.monetary_cat.specs.Monetary.{posix_values as posix_money}
+use Rattle.time_cat.specs.Values.{posix_values as posix_times}
+use Rattle.messages_cat.specs.Messages.{posix_values as posix_messages}
 use Rattle.category_store.specs.declared.numbers.Numbers.{Numbers}
 use Rattle.category_store.specs.declared.row.Row.{Row}
 use Rattle.category_store.specs.declared.kept.Kept.{Kept}
 use Rattle.category_store.specs.Sources.{Source}
 use Rattle.category_store.specs.Copies.{end_of}
 use Rattle.category_store.specs.Written.{Written, written_for}
-use Rattle.category_store.specs.Compiled.{not_built, numeric_of, available}
+use Rattle.category_store.specs.Compiled.{ctype_of, numeric_of, monetary_of, time_of, messages_of, available}
 use Rattle.category_store.specs.Catalog.{Locale}
 
 -- ---- one category of all sources
@@ -51,11 +55,11 @@ fault_in (Err fault) = Some fault
 -- the categories of sources
 abbrev pub kept_of : List Source → Kept
 kept_of sources = record {
-  ctype = slots not_built sources Ctype;
+  ctype = slots ctype_of sources Ctype;
   numeric = slots numeric_of sources Numeric;
-  monetary = slots not_built sources Monetary;
-  time = slots not_built sources Time;
-  messages = slots not_built sources Messages;
+  monetary = slots monetary_of sources Monetary;
+  time = slots time_of sources Time;
+  messages = slots messages_of sources Messages;
 }
 
 -- a locale whose categories are kept under these numbers
@@ -63,18 +67,22 @@ abbrev pub locale_with : List ℕ → ℕ → Kept → Numbers → Locale
 locale_with name mask kept ends = record {
   name = name;
   available = mask;
+  ctype = value_or posix_classes (kept_or posix_classes kept.ctype ends.ctype);
   numeric = value_or posix_values (kept_or posix_values kept.numeric ends.numeric);
+  monetary = value_or posix_money (kept_or posix_money kept.monetary ends.monetary);
+  time = value_or posix_times (kept_or posix_times kept.time ends.time);
+  messages = value_or posix_messages (kept_or posix_messages kept.messages ends.messages);
 }
 
 -- the first fault of the categories that are kept under these numbers
 abbrev pub ends_fault : Kept → Numbers → Option (Place × Reason)
 ends_fault kept ends =
     option_or (option_or (option_or (option_or
-    (fault_in (kept_or tt kept.ctype ends.ctype))
+    (fault_in (kept_or posix_classes kept.ctype ends.ctype))
     (fault_in (kept_or posix_values kept.numeric ends.numeric)))
-    (fault_in (kept_or tt kept.monetary ends.monetary)))
-    (fault_in (kept_or tt kept.time ends.time)))
-    (fault_in (kept_or tt kept.messages ends.messages))
+    (fault_in (kept_or posix_money kept.monetary ends.monetary)))
+    (fault_in (kept_or posix_times kept.time ends.time)))
+    (fault_in (kept_or posix_messages kept.messages ends.messages))
 
 -- ---- rows
 

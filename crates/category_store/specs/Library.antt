@@ -13,7 +13,11 @@ use Rattle.mask_compose.specs.Parts.{Parts}
 use Rattle.mask_compose.specs.Offer.{Offered}
 use Rattle.lc_base.specs.Categories.{categories}
 use Rattle.mask_compose.specs.Names.{mixed_parts}
+use Rattle.ctype_classes.specs.Ctype.{posix_values as posix_classes}
 use Rattle.numeric_cat.specs.Numeric.{posix_values}
+use Rattle.monetary_cat.specs.Monetary.{posix_values as posix_money}
+use Rattle.time_cat.specs.Values.{posix_values as posix_times}
+use Rattle.messages_cat.specs.Messages.{posix_values as posix_messages}
 use Rattle.category_store.specs.Blocks.{by_place}
 use Rattle.category_store.specs.Sources.{Source, with_named, charsets, sources_of}
 use Rattle.category_store.specs.Copies.{is_posix, locale_numbers, copy_fault}
@@ -77,7 +81,15 @@ catalog charmaps locales later native =
 
 -- the POSIX locale, which has all categories
 abbrev pub posix_locale : Locale
-posix_locale = record { name = codes "C"; available = 31; numeric = posix_values }
+posix_locale = record {
+  name = codes "C";
+  available = 31;
+  ctype = posix_classes;
+  numeric = posix_values;
+  monetary = posix_money;
+  time = posix_times;
+  messages = posix_messages;
+}
 
 -- the compiled locale with a number; 0, and a number that no locale has, are the POSIX locale
 abbrev pub locale_among : List Locale → ℕ → Locale

@@ -6,10 +6,13 @@ ghost use Rattle.category_store.specs.Written.{Written as List};
 ghost use Rattle.category_store.specs.Seen.{written};
 
 use crate::written::Written;
-use lc_base::{Reason, TextFault};
+use ctype_classes::Ctype;
+use lc_base::TextFault;
+use messages_cat::Messages;
+use monetary_cat::Monetary;
 use numeric_cat::Numeric;
 use std::alloc::{AllocError, Global};
-use std::marker::Model;
+use time_cat::Time;
 
 /// A category that is compiled from a keyword list.
 pub trait Built: Drop {
@@ -28,29 +31,20 @@ pub trait Built: Drop {
         ensures { IfOk result (λ c. c ≡ posix_value) };
 }
 
-/// A category that is not built yet: a keyword list for it is refused, at the header of its section.
-#[derive(Drop)]
-pub struct Unbuilt;
+impl Built for Ctype {
+    ghost use Rattle.ctype_classes.specs.Ctype.{posix_values};
+    ghost use Rattle.category_store.specs.Compiled.{ctype_of};
 
-impl Model for Unbuilt {
-    ghost Value = { Unit {0} };
+    ghost gives = { ctype_of };
 
-    ghost view = { λ _. tt };
-}
+    ghost posix_value = { posix_values };
 
-impl Built for Unbuilt {
-    ghost use Rattle.category_store.specs.Compiled.{not_built};
-
-    ghost gives = { not_built };
-
-    ghost posix_value = { tt };
-
-    fn build(_alloc: Global, list: Written<'_>) -> Result<Unbuilt, TextFault> {
-        Err(TextFault::At(list.place, Reason::NotBuilt))
+    fn build(alloc: Global, list: Written<'_>) -> Result<Ctype, TextFault> {
+        Ctype::build(alloc, list.entries, list.place, list.charset)
     }
 
-    fn posix(_alloc: Global) -> Result<Unbuilt, AllocError> {
-        Ok(Unbuilt)
+    fn posix(alloc: Global) -> Result<Ctype, AllocError> {
+        Ctype::posix(alloc)
     }
 }
 
@@ -68,5 +62,56 @@ impl Built for Numeric {
 
     fn posix(alloc: Global) -> Result<Numeric, AllocError> {
         Numeric::posix(alloc)
+    }
+}
+
+impl Built for Monetary {
+    ghost use Rattle.monetary_cat.specs.Monetary.{posix_values};
+    ghost use Rattle.category_store.specs.Compiled.{monetary_of};
+
+    ghost gives = { monetary_of };
+
+    ghost posix_value = { posix_values };
+
+    fn build(alloc: Global, list: Written<'_>) -> Result<Monetary, TextFault> {
+        Monetary::build(alloc, list.entries)
+    }
+
+    fn posix(alloc: Global) -> Result<Monetary, AllocError> {
+        Monetary::posix(alloc)
+    }
+}
+
+impl Built for Time {
+    ghost use Rattle.time_cat.specs.Values.{posix_values};
+    ghost use Rattle.category_store.specs.Compiled.{time_of};
+
+    ghost gives = { time_of };
+
+    ghost posix_value = { posix_values };
+
+    fn build(alloc: Global, list: Written<'_>) -> Result<Time, TextFault> {
+        Time::build(alloc, list.entries)
+    }
+
+    fn posix(alloc: Global) -> Result<Time, AllocError> {
+        Time::posix(alloc)
+    }
+}
+
+impl Built for Messages {
+    ghost use Rattle.messages_cat.specs.Messages.{posix_values};
+    ghost use Rattle.category_store.specs.Compiled.{messages_of};
+
+    ghost gives = { messages_of };
+
+    ghost posix_value = { posix_values };
+
+    fn build(alloc: Global, list: Written<'_>) -> Result<Messages, TextFault> {
+        Messages::build(alloc, list.entries)
+    }
+
+    fn posix(alloc: Global) -> Result<Messages, AllocError> {
+        Messages::posix(alloc)
     }
 }

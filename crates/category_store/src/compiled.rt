@@ -5,9 +5,13 @@ ghost use Rattle.category_store.specs.Kept.{locale_with};
 
 use crate::kept::Kept;
 use crate::numbers::Numbers;
+use ctype_classes::Ctype;
 use lc_base::Mask;
+use messages_cat::Messages;
+use monetary_cat::Monetary;
 use numeric_cat::Numeric;
 use std::marker::Model;
+use time_cat::Time;
 
 /// A compiled locale of a library. A category that it lacks is the POSIX locale's.
 #[derive(Drop)]
@@ -53,10 +57,38 @@ impl<'a> Compiled<'a> {
         self.available
     }
 
+    /// The locale's LC_CTYPE.
+    pub fn ctype(&self) -> &'a Ctype
+        ensures { result.now ≡ self.now.ctype }
+    {
+        self.kept.ctype.get(self.ends.ctype)
+    }
+
     /// The locale's LC_NUMERIC.
     pub fn numeric(&self) -> &'a Numeric
         ensures { result.now ≡ self.now.numeric }
     {
         self.kept.numeric.get(self.ends.numeric)
+    }
+
+    /// The locale's LC_MONETARY.
+    pub fn monetary(&self) -> &'a Monetary
+        ensures { result.now ≡ self.now.monetary }
+    {
+        self.kept.monetary.get(self.ends.monetary)
+    }
+
+    /// The locale's LC_TIME.
+    pub fn time(&self) -> &'a Time
+        ensures { result.now ≡ self.now.time }
+    {
+        self.kept.time.get(self.ends.time)
+    }
+
+    /// The locale's LC_MESSAGES.
+    pub fn messages(&self) -> &'a Messages
+        ensures { result.now ≡ self.now.messages }
+    {
+        self.kept.messages.get(self.ends.messages)
     }
 }

@@ -6,14 +6,18 @@ ghost use Rattle.category_store.specs.Seen.{source};
 ghost use Rattle.category_store.specs.Written.{written_for};
 ghost use Rattle.category_store.specs.Kept.{slots, kept, kept_or, value_or, fault_in, kept_of, ends_fault};
 
-use crate::built::{Built, Unbuilt};
+use crate::built::Built;
 use crate::numbers::Numbers;
 use crate::source::Source;
 use crate::written::written_for;
+use ctype_classes::Ctype;
 use lc_base::{Category, Place, Reason, TextFault};
+use messages_cat::Messages;
+use monetary_cat::Monetary;
 use numeric_cat::Numeric;
 use std::alloc::{AllocError, Global};
 use std::marker::Model;
+use time_cat::Time;
 
 /// What the keyword lists of one category give, source by source, where there are any.
 #[derive(Drop)]
@@ -104,11 +108,11 @@ fn slot_of<T: Built>(
 /// The categories of all sources.
 #[derive(Drop)]
 pub struct Kept {
-    pub ctype: Slots<Unbuilt>,
+    pub ctype: Slots<Ctype>,
     pub numeric: Slots<Numeric>,
-    pub monetary: Slots<Unbuilt>,
-    pub time: Slots<Unbuilt>,
-    pub messages: Slots<Unbuilt>,
+    pub monetary: Slots<Monetary>,
+    pub time: Slots<Time>,
+    pub messages: Slots<Messages>,
 }
 
 impl Kept {

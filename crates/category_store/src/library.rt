@@ -62,8 +62,7 @@ impl Library {
     ///
     /// The refusal is the first fault: of the charmaps in order, then of the sources in order of
     /// place, then `CopyMissing` or `CopyCycle` of a copy, and last of the categories, by locale in
-    /// order of place. A section of `LC_CTYPE`, `LC_MONETARY`, `LC_TIME` or `LC_MESSAGES` is
-    /// `NotBuilt` at its header.
+    /// order of place and in a locale in the order of `Category`.
     pub fn build(
         alloc: Global,
         charmaps: &List<Block>,
@@ -285,9 +284,9 @@ fn library_of(
     ensures { Gives (λ l. l) result (catalog_from (option_copied native.entry) (map source sources.now)) }
 {
     let first = locale_numbers(alloc, sources)?;
-    let locales = compile(alloc, sources, &first)?;
     let names = names_of(alloc, sources)?;
     let native = native_number(&names, native);
     let keys = keys_of(alloc, sources)?;
+    let locales = compile(alloc, sources, &first)?;
     Ok(Library::of(locales, names, first, keys, native))
 }

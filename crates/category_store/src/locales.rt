@@ -43,8 +43,8 @@ impl Locales {
         requires few { length sources.now < 2 ^ 31 }
         ensures { Gives (λ l. l) result (locales_of (map source sources.now)) }
     {
-        let kept = Kept::read(alloc, sources)?;
         let rows = rows(alloc, sources, ends)?;
+        let kept = Kept::read(alloc, sources)?;
         match rows_fault(&kept, rows.as_slice()) {
             Some((place, reason)) => Err(TextFault::At(place, reason)),
             None => Ok(Locales { rows, kept }),

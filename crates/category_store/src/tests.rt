@@ -4,11 +4,13 @@ ghost use Rattle.std.specs.Prelude.{◌≡◌, ◌<◌, ◌≤◌, ◌^◌, leng
 ghost use Rattle.category_store.specs.Blocks.{IsSized};
 
 use crate::{Library, NoData, Share};
-use lc_base::{Block, ByteText, Category, Later, List, Mask, Place, Reason, TextFault};
+use lc_base::{Block, ByteText, Category, Class, Later, List, Mask, Place, Reason, TextFault};
 use mask_compose::Offer;
+use monetary_cat::MonText;
 use std::alloc::{AllocError, Global};
 use std::process::Abort;
 use std::test::Fail;
+use time_cat::TimeText;
 
 /// A block: the key of a later version, the name, the charset and the text. A charmap has no
 /// charset.
@@ -101,12 +103,30 @@ fn later(alloc: Global, rows: &[Row]) -> Result<List<Later>, AllocError>
     Ok(List::of(blocks))
 }
 
-/// The library of the blocks of rows.
-fn build(alloc: Global, rows: &[Row], native: Option<&[u8]>) -> Result<Library, TextFault> {
+/// The library of blocks, alone in a list.
+fn library_of(
+    alloc: Global,
+    charmaps: &List<Block>,
+    locales: &List<Block>,
+    later: &List<Later>,
+    native: Option<&[u8]>,
+) -> Result<List<Library>, TextFault>
+    requires few { (length locales.now ≤ 64) × (length later.now ≤ 64) }
+    requires charmaps { All IsSized charmaps.now }
+    requires locales { All IsSized locales.now }
+    requires later { All (λ l. IsSized l.block) later.now }
+{
+    let mut libraries = Vec::new(alloc);
+    libraries.push(Library::build(alloc, charmaps, locales, later, native)?)?;
+    Ok(List::of(libraries))
+}
+
+/// The library of the blocks of rows, alone in a list.
+fn build(alloc: Global, rows: &[Row], native: Option<&[u8]>) -> Result<List<Library>, TextFault> {
     let charmaps = blocks(alloc, rows, true)?;
     let locales = blocks(alloc, rows, false)?;
     let later = later(alloc, rows)?;
-    Library::build(alloc, &charmaps, &locales, &later, native)
+    library_of(alloc, &charmaps, &locales, &later, native)
 }
 
 const COMMA: &str = "LC_NUMERIC\ndecimal_point \",\"\nEND LC_NUMERIC\n";
@@ -135,12 +155,31 @@ const POSIX: &str =
 const A_AND_POSIX: &str =
     "LC_NUMERIC\ncopy \"a\"\nEND LC_NUMERIC\nLC_TIME\ncopy \"C\"\nEND LC_TIME\n";
 
-const TIME_FIRST: &str = "LC_TIME\nEND LC_TIME\nLC_NUMERIC\ncopy \"b\"\nEND LC_NUMERIC\n";
+const ONE_HALF_DAY: &str = "LC_TIME\nam_pm \"AM\"\nEND LC_TIME\n";
+
+const MONEY: &str = "LC_MONETARY\nfrac_digits 19\nEND LC_MONETARY\n";
+
+const MONEY_B: &str = "LC_MONETARY\ncopy \"b\"\nEND LC_MONETARY\n";
+
+const MONEY_FIRST: &str =
+    "LC_MONETARY\nfrac_digits 19\nEND LC_MONETARY\nLC_NUMERIC\ncopy \"b\"\nEND LC_NUMERIC\n";
+
+const DIGIT_LETTER: &str = "LC_CTYPE\ndigit <A>\nEND LC_CTYPE\n";
+
+const UPPER_SPACE: &str = "LC_CTYPE\nupper <space>\nEND LC_CTYPE\n";
+
+const DOTS: &str =
+    "LC_CTYPE\nupper <dot>\nEND LC_CTYPE\nLC_TIME\nt_fmt \"%H<dot>\"\nEND LC_TIME\nLC_MESSAGES\nyesexpr \"<dot>\"\nEND LC_MESSAGES\nLC_MONETARY\npositive_sign \"<dot>\"\nEND LC_MONETARY\n";
+
+const DOTS_A: &str =
+    "LC_CTYPE\ncopy \"a\"\nEND LC_CTYPE\nLC_TIME\ncopy \"a\"\nEND LC_TIME\nLC_MESSAGES\ncopy \"a\"\nEND LC_MESSAGES\nLC_MONETARY\ncopy \"a\"\nEND LC_MONETARY\n";
+
+const CLASSES_B: &str = "LC_CTYPE\ncopy \"b\"\nEND LC_CTYPE\n";
 
 const CHARMAP: &str = "CHARMAP\n<dot> \\xb7\nEND CHARMAP\n";
 
 /// Blocks, and where and why they are refused.
-const FAULTS: [(&[Row], u32, u32, Reason); 15] = [
+const FAULTS: [(&[Row], u32, u32, Reason); 18] = [
     // copies of what is not there, in a later version alone, or lacks the category
     (
         &[("", "a", "UTF-8", COPY_B), ("", "c", "UTF-8", COMMA)],
@@ -221,22 +260,43 @@ const FAULTS: [(&[Row], u32, u32, Reason); 15] = [
         Reason::CopyMissing,
     ),
     (
-        &[("", "a", "UTF-8", TIME_FIRST), ("", "b", "UTF-8", EMPTY)],
+        &[("", "a", "UTF-8", MONEY_FIRST), ("", "b", "UTF-8", EMPTY)],
         102,
         15,
         Reason::EmptyRadix,
     ),
     (
-        &[("k", "a", "UTF-8", TIME), ("", "b", "UTF-8", EMPTY)],
-        1,
-        1,
-        Reason::NotBuilt,
+        &[
+            ("", "a", "UTF-8", CLASSES_B),
+            ("", "b", "UTF-8", DIGIT_LETTER),
+        ],
+        102,
+        7,
+        Reason::DigitsNotTen,
     ),
     (
-        &[("", "a", "UTF-8", TIME_B), ("", "b", "UTF-8", TIME)],
-        101,
+        &[("", "a", "UTF-8", UPPER_SPACE)],
         1,
-        Reason::NotBuilt,
+        1,
+        Reason::Excluded(Class::Upper, Class::Space, 32),
+    ),
+    (
+        &[("", "a", "UTF-8", TIME_B), ("", "b", "UTF-8", ONE_HALF_DAY)],
+        102,
+        1,
+        Reason::WrongCount,
+    ),
+    (
+        &[("k", "a", "UTF-8", MONEY), ("", "b", "UTF-8", EMPTY)],
+        2,
+        13,
+        Reason::BadNumber,
+    ),
+    (
+        &[("", "a", "UTF-8", MONEY_B), ("", "b", "UTF-8", MONEY)],
+        102,
+        13,
+        Reason::BadNumber,
     ),
 ];
 
@@ -300,8 +360,57 @@ fn check_locales(rt: &impl Abort, library: &Library, locales: &[(&[u8], u32, &[u
 
 #[test]
 fn compiles_locales(rt: HostRuntime) -> Result<(), Fail> {
-    let library = build(rt.alloc(), &COMPILED, None).map_err(|_| "refused")?;
-    check_locales(&rt, &library, &LOCALES);
+    let libraries = build(rt.alloc(), &COMPILED, None).map_err(|_| "refused")?;
+    let library = libraries.as_slice().get(0).ok_or("a library")?;
+    check_locales(&rt, library, &LOCALES);
+    Ok(())
+}
+
+/// A locale over a charmap with classes and texts of its own; one that copies them; and one that has
+/// neither.
+const COPIED: [Row; 4] = [
+    ("", "m", "", CHARMAP),
+    ("", "a", "m", DOTS),
+    ("", "b", "UTF-8", DOTS_A),
+    ("", "c", "UTF-8", COMMA),
+];
+
+/// Whether the dot is in the class `upper`, the name of the code set, the sign of an amount that is
+/// not negative, the format of a time of day, and what says yes, of the locales by their numbers.
+type Values = (
+    bool,
+    &'static [u8],
+    &'static [u8],
+    &'static [u8],
+    &'static [u8],
+);
+
+const CATEGORIES: [Values; 4] = [
+    (false, b"US-ASCII", b"", b"%H:%M:%S", b"^[yY]"),
+    (true, b"m", b"\xb7", b"%H\xb7", b"\xb7"),
+    (true, b"m", b"\xb7", b"%H\xb7", b"\xb7"),
+    (false, b"US-ASCII", b"", b"%H:%M:%S", b"^[yY]"),
+];
+
+/// Checks the categories that a library has under its numbers.
+fn check_categories(rt: &impl Abort, library: &Library, categories: &[Values]) {
+    let mut number = 0u32;
+    for (is_upper, codeset, sign, clock, yes) in categories {
+        let compiled = library.compiled(Share { number });
+        assert_eq!(rt; compiled.ctype().is(b"upper", 0xb7), Some(*is_upper));
+        assert_eq!(rt; compiled.ctype().codeset(), *codeset);
+        assert_eq!(rt; compiled.monetary().text(MonText::PositiveSign), *sign);
+        assert_eq!(rt; compiled.time().text(TimeText::Clock), *clock);
+        assert_eq!(rt; compiled.messages().yesexpr(), *yes);
+        number = number.saturating_add(1);
+    }
+}
+
+#[test]
+fn copies_categories(rt: HostRuntime) -> Result<(), Fail> {
+    let libraries = build(rt.alloc(), &COPIED, None).map_err(|_| "refused")?;
+    let library = libraries.as_slice().get(0).ok_or("a library")?;
+    check_categories(&rt, library, &CATEGORIES);
     Ok(())
 }
 
@@ -364,14 +473,16 @@ fn check_numbers(rt: &impl Abort, library: &Library, rows: &[Numbered]) -> Resul
 
 #[test]
 fn numbers_names(rt: HostRuntime) -> Result<(), Fail> {
-    let library = build(rt.alloc(), &NAMED, Some(b"a")).map_err(|_| "refused")?;
-    check_numbers(&rt, &library, &NUMBERS)
+    let libraries = build(rt.alloc(), &NAMED, Some(b"a")).map_err(|_| "refused")?;
+    let library = libraries.as_slice().get(0).ok_or("a library")?;
+    check_numbers(&rt, library, &NUMBERS)
 }
 
 #[test]
 fn numbers_names_without_native(rt: HostRuntime) -> Result<(), Fail> {
-    let library = build(rt.alloc(), &NAMED, None).map_err(|_| "refused")?;
-    check_numbers(&rt, &library, &NUMBERS_WITHOUT_NATIVE)
+    let libraries = build(rt.alloc(), &NAMED, None).map_err(|_| "refused")?;
+    let library = libraries.as_slice().get(0).ok_or("a library")?;
+    check_numbers(&rt, library, &NUMBERS_WITHOUT_NATIVE)
 }
 
 /// What an offer has of these.
@@ -418,11 +529,12 @@ fn check_keys(rt: &impl Abort, library: &Library, keys: &[(&[u8], Option<(u32, O
 
 #[test]
 fn offers_locales(rt: HostRuntime) -> Result<(), Fail> {
-    let library = build(rt.alloc(), &NAMED, None).map_err(|_| "refused")?;
+    let libraries = build(rt.alloc(), &NAMED, None).map_err(|_| "refused")?;
+    let library = libraries.as_slice().get(0).ok_or("a library")?;
     assert_eq!(rt; library.posix().part(Category::Time).number, 0);
     let opening = library.opening(rt.alloc())?;
     check_offers(&rt, opening.as_slice(), &OPENING);
-    check_keys(&rt, &library, &KEYS);
+    check_keys(&rt, library, &KEYS);
     Ok(())
 }
 
@@ -449,7 +561,8 @@ fn follows_a_chain(rt: HostRuntime) -> Result<(), Fail> {
     let blocks = List::of(blocks);
     let none = List::of(Vec::new(alloc));
     let charmaps = List::of(Vec::new(alloc));
-    let library = Library::build(alloc, &charmaps, &blocks, &none, None).map_err(|_| "refused")?;
+    let libraries = library_of(alloc, &charmaps, &blocks, &none, None).map_err(|_| "refused")?;
+    let library = libraries.as_slice().get(0).ok_or("a library")?;
     let first = library.compiled(Share { number: 1 });
     assert_eq!(rt; first.numeric().decimal_point(), b",".as_slice());
     Ok(())
