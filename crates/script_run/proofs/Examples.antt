@@ -1,18 +1,20 @@
 -- Bundles, and what their scripts print, at worked examples.
 use Rattle.std.proofs.Common.{◌≡◌, ℕ, List, [], ◌∷◌, Option, Some, None, refl}
-use Rattle.std.specs.Prelude.{codes}
+use Rattle.std.specs.Prelude.{negsuc, codes}
 use Rattle.lc_base.specs.declared.category.Category.TheVariants as categories
 use Rattle.lc_base.specs.declared.block.Block.{Block}
 use Rattle.numeric_cat.specs.NumericValues.{NumericValues}
 use Rattle.category_store.specs.Catalog.{Locale, Catalog}
+use Rattle.category_store.specs.Library.{posix_locale}
 use Rattle.handle_table.specs.declared.handle.Named.TheVariants as named
 use Rattle.handle_table.specs.Entry as table
-use Rattle.script_lang.specs.declared.command.Item.TheVariants.{Radixchar, Thousep}
+use Rattle.lc_base.specs.declared.item.Item.TheVariants.{Radixchar, Thousep}
+use Rattle.script_lang.specs.declared.command.Read.TheVariants.{Info}
 use Rattle.script_lang.specs.declared.command.Categories.TheVariants.{All, One}
 use Rattle.script_lang.specs.declared.command.Target.{Target}
 use Rattle.script_lang.specs.declared.command.Target.TheVariants as targets
 use Rattle.script_lang.specs.declared.command.Command.{Command}
-use Rattle.script_lang.specs.declared.command.Command.TheVariants.{New, Free, Use, Selected, Setlocale, LocaleName, Info}
+use Rattle.script_lang.specs.declared.command.Command.TheVariants.{New, Free, Use, Selected, Setlocale, LocaleName, Read}
 use Rattle.script_lang.specs.declared.command.Placed.{Placed}
 use Rattle.script_lang.specs.declared.output.OutLine.{OutLine}
 use Rattle.script_lang.specs.declared.output.Places.{Places}
@@ -28,10 +30,10 @@ use Rattle.script_run.specs.Serial.{shown, serial_lines}
 -- ---- a bundle: the locale `a` has LC_NUMERIC alone, `b` copies it, and `a` is the native one
 
 abbrev values : NumericValues
-values = record { decimal_point = codes ","; thousands_sep = codes "." }
+values = record { decimal_point = codes ","; thousands_sep = codes "."; grouping = negsuc 0 ∷ [] }
 
 abbrev locale : List ℕ → Locale
-locale name = record { name = name; available = 2; numeric = values }
+locale name = record posix_locale { name = name; available = 2; numeric = values }
 
 abbrev library : Catalog
 library = record {
@@ -109,7 +111,7 @@ no_command : lines [] ≡ ended 1 0 ∷ []
 no_command = refl
 
 -- a category that the locale lacks makes an entry; the native locale has its name; nothing is selected
-native_and_no_data : lines (Setlocale All (codes "a") ∷ Setlocale (One categories.Numeric) [] ∷ LocaleName All ∷ Info Radixchar ∷ Selected ∷ [])
+native_and_no_data : lines (Setlocale All (codes "a") ∷ Setlocale (One categories.Numeric) [] ∷ LocaleName All ∷ Read (Info Radixchar) ∷ Selected ∷ [])
     ≡ refused 1 (places.One 0) (table.NoData categories.Ctype)
     ∷ line 2 (places.One 1) (Some 1) (said.Name (codes "a"))
     ∷ line 3 places.None (Some 1) (said.Name numeric_a)
@@ -119,7 +121,7 @@ native_and_no_data : lines (Setlocale All (codes "a") ∷ Setlocale (One categor
 native_and_no_data = refl
 
 -- the name of a category is the locale that was named, also where it copies
-copied_numeric : lines (Setlocale (One categories.Numeric) (codes "b") ∷ Info Radixchar ∷ Info Thousep ∷ [])
+copied_numeric : lines (Setlocale (One categories.Numeric) (codes "b") ∷ Read (Info Radixchar) ∷ Read (Info Thousep) ∷ [])
     ≡ line 1 (places.One 0) (Some 1) (said.Name (codes "b"))
     ∷ line 2 places.None (Some 1) (said.Text (codes ","))
     ∷ line 3 places.None (Some 1) (said.Text (codes "."))
@@ -137,7 +139,7 @@ mixed_names : lines (Setlocale All numeric_a ∷ Setlocale (One categories.Numer
 mixed_names = refl
 
 -- an object that is freed while it is selected stays the thread's own; `setlocale` asks for the global locale all the same
-freed_while_selected : lines (New (codes "x") 2 (codes "a") ∷ Use x ∷ Info Radixchar ∷ Free x ∷ Use x ∷ Info Radixchar ∷ Selected ∷ LocaleName (One categories.Numeric) ∷ Use targets.Global ∷ Info Radixchar ∷ [])
+freed_while_selected : lines (New (codes "x") 2 (codes "a") ∷ Use x ∷ Read (Info Radixchar) ∷ Free x ∷ Use x ∷ Read (Info Radixchar) ∷ Selected ∷ LocaleName (One categories.Numeric) ∷ Use targets.Global ∷ Read (Info Radixchar) ∷ [])
     ≡ line 1 (places.One 0) None (said.Handle (record { owner = 0; row = 0; generation = 1 }))
     ∷ line 2 (places.One 1) None (said.Was named.Global)
     ∷ line 3 places.None None (said.Text (codes ","))

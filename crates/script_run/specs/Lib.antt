@@ -1,5 +1,6 @@
 pub mod Plan
 pub mod Names
+pub mod Reads
 pub mod Variables
 pub mod Serial
 pub mod Thread

@@ -1,4 +1,4 @@
--- The names and the texts of locale objects (XSH setlocale and nl_langinfo).
+-- The names of locale objects (XSH setlocale).
 use Rattle.std.specs.Prelude.{ℕ, List, [], ◌∷◌, map, if◌then◌else◌}
 use Rattle.std.specs.List.{list_all}
 use Rattle.std.specs.Str.{bytes_eq}
@@ -8,9 +8,6 @@ use Rattle.mask_compose.specs.Parts.{Parts, part_of}
 use Rattle.mask_compose.specs.Names.{mixed_name}
 use Rattle.category_store.specs.Catalog.{Catalog}
 use Rattle.category_store.specs.Library.{locale_at}
-use Rattle.numeric_cat.specs.NumericValues.{NumericValues}
-use Rattle.script_lang.specs.declared.command.Item.{Item}
-use Rattle.script_lang.specs.declared.command.Item.TheVariants.{Radixchar, Thousep}
 use Rattle.script_lang.specs.declared.command.Categories.{Categories}
 use Rattle.script_lang.specs.declared.command.Categories.TheVariants.{All, One}
 
@@ -27,12 +24,3 @@ joint_name (name ∷ names) = if list_all (bytes_eq name) names then name else m
 abbrev pub object_name : Catalog → Parts → Categories → List ℕ
 object_name library object (One category) = part_name library object category
 object_name library object All = joint_name (map (part_name library object) categories)
-
--- the text of an item of LC_NUMERIC (XSH nl_langinfo)
-abbrev pub numeric_text : NumericValues → Item → List ℕ
-numeric_text values Radixchar = values.decimal_point
-numeric_text values Thousep = values.thousands_sep
-
--- the text of an item of an object
-abbrev pub item_text : Catalog → Parts → Item → List ℕ
-item_text library object item = numeric_text (locale_at library object.numeric).numeric item

@@ -1,4 +1,4 @@
--- What a script prints that is run thread by thread, by the history of its calls (our own; XSH newlocale, freelocale, uselocale, setlocale and nl_langinfo for the calls).
+-- What a script prints that is run thread by thread, by the history of its calls (our own; XSH newlocale, freelocale, uselocale and setlocale for the calls).
 use Rattle.std.specs.Prelude.{ℕ, ◌+◌, nat_lt, List, [], ◌∷◌, length, Option, Some, None, Result, Ok, Err, if◌then◌else◌}
 use Rattle.lc_base.specs.declared.category.Category.{Category}
 use Rattle.lc_base.specs.Mask.{category_bit}
@@ -14,7 +14,7 @@ use Rattle.handle_table.specs.Entry as table
 use Rattle.handle_table.specs.Entry.{History, Setting}
 use Rattle.handle_table.specs.History.{sets, global, selection}
 use Rattle.handle_table.specs.Answer.{answer, entry, own}
-use Rattle.script_lang.specs.declared.command.Item.{Item}
+use Rattle.script_lang.specs.declared.command.Read.{Read}
 use Rattle.script_lang.specs.declared.command.Categories.{Categories}
 use Rattle.script_lang.specs.declared.command.Categories.TheVariants.{All, One}
 use Rattle.script_lang.specs.declared.command.Target.{Target}
@@ -30,7 +30,8 @@ use Rattle.script_lang.specs.declared.output.Why.TheVariants as whys
 use Rattle.script_lang.specs.declared.output.Said.{Said}
 use Rattle.script_lang.specs.declared.output.Said.TheVariants as said
 use Rattle.script_run.specs.Plan.{PlanData}
-use Rattle.script_run.specs.Names.{object_name, item_text}
+use Rattle.script_run.specs.Names.{object_name}
+use Rattle.script_run.specs.Reads.{local}
 use Rattle.script_run.specs.Variables.{Bindings, bound}
 
 -- the table of a plan: its threads, so many rows and generations, and what its locale names offer at first
@@ -97,7 +98,16 @@ setlocale_op library categories locale = set_op library (categories_mask categor
 abbrev pub handle_given : table.Reply → Option Handle
 handle_given (table.Made h) = Some h
 handle_given (table.Got h) = Some h
-handle_given _ = None
+handle_given table.Freed = None
+handle_given (table.Was former now) = None
+handle_given (table.Held object) = None
+handle_given table.Released = None
+handle_given (table.Set version object) = None
+handle_given (table.Installed count) = None
+handle_given table.Posted = None
+handle_given (table.Pinned count) = None
+handle_given table.Ended = None
+handle_given (table.Refused refusal) = None
 
 -- the bindings with one more, where there is a variable to bind and a handle to bind it to
 abbrev pub with_binding : Bindings → Option (List ℕ) → Option Handle → Bindings
@@ -140,7 +150,17 @@ shown library categories (table.Refused refusal) = said.Refused (whys.Table (ref
 -- the version that a reply prints: that of the global locale that it made
 abbrev pub version_made : table.Reply → Option ℕ
 version_made (table.Set version object) = Some version
-version_made _ = None
+version_made (table.Made h) = None
+version_made table.Freed = None
+version_made (table.Was former now) = None
+version_made (table.Held object) = None
+version_made table.Released = None
+version_made (table.Installed count) = None
+version_made table.Posted = None
+version_made (table.Got h) = None
+version_made (table.Pinned count) = None
+version_made table.Ended = None
+version_made (table.Refused refusal) = None
 
 -- ---- lines
 
@@ -157,10 +177,10 @@ line at place version reply = record { round = at.round; thread = at.thread; ind
 abbrev pub global_line : History → Caller → Said → OutLine
 global_line H at reply = line at places.None (Some (sets H)) reply
 
--- an item of the thread's own object, or of the global locale with its version
-abbrev pub info_line : Setting → Catalog → History → Caller → Item → Option Parts → OutLine
-info_line c library H at item (Some object) = line at places.None None (said.Text (item_text library object item))
-info_line c library H at item None = global_line H at (said.Text (item_text library (global c H) item))
+-- a read of the thread's own object, or of the global locale with its version
+abbrev pub read_line : Setting → Catalog → History → Caller → Read → Option Parts → OutLine
+read_line c library H at read (Some object) = line at places.None None (local library object read)
+read_line c library H at read None = global_line H at (local library (global c H) read)
 
 -- the name of the global locale with its version, whatever the thread has selected
 abbrev pub name_line : Setting → Catalog → History → Caller → Categories → OutLine
@@ -203,7 +223,7 @@ step c library H b at (commands.Use target) = asks c library H b at None All (us
 step c library H b at commands.Selected = tells H b (told_line at (said.Is (selection H at.thread)))
 step c library H b at (commands.Setlocale categories locale) = asks c library H b at None categories (setlocale_op library categories locale)
 step c library H b at (commands.LocaleName categories) = tells H b (name_line c library H at categories)
-step c library H b at (commands.Info item) = tells H b (info_line c library H at item (own H at.thread))
+step c library H b at (commands.Read read) = tells H b (read_line c library H at read (own H at.thread))
 
 -- the closing line of a thread: its end
 abbrev pub end_line : Setting → Catalog → History → Caller → OutLine

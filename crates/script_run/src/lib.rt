@@ -4,6 +4,7 @@
 mod asks;
 mod names;
 mod plan;
+mod reads;
 mod script;
 mod session;
 mod thread;

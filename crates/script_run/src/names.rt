@@ -1,13 +1,12 @@
-//! The names and the texts of locale objects.
+//! The names of locale objects.
 
 ghost use Rattle.std.specs.Prelude.{◌≡◌, ◌∷◌, [], IfOk};
-ghost use Rattle.script_run.specs.Names.{part_name, joint_name, object_name, numeric_text, item_text};
+ghost use Rattle.script_run.specs.Names.{part_name, joint_name, object_name};
 
 use category_store::{Library, Share};
 use lc_base::{ByteText, Category};
 use mask_compose::{Object, join_names};
-use numeric_cat::Numeric;
-use script_lang::{Categories, Item};
+use script_lang::Categories;
 use std::alloc::{AllocError, Global};
 
 /// The name of an object for a category, or for all of them (XSH setlocale).
@@ -54,25 +53,5 @@ fn joint_name(
         ByteText::of(alloc, ctype)
     } else {
         join_names(alloc, ctype, numeric, monetary, time, messages)
-    }
-}
-
-/// The text of an item of an object (XSH nl_langinfo).
-pub fn item_text<'a>(library: &'a Library, object: &Object<Share>, item: Item) -> &'a [u8]
-    ensures { result.now ≡ item_text library.now object.now item }
-{
-    numeric_text(
-        library.compiled(*object.part(Category::Numeric)).numeric(),
-        item,
-    )
-}
-
-/// The text of an item of `LC_NUMERIC`.
-fn numeric_text(values: &Numeric, item: Item) -> &[u8]
-    ensures { result.now ≡ numeric_text values.now item }
-{
-    match item {
-        Item::Radixchar => values.decimal_point(),
-        Item::Thousep => values.thousands_sep(),
     }
 }

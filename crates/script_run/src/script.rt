@@ -10,22 +10,20 @@ ghost use Rattle.category_store.specs.Library.{opening};
 ghost use Rattle.script_lang.specs.declared.bundle.TheConstants.{ROUND_LIMIT, COMMAND_LIMIT};
 ghost use Rattle.script_run.specs.Variables.{Bindings};
 ghost use Rattle.script_run.specs.Seen.{caller, asked as asked_of};
-ghost use Rattle.script_run.specs.Names.{item_text};
-ghost use Rattle.script_lang.specs.declared.output.Said.TheVariants.{Text};
 ghost use Rattle.script_run.specs.Session.{IsAt, IsReady, GoesOn, IsFresh};
 ghost use Rattle.script_run.specs.Plan.{IsNumbered};
-ghost use Rattle.script_run.specs.Serial.{bindings_after, handle_given, shown, version_made, line, info_line, name_line, told_line, placed_line, end_line, asks, step, lines_from, serial_lines};
+ghost use Rattle.script_run.specs.Serial.{bindings_after, handle_given, shown, version_made, line, read_line, name_line, told_line, placed_line, end_line, asks, step, lines_from, serial_lines};
 
 use crate::asks::{free_op, new_op, setlocale_op, use_op};
-use crate::names::{item_text, object_name};
+use crate::names::object_name;
 use crate::plan::Plan;
+use crate::reads::local;
 use crate::session::Session;
 use crate::thread::Thread;
 use category_store::{Library, Share};
 use handle_table::{Handle, Op, Reply, Table};
 use lc_base::{ByteText, List};
-use mask_compose::Object;
-use script_lang::{Categories, Command, Item, OutLine, Placed, Places, Said, Why};
+use script_lang::{Categories, Command, OutLine, Placed, Places, Read, Said, Why};
 use std::alloc::{AllocError, Global};
 
 /// Whose line it is: the round from 1, the thread from 0, and the index of its line from 1.
@@ -150,44 +148,31 @@ fn command_line(
             asked_line(alloc, library, session, at, None, *categories, asked)
         }
         Command::LocaleName(categories) => name_line(alloc, library, session, at, *categories),
-        Command::Info(item) => info_line(alloc, library, session, at, *item),
+        Command::Read(read) => read_line(alloc, library, session, at, read),
     }
 }
 
-/// The line of an info command: it reads the thread's own object, or the global locale with its
-/// version.
-fn info_line(
+/// The line of a read: it reads the thread's own object, or the global locale with its version.
+fn read_line(
     alloc: Global,
     library: &Library,
     session: &Session,
     at: Caller,
-    item: Item,
+    read: &Read,
 ) -> Result<OutLine, AllocError>
-    ensures { IfOk result (λ l. (H : History) (b : Bindings) → IsAt session.now H b → l ≡ info_line session.now.table.setting library.now H (caller at) item (own H session.now.thread.number)) }
+    ensures { IfOk result (λ l. (H : History) (b : Bindings) → IsAt session.now H b → l ≡ read_line session.now.table.setting library.now H (caller at) read.now (own H session.now.thread.number)) }
 {
     match session.thread.own() {
         Some(object) => {
-            let text = text_of(alloc, library, object, item)?;
-            Ok(told_line(at, text))
+            let said = local(alloc, library, object, read)?;
+            Ok(told_line(at, said))
         }
         None => {
             let global = session.table.global();
-            let text = text_of(alloc, library, global.peek(), item)?;
-            Ok(line(at, Places::None, Some(global.version()), text))
+            let said = local(alloc, library, global.peek(), read)?;
+            Ok(line(at, Places::None, Some(global.version()), said))
         }
     }
-}
-
-/// The text of an item of an object.
-fn text_of(
-    alloc: Global,
-    library: &Library,
-    object: &Object<Share>,
-    item: Item,
-) -> Result<Said, AllocError>
-    ensures { IfOk result (λ said. said ≡ Text (item_text library.now object.now item)) }
-{
-    Ok(Said::Text(ByteText::of(alloc, item_text(library, object, item))?))
 }
 
 /// The line of a setlocale that asks: the name of the global locale with its version.
@@ -260,7 +245,16 @@ fn handle_given(reply: &Reply<Share>) -> Option<Handle>
 {
     match reply {
         Reply::Made(handle) | Reply::Got(handle) => Some(*handle),
-        _ => None,
+        Reply::Freed
+        | Reply::Was { .. }
+        | Reply::Held(_)
+        | Reply::Released
+        | Reply::Set { .. }
+        | Reply::Installed(_)
+        | Reply::Posted
+        | Reply::Pins(_)
+        | Reply::Ended
+        | Reply::Refused(_) => None,
     }
 }
 
@@ -327,7 +321,17 @@ fn version_made(reply: &Reply<Share>) -> Option<u32>
 {
     match reply {
         Reply::Set { version, .. } => Some(*version),
-        _ => None,
+        Reply::Made(_)
+        | Reply::Freed
+        | Reply::Was { .. }
+        | Reply::Held(_)
+        | Reply::Released
+        | Reply::Installed(_)
+        | Reply::Posted
+        | Reply::Got(_)
+        | Reply::Pins(_)
+        | Reply::Ended
+        | Reply::Refused(_) => None,
     }
 }
 

@@ -3,7 +3,7 @@ use Rattle.std.proofs.lemmas.Result.{IfOk-weaker}
 use Rattle.handle_table.specs.Answer.{own}
 use Rattle.script_lang.specs.declared.command.Categories.TheVariants.{All}
 use Rattle.script_run.specs.Seen.{caller}
-use Rattle.script_run.specs.Serial.{Asks, asks, info_line}
+use Rattle.script_run.specs.Serial.{Asks, asks, read_line}
 use Rattle.script_run.proofs.SerialRuns.{free_is, use_is}
 use Rattle.script_run.proofs.script.command_line.Goals as goal
 
@@ -24,6 +24,6 @@ returns-in-Use-clause-line c =
 pub returns-in-LocaleName-clause-line : goal.returns-in-LocaleName-clause-line
 returns-in-LocaleName-clause-line c = rw c.in-LocaleName.is c.name_line.ensures
 
-pub returns-in-Info-clause-line : goal.returns-in-Info-clause-line
-returns-in-Info-clause-line c =
-    rw c.in-Info.is (IfOk-weaker c.info_line.result _ _ (λ l f H b here. f H b here ∙ ap (λ (n : ℕ). info_line c.args.session.now.table.setting c.args.library.now H (caller c.args.at) c.in-Info.item (own H n)) (sym c.requires.caller)) c.info_line.ensures)
+pub returns-in-Read-clause-line : goal.returns-in-Read-clause-line
+returns-in-Read-clause-line c =
+    rw c.in-Read.is (IfOk-weaker c.read_line.result _ _ (λ l f H b here. f H b here ∙ ap (λ (n : ℕ). read_line c.args.session.now.table.setting c.args.library.now H (caller c.args.at) c.in-Read.read (own H n)) (sym c.requires.caller)) c.read_line.ensures)

@@ -1,0 +1,153 @@
+-- What a read of an object replies (XSH nl_langinfo, localeconv, iswctype, towupper, towlower, strfmon and strftime; the words of a refusal are our own).
+use Rattle.std.specs.Prelude.{ℕ, Bool, List, [], ◌∷◌, ◌++◌, map, Option, Some, None, Result, Ok, Err}
+use Rattle.std.specs.Fmt.{decimal}
+use Rattle.std.specs.List.{flat_map}
+use Rattle.lc_base.specs.declared.item.Item.{Item}
+use Rattle.mask_compose.specs.Parts.{Parts}
+use Rattle.ctype_classes.specs.CtypeValues.{CtypeValues}
+use Rattle.ctype_classes.specs.Classes.{class_answer}
+use Rattle.ctype_classes.specs.Case.{image}
+use Rattle.numeric_cat.specs.NumericValues.{NumericValues}
+use Rattle.monetary_cat.specs.MonetaryValues.{MonetaryValues}
+use Rattle.messages_cat.specs.MessagesValues.{MessagesValues}
+use Rattle.time_cat.specs.declared.tm.TmRange.{TmRange}
+use Rattle.time_cat.specs.TimeValues.{TimeValues}
+use Rattle.time_cat.specs.Times.{TmValues, time_of}
+use Rattle.strfmon.specs.declared.fault.MoneyFault.{MoneyFault}
+use Rattle.strfmon.specs.declared.fault.MoneyFault.TheVariants as money_faults
+use Rattle.strfmon.specs.MoneyAmount.{MoneyAmount}
+use Rattle.strfmon.specs.Money.{money}
+use Rattle.strftime_fields.specs.declared.fault.TimeFault.{TimeFault}
+use Rattle.strftime_fields.specs.declared.fault.TimeFault.TheVariants as time_faults
+use Rattle.strftime_fields.specs.Answers.{answer}
+use Rattle.langinfo.specs.declared.conv.Lconv.{Lconv}
+use Rattle.langinfo.specs.Items.{info}
+use Rattle.langinfo.specs.Conv.{conv}
+use Rattle.category_store.specs.Catalog.{Catalog}
+use Rattle.category_store.specs.Library.{locale_at}
+use Rattle.script_lang.specs.Numbers.{Amount}
+use Rattle.script_lang.specs.declared.given.WrittenTime.{WrittenTime}
+use Rattle.script_lang.specs.declared.command.Read.{Read}
+use Rattle.script_lang.specs.declared.command.Read.TheVariants as reads
+use Rattle.script_lang.specs.declared.output.Said.{Said}
+use Rattle.script_lang.specs.declared.output.Said.TheVariants as said
+use Rattle.script_lang.specs.declared.output.Why.TheVariants as whys
+
+-- ---- the categories of an object, each as its locale has it
+
+abbrev pub ctype_in : Catalog → Parts → CtypeValues
+ctype_in library object = (locale_at library object.ctype).ctype
+
+abbrev pub numeric_in : Catalog → Parts → NumericValues
+numeric_in library object = (locale_at library object.numeric).numeric
+
+abbrev pub monetary_in : Catalog → Parts → MonetaryValues
+monetary_in library object = (locale_at library object.monetary).monetary
+
+abbrev pub time_in : Catalog → Parts → TimeValues
+time_in library object = (locale_at library object.time).time
+
+abbrev pub messages_in : Catalog → Parts → MessagesValues
+messages_in library object = (locale_at library object.messages).messages
+
+-- ---- nl_langinfo and localeconv
+
+-- the text of an item
+abbrev pub info_said : Catalog → Parts → Item → Said
+info_said library object item =
+    said.Text (info (ctype_in library object) (numeric_in library object) (monetary_in library object) (time_in library object) (messages_in library object) item)
+
+-- sizes of groups, each behind a `;`
+abbrev pub more_sizes : List ℕ → List ℕ
+more_sizes sizes = flat_map (λ size. 59 ∷ decimal size) sizes
+
+-- the sizes of groups, with `;` between them
+abbrev pub sizes_text : List ℕ → List ℕ
+sizes_text [] = []
+sizes_text (size ∷ sizes) = decimal size ++ more_sizes sizes
+
+-- the fields that are texts, in the order in which they are printed
+abbrev pub conv_texts : Lconv → List (List ℕ)
+conv_texts l =
+    l.decimal_point ∷ l.thousands_sep ∷ sizes_text l.grouping
+    ∷ l.int_curr_symbol ∷ l.currency_symbol ∷ l.mon_decimal_point ∷ l.mon_thousands_sep ∷ sizes_text l.mon_grouping
+    ∷ l.positive_sign ∷ l.negative_sign ∷ []
+
+-- the fields that are numbers, in that order
+abbrev pub conv_numbers : Lconv → List ℕ
+conv_numbers l =
+    l.int_frac_digits ∷ l.frac_digits
+    ∷ l.p_cs_precedes ∷ l.p_sep_by_space ∷ l.n_cs_precedes ∷ l.n_sep_by_space ∷ l.p_sign_posn ∷ l.n_sign_posn
+    ∷ l.int_p_cs_precedes ∷ l.int_n_cs_precedes ∷ l.int_p_sep_by_space ∷ l.int_n_sep_by_space
+    ∷ l.int_p_sign_posn ∷ l.int_n_sign_posn ∷ []
+
+-- the fields of localeconv
+abbrev pub fields_said : Lconv → Said
+fields_said l = said.Conv (conv_texts l) (conv_numbers l)
+
+abbrev pub conv_said : Catalog → Parts → Said
+conv_said library object = fields_said (conv (numeric_in library object) (monetary_in library object))
+
+-- ---- iswctype
+
+-- whether a value is of a class: without such a class it is NoClass
+abbrev pub class_said : Option Bool → Said
+class_said None = said.Refused whys.NoClass
+class_said (Some is) = said.Class is
+
+-- ---- strfmon
+
+-- amounts, as strfmon takes them
+abbrev pub amounts_given : List Amount → List MoneyAmount
+amounts_given amounts = map (λ (a : Amount). record { units = a.units; scale = a.scale }) amounts
+
+-- why there is no text of money. The last row never arises: `money` refuses by the other three alone, and a call that lacks memory
+-- has no reply. It stands because the fault of the call has that variant
+abbrev pub money_fault_said : MoneyFault → Said
+money_fault_said (money_faults.BadFormat at) = said.Refused (whys.BadFormat at)
+money_fault_said (money_faults.MissingAmount at) = said.Refused (whys.MissingAmount at)
+money_fault_said money_faults.TooBig = said.Refused whys.TooBig
+money_fault_said money_faults.Memory = said.Refused whys.TooBig
+
+abbrev pub money_text_said : Result (List ℕ) MoneyFault → Said
+money_text_said (Ok text) = said.Text text
+money_text_said (Err fault) = money_fault_said fault
+
+abbrev pub money_said : Catalog → Parts → ℕ → List ℕ → List Amount → Said
+money_said library object max format amounts = money_text_said (money (monetary_in library object) format (amounts_given amounts) max)
+
+-- ---- strftime
+
+-- the time that is written, or its first field out of its range
+abbrev pub time_given : WrittenTime → Result TmValues TmRange
+time_given t = time_of t.year t.mon t.mday t.hour t.min t.sec t.wday t.yday t.offset t.zone
+
+-- why a time has no text. The last row never arises, as above: `answer` refuses by the other two alone
+abbrev pub time_fault_said : TimeFault → Said
+time_fault_said (time_faults.BadFormat at) = said.Refused (whys.BadFormat at)
+time_fault_said time_faults.TooBig = said.Refused whys.TooBig
+time_fault_said time_faults.Memory = said.Refused whys.TooBig
+
+abbrev pub time_text_said : Result (List ℕ) TimeFault → Said
+time_text_said (Ok text) = said.Text text
+time_text_said (Err fault) = time_fault_said fault
+
+-- a field out of its range goes before all else
+abbrev pub moment_said : TimeValues → ℕ → List ℕ → Result TmValues TmRange → Said
+moment_said values max format (Ok tm) = time_text_said (answer values tm format max)
+moment_said values max format (Err range) = said.Refused (whys.TmRange range.field)
+
+abbrev pub time_said : Catalog → Parts → ℕ → List ℕ → WrittenTime → Said
+time_said library object max format t = moment_said (time_in library object) max format (time_given t)
+
+-- ---- reads
+
+-- what a read replies of an object
+abbrev pub local : Catalog → Parts → Read → Said
+local library object (reads.Info item) = info_said library object item
+local library object reads.Conv = conv_said library object
+local library object (reads.Class class value) = class_said (class_answer (ctype_in library object).classes class value)
+local library object (reads.Upper value) = said.Value (image (ctype_in library object).upper value)
+local library object (reads.Lower value) = said.Value (image (ctype_in library object).lower value)
+local library object (reads.Money max format amounts) = money_said library object max format amounts
+local library object (reads.Time max format time) = time_said library object max format time
