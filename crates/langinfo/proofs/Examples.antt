@@ -14,7 +14,6 @@ use Rattle.monetary_cat.specs.Monetary as monetary
 use Rattle.monetary_cat.specs.Monetary.{text, number}
 use Rattle.time_cat.specs.Values.{values_of}
 use Rattle.messages_cat.specs.Messages as messages
-use Rattle.langinfo.specs.declared.conv.Lconv.{Lconv}
 use Rattle.langinfo.specs.Items.{info}
 use Rattle.langinfo.specs.Conv.{groups, conv}
 

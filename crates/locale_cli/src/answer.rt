@@ -101,7 +101,9 @@ fn run(alloc: Global, input: &[u8]) -> Result<ByteText, TextFault>
     ensures { Gives (λ text. text) result (output_of Serial input.now) }
 {
     let plan = prepare(alloc, input)?;
-    Ok(serial_text(alloc, &plan)?)
+    let text = serial_text(alloc, &plan);
+    drop(plan);
+    Ok(text?)
 }
 
 /// The line of counts.
