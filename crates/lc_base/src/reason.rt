@@ -73,8 +73,6 @@ pub enum Reason {
     FormatRank,
     /// There are more than 100 alternative digits.
     TooManyDigits,
-    /// The text is good in a form that is not built yet.
-    NotBuilt,
 }
 
 /// A part of a line of the bundle.

@@ -4,20 +4,21 @@ use Rattle.std.specs.List.{All}
 use Rattle.std.proofs.lemmas.List.Elements.{All-push, All-nil}
 use Rattle.lc_base.specs.declared.block.Block.{Block}
 use Rattle.lc_base.specs.declared.block.Later.{Later}
-use Rattle.script_lang.specs.declared.bundle.TheConstants.{THREAD_LIMIT, ROUND_LIMIT, COMMAND_LIMIT}
+use Rattle.script_commands.specs.declared.known.TheConstants.{THREAD_LIMIT}
+use Rattle.script_lang.specs.declared.bundle.TheConstants.{ROUND_LIMIT, COMMAND_LIMIT}
 use Rattle.script_lang.specs.declared.bundle.Bundle.{Bundle}
-use Rattle.script_lang.specs.declared.command.Command.{Command}
-use Rattle.script_lang.specs.declared.command.Command.TheVariants.{New, Free, Use, Selected, Setlocale, LocaleName, Read}
-use Rattle.script_lang.specs.declared.command.Placed.{Placed}
-use Rattle.script_lang.specs.declared.command.Target.{Target}
-use Rattle.script_lang.specs.declared.command.Target.TheVariants.{Global, Variable, Handle}
+use Rattle.script_commands.specs.declared.command.Command.{Command}
+use Rattle.script_commands.specs.declared.command.Command.TheVariants.{New, Dup, Free, Use, Selected, Hold, Release, Setlocale, LocaleName, Install, Post, Fetch, Pins, Read, ReadOf}
+use Rattle.script_commands.specs.declared.command.Placed.{Placed}
+use Rattle.script_commands.specs.declared.command.Target.{Target}
+use Rattle.script_commands.specs.declared.command.Target.TheVariants.{Global, Variable, Handle}
 use Rattle.script_lang.specs.declared.reading.BlockKind.{BlockKind}
 use Rattle.script_lang.specs.declared.reading.BlockKind.TheVariants.{Charmap, Locale, Later as LaterKind}
-use Rattle.script_lang.specs.declared.reading.Known.{Known}
 use Rattle.script_lang.specs.declared.reading.Opened.{Opened}
 use Rattle.script_lang.specs.declared.reading.Reading.{Reading}
-use Rattle.script_lang.specs.Reading.{at_first, with_open, with_native, with_current, with_thread, with_round, with_command, with_block, with_line, asked}
-use Rattle.script_lang.specs.Accepted.{IsSized, thread_count, IsOwned, AreOwned, IsPlaced, IsAccepted}
+use Rattle.script_lang.specs.Reading.{at_first, with_open, with_native, with_current, with_thread, with_round, with_command, with_block, with_line}
+use Rattle.script_lang.specs.Accepted.{IsSized, IsPlaced, IsAccepted}
+use Rattle.script_commands.specs.InRange.{IsOwned, IsBaseOwned, IsInRange}
 use Rattle.script_lang.specs.Kept.{HasRoomFor, IsBegun, IsCurrent, IsReading}
 
 pub kept_at_first : (threads : List (List ℕ)) → length threads ≤ THREAD_LIMIT → IsReading 0 (at_first threads)
@@ -27,6 +28,7 @@ kept_at_first threads few = record {
     few_locales = omega arith;
     few_later = omega arith;
     few_threads = few;
+    some_round = omega arith;
     few_rounds = omega arith;
     few_commands = omega arith;
     charmaps = All-nil _;
@@ -49,6 +51,7 @@ kept_with_native r name k = record {
     few_locales = k.accepted.few_locales;
     few_later = k.accepted.few_later;
     few_threads = k.accepted.few_threads;
+    some_round = k.accepted.some_round;
     few_rounds = k.accepted.few_rounds;
     few_commands = k.accepted.few_commands;
     charmaps = k.accepted.charmaps;
@@ -82,17 +85,34 @@ owned_more n m le Global h = tt
 owned_more n m le (Variable name) h = tt
 owned_more n m le (Handle x) h = omega arith
 
-pub are_owned_more : (n m : ℕ) → n ≤ m → (c : Command) → AreOwned n c → AreOwned m c
-are_owned_more n m le (New variable mask locale) h = tt
-are_owned_more n m le (Free t) h = owned_more n m le t h
-are_owned_more n m le (Use t) h = owned_more n m le t h
-are_owned_more n m le Selected h = tt
-are_owned_more n m le (Setlocale categories locale) h = tt
-are_owned_more n m le (LocaleName categories) h = tt
-are_owned_more n m le (Read read) h = tt
+base_owned_more : (n m : ℕ) → n ≤ m → (base : Option Target) → IsBaseOwned n base → IsBaseOwned m base
+base_owned_more n m le None h = tt
+base_owned_more n m le (Some t) h = owned_more n m le t h
 
-placed_more : (n m : ℕ) → n ≤ m → (ps : List Placed) → All (IsPlaced n) ps → All (IsPlaced m) ps
-placed_more n m le ps all k d lt = let p = all k d lt in record { thread = omega (arith, p.thread); owned = are_owned_more n m le _ p.owned }
+in_range_more : (n m : ℕ) → n ≤ m → (c : Command) → IsInRange n c → IsInRange m c
+in_range_more n m le (New variable mask locale base) h = base_owned_more n m le base h
+in_range_more n m le (Dup variable t) h = owned_more n m le t h
+in_range_more n m le (Free t) h = owned_more n m le t h
+in_range_more n m le (Use t) h = owned_more n m le t h
+in_range_more n m le Selected h = tt
+in_range_more n m le (Hold t) h = owned_more n m le t h
+in_range_more n m le (Release t) h = owned_more n m le t h
+in_range_more n m le (Setlocale categories locale) h = tt
+in_range_more n m le (LocaleName categories) h = tt
+in_range_more n m le (Install key) h = tt
+in_range_more n m le (Post cell t) h = (h.0, owned_more n m le t h.1)
+in_range_more n m le (Fetch variable owner cell) h = (omega (arith, h.0), h.1)
+in_range_more n m le (Pins t) h = owned_more n m le t h
+in_range_more n m le (Read read) h = tt
+in_range_more n m le (ReadOf t read) h = owned_more n m le t h
+
+-- commands among some threads are among more, too
+more_threads : (n m rounds : ℕ) → n ≤ m → (ps : List Placed) → All (IsPlaced n rounds) ps → All (IsPlaced m rounds) ps
+more_threads n m rounds le ps all k d lt = let p = all k d lt in record { thread = omega (arith, p.thread); round = p.round; in_range = in_range_more n m le _ p.in_range }
+
+-- and those in some rounds are in more
+more_rounds : (threads n m : ℕ) → n ≤ m → (ps : List Placed) → All (IsPlaced threads n) ps → All (IsPlaced threads m) ps
+more_rounds threads n m le ps all k d lt = let p = all k d lt in record { thread = p.thread; round = (p.round.0, omega (arith, p.round.1)); in_range = p.in_range }
 
 pub kept_with_thread : (r : Reading) (name : List ℕ) → length r.bundle.threads < THREAD_LIMIT → IsReading 0 r → IsReading 0 (with_thread r name)
 kept_with_thread r name lt k = record {
@@ -101,12 +121,13 @@ kept_with_thread r name lt k = record {
     few_locales = k.accepted.few_locales;
     few_later = k.accepted.few_later;
     few_threads = simp length-append (omega arith);
+    some_round = k.accepted.some_round;
     few_rounds = k.accepted.few_rounds;
     few_commands = k.accepted.few_commands;
     charmaps = k.accepted.charmaps;
     locales = k.accepted.locales;
     later = k.accepted.later;
-    commands = placed_more (length r.bundle.threads) (length (r.bundle.threads ++ name ∷ [])) (simp length-append (omega arith)) r.bundle.commands k.accepted.commands;
+    commands = more_threads (length r.bundle.threads) (length (r.bundle.threads ++ name ∷ [])) r.bundle.rounds (simp length-append (omega arith)) r.bundle.commands k.accepted.commands;
   };
   current = simp length-append (omega arith);
   begun = same r.begun k.begun;
@@ -128,12 +149,13 @@ kept_with_round r lt k = record {
     few_locales = k.accepted.few_locales;
     few_later = k.accepted.few_later;
     few_threads = k.accepted.few_threads;
+    some_round = omega arith;
     few_rounds = omega arith;
     few_commands = k.accepted.few_commands;
     charmaps = k.accepted.charmaps;
     locales = k.accepted.locales;
     later = k.accepted.later;
-    commands = k.accepted.commands;
+    commands = more_rounds (length r.bundle.threads) r.bundle.rounds (r.bundle.rounds + 1) (omega arith) r.bundle.commands k.accepted.commands;
   };
   current = tt;
   begun = same r.begun k.begun;
@@ -148,19 +170,20 @@ kept_with_round r lt k = record {
   same None h = tt
   same (Some o) h = (room o.kind h.0, h.1, h.2)
 
-pub kept_with_command : (r : Reading) (t : ℕ) (c : Command) → length r.bundle.commands < COMMAND_LIMIT → t < length r.bundle.threads → AreOwned (length r.bundle.threads) c → IsReading 0 r → IsReading 0 (with_command r t c)
-kept_with_command r t c lt thread owned k = record {
+pub kept_with_command : (r : Reading) (t : ℕ) (c : Command) → length r.bundle.commands < COMMAND_LIMIT → t < length r.bundle.threads → IsInRange (length r.bundle.threads) c → IsReading 0 r → IsReading 0 (with_command r t c)
+kept_with_command r t c lt thread in_range k = record {
   accepted = record {
     few_charmaps = k.accepted.few_charmaps;
     few_locales = k.accepted.few_locales;
     few_later = k.accepted.few_later;
     few_threads = k.accepted.few_threads;
+    some_round = k.accepted.some_round;
     few_rounds = k.accepted.few_rounds;
     few_commands = simp length-append (omega arith);
     charmaps = k.accepted.charmaps;
     locales = k.accepted.locales;
     later = k.accepted.later;
-    commands = All-push (IsPlaced (length r.bundle.threads)) r.bundle.commands (record { round = r.bundle.rounds; thread = t; command = c }) k.accepted.commands (record { thread = thread; owned = owned });
+    commands = All-push (IsPlaced (length r.bundle.threads) r.bundle.rounds) r.bundle.commands (record { round = r.bundle.rounds; thread = t; command = c }) k.accepted.commands (record { thread = thread; round = (k.accepted.some_round, omega arith); in_range = in_range });
   };
   current = still r.current k.current;
   begun = same r.begun k.begun;
@@ -186,6 +209,7 @@ more_charmaps b block a room sized = record {
   few_locales = a.few_locales;
   few_later = a.few_later;
   few_threads = a.few_threads;
+  some_round = a.some_round;
   few_rounds = a.few_rounds;
   few_commands = a.few_commands;
   charmaps = All-push IsSized b.charmaps block a.charmaps sized;
@@ -200,6 +224,7 @@ more_locales b block a room sized = record {
   few_locales = simp length-append (omega arith);
   few_later = a.few_later;
   few_threads = a.few_threads;
+  some_round = a.some_round;
   few_rounds = a.few_rounds;
   few_commands = a.few_commands;
   charmaps = a.charmaps;
@@ -214,6 +239,7 @@ more_later b key block a room sized = record {
   few_locales = a.few_locales;
   few_later = simp length-append (omega arith);
   few_threads = a.few_threads;
+  some_round = a.some_round;
   few_rounds = a.few_rounds;
   few_commands = a.few_commands;
   charmaps = a.charmaps;
@@ -236,13 +262,3 @@ kept_with_line b current o line a h room first = record { accepted = a; current 
 -- a larger bound
 pub kept_more : (n m : ℕ) (r : Reading) → n ≤ m → IsReading n r → IsReading m r
 kept_more n m r le k = record { accepted = k.accepted; current = k.current; begun = k.begun; size = omega (arith, k.size) }
-
--- the handles of a command are of the threads that the bundle has by then
-pub owned_by_asked : (known : Option Known) (r : Reading) (c : Command) → 0 < length r.bundle.threads → AreOwned (thread_count (asked known r)) c → AreOwned (length r.bundle.threads) c
-owned_by_asked None r c some h = are_owned_more 1 (length r.bundle.threads) (omega arith) c h
-owned_by_asked (Some known) r c some h = h
-
--- so many threads may be named
-pub few_asked : (known : Option Known) (r : Reading) → length r.bundle.threads ≤ THREAD_LIMIT → thread_count (asked known r) ≤ THREAD_LIMIT
-few_asked None r few = omega arith
-few_asked (Some known) r few = few

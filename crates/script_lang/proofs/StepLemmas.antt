@@ -11,17 +11,17 @@ use Rattle.lc_base.specs.declared.reason.Limit.TheVariants.{Commands}
 use Rattle.lc_base.specs.Reading.{Reads, ◌>>=◌, Gives}
 use Rattle.script_lang.specs.declared.bundle.TheConstants.{COMMAND_LIMIT}
 use Rattle.script_lang.specs.declared.bundle.Bundle.{Bundle}
-use Rattle.script_lang.specs.declared.command.Command.{Command}
+use Rattle.script_commands.specs.declared.command.Command.{Command}
 use Rattle.script_lang.specs.declared.reading.BlockKind.{BlockKind}
-use Rattle.script_lang.specs.declared.reading.Known.{Known}
+use Rattle.script_commands.specs.declared.known.Known.{Known}
 use Rattle.script_lang.specs.declared.reading.Opened.{Opened}
 use Rattle.script_lang.specs.declared.reading.Reading.{Reading}
-use Rattle.script_lang.specs.Commands.{command}
-use Rattle.script_lang.specs.Spans.{Span}
-use Rattle.script_lang.specs.Reading.{asked, with_command, command_line, more_blocks, inside, outside, line_read}
-use Rattle.script_lang.specs.Accepted.{IsSized, IsAccepted, AreOwned, thread_count}
+use Rattle.script_commands.specs.Commands.{command}
+use Rattle.script_words.specs.Spans.{Span}
+use Rattle.script_lang.specs.Reading.{with_command, command_line, more_blocks, inside, outside, line_read}
+use Rattle.script_lang.specs.Accepted.{IsSized, IsAccepted}
 use Rattle.script_lang.specs.Kept.{HasRoomFor, IsBegun, IsCurrent, begun_size, IsReading}
-use Rattle.script_lang.proofs.KeptLemmas.{kept_with_block, owned_by_asked}
+use Rattle.script_lang.proofs.KeptLemmas.{kept_with_block}
 
 -- where no block was begun, any bound holds
 pub kept_any : (n : ℕ) (r : Reading) → IsReading 0 r → IsReading n r
@@ -54,11 +54,6 @@ kept_there n result begun o e kept = subst (λ (x : Option Opened). IfOk result 
 pub thread_there : (n : ℕ) (r : Reading) (t : ℕ) → r.current ≡ Some t → IsReading n r → t < length r.bundle.threads
 thread_there n r t e k = subst (λ (x : Option ℕ). IsCurrent x r.bundle) e k.current
 
--- the handles of a command are of the threads that the bundle has by then
-pub owned_there : (known : Option Known) (r : Reading) (seen : Option Bundle) (t : ℕ) (c : Command) → seen ≡ asked known r → r.current ≡ Some t → IsReading 0 r → AreOwned (thread_count seen) c → AreOwned (length r.bundle.threads) c
-owned_there known r seen t c e there k h =
-    owned_by_asked known r c (omega (arith, thread_there 0 r t there k)) (subst (λ (x : Option Bundle). AreOwned (thread_count x) c) e h)
-
 not_full : (n : ℕ) → n < COMMAND_LIMIT → nat_le COMMAND_LIMIT n ≡ false
 not_full n lt = grind (arith, nat_tests)
 
@@ -69,20 +64,19 @@ given r = Ok r
 abbrev by_thread : Option Known → Reading → Span → Span → Option ℕ → Reads Reading
 by_thread known r w s current = elim current [
   | None ↦ Err (w.place, BadLine Thread)
-  | Some t ↦ cond (nat_le COMMAND_LIMIT (length r.bundle.commands)) (Err (w.place, OverLimit Commands)) (command (asked known r) w s >>= λ (d : Command). given (with_command r t d))
+  | Some t ↦ cond (nat_le COMMAND_LIMIT (length r.bundle.commands)) (Err (w.place, OverLimit Commands)) (command known r.bundle.threads w s >>= λ (d : Command). given (with_command r t d))
 ]
 
 -- the line of a command that is right
-pub command_read : (known : Option Known) (r made : Reading) (w s : Span) (t : ℕ) (seen : Option Bundle) (c : Command) → r.current ≡ Some t → length r.bundle.commands < COMMAND_LIMIT → seen ≡ asked known r → command seen w s ≡ Ok c → made ≡ with_command r t c
+pub command_read : (known : Option Known) (r made : Reading) (w s : Span) (t : ℕ) (c : Command) → r.current ≡ Some t → length r.bundle.commands < COMMAND_LIMIT → command known r.bundle.threads w s ≡ Ok c → made ≡ with_command r t c
     → command_line known r w s ≡ Ok made
 unfolding command_line
-command_read known r made w s t seen c there few e read is =
-    let right : command (asked known r) w s ≡ Ok c = subst (λ (x : Option Bundle). command x w s ≡ Ok c) e read in
-    let last : (command (asked known r) w s >>= λ (d : Command). given (with_command r t d)) ≡ given made =
-    subst (λ (x : Reads Command). (x >>= (λ (d : Command). given (with_command r t d))) ≡ given made) (sym right) (ap (λ (x : Reading). given x) (sym is)) in
+command_read known r made w s t c there few read is =
+    let last : (command known r.bundle.threads w s >>= λ (d : Command). given (with_command r t d)) ≡ given made =
+    subst (λ (x : Reads Command). (x >>= (λ (d : Command). given (with_command r t d))) ≡ given made) (sym read) (ap (λ (x : Reading). given x) (sym is)) in
     let full : nat_le COMMAND_LIMIT (length r.bundle.commands) ≡ false = not_full _ few in
     subst (λ (x : Option ℕ). by_thread known r w s x ≡ given made) (sym there)
-    (subst (λ (b : Bool). cond b (Err (w.place, OverLimit Commands)) (command (asked known r) w s >>= λ (d : Command). given (with_command r t d)) ≡ given made) (sym full) last)
+    (subst (λ (b : Bool). cond b (Err (w.place, OverLimit Commands)) (command known r.bundle.threads w s >>= λ (d : Command). given (with_command r t d)) ≡ given made) (sym full) last)
 
 -- ---- a line, by whether a block was begun
 

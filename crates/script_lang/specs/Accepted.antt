@@ -6,17 +6,15 @@ use Rattle.lc_base.specs.declared.block.Later.{Later}
 use Rattle.lc_base.specs.declared.reason.Reason.TheVariants.{NoEnd}
 use Rattle.lc_base.specs.Lines.{lines_of}
 use Rattle.lc_base.specs.Reading.{Reads, ◌>>=◌}
-use Rattle.script_lang.specs.declared.bundle.TheConstants.{CHARMAP_LIMIT, LOCALE_LIMIT, LATER_LIMIT, THREAD_LIMIT, ROUND_LIMIT, COMMAND_LIMIT}
+use Rattle.script_lang.specs.declared.bundle.TheConstants.{CHARMAP_LIMIT, LOCALE_LIMIT, LATER_LIMIT, ROUND_LIMIT, COMMAND_LIMIT}
+use Rattle.script_commands.specs.declared.known.TheConstants.{THREAD_LIMIT}
 use Rattle.script_lang.specs.declared.bundle.Bundle.{Bundle}
-use Rattle.script_lang.specs.declared.command.Command.{Command}
-use Rattle.script_lang.specs.declared.command.Command.TheVariants.{New, Free, Use, Selected, Setlocale, LocaleName, Read}
-use Rattle.script_lang.specs.declared.command.Placed.{Placed}
-use Rattle.script_lang.specs.declared.command.Target.{Target}
-use Rattle.script_lang.specs.declared.command.Target.TheVariants.{Global, Variable, Handle}
-use Rattle.script_lang.specs.declared.reading.Known.{Known}
+use Rattle.script_commands.specs.declared.command.Placed.{Placed}
+use Rattle.script_commands.specs.declared.known.Known.{Known}
+use Rattle.script_commands.specs.InRange.{IsInRange}
 use Rattle.script_lang.specs.declared.reading.Reading.{Reading}
 use Rattle.script_lang.specs.Reading.{at_first, lines_read}
-use Rattle.script_lang.specs.Spans.{start}
+use Rattle.script_words.specs.Spans.{start}
 
 -- what the lines give, unless a block is still open: its directive is at fault, which stands on the line before its text
 abbrev pub finished : Reading → Reads Bundle
@@ -29,7 +27,7 @@ bundle_with known threads lines = lines_read known (at_first threads) 1 lines >>
 
 -- the blocks of a bundle that are named
 abbrev pub known_of : Bundle → Known
-known_of b = record { charmaps = b.charmaps; locales = b.locales }
+known_of b = record { charmaps = b.charmaps; locales = b.locales; later = b.later }
 
 -- the bundle that a text spells, or its first fault: first the lines are read as such, then, where they have no fault, once
 -- more with each name looked for in the whole bundle
@@ -43,31 +41,11 @@ pub record IsSized (block : Block) : Type 0 where
   pub text : length block.text < 2 ^ 31
   pub line : block.first_line < 2 ^ 31
 
--- how many threads a handle may be of: where the threads are not known yet, it has the number 0
-abbrev pub thread_count : Option Bundle → ℕ
-thread_count None = 1
-thread_count (Some b) = length b.threads
-
--- a handle is of one of so many threads
-abbrev pub IsOwned : ℕ → Target → Type 0
-IsOwned threads Global = Unit {0}
-IsOwned threads (Variable name) = Unit {0}
-IsOwned threads (Handle h) = h.owner < threads
-
--- the handles of a command are
-abbrev pub AreOwned : ℕ → Command → Type 0
-AreOwned threads (New variable mask locale) = Unit {0}
-AreOwned threads (Free named) = IsOwned threads named
-AreOwned threads (Use named) = IsOwned threads named
-AreOwned threads Selected = Unit {0}
-AreOwned threads (Setlocale categories locale) = Unit {0}
-AreOwned threads (LocaleName categories) = Unit {0}
-AreOwned threads (Read read) = Unit {0}
-
--- a command is one of so many threads', and names no other
-pub record IsPlaced (threads : ℕ) (p : Placed) : Type 0 where
+-- a command is one of so many threads', in one of so many rounds, and its numbers are in range
+pub record IsPlaced (threads rounds : ℕ) (p : Placed) : Type 0 where
   pub thread : p.thread < threads
-  pub owned : AreOwned threads p.command
+  pub round : (0 < p.round) × (p.round ≤ rounds)
+  pub in_range : IsInRange threads p.command
 
 -- the numbers and sizes of what is in a bundle, and the threads of its commands
 pub record IsAccepted (b : Bundle) : Type 0 where
@@ -75,9 +53,10 @@ pub record IsAccepted (b : Bundle) : Type 0 where
   pub few_locales : length b.locales ≤ LOCALE_LIMIT
   pub few_later : length b.later ≤ LATER_LIMIT
   pub few_threads : length b.threads ≤ THREAD_LIMIT
+  pub some_round : 0 < b.rounds
   pub few_rounds : b.rounds ≤ ROUND_LIMIT
   pub few_commands : length b.commands ≤ COMMAND_LIMIT
   pub charmaps : All IsSized b.charmaps
   pub locales : All IsSized b.locales
   pub later : All (λ (l : Later). IsSized l.block) b.later
-  pub commands : All (IsPlaced (length b.threads)) b.commands
+  pub commands : All (IsPlaced (length b.threads) b.rounds) b.commands

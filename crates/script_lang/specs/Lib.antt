@@ -1,12 +1,3 @@
-pub mod Names
-pub mod Spans
-pub mod Words
-pub mod Numbers
-pub mod Seen
-pub mod Tables
-pub mod Commands
 pub mod Reading
 pub mod Accepted
 pub mod Kept
-pub mod Output
-pub mod Refusal

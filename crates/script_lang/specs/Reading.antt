@@ -1,28 +1,28 @@
 -- What a bundle's lines give, line after line (our own).
-use Rattle.std.specs.Prelude.{ℕ, ◌+◌, ◌==◌, nat_le, Bool, false, not, ◌&&◌, ◌||◌, List, [], ◌∷◌, ◌++◌, length, position, codes, Option, Some, None, is_some, option_map, option_and_then, Ok, Err, if◌then◌else◌}
-use Rattle.std.specs.List.{list_any}
+use Rattle.std.specs.Prelude.{ℕ, ◌+◌, ◌==◌, nat_le, Bool, false, not, ◌&&◌, List, [], ◌∷◌, ◌++◌, length, position, codes, Option, Some, None, is_some, option_map, option_and_then, Ok, Err, if◌then◌else◌}
 use Rattle.std.specs.Str.{bytes_eq}
 use Rattle.lc_base.specs.declared.block.Block.{Block}
-use Rattle.lc_base.specs.declared.block.Later.{Later}
-use Rattle.lc_base.specs.declared.reason.Reason.TheVariants.{BadLine, OverLimit, NameTwice, NoCharmap, NoNative, NotBuilt}
+use Rattle.lc_base.specs.declared.reason.Reason.TheVariants.{BadLine, OverLimit, NameTwice, NoCharmap, NoNative}
 use Rattle.lc_base.specs.declared.reason.LinePart.TheVariants as parts
 use Rattle.lc_base.specs.declared.reason.Limit.TheVariants as limits
 use Rattle.lc_base.specs.Lines.{ended}
 use Rattle.lc_base.specs.Reading.{Reads, ◌>>=◌}
-use Rattle.script_lang.specs.declared.bundle.TheConstants.{CHARMAP_LIMIT, LOCALE_LIMIT, LATER_LIMIT, THREAD_LIMIT, ROUND_LIMIT, COMMAND_LIMIT, BUILT_THREADS, BUILT_ROUNDS}
+use Rattle.script_lang.specs.declared.bundle.TheConstants.{CHARMAP_LIMIT, LOCALE_LIMIT, LATER_LIMIT, ROUND_LIMIT, COMMAND_LIMIT}
+use Rattle.script_commands.specs.declared.known.TheConstants.{THREAD_LIMIT}
 use Rattle.script_lang.specs.declared.bundle.Bundle.{Bundle}
-use Rattle.script_lang.specs.declared.command.Command.{Command}
+use Rattle.script_commands.specs.declared.command.Command.{Command}
+use Rattle.script_commands.specs.declared.known.Known.{Known}
 use Rattle.script_lang.specs.declared.reading.BlockKind.{BlockKind}
 use Rattle.script_lang.specs.declared.reading.BlockKind.TheVariants as kinds
 use Rattle.script_lang.specs.declared.reading.Opened.{Opened}
-use Rattle.script_lang.specs.declared.reading.Known.{Known}
 use Rattle.script_lang.specs.declared.reading.Reading.{Reading}
-use Rattle.script_lang.specs.declared.table.Directive.{Directive}
-use Rattle.script_lang.specs.declared.table.Directive.TheVariants as directives
-use Rattle.script_lang.specs.Commands.{command, is_over}
-use Rattle.script_lang.specs.Names.{is_formed, is_locale_name, is_charmap_name, is_thread_name}
-use Rattle.script_lang.specs.Spans.{Span, start, whole_line, next_word}
-use Rattle.script_lang.specs.Tables.{first_named, directives_table}
+use Rattle.script_words.specs.declared.table.Directive.{Directive}
+use Rattle.script_words.specs.declared.table.Directive.TheVariants as directives
+use Rattle.script_commands.specs.Commands.{command, is_over}
+use Rattle.script_commands.specs.Known.{has_block, has_key, lacks_charset, lacks_locale}
+use Rattle.script_words.specs.Names.{is_formed, is_locale_name, is_charmap_name, is_thread_name}
+use Rattle.script_words.specs.Spans.{Span, start, whole_line, next_word}
+use Rattle.script_words.specs.Tables.{first_named, directives_table}
 
 -- ---- what was read so far
 
@@ -33,26 +33,6 @@ at_first threads = record {
   current = None;
   begun = None;
 }
-
--- ---- names. In the first phase no name is looked for; in the second all blocks and threads are known, and each name is
-
--- whether one of the blocks has the name
-abbrev pub has_block : List Block → List ℕ → Bool
-has_block blocks name = list_any (λ (b : Block). bytes_eq b.name name) blocks
-
--- whether one of the later versions has the key
-abbrev pub has_key : List Later → List ℕ → Bool
-has_key later key = list_any (λ (l : Later). bytes_eq l.key key) later
-
--- whether a charset is neither built in nor a charmap of the bundle
-abbrev pub lacks_charset : Option Known → List ℕ → Bool
-lacks_charset None name = false
-lacks_charset (Some b) name = not (bytes_eq name (codes "UTF-8") || bytes_eq name (codes "POSIX") || has_block b.charmaps name)
-
--- whether a native locale is neither the POSIX locale nor a locale of the bundle
-abbrev pub lacks_locale : Option Known → List ℕ → Bool
-lacks_locale None name = false
-lacks_locale (Some b) name = not (bytes_eq name (codes "C") || bytes_eq name (codes "POSIX") || has_block b.locales name)
 
 -- ---- directives. Their place is column 1
 
@@ -123,12 +103,9 @@ with_current r t = record r { current = Some t }
 abbrev pub with_thread : Reading → List ℕ → Reading
 with_thread r name = record r { bundle = record r.bundle { threads = r.bundle.threads ++ name ∷ [] }; current = Some (length r.bundle.threads) }
 
--- a thread that was not named before: a second one is not built yet
+-- a thread that was not named before
 abbrev pub new_thread : Reading → ℕ → List ℕ → Reads Reading
-new_thread r n name =
-    if nat_le THREAD_LIMIT (length r.bundle.threads) then Err (start n, OverLimit limits.Threads) else
-    if nat_le BUILT_THREADS (length r.bundle.threads) then Err (start n, NotBuilt) else
-    Ok (with_thread r name)
+new_thread r n name = if nat_le THREAD_LIMIT (length r.bundle.threads) then Err (start n, OverLimit limits.Threads) else Ok (with_thread r name)
 
 -- the thread of this name is current from now on
 abbrev pub thread_named : Reading → ℕ → List ℕ → Reads Reading
@@ -146,12 +123,11 @@ thread_line r n s = or_no_directive n (one_word s) >>= λ name.
 abbrev pub with_round : Reading → Reading
 with_round r = record r { bundle = record r.bundle { rounds = r.bundle.rounds + 1 }; current = None }
 
--- `.round`: a second round is not built yet
+-- `.round`
 unfoldable pub round_line : Reading → ℕ → Span → Reads Reading
 round_line r n s =
     if not (is_over s) then Err (start n, BadLine parts.Directive) else
     if nat_le ROUND_LIMIT r.bundle.rounds then Err (start n, OverLimit limits.Rounds) else
-    if nat_le BUILT_ROUNDS r.bundle.rounds then Err (start n, NotBuilt) else
     Ok (with_round r)
 
 -- the line of a directive, with what follows its first word
@@ -176,18 +152,13 @@ directive_line known r n line = do
 abbrev pub with_command : Reading → ℕ → Command → Reading
 with_command r t c = record r { bundle = record r.bundle { commands = r.bundle.commands ++ (record { round = r.bundle.rounds; thread = t; command = c }) ∷ [] } }
 
--- the bundle whose threads are all known, in the second phase
-abbrev pub asked : Option Known → Reading → Option Bundle
-asked None r = None
-asked (Some known) r = Some r.bundle
-
 -- a line whose first word is w, with what follows it
 unfoldable pub command_line : Option Known → Reading → Span → Span → Reads Reading
 command_line known r w s = elim r.current [
   | None ↦ Err (w.place, BadLine parts.Thread)
   | Some t ↦
       if nat_le COMMAND_LIMIT (length r.bundle.commands) then Err (w.place, OverLimit limits.Commands) else
-      (command (asked known r) w s >>= λ c. Ok (with_command r t c))
+      (command known r.bundle.threads w s >>= λ c. Ok (with_command r t c))
 ]
 
 -- ---- lines

@@ -1,9 +1,8 @@
 //! Bundles.
 
-use crate::command::Placed;
 use crate::lines::{bundle_with, known_of};
-use crate::lists::number_of;
 use lc_base::{Block, ByteText, Later, List, TextFault};
+use script_commands::{Placed, THREAD_LIMIT, number_of};
 use std::alloc::Global;
 
 /// The most charmaps of a bundle.
@@ -15,20 +14,11 @@ pub const LOCALE_LIMIT: usize = 64;
 /// The most later versions of locales in a bundle.
 pub const LATER_LIMIT: usize = 64;
 
-/// The most threads of a bundle.
-pub const THREAD_LIMIT: usize = 16;
-
 /// The most rounds of a bundle.
 pub const ROUND_LIMIT: u32 = 64;
 
 /// The most commands of a bundle.
 pub const COMMAND_LIMIT: usize = 20000;
-
-/// The most threads of a bundle that is built so far.
-pub const BUILT_THREADS: usize = 1;
-
-/// The most rounds of a bundle that is built so far.
-pub const BUILT_ROUNDS: u32 = 1;
 
 /// A bundle: charmaps, locale sources, and a script for threads.
 #[derive(Debug, Drop)]
@@ -57,9 +47,9 @@ impl Bundle {
 
     /// Reads a bundle.
     ///
-    /// The refusal is the first fault of the lines in order: `BadLine`, `OverLimit`, `NoEnd`, and
-    /// `NotBuilt` of what is not built yet. Where the lines have none, it is the first of the names in
-    /// order of place: `NameTwice`, `NoCharmap`, `NoNative`, `NoThread`.
+    /// The refusal is the first fault of the lines in order: `BadLine`, `OverLimit`, `NoEnd`. Where
+    /// the lines have none, it is the first of the names in order of place: `NameTwice`, `NoCharmap`,
+    /// `NoNative`, `NoThread`, `NoLater`.
     #[tactic(auto, unfolding(crate::specs::Accepted::bundle_of))]
     pub fn read(alloc: Global, text: &[u8]) -> Result<Bundle, TextFault>
         requires { length text.now < 2 ^ 31 }

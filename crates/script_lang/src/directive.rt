@@ -8,22 +8,21 @@ ghost use Rattle.lc_base.specs.declared.reason.LinePart.TheVariants.{Directive a
 ghost use Rattle.lc_base.specs.Reading.{Gives};
 ghost use Rattle.script_lang.specs.declared.reading.BlockKind.TheVariants.{Charmap as CharmapKind, Locale as LocaleKind, Later as LaterKind};
 ghost use Rattle.script_lang.specs.Kept.{IsReading};
-ghost use Rattle.script_lang.specs.Names.{is_formed, is_locale_name};
-ghost use Rattle.script_lang.specs.Spans.{start, span, spans, whole_line};
-ghost use Rattle.script_lang.specs.Reading.{has_block, has_key, lacks_charset, lacks_locale, one_word, two_words, three_words, with_open, with_native, with_thread, with_round, charmap_line, locale_line, later_line, native_line, new_thread, thread_named, thread_line, round_line, line_of_directive, directive_line};
+ghost use Rattle.script_commands.specs.Known.{has_block, has_key};
+ghost use Rattle.script_words.specs.Names.{is_formed, is_locale_name};
+ghost use Rattle.script_words.specs.Spans.{start, span, spans, whole_line};
+ghost use Rattle.script_lang.specs.Reading.{one_word, two_words, three_words, with_open, with_native, with_thread, with_round, charmap_line, locale_line, later_line, native_line, new_thread, thread_named, thread_line, round_line, line_of_directive, directive_line};
 
-use crate::arguments::is_over;
-use crate::bundle::{
-    BUILT_ROUNDS, BUILT_THREADS, CHARMAP_LIMIT, LATER_LIMIT, LOCALE_LIMIT, ROUND_LIMIT,
-    THREAD_LIMIT,
-};
-use crate::lists::{has_block, has_key};
-use crate::names::{is_charmap_name, is_formed, is_locale_name, is_thread_name};
-use crate::piece::Piece;
-use crate::reading::{BlockKind, Known, Reading};
+use crate::bundle::{CHARMAP_LIMIT, LATER_LIMIT, LOCALE_LIMIT, ROUND_LIMIT};
+use crate::reading::{BlockKind, Reading};
 use crate::steps::{with_current, with_native, with_open, with_round, with_thread};
-use crate::table::{Directive, directive_named};
 use lc_base::{Block, ByteText, Later, Limit, LinePart, List, Place, Reason, TextFault};
+use script_commands::{
+    Known, THREAD_LIMIT, has_block, has_key, is_over, lacks_charset, lacks_locale,
+};
+use script_words::{
+    Directive, Piece, directive_named, is_charmap_name, is_formed, is_locale_name, is_thread_name,
+};
 use std::alloc::Global;
 
 /// A refusal at the beginning of a line.
@@ -44,34 +43,6 @@ fn wrong_directive(number: u32) -> TextFault
     ensures { result ≡ At (start number) (BadLine DirectivePart) }
 {
     at_start(number, Reason::BadLine(LinePart::Directive))
-}
-
-/// Whether a charset is neither built in nor a charmap of the bundle.
-fn lacks_charset(known: Option<&Known>, name: &[u8]) -> bool
-    ensures { result ≡ lacks_charset (option_copied known.entry) name.now }
-{
-    match known {
-        None => false,
-        Some(known) => {
-            name != b"UTF-8".as_slice()
-                && name != b"POSIX".as_slice()
-                && !has_block(&known.charmaps, name)
-        }
-    }
-}
-
-/// Whether a native locale is neither the POSIX locale nor a locale of the bundle.
-fn lacks_locale(known: Option<&Known>, name: &[u8]) -> bool
-    ensures { result ≡ lacks_locale (option_copied known.entry) name.now }
-{
-    match known {
-        None => false,
-        Some(known) => {
-            name != b"C".as_slice()
-                && name != b"POSIX".as_slice()
-                && !has_block(&known.locales, name)
-        }
-    }
 }
 
 /// Whether a block has this name already, where names are looked for.
@@ -320,16 +291,13 @@ fn native_line(
     Ok(with_native(alloc, reading, name.bytes)?)
 }
 
-/// Whether one more thread may begin. A second one is not built yet.
+/// Whether one more thread may begin.
 fn more_threads(reading: &Reading, number: u32, name: &[u8]) -> Result<(), TextFault>
     ensures is { Gives (λ x. with_thread reading.now name.now) result (new_thread reading.now number name.now) }
     ensures room { IfOk result (λ x. length reading.now.bundle.threads < THREAD_LIMIT) }
 {
     if reading.bundle.threads.len() >= THREAD_LIMIT {
         return Err(at_start(number, Reason::OverLimit(Limit::Threads)));
-    }
-    if reading.bundle.threads.len() >= BUILT_THREADS {
-        return Err(at_start(number, Reason::NotBuilt));
     }
     Ok(())
 }
@@ -387,7 +355,7 @@ fn thread_line(
     thread_named(alloc, reading, number, name.bytes)
 }
 
-/// Whether one more round may begin. A second one is not built yet.
+/// Whether one more round may begin.
 #[tactic(auto, unfolding(crate::specs::Reading::round_line))]
 fn more_rounds(reading: &Reading, number: u32, rest: Piece<'_>) -> Result<(), TextFault>
     ensures is { Gives (λ x. with_round reading.now) result (round_line reading.now number (span rest.entry)) }
@@ -398,9 +366,6 @@ fn more_rounds(reading: &Reading, number: u32, rest: Piece<'_>) -> Result<(), Te
     }
     if reading.bundle.rounds >= ROUND_LIMIT {
         return Err(at_start(number, Reason::OverLimit(Limit::Rounds)));
-    }
-    if reading.bundle.rounds >= BUILT_ROUNDS {
-        return Err(at_start(number, Reason::NotBuilt));
     }
     Ok(())
 }

@@ -4,34 +4,23 @@ ghost use Rattle.std.specs.Prelude.{◌≡◌, ℕ, ◌+◌, ◌<◌, ◌≤◌,
 ghost use Rattle.std.specs.Option.{option_copied};
 ghost use Rattle.lc_base.specs.Lines.{lines_of, ended};
 ghost use Rattle.lc_base.specs.Reading.{Gives};
-ghost use Rattle.script_lang.specs.Spans.{span, whole_line};
-ghost use Rattle.script_lang.specs.Reading.{asked, begins_with, command_line, outside, with_command, more_blocks, with_block, with_line, inside, line_read, at_first, lines_read};
-ghost use Rattle.script_lang.specs.Accepted.{AreOwned, thread_count, IsAccepted, IsSized, finished, bundle_with, known_of};
+ghost use Rattle.script_words.specs.Spans.{span, whole_line};
+ghost use Rattle.script_lang.specs.Reading.{begins_with, command_line, outside, with_command, more_blocks, with_block, with_line, inside, line_read, at_first, lines_read};
+ghost use Rattle.script_commands.specs.InRange.{IsInRange};
+ghost use Rattle.script_lang.specs.Accepted.{IsAccepted, IsSized, finished, bundle_with, known_of};
 ghost use Rattle.script_lang.specs.Kept.{HasRoomFor, IsBegun, IsCurrent, begun_size, IsReading};
 
-use crate::arguments::command;
-use crate::bundle::{Bundle, COMMAND_LIMIT, THREAD_LIMIT};
-use crate::command::Command;
+use crate::bundle::{Bundle, COMMAND_LIMIT};
 use crate::directive::directive_line;
-use crate::lists::with_value;
-use crate::piece::Piece;
-use crate::reading::{BlockKind, Known, Opened, Reading};
-use crate::steps::{at_first, with_command};
+use crate::reading::{BlockKind, Opened, Reading};
+use crate::steps::{at_first, with_command, with_value};
 use lc_base::{Block, ByteText, Later, Limit, LinePart, List, Place, Reason, TextFault, next_line};
+use script_commands::{Command, Known, THREAD_LIMIT, command_of_line};
+use script_words::Piece;
 use std::alloc::{AllocError, Global};
 
-/// The bundle whose threads are all known, in the second phase.
-fn asked<'a>(known: Option<&Known>, reading: &'a Reading) -> Option<&'a Bundle>
-    ensures { option_copied result ≡ asked (option_copied known.entry) reading.now }
-{
-    match known {
-        None => None,
-        Some(_) => Some(&reading.bundle),
-    }
-}
-
 /// The thread and the command of a line with this first word and the rest of it.
-#[tactic(auto, using(crate::proofs::KeptLemmas::few_asked), unfolding(crate::specs::Reading::command_line))]
+#[tactic(auto, unfolding(crate::specs::Reading::command_line))]
 fn thread_command(
     alloc: Global,
     known: Option<&Known>,
@@ -43,7 +32,7 @@ fn thread_command(
     ensures is { Gives (λ x. with_command reading.now x.0 x.1) result (command_line (option_copied known.entry) reading.now (span word.entry) (span rest.entry)) }
     ensures room { IfOk result (λ x. length reading.now.bundle.commands < COMMAND_LIMIT) }
     ensures thread { IfOk result (λ x. x.0 < length reading.now.bundle.threads) }
-    ensures owned { IfOk result (λ x. AreOwned (length reading.now.bundle.threads) x.1) }
+    ensures in_range { IfOk result (λ x. IsInRange (length reading.now.bundle.threads) x.1) }
 {
     let Some(thread) = reading.current else {
         return Err(TextFault::At(word.place, Reason::BadLine(LinePart::Thread)));
@@ -51,7 +40,7 @@ fn thread_command(
     if reading.bundle.commands.len() >= COMMAND_LIMIT {
         return Err(TextFault::At(word.place, Reason::OverLimit(Limit::Commands)));
     }
-    let command = command(alloc, asked(known, reading), word, rest)?;
+    let command = command_of_line(alloc, known, &reading.bundle.threads, word, rest)?;
     Ok((thread, command))
 }
 
@@ -311,11 +300,16 @@ pub fn known_of(bundle: Bundle) -> (Known, List<ByteText>)
     let Bundle {
         charmaps,
         locales,
-        later: _,
+        later,
         native: _,
         threads,
         rounds: _,
         commands: _,
     } = bundle;
-    (Known { charmaps, locales }, threads)
+    let known = Known {
+        charmaps,
+        locales,
+        later,
+    };
+    (known, threads)
 }

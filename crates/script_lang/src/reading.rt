@@ -1,9 +1,7 @@
 //! What the lines of a bundle gave so far.
 
 use crate::bundle::Bundle;
-use crate::command::{Command, Placed};
-use lc_base::{Block, ByteText, Later, List};
-use std::alloc::{AllocError, Global};
+use lc_base::{Block, ByteText};
 
 /// What a block is.
 #[derive(Drop)]
@@ -19,13 +17,6 @@ pub enum BlockKind {
 pub struct Opened {
     pub kind: BlockKind,
     pub block: Block,
-}
-
-/// The blocks of a whole bundle.
-#[derive(Drop)]
-pub struct Known {
-    pub charmaps: List<Block>,
-    pub locales: List<Block>,
 }
 
 /// What the lines of a bundle gave so far.

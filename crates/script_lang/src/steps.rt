@@ -1,16 +1,24 @@
 //! How a line changes what was read so far.
 
-ghost use Rattle.std.specs.Prelude.{◌≡◌, ◌+◌, ◌<◌, ◌≤◌, ◌^◌, [], length, IfOk};
-ghost use Rattle.script_lang.specs.Accepted.{AreOwned};
+ghost use Rattle.std.specs.Prelude.{◌≡◌, ◌+◌, ◌<◌, ◌≤◌, ◌^◌, ◌++◌, ◌∷◌, [], length, IfOk};
+ghost use Rattle.script_commands.specs.InRange.{IsInRange};
 ghost use Rattle.script_lang.specs.Kept.{HasRoomFor, IsReading};
 ghost use Rattle.script_lang.specs.Reading.{at_first, with_open, with_native, with_current, with_thread, with_round, with_command};
 
-use crate::bundle::{Bundle, COMMAND_LIMIT, ROUND_LIMIT, THREAD_LIMIT};
-use crate::command::{Command, Placed};
-use crate::lists::with_value;
+use crate::bundle::{Bundle, COMMAND_LIMIT, ROUND_LIMIT};
 use crate::reading::{BlockKind, Opened, Reading};
 use lc_base::{Block, ByteText, List};
+use script_commands::{Command, Placed, THREAD_LIMIT};
 use std::alloc::{AllocError, Global};
+
+/// A list with one more value.
+pub fn with_value<T: Drop>(list: List<T>, value: T) -> Result<List<T>, AllocError>
+    ensures { IfOk result (λ more. more ≡ list ++ value ∷ []) }
+{
+    let mut values = list.into_vec();
+    values.push(value)?;
+    Ok(List::of(values))
+}
 
 /// Before the first line, where these threads are known.
 #[tactic(auto, using(crate::proofs::KeptLemmas::kept_at_first))]
@@ -132,7 +140,7 @@ pub fn with_round(reading: Reading) -> Reading
 pub fn with_command(reading: Reading, thread: u32, command: Command) -> Result<Reading, AllocError>
     requires room { length reading.bundle.commands < COMMAND_LIMIT }
     requires thread { thread < length reading.bundle.threads }
-    requires owned { AreOwned (length reading.bundle.threads) command }
+    requires in_range { IsInRange (length reading.bundle.threads) command }
     requires kept { IsReading 0 reading }
     ensures is { IfOk result (λ r. r ≡ with_command reading thread command) }
     ensures kept { IfOk result (IsReading 0) }

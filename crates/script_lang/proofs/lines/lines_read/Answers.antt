@@ -4,7 +4,7 @@ use Rattle.std.proofs.lemmas.Result.{err_from_is_err_and}
 use Rattle.lc_base.specs.Lines.{lines_of, ended, CutsLine}
 use Rattle.lc_base.specs.Reading.{Reads}
 use Rattle.lc_base.proofs.ReadingLemmas.{fails_first}
-use Rattle.script_lang.specs.declared.reading.Known.{Known}
+use Rattle.script_commands.specs.declared.known.Known.{Known}
 use Rattle.script_lang.specs.declared.reading.Reading.{Reading}
 use Rattle.script_lang.specs.Reading.{lines_read}
 use Rattle.script_lang.specs.Kept.{begun_size, IsReading}

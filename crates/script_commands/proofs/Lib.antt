@@ -1,0 +1,4 @@
+pub mod ArgumentLemmas
+mod CommandExamples
+mod ReadExamples
+mod HandleExamples

@@ -1,0 +1,163 @@
+-- Commands that read on small inputs.
+use Rattle.std.proofs.Common.{◌≡◌, ℕ, List, [], ◌∷◌, ◌++◌, Option, Some, None, Ok, Err, refl}
+use Rattle.std.specs.Prelude.{ℤ, pos, negsuc, codes, replicate}
+use Rattle.std.specs.List.{flat_map}
+use Rattle.lc_base.specs.declared.item.Item.TheVariants as items
+use Rattle.lc_base.specs.declared.reason.Reason.{Reason}
+use Rattle.lc_base.specs.declared.reason.Reason.TheVariants as reasons
+use Rattle.lc_base.specs.declared.reason.LinePart.TheVariants as parts
+use Rattle.lc_base.specs.declared.reason.Limit.TheVariants as limits
+use Rattle.lc_base.specs.Reading.{Reads}
+use Rattle.script_commands.specs.declared.command.Command.{Command}
+use Rattle.script_commands.specs.declared.command.Command.TheVariants.{Selected, Read}
+use Rattle.script_commands.specs.declared.command.Read.TheVariants.{Info, Conv, Class, Upper, Lower, Money, Time}
+use Rattle.script_words.specs.Names.{is_thread_name, is_class_name}
+use Rattle.script_words.specs.Spans.{whole_line, next_word}
+use Rattle.script_words.specs.Tables.{commands_table, items_table}
+use Rattle.script_words.specs.Words.{text_of_word, quoted_of_word, zone_of_word, decimal_number, behind_front, max_number, variable_of_word, class_of_word, cut_at}
+use Rattle.script_words.specs.Numbers.{short_number, offset_of_word, three_numbers, amount_of_word}
+use Rattle.script_commands.specs.Commands.{argument, read_as, no_more, is_over, max_bytes, format, amounts, offset, zone, moment, info_words, conv_words, class_words, lone_value, money_words, time_words, command}
+
+-- ---- commands, as the second line of a script
+
+abbrev spoken : List ℕ → Reads Command
+spoken line = elim (next_word (whole_line 2 line)) [ None ↦ Ok Selected | Some x ↦ command None (codes "A" ∷ []) x.0 x.1 ]
+
+abbrev refused : ℕ → Reason → Reads Command
+refused column reason = Err (record { line = 2; column = column }, reason)
+
+abbrev wrong : ℕ → Reads Command
+wrong column = refused column (reasons.BadLine parts.Argument)
+
+last_item : spoken (codes "info ERA_D_T_FMT") ≡ Ok (Read (Info items.EraDTFmt))
+unfolding command next_word argument no_more read_as is_over text_of_word quoted_of_word zone_of_word decimal_number behind_front max_number variable_of_word class_of_word is_class_name is_thread_name cut_at short_number offset_of_word three_numbers amount_of_word max_bytes format amounts offset zone moment info_words conv_words class_words lone_value money_words time_words commands_table items_table
+last_item = refl
+
+day_8 : spoken (codes "info DAY_8") ≡ wrong 6
+unfolding command next_word argument no_more read_as is_over text_of_word quoted_of_word zone_of_word decimal_number behind_front max_number variable_of_word class_of_word is_class_name is_thread_name cut_at short_number offset_of_word three_numbers amount_of_word max_bytes format amounts offset zone moment info_words conv_words class_words lone_value money_words time_words commands_table items_table
+day_8 = refl
+
+conv : spoken (codes "conv ") ≡ Ok (Read Conv)
+unfolding command next_word argument no_more read_as is_over text_of_word quoted_of_word zone_of_word decimal_number behind_front max_number variable_of_word class_of_word is_class_name is_thread_name cut_at short_number offset_of_word three_numbers amount_of_word max_bytes format amounts offset zone moment info_words conv_words class_words lone_value money_words time_words commands_table items_table
+conv = refl
+
+conv_and_more : spoken (codes "conv x") ≡ wrong 6
+unfolding command next_word argument no_more read_as is_over text_of_word quoted_of_word zone_of_word decimal_number behind_front max_number variable_of_word class_of_word is_class_name is_thread_name cut_at short_number offset_of_word three_numbers amount_of_word max_bytes format amounts offset zone moment info_words conv_words class_words lone_value money_words time_words commands_table items_table
+conv_and_more = refl
+
+class_of_a : spoken (codes "class alpha 0097") ≡ Ok (Read (Class (codes "alpha") 97))
+unfolding command next_word argument no_more read_as is_over text_of_word quoted_of_word zone_of_word decimal_number behind_front max_number variable_of_word class_of_word is_class_name is_thread_name cut_at short_number offset_of_word three_numbers amount_of_word max_bytes format amounts offset zone moment info_words conv_words class_words lone_value money_words time_words commands_table items_table
+class_of_a = refl
+
+class_quoted : spoken (codes "class \"alpha\" 97") ≡ wrong 7
+unfolding command next_word argument no_more read_as is_over text_of_word quoted_of_word zone_of_word decimal_number behind_front max_number variable_of_word class_of_word is_class_name is_thread_name cut_at short_number offset_of_word three_numbers amount_of_word max_bytes format amounts offset zone moment info_words conv_words class_words lone_value money_words time_words commands_table items_table
+class_quoted = refl
+
+class_without_value : spoken (codes "class alpha") ≡ wrong 12
+unfolding command next_word argument no_more read_as is_over text_of_word quoted_of_word zone_of_word decimal_number behind_front max_number variable_of_word class_of_word is_class_name is_thread_name cut_at short_number offset_of_word three_numbers amount_of_word max_bytes format amounts offset zone moment info_words conv_words class_words lone_value money_words time_words commands_table items_table
+class_without_value = refl
+
+class_value_too_large : spoken (codes "class alpha 4294967296") ≡ wrong 13
+unfolding command next_word argument no_more read_as is_over text_of_word quoted_of_word zone_of_word decimal_number behind_front max_number variable_of_word class_of_word is_class_name is_thread_name cut_at short_number offset_of_word three_numbers amount_of_word max_bytes format amounts offset zone moment info_words conv_words class_words lone_value money_words time_words commands_table items_table
+class_value_too_large = refl
+
+upper_of_a : spoken (codes "upper 97") ≡ Ok (Read (Upper 97))
+unfolding command next_word argument no_more read_as is_over text_of_word quoted_of_word zone_of_word decimal_number behind_front max_number variable_of_word class_of_word is_class_name is_thread_name cut_at short_number offset_of_word three_numbers amount_of_word max_bytes format amounts offset zone moment info_words conv_words class_words lone_value money_words time_words commands_table items_table
+upper_of_a = refl
+
+lower_of_a : spoken (codes "lower 65") ≡ Ok (Read (Lower 65))
+unfolding command next_word argument no_more read_as is_over text_of_word quoted_of_word zone_of_word decimal_number behind_front max_number variable_of_word class_of_word is_class_name is_thread_name cut_at short_number offset_of_word three_numbers amount_of_word max_bytes format amounts offset zone moment info_words conv_words class_words lone_value money_words time_words commands_table items_table
+lower_of_a = refl
+
+lower_signed : spoken (codes "lower -1") ≡ wrong 7
+unfolding command next_word argument no_more read_as is_over text_of_word quoted_of_word zone_of_word decimal_number behind_front max_number variable_of_word class_of_word is_class_name is_thread_name cut_at short_number offset_of_word three_numbers amount_of_word max_bytes format amounts offset zone moment info_words conv_words class_words lone_value money_words time_words commands_table items_table
+lower_signed = refl
+
+money_plain : spoken (codes "money \"%n\" 5 -0.5") ≡ Ok (Read (Money 1024 (codes "%n") (record { units = pos 5; scale = 0 } ∷ record { units = negsuc 4; scale = 1 } ∷ [])))
+unfolding command next_word argument no_more read_as is_over text_of_word quoted_of_word zone_of_word decimal_number behind_front max_number variable_of_word class_of_word is_class_name is_thread_name cut_at short_number offset_of_word three_numbers amount_of_word max_bytes format amounts offset zone moment info_words conv_words class_words lone_value money_words time_words commands_table items_table
+money_plain = refl
+
+money_with_max : spoken (codes "money max=07 \"%n\"") ≡ Ok (Read (Money 7 (codes "%n") []))
+unfolding command next_word argument no_more read_as is_over text_of_word quoted_of_word zone_of_word decimal_number behind_front max_number variable_of_word class_of_word is_class_name is_thread_name cut_at short_number offset_of_word three_numbers amount_of_word max_bytes format amounts offset zone moment info_words conv_words class_words lone_value money_words time_words commands_table items_table
+money_with_max = refl
+
+money_max_too_large : spoken (codes "money max=4097 \"%n\" 5") ≡ wrong 7
+unfolding command next_word argument no_more read_as is_over text_of_word quoted_of_word zone_of_word decimal_number behind_front max_number variable_of_word class_of_word is_class_name is_thread_name cut_at short_number offset_of_word three_numbers amount_of_word max_bytes format amounts offset zone moment info_words conv_words class_words lone_value money_words time_words commands_table items_table
+money_max_too_large = refl
+
+money_max_twice : spoken (codes "money max=7 max=7 \"%n\" 5") ≡ wrong 13
+unfolding command next_word argument no_more read_as is_over text_of_word quoted_of_word zone_of_word decimal_number behind_front max_number variable_of_word class_of_word is_class_name is_thread_name cut_at short_number offset_of_word three_numbers amount_of_word max_bytes format amounts offset zone moment info_words conv_words class_words lone_value money_words time_words commands_table items_table
+money_max_twice = refl
+
+money_without_format : spoken (codes "money max=7") ≡ wrong 12
+unfolding command next_word argument no_more read_as is_over text_of_word quoted_of_word zone_of_word decimal_number behind_front max_number variable_of_word class_of_word is_class_name is_thread_name cut_at short_number offset_of_word three_numbers amount_of_word max_bytes format amounts offset zone moment info_words conv_words class_words lone_value money_words time_words commands_table items_table
+money_without_format = refl
+
+money_format_plain : spoken (codes "money %n 5") ≡ wrong 7
+unfolding command next_word argument no_more read_as is_over text_of_word quoted_of_word zone_of_word decimal_number behind_front max_number variable_of_word class_of_word is_class_name is_thread_name cut_at short_number offset_of_word three_numbers amount_of_word max_bytes format amounts offset zone moment info_words conv_words class_words lone_value money_words time_words commands_table items_table
+money_format_plain = refl
+
+money_wrong_amount : spoken (codes "money \"%n\" 5 five 6") ≡ wrong 14
+unfolding command next_word argument no_more read_as is_over text_of_word quoted_of_word zone_of_word decimal_number behind_front max_number variable_of_word class_of_word is_class_name is_thread_name cut_at short_number offset_of_word three_numbers amount_of_word max_bytes format amounts offset zone moment info_words conv_words class_words lone_value money_words time_words commands_table items_table
+money_wrong_amount = refl
+
+-- so many amounts of 1
+abbrev ones : ℕ → List ℕ
+ones n = flat_map (λ (k : ℕ). codes " 1") (replicate n 0)
+
+money_many : spoken (codes "money \"%n\"" ++ ones 64) ≡ Ok (Read (Money 1024 (codes "%n") (replicate 64 (record { units = pos 1; scale = 0 }))))
+unfolding command next_word argument no_more read_as is_over text_of_word quoted_of_word zone_of_word decimal_number behind_front max_number variable_of_word class_of_word is_class_name is_thread_name cut_at short_number offset_of_word three_numbers amount_of_word max_bytes format amounts offset zone moment info_words conv_words class_words lone_value money_words time_words commands_table items_table
+money_many = refl
+
+money_one_too_many : spoken (codes "money \"%n\"" ++ ones 65 ++ codes " x") ≡ refused 140 (reasons.OverLimit limits.Amounts)
+unfolding command next_word argument no_more read_as is_over text_of_word quoted_of_word zone_of_word decimal_number behind_front max_number variable_of_word class_of_word is_class_name is_thread_name cut_at short_number offset_of_word three_numbers amount_of_word max_bytes format amounts offset zone moment info_words conv_words class_words lone_value money_words time_words commands_table items_table
+money_one_too_many = refl
+
+-- a wrong word goes before the limit at its place
+money_wrong_one_too_many : spoken (codes "money \"%n\"" ++ ones 64 ++ codes " x") ≡ wrong 140
+unfolding command next_word argument no_more read_as is_over text_of_word quoted_of_word zone_of_word decimal_number behind_front max_number variable_of_word class_of_word is_class_name is_thread_name cut_at short_number offset_of_word three_numbers amount_of_word max_bytes format amounts offset zone moment info_words conv_words class_words lone_value money_words time_words commands_table items_table
+money_wrong_one_too_many = refl
+
+format_too_long : spoken (codes "money \"" ++ replicate 1025 65 ++ codes "\" five") ≡ refused 7 (reasons.OverLimit limits.Format)
+unfolding command next_word argument no_more read_as is_over text_of_word quoted_of_word zone_of_word decimal_number behind_front max_number variable_of_word class_of_word is_class_name is_thread_name cut_at short_number offset_of_word three_numbers amount_of_word max_bytes format amounts offset zone moment info_words conv_words class_words lone_value money_words time_words commands_table items_table
+format_too_long = refl
+
+abbrev noon : Option ℤ → List ℕ → Reads Command
+noon offset zone = Ok (Read (Time 1024 (codes "%c") (record {
+  year = pos 2021;
+  mon = pos 13;
+  mday = pos 3;
+  hour = pos 12;
+  min = pos 0;
+  sec = pos 0;
+  wday = pos 0;
+  yday = pos 2;
+  offset = offset;
+  zone = zone;
+})))
+
+-- fields out of their range are no wrong words
+time_plain : spoken (codes "time \"%c\" 2021-13-03 12:0:00 0 2") ≡ noon None []
+unfolding command next_word argument no_more read_as is_over text_of_word quoted_of_word zone_of_word decimal_number behind_front max_number variable_of_word class_of_word is_class_name is_thread_name cut_at short_number offset_of_word three_numbers amount_of_word max_bytes format amounts offset zone moment info_words conv_words class_words lone_value money_words time_words commands_table items_table
+time_plain = refl
+
+time_with_offset : spoken (codes "time \"%c\" 2021-13-03 12:0:00 0 2 -90") ≡ noon (Some (negsuc 89)) []
+unfolding command next_word argument no_more read_as is_over text_of_word quoted_of_word zone_of_word decimal_number behind_front max_number variable_of_word class_of_word is_class_name is_thread_name cut_at short_number offset_of_word three_numbers amount_of_word max_bytes format amounts offset zone moment info_words conv_words class_words lone_value money_words time_words commands_table items_table
+time_with_offset = refl
+
+time_with_zone : spoken (codes "time \"%c\" 2021-13-03 12:0:00 0 2 -90 \"a b\"") ≡ noon (Some (negsuc 89)) (codes "a b")
+unfolding command next_word argument no_more read_as is_over text_of_word quoted_of_word zone_of_word decimal_number behind_front max_number variable_of_word class_of_word is_class_name is_thread_name cut_at short_number offset_of_word three_numbers amount_of_word max_bytes format amounts offset zone moment info_words conv_words class_words lone_value money_words time_words commands_table items_table
+time_with_zone = refl
+
+time_and_more : spoken (codes "time \"%c\" 2021-13-03 12:0:00 0 2 -90 UTC x") ≡ wrong 42
+unfolding command next_word argument no_more read_as is_over text_of_word quoted_of_word zone_of_word decimal_number behind_front max_number variable_of_word class_of_word is_class_name is_thread_name cut_at short_number offset_of_word three_numbers amount_of_word max_bytes format amounts offset zone moment info_words conv_words class_words lone_value money_words time_words commands_table items_table
+time_and_more = refl
+
+-- a zone stands behind an offset
+time_zone_for_offset : spoken (codes "time \"%c\" 2021-13-03 12:0:00 0 2 UTC") ≡ wrong 34
+unfolding command next_word argument no_more read_as is_over text_of_word quoted_of_word zone_of_word decimal_number behind_front max_number variable_of_word class_of_word is_class_name is_thread_name cut_at short_number offset_of_word three_numbers amount_of_word max_bytes format amounts offset zone moment info_words conv_words class_words lone_value money_words time_words commands_table items_table
+time_zone_for_offset = refl
+
+time_short : spoken (codes "time \"%c\" 2021-13-03 12:0:00 0") ≡ wrong 31
+unfolding command next_word argument no_more read_as is_over text_of_word quoted_of_word zone_of_word decimal_number behind_front max_number variable_of_word class_of_word is_class_name is_thread_name cut_at short_number offset_of_word three_numbers amount_of_word max_bytes format amounts offset zone moment info_words conv_words class_words lone_value money_words time_words commands_table items_table
+time_short = refl

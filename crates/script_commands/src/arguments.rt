@@ -1,0 +1,423 @@
+//! Words of commands.
+
+ghost use Rattle.std.specs.Prelude.{◌≡◌, ◌<◌, ◌≤◌, length, IfOk};
+ghost use Rattle.std.specs.Option.{option_copied};
+ghost use Rattle.lc_base.specs.declared.fault.TextFault.TheVariants.{At};
+ghost use Rattle.lc_base.specs.declared.reason.Reason.TheVariants.{BadLine};
+ghost use Rattle.lc_base.specs.declared.reason.LinePart.TheVariants.{Argument};
+ghost use Rattle.lc_base.specs.Reading.{Gives};
+ghost use Rattle.script_words.specs.Seen.{seen_handle, seen_cell};
+ghost use Rattle.script_commands.specs.InRange.{IsOwned};
+ghost use Rattle.script_words.specs.Spans.{span, spans};
+ghost use Rattle.script_words.specs.Words.{text_of_word, categories_of_word, mask_of_word, variable_of_word, class_of_word, cell_number, decimal_number};
+ghost use Rattle.script_words.specs.Numbers.{short_number, three_numbers};
+ghost use Rattle.script_words.specs.Tables.{first_named, items_table};
+ghost use Rattle.script_commands.specs.Commands.{argument, read_as, no_more, is_over, handle, target, target_word, lone_target, thread_cell, cell, key, max_bytes, format, amounts, offset, zone, moment};
+
+use crate::command::Target;
+use crate::known::{Known, THREAD_LIMIT, lacks_key, thread_number};
+use handle_table::{CELLS, Handle};
+use lc_base::{ByteText, Item, Limit, LinePart, List, Place, Reason, TextFault};
+use script_words::{
+    AMOUNT_LIMIT, Categories, DEFAULT_MAX, Format, Piece, WrittenAmount, WrittenCell,
+    WrittenHandle, WrittenTime, amount_of_word, behind_front, categories_of_word, cell_number,
+    cell_of_word, class_of_word, decimal_number, handle_of_word, is_thread_name, item_named,
+    key_of_word, mask_of_word, max_number, offset_of_word, quoted_of_word, short_number,
+    text_of_word, three_numbers, variable_of_word, zone_of_word,
+};
+use std::alloc::Global;
+
+/// The refusal of a wrong, missing or needless word at this place.
+fn wrong_word(place: Place) -> TextFault
+    ensures { result ≡ At place (BadLine Argument) }
+{
+    TextFault::At(place, Reason::BadLine(LinePart::Argument))
+}
+
+/// The next word, and what follows it.
+#[tactic(auto, unfolding(crate::specs::Commands::argument))]
+pub fn argument(rest: Piece<'_>) -> Result<(Piece<'_>, Piece<'_>), TextFault>
+    ensures { Gives spans result (argument (span rest.entry)) }
+{
+    rest.next_word().ok_or(wrong_word(rest.end()))
+}
+
+/// Nothing follows but blanks.
+#[tactic(auto, unfolding(crate::specs::Commands::no_more))]
+pub fn no_more(rest: Piece<'_>) -> Result<(), TextFault>
+    ensures { Gives (λ x. x) result (no_more (span rest.entry)) }
+{
+    match rest.next_word() {
+        None => Ok(()),
+        Some((word, _)) => Err(wrong_word(word.place)),
+    }
+}
+
+/// Whether nothing follows but blanks.
+#[tactic(auto, unfolding(crate::specs::Commands::is_over))]
+pub fn is_over(rest: Piece<'_>) -> bool
+    ensures { result ≡ is_over (span rest.entry) }
+{
+    rest.next_word().is_none()
+}
+
+/// A variable, and what follows it.
+#[tactic(auto, unfolding(crate::specs::Commands::read_as))]
+pub fn variable(alloc: Global, rest: Piece<'_>) -> Result<(ByteText, Piece<'_>), TextFault>
+    ensures { Gives (λ x. (x.0, span x.1)) result (read_as variable_of_word (span rest.entry)) }
+{
+    let (word, rest) = argument(rest)?;
+    match variable_of_word(alloc, word.bytes)? {
+        Some(name) => Ok((name, rest)),
+        None => Err(wrong_word(word.place)),
+    }
+}
+
+/// The bits of a mask, and what follows it.
+#[tactic(auto, unfolding(crate::specs::Commands::read_as))]
+pub fn mask(rest: Piece<'_>) -> Result<(u32, Piece<'_>), TextFault>
+    ensures { Gives (λ x. (x.0, span x.1)) result (read_as mask_of_word (span rest.entry)) }
+{
+    let (word, rest) = argument(rest)?;
+    match mask_of_word(word.bytes) {
+        Some(bits) => Ok((bits, rest)),
+        None => Err(wrong_word(word.place)),
+    }
+}
+
+/// The name of a locale, and what follows it.
+#[tactic(auto, unfolding(crate::specs::Commands::read_as))]
+pub fn locale(alloc: Global, rest: Piece<'_>) -> Result<(ByteText, Piece<'_>), TextFault>
+    ensures { Gives (λ x. (x.0, span x.1)) result (read_as text_of_word (span rest.entry)) }
+{
+    let (word, rest) = argument(rest)?;
+    match text_of_word(alloc, word.bytes)? {
+        Some(name) => Ok((name, rest)),
+        None => Err(wrong_word(word.place)),
+    }
+}
+
+/// The categories of a setlocale, and what follows them.
+#[tactic(auto, unfolding(crate::specs::Commands::read_as))]
+pub fn categories(rest: Piece<'_>) -> Result<(Categories, Piece<'_>), TextFault>
+    ensures { Gives (λ x. (x.0, span x.1)) result (read_as categories_of_word (span rest.entry)) }
+{
+    let (word, rest) = argument(rest)?;
+    match categories_of_word(word.bytes) {
+        Some(categories) => Ok((categories, rest)),
+        None => Err(wrong_word(word.place)),
+    }
+}
+
+/// The handle that a word is.
+fn handle(
+    known: Option<&Known>,
+    threads: &List<ByteText>,
+    word: Piece<'_>,
+    written: WrittenHandle<'_>,
+) -> Result<Target, TextFault>
+    requires some { 0 < length threads.now }
+    requires few { length threads.now ≤ THREAD_LIMIT }
+    ensures is { Gives (λ x. x) result (handle (option_copied known.entry) threads.now (span word.entry) (seen_handle written.entry)) }
+    ensures owned { IfOk result (IsOwned (length threads.now)) }
+{
+    let Some(owner) = thread_number(known, threads, written.thread) else {
+        return Err(TextFault::At(word.place, Reason::NoThread));
+    };
+    Ok(Target::Handle(Handle {
+        owner,
+        row: written.row,
+        generation: written.generation,
+    }))
+}
+
+/// What a word names: `GLOBAL`, a variable or a handle.
+#[tactic(auto, unfolding(crate::specs::Commands::target))]
+pub fn target(
+    alloc: Global,
+    known: Option<&Known>,
+    threads: &List<ByteText>,
+    word: Piece<'_>,
+) -> Result<Target, TextFault>
+    requires some { 0 < length threads.now }
+    requires few { length threads.now ≤ THREAD_LIMIT }
+    ensures is { Gives (λ x. x) result (target (option_copied known.entry) threads.now (span word.entry)) }
+    ensures owned { IfOk result (IsOwned (length threads.now)) }
+{
+    if word.bytes == b"GLOBAL".as_slice() {
+        return Ok(Target::Global);
+    }
+    if is_thread_name(word.bytes) {
+        return Ok(Target::Variable(ByteText::of(alloc, word.bytes)?));
+    }
+    match handle_of_word(word.bytes) {
+        Some(written) => handle(known, threads, word, written),
+        None => Err(wrong_word(word.place)),
+    }
+}
+
+/// What the next word names, and what follows it.
+#[tactic(auto, unfolding(crate::specs::Commands::target_word))]
+pub fn target_word<'a>(
+    alloc: Global,
+    known: Option<&Known>,
+    threads: &List<ByteText>,
+    rest: Piece<'a>,
+) -> Result<(Target, Piece<'a>), TextFault>
+    requires some { 0 < length threads.now }
+    requires few { length threads.now ≤ THREAD_LIMIT }
+    ensures is { Gives (λ x. (x.0, span x.1)) result (target_word (option_copied known.entry) threads.now (span rest.entry)) }
+    ensures owned { IfOk result (λ x. IsOwned (length threads.now) x.0) }
+{
+    let (word, rest) = argument(rest)?;
+    let named = target(alloc, known, threads, word)?;
+    Ok((named, rest))
+}
+
+/// Just one word, which names something.
+#[tactic(auto, unfolding(crate::specs::Commands::lone_target))]
+pub fn lone_target(
+    alloc: Global,
+    known: Option<&Known>,
+    threads: &List<ByteText>,
+    rest: Piece<'_>,
+) -> Result<Target, TextFault>
+    requires some { 0 < length threads.now }
+    requires few { length threads.now ≤ THREAD_LIMIT }
+    ensures is { Gives (λ x. x) result (lone_target (option_copied known.entry) threads.now (span rest.entry)) }
+    ensures owned { IfOk result (IsOwned (length threads.now)) }
+{
+    let (named, rest) = target_word(alloc, known, threads, rest)?;
+    no_more(rest)?;
+    Ok(named)
+}
+
+/// The numbers of a thread and of its cell.
+fn thread_cell(
+    known: Option<&Known>,
+    threads: &List<ByteText>,
+    word: Piece<'_>,
+    written: WrittenCell<'_>,
+) -> Result<(u32, u32), TextFault>
+    requires some { 0 < length threads.now }
+    requires few { length threads.now ≤ THREAD_LIMIT }
+    requires cell { written.cell < CELLS }
+    ensures is { Gives (λ x. x) result (thread_cell (option_copied known.entry) threads.now (span word.entry) (seen_cell written.entry)) }
+    ensures in_range { IfOk result (λ x. (x.0 < length threads.now) × (x.1 < CELLS)) }
+{
+    match thread_number(known, threads, written.thread) {
+        Some(owner) => Ok((owner, written.cell)),
+        None => Err(TextFault::At(word.place, Reason::NoThread)),
+    }
+}
+
+/// The cell that a word names: the numbers of its thread and of the cell.
+#[tactic(auto, unfolding(crate::specs::Commands::cell))]
+pub fn cell(
+    known: Option<&Known>,
+    threads: &List<ByteText>,
+    word: Piece<'_>,
+) -> Result<(u32, u32), TextFault>
+    requires some { 0 < length threads.now }
+    requires few { length threads.now ≤ THREAD_LIMIT }
+    ensures is { Gives (λ x. x) result (cell (option_copied known.entry) threads.now (span word.entry)) }
+    ensures in_range { IfOk result (λ x. (x.0 < length threads.now) × (x.1 < CELLS)) }
+{
+    match cell_of_word(word.bytes) {
+        Some(written) => thread_cell(known, threads, word, written),
+        None => Err(wrong_word(word.place)),
+    }
+}
+
+/// The key that a word is.
+#[tactic(auto, unfolding(crate::specs::Commands::key))]
+pub fn key(alloc: Global, known: Option<&Known>, word: Piece<'_>) -> Result<ByteText, TextFault>
+    ensures { Gives (λ x. x) result (key (option_copied known.entry) (span word.entry)) }
+{
+    let Some(key) = key_of_word(alloc, word.bytes)? else {
+        return Err(wrong_word(word.place));
+    };
+    if lacks_key(known, key.as_bytes()) {
+        return Err(TextFault::At(word.place, Reason::NoLater));
+    }
+    Ok(key)
+}
+
+/// The number of a cell, and what follows it.
+#[tactic(auto, unfolding(crate::specs::Commands::read_as))]
+pub fn cell_word(rest: Piece<'_>) -> Result<(u32, Piece<'_>), TextFault>
+    ensures is { Gives (λ x. (x.0, span x.1)) result (read_as cell_number (span rest.entry)) }
+    ensures small { IfOk result (λ x. x.0 < CELLS) }
+{
+    let (word, rest) = argument(rest)?;
+    match cell_number(word.bytes) {
+        Some(number) => Ok((number, rest)),
+        None => Err(wrong_word(word.place)),
+    }
+}
+
+/// An item, and what follows it.
+#[tactic(auto, unfolding(crate::specs::Commands::read_as))]
+pub fn item(rest: Piece<'_>) -> Result<(Item, Piece<'_>), TextFault>
+    ensures { Gives (λ x. (x.0, span x.1)) result (read_as (first_named items_table) (span rest.entry)) }
+{
+    let (word, rest) = argument(rest)?;
+    match item_named(word.bytes) {
+        Some(item) => Ok((item, rest)),
+        None => Err(wrong_word(word.place)),
+    }
+}
+
+/// The name of a class, and what follows it.
+#[tactic(auto, unfolding(crate::specs::Commands::read_as))]
+pub fn class(alloc: Global, rest: Piece<'_>) -> Result<(ByteText, Piece<'_>), TextFault>
+    ensures { Gives (λ x. (x.0, span x.1)) result (read_as class_of_word (span rest.entry)) }
+{
+    let (word, rest) = argument(rest)?;
+    match class_of_word(alloc, word.bytes)? {
+        Some(name) => Ok((name, rest)),
+        None => Err(wrong_word(word.place)),
+    }
+}
+
+/// A wide value, and what follows it.
+#[tactic(auto, unfolding(crate::specs::Commands::read_as))]
+pub fn value(rest: Piece<'_>) -> Result<(u32, Piece<'_>), TextFault>
+    ensures { Gives (λ x. (x.0, span x.1)) result (read_as decimal_number (span rest.entry)) }
+{
+    let (word, rest) = argument(rest)?;
+    match decimal_number(word.bytes) {
+        Some(value) => Ok((value, rest)),
+        None => Err(wrong_word(word.place)),
+    }
+}
+
+/// The most bytes of a text, which a word in front of the format may give, and what follows it.
+#[tactic(auto, unfolding(crate::specs::Commands::max_bytes))]
+pub fn max_bytes(rest: Piece<'_>) -> Result<(u32, Piece<'_>), TextFault>
+    ensures { Gives (λ x. (x.0, span x.1)) result (max_bytes (span rest.entry)) }
+{
+    let (word, behind) = argument(rest)?;
+    let Some(digits) = behind_front(b"max=", word.bytes) else {
+        return Ok((DEFAULT_MAX, rest));
+    };
+    match max_number(digits) {
+        Some(max) => Ok((max, behind)),
+        None => Err(wrong_word(word.place)),
+    }
+}
+
+/// A format, and what follows it.
+#[tactic(auto, unfolding(crate::specs::Commands::format))]
+pub fn format(alloc: Global, rest: Piece<'_>) -> Result<(Format, Piece<'_>), TextFault>
+    ensures { Gives (λ x. (x.0, span x.1)) result (format (span rest.entry)) }
+{
+    let (word, rest) = argument(rest)?;
+    let Some(text) = quoted_of_word(alloc, word.bytes)? else {
+        return Err(wrong_word(word.place));
+    };
+    match Format::of(text) {
+        Some(format) => Ok((format, rest)),
+        None => Err(TextFault::At(word.place, Reason::OverLimit(Limit::Format))),
+    }
+}
+
+/// The amounts to the end of the line.
+#[tactic(auto, unfolding(crate::specs::Commands::amounts))]
+pub fn amounts(alloc: Global, rest: Piece<'_>) -> Result<List<WrittenAmount>, TextFault>
+    ensures { Gives (λ x. x) result (amounts (span rest.entry)) }
+{
+    let mut amounts = Vec::new(alloc);
+    let mut left = rest;
+    while let Some((word, behind)) = left.next_word() {
+        let Some(amount) = amount_of_word(word.bytes) else {
+            return Err(wrong_word(word.place));
+        };
+        if amounts.len() == AMOUNT_LIMIT {
+            return Err(TextFault::At(word.place, Reason::OverLimit(Limit::Amounts)));
+        }
+        amounts.push(amount)?;
+        left = behind;
+    }
+    Ok(List::of(amounts))
+}
+
+/// Three numbers with a byte between them, and what follows them.
+#[tactic(auto, unfolding(crate::specs::Commands::read_as))]
+fn numbers(between: u8, rest: Piece<'_>) -> Result<((i32, i32, i32), Piece<'_>), TextFault>
+    ensures { Gives (λ x. (x.0, span x.1)) result (read_as (three_numbers between) (span rest.entry)) }
+{
+    let (word, rest) = argument(rest)?;
+    match three_numbers(between, word.bytes) {
+        Some(numbers) => Ok((numbers, rest)),
+        None => Err(wrong_word(word.place)),
+    }
+}
+
+/// A number of a time, and what follows it.
+#[tactic(auto, unfolding(crate::specs::Commands::read_as))]
+fn number(rest: Piece<'_>) -> Result<(i32, Piece<'_>), TextFault>
+    ensures { Gives (λ x. (x.0, span x.1)) result (read_as short_number (span rest.entry)) }
+{
+    let (word, rest) = argument(rest)?;
+    match short_number(word.bytes) {
+        Some(number) => Ok((number, rest)),
+        None => Err(wrong_word(word.place)),
+    }
+}
+
+/// Minutes east of UTC, which may be left out, and what follows them.
+#[tactic(auto, unfolding(crate::specs::Commands::offset, crate::specs::Commands::read_as))]
+fn offset(rest: Piece<'_>) -> Result<(Option<i32>, Piece<'_>), TextFault>
+    ensures { Gives (λ x. (x.0, span x.1)) result (offset (span rest.entry)) }
+{
+    if is_over(rest) {
+        return Ok((None, rest));
+    }
+    let (word, rest) = argument(rest)?;
+    match offset_of_word(word.bytes) {
+        Some(minutes) => Ok((Some(minutes), rest)),
+        None => Err(wrong_word(word.place)),
+    }
+}
+
+/// The name of a time zone, which may be left out, and what follows it.
+#[tactic(auto, unfolding(crate::specs::Commands::zone, crate::specs::Commands::read_as))]
+fn zone(alloc: Global, rest: Piece<'_>) -> Result<(ByteText, Piece<'_>), TextFault>
+    ensures { Gives (λ x. (x.0, span x.1)) result (zone (span rest.entry)) }
+{
+    if is_over(rest) {
+        return Ok((ByteText::from_vec(Vec::new(alloc)), rest));
+    }
+    let (word, rest) = argument(rest)?;
+    match zone_of_word(alloc, word.bytes)? {
+        Some(zone) => Ok((zone, rest)),
+        None => Err(wrong_word(word.place)),
+    }
+}
+
+/// A date, a clock, the days of the week and of the year, and the zone; and what follows them.
+#[tactic(auto, unfolding(crate::specs::Commands::moment))]
+pub fn moment(alloc: Global, rest: Piece<'_>) -> Result<(WrittenTime, Piece<'_>), TextFault>
+    ensures { Gives (λ x. (x.0, span x.1)) result (moment (span rest.entry)) }
+{
+    let ((year, mon, mday), rest) = numbers(b'-', rest)?;
+    let ((hour, min, sec), rest) = numbers(b':', rest)?;
+    let (wday, rest) = number(rest)?;
+    let (yday, rest) = number(rest)?;
+    let (offset, rest) = offset(rest)?;
+    let (zone, rest) = zone(alloc, rest)?;
+    let time = WrittenTime {
+        year,
+        mon,
+        mday,
+        hour,
+        min,
+        sec,
+        wday,
+        yday,
+        offset,
+        zone,
+    };
+    Ok((time, rest))
+}

@@ -1,0 +1,132 @@
+//! The commands of a script.
+
+use handle_table::Handle;
+use lc_base::{ByteText, Item, List};
+use script_words::{Categories, Format, WrittenAmount, WrittenTime};
+
+/// What a command names.
+#[derive(Debug, Drop)]
+pub enum Target {
+    /// `GLOBAL`: the global locale.
+    Global,
+    /// What the variable of this name stands for.
+    Variable(ByteText),
+    /// `THREAD.ROW.GENERATION`, with the number of the thread.
+    Handle(Handle),
+}
+
+/// What a command reads from an object. The forms with a handle have the same words behind it; for
+/// localeconv there is none (XSH localeconv).
+#[derive(Debug, Drop)]
+pub enum Read {
+    /// `info ITEM`, `info_l H ITEM`: nl_langinfo, nl_langinfo_l.
+    Info(Item),
+    /// `conv`: localeconv.
+    Conv,
+    /// `class NAME W`, `class_l H NAME W`: iswctype, iswctype_l.
+    Class {
+        /// The name of the class.
+        class: ByteText,
+        /// The wide value.
+        value: u32,
+    },
+    /// `upper W`, `upper_l H W`: towupper, towupper_l.
+    Upper(u32),
+    /// `lower W`, `lower_l H W`: towlower, towlower_l.
+    Lower(u32),
+    /// `money MAX F AMOUNTS`, `money_l H MAX F AMOUNTS`: strfmon, strfmon_l.
+    Money {
+        /// The most bytes of the text.
+        max: u32,
+        format: Format,
+        amounts: List<WrittenAmount>,
+    },
+    /// `time MAX F DATE CLOCK WDAY YDAY OFFSET ZONE`, and `time_l H` with the same: strftime,
+    /// strftime_l.
+    Time {
+        /// The most bytes of the text.
+        max: u32,
+        format: Format,
+        time: WrittenTime,
+    },
+}
+
+/// A command. The bits of a mask are kept as they are written, also bits that no category has.
+#[derive(Debug, Drop)]
+pub enum Command {
+    /// `new N MASK LOC`, `new N MASK LOC H`: newlocale.
+    New {
+        /// The variable that is bound to the handle.
+        variable: ByteText,
+        /// The bits of the mask.
+        mask: u32,
+        /// The name of the locale.
+        locale: ByteText,
+        /// The object that is changed, where one is given.
+        base: Option<Target>,
+    },
+    /// `dup N H`: duplocale.
+    Dup {
+        /// The variable that is bound to the handle.
+        variable: ByteText,
+        /// What is copied.
+        from: Target,
+    },
+    /// `free H`: freelocale.
+    Free(Target),
+    /// `use H`: uselocale.
+    Use(Target),
+    /// `use ?`: uselocale that asks what is selected.
+    Selected,
+    /// `hold H`: a pin of the thread's own is taken.
+    Hold(Target),
+    /// `release H`: the thread's own pin is given back.
+    Release(Target),
+    /// `setlocale CAT LOC`: setlocale.
+    Setlocale {
+        /// What is set.
+        categories: Categories,
+        /// The name of the locale.
+        locale: ByteText,
+    },
+    /// `setlocale CAT`: setlocale that asks for the name.
+    LocaleName(Categories),
+    /// `install KEY`: the later version with this key is what its name means from now on.
+    Install(ByteText),
+    /// `post K H`: a handle is put into a cell of the thread.
+    Post {
+        /// The number of the cell, below 8.
+        cell: u32,
+        /// What is put there.
+        named: Target,
+    },
+    /// `fetch N THREAD.K`: the handle in a cell of a thread.
+    Fetch {
+        /// The variable that is bound to the handle.
+        variable: ByteText,
+        /// The number of the thread, from 0.
+        owner: u32,
+        /// The number of the cell, below 8.
+        cell: u32,
+    },
+    /// `pins H`: the number of pins.
+    Pins(Target),
+    /// A command that reads the thread's own object, or the global locale.
+    Read(Read),
+    /// The form of such a command whose word ends in `_l`: it reads the object of a handle.
+    ReadOf {
+        /// The object that is read.
+        object: Target,
+        read: Read,
+    },
+}
+
+/// A command with its place in the script.
+#[derive(Debug, Drop)]
+pub struct Placed {
+    /// The round, from 1.
+    pub round: u32,
+    /// The number of the thread, from 0.
+    pub thread: u32,
+    pub command: Command,
+}

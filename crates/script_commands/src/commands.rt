@@ -1,0 +1,350 @@
+//! Commands, from their words.
+
+ghost use Rattle.std.specs.Prelude.{◌≡◌, ℕ, ◌<◌, ◌≤◌, length, IfOk};
+ghost use Rattle.std.specs.Option.{option_copied};
+ghost use Rattle.lc_base.specs.Reading.{Gives};
+ghost use Rattle.script_commands.specs.InRange.{IsBaseOwned, IsInRange};
+ghost use Rattle.script_words.specs.Spans.{span};
+ghost use Rattle.script_commands.specs.Commands.{info_words, conv_words, class_words, lone_value, money_words, time_words, read_words, base, new_command, dup_command, selection, use_command, setlocale_command, install_command, post_command, fetch_command, read_command, read_of_command, command_of, command};
+
+use crate::arguments::{
+    amounts, argument, categories, cell, cell_word, class, format, is_over, item, key, locale,
+    lone_target, mask, max_bytes, moment, no_more, target, target_word, value, variable,
+};
+use crate::command::{Command, Read, Target};
+use crate::known::{Known, THREAD_LIMIT};
+use lc_base::{ByteText, LinePart, List, Reason, TextFault};
+use script_words::{Piece, Question, Verb, command_named};
+use std::alloc::Global;
+
+/// `ITEM`, of `info`.
+#[tactic(auto, unfolding(crate::specs::Commands::info_words))]
+fn info_words(rest: Piece<'_>) -> Result<Read, TextFault>
+    ensures { Gives (λ x. x) result (info_words (span rest.entry)) }
+{
+    let (item, rest) = item(rest)?;
+    no_more(rest)?;
+    Ok(Read::Info(item))
+}
+
+/// No words, of `conv`.
+#[tactic(auto, unfolding(crate::specs::Commands::conv_words))]
+fn conv_words(rest: Piece<'_>) -> Result<Read, TextFault>
+    ensures { Gives (λ x. x) result (conv_words (span rest.entry)) }
+{
+    no_more(rest)?;
+    Ok(Read::Conv)
+}
+
+/// `NAME W`, of `class`.
+#[tactic(auto, unfolding(crate::specs::Commands::class_words))]
+fn class_words(alloc: Global, rest: Piece<'_>) -> Result<Read, TextFault>
+    ensures { Gives (λ x. x) result (class_words (span rest.entry)) }
+{
+    let (class, rest) = class(alloc, rest)?;
+    let (value, rest) = value(rest)?;
+    no_more(rest)?;
+    Ok(Read::Class { class, value })
+}
+
+/// `W`, and nothing else.
+#[tactic(auto, unfolding(crate::specs::Commands::lone_value))]
+fn lone_value(rest: Piece<'_>) -> Result<u32, TextFault>
+    ensures { Gives (λ x. x) result (lone_value (span rest.entry)) }
+{
+    let (value, rest) = value(rest)?;
+    no_more(rest)?;
+    Ok(value)
+}
+
+/// `MAX F AMOUNTS`, of `money`.
+#[tactic(auto, unfolding(crate::specs::Commands::money_words))]
+fn money_words(alloc: Global, rest: Piece<'_>) -> Result<Read, TextFault>
+    ensures { Gives (λ x. x) result (money_words (span rest.entry)) }
+{
+    let (max, rest) = max_bytes(rest)?;
+    let (format, rest) = format(alloc, rest)?;
+    let amounts = amounts(alloc, rest)?;
+    Ok(Read::Money {
+        max,
+        format,
+        amounts,
+    })
+}
+
+/// `MAX F DATE CLOCK WDAY YDAY OFFSET ZONE`, of `time`.
+#[tactic(auto, unfolding(crate::specs::Commands::time_words))]
+fn time_words(alloc: Global, rest: Piece<'_>) -> Result<Read, TextFault>
+    ensures { Gives (λ x. x) result (time_words (span rest.entry)) }
+{
+    let (max, rest) = max_bytes(rest)?;
+    let (format, rest) = format(alloc, rest)?;
+    let (time, rest) = moment(alloc, rest)?;
+    no_more(rest)?;
+    Ok(Read::Time { max, format, time })
+}
+
+/// The words of what is read.
+fn read_words(alloc: Global, question: Question, rest: Piece<'_>) -> Result<Read, TextFault>
+    ensures { Gives (λ x. x) result (read_words question (span rest.entry)) }
+{
+    match question {
+        Question::Info => info_words(rest),
+        Question::Conv => conv_words(rest),
+        Question::Class => class_words(alloc, rest),
+        Question::Upper => Ok(Read::Upper(lone_value(rest)?)),
+        Question::Lower => Ok(Read::Lower(lone_value(rest)?)),
+        Question::Money => money_words(alloc, rest),
+        Question::Time => time_words(alloc, rest),
+    }
+}
+
+/// A base, which may be left out.
+#[tactic(auto, unfolding(crate::specs::Commands::base))]
+fn base(
+    alloc: Global,
+    known: Option<&Known>,
+    threads: &List<ByteText>,
+    rest: Piece<'_>,
+) -> Result<Option<Target>, TextFault>
+    requires some { 0 < length threads.now }
+    requires few { length threads.now ≤ THREAD_LIMIT }
+    ensures is { Gives (λ x. x) result (base (option_copied known.entry) threads.now (span rest.entry)) }
+    ensures owned { IfOk result (IsBaseOwned (length threads.now)) }
+{
+    if is_over(rest) {
+        return Ok(None);
+    }
+    Ok(Some(lone_target(alloc, known, threads, rest)?))
+}
+
+/// `new N MASK LOC`, `new N MASK LOC H`.
+#[tactic(auto, unfolding(crate::specs::Commands::new_command))]
+fn new_command(
+    alloc: Global,
+    known: Option<&Known>,
+    threads: &List<ByteText>,
+    rest: Piece<'_>,
+) -> Result<Command, TextFault>
+    requires some { 0 < length threads.now }
+    requires few { length threads.now ≤ THREAD_LIMIT }
+    ensures is { Gives (λ x. x) result (new_command (option_copied known.entry) threads.now (span rest.entry)) }
+    ensures in_range { IfOk result (IsInRange (length threads.now)) }
+{
+    let (variable, rest) = variable(alloc, rest)?;
+    let (mask, rest) = mask(rest)?;
+    let (locale, rest) = locale(alloc, rest)?;
+    let base = base(alloc, known, threads, rest)?;
+    Ok(Command::New {
+        variable,
+        mask,
+        locale,
+        base,
+    })
+}
+
+/// `dup N H`.
+#[tactic(auto, unfolding(crate::specs::Commands::dup_command))]
+fn dup_command(
+    alloc: Global,
+    known: Option<&Known>,
+    threads: &List<ByteText>,
+    rest: Piece<'_>,
+) -> Result<Command, TextFault>
+    requires some { 0 < length threads.now }
+    requires few { length threads.now ≤ THREAD_LIMIT }
+    ensures is { Gives (λ x. x) result (dup_command (option_copied known.entry) threads.now (span rest.entry)) }
+    ensures in_range { IfOk result (IsInRange (length threads.now)) }
+{
+    let (variable, rest) = variable(alloc, rest)?;
+    let from = lone_target(alloc, known, threads, rest)?;
+    Ok(Command::Dup { variable, from })
+}
+
+/// `?`, or what is selected.
+fn selection(
+    alloc: Global,
+    known: Option<&Known>,
+    threads: &List<ByteText>,
+    word: Piece<'_>,
+) -> Result<Command, TextFault>
+    requires some { 0 < length threads.now }
+    requires few { length threads.now ≤ THREAD_LIMIT }
+    ensures is { Gives (λ x. x) result (selection (option_copied known.entry) threads.now (span word.entry)) }
+    ensures in_range { IfOk result (IsInRange (length threads.now)) }
+{
+    if word.bytes == b"?".as_slice() {
+        return Ok(Command::Selected);
+    }
+    Ok(Command::Use(target(alloc, known, threads, word)?))
+}
+
+/// `use H`, `use ?`.
+#[tactic(auto, unfolding(crate::specs::Commands::use_command))]
+fn use_command(
+    alloc: Global,
+    known: Option<&Known>,
+    threads: &List<ByteText>,
+    rest: Piece<'_>,
+) -> Result<Command, TextFault>
+    requires some { 0 < length threads.now }
+    requires few { length threads.now ≤ THREAD_LIMIT }
+    ensures is { Gives (λ x. x) result (use_command (option_copied known.entry) threads.now (span rest.entry)) }
+    ensures in_range { IfOk result (IsInRange (length threads.now)) }
+{
+    let (word, rest) = argument(rest)?;
+    let command = selection(alloc, known, threads, word)?;
+    no_more(rest)?;
+    Ok(command)
+}
+
+/// `setlocale CAT LOC`, `setlocale CAT`.
+#[tactic(auto, unfolding(crate::specs::Commands::setlocale_command))]
+fn setlocale_command(alloc: Global, rest: Piece<'_>) -> Result<Command, TextFault>
+    ensures is { Gives (λ x. x) result (setlocale_command (span rest.entry)) }
+    ensures in_range { (n : ℕ) → IfOk result (IsInRange n) }
+{
+    let (categories, rest) = categories(rest)?;
+    if is_over(rest) {
+        return Ok(Command::LocaleName(categories));
+    }
+    let (locale, rest) = locale(alloc, rest)?;
+    no_more(rest)?;
+    Ok(Command::Setlocale { categories, locale })
+}
+
+/// `install KEY`.
+#[tactic(auto, unfolding(crate::specs::Commands::install_command))]
+fn install_command(
+    alloc: Global,
+    known: Option<&Known>,
+    rest: Piece<'_>,
+) -> Result<Command, TextFault>
+    ensures is { Gives (λ x. x) result (install_command (option_copied known.entry) (span rest.entry)) }
+    ensures in_range { (n : ℕ) → IfOk result (IsInRange n) }
+{
+    let (word, rest) = argument(rest)?;
+    let key = key(alloc, known, word)?;
+    no_more(rest)?;
+    Ok(Command::Install(key))
+}
+
+/// `post K H`.
+#[tactic(auto, unfolding(crate::specs::Commands::post_command))]
+fn post_command(
+    alloc: Global,
+    known: Option<&Known>,
+    threads: &List<ByteText>,
+    rest: Piece<'_>,
+) -> Result<Command, TextFault>
+    requires some { 0 < length threads.now }
+    requires few { length threads.now ≤ THREAD_LIMIT }
+    ensures is { Gives (λ x. x) result (post_command (option_copied known.entry) threads.now (span rest.entry)) }
+    ensures in_range { IfOk result (IsInRange (length threads.now)) }
+{
+    let (cell, rest) = cell_word(rest)?;
+    let named = lone_target(alloc, known, threads, rest)?;
+    Ok(Command::Post { cell, named })
+}
+
+/// `fetch N THREAD.K`.
+#[tactic(auto, unfolding(crate::specs::Commands::fetch_command))]
+fn fetch_command(
+    alloc: Global,
+    known: Option<&Known>,
+    threads: &List<ByteText>,
+    rest: Piece<'_>,
+) -> Result<Command, TextFault>
+    requires some { 0 < length threads.now }
+    requires few { length threads.now ≤ THREAD_LIMIT }
+    ensures is { Gives (λ x. x) result (fetch_command (option_copied known.entry) threads.now (span rest.entry)) }
+    ensures in_range { IfOk result (IsInRange (length threads.now)) }
+{
+    let (variable, rest) = variable(alloc, rest)?;
+    let (word, rest) = argument(rest)?;
+    let (owner, cell) = cell(known, threads, word)?;
+    no_more(rest)?;
+    Ok(Command::Fetch {
+        variable,
+        owner,
+        cell,
+    })
+}
+
+/// What is read of the thread's own object, or of the global locale.
+fn read_command(alloc: Global, question: Question, rest: Piece<'_>) -> Result<Command, TextFault>
+    ensures is { Gives (λ x. x) result (read_command question (span rest.entry)) }
+    ensures in_range { (n : ℕ) → IfOk result (IsInRange n) }
+{
+    Ok(Command::Read(read_words(alloc, question, rest)?))
+}
+
+/// The same words behind a handle: what is read of its object.
+#[tactic(auto, unfolding(crate::specs::Commands::read_of_command))]
+fn read_of_command(
+    alloc: Global,
+    known: Option<&Known>,
+    threads: &List<ByteText>,
+    question: Question,
+    rest: Piece<'_>,
+) -> Result<Command, TextFault>
+    requires some { 0 < length threads.now }
+    requires few { length threads.now ≤ THREAD_LIMIT }
+    ensures is { Gives (λ x. x) result (read_of_command (option_copied known.entry) threads.now question (span rest.entry)) }
+    ensures in_range { IfOk result (IsInRange (length threads.now)) }
+{
+    let (object, rest) = target_word(alloc, known, threads, rest)?;
+    let read = read_words(alloc, question, rest)?;
+    Ok(Command::ReadOf { object, read })
+}
+
+/// The command of a verb.
+fn command_of(
+    alloc: Global,
+    known: Option<&Known>,
+    threads: &List<ByteText>,
+    verb: Verb,
+    rest: Piece<'_>,
+) -> Result<Command, TextFault>
+    requires some { 0 < length threads.now }
+    requires few { length threads.now ≤ THREAD_LIMIT }
+    ensures is { Gives (λ x. x) result (command_of (option_copied known.entry) threads.now verb (span rest.entry)) }
+    ensures in_range { IfOk result (IsInRange (length threads.now)) }
+{
+    match verb {
+        Verb::New => new_command(alloc, known, threads, rest),
+        Verb::Dup => dup_command(alloc, known, threads, rest),
+        Verb::Free => Ok(Command::Free(lone_target(alloc, known, threads, rest)?)),
+        Verb::Use => use_command(alloc, known, threads, rest),
+        Verb::Hold => Ok(Command::Hold(lone_target(alloc, known, threads, rest)?)),
+        Verb::Release => Ok(Command::Release(lone_target(alloc, known, threads, rest)?)),
+        Verb::Setlocale => setlocale_command(alloc, rest),
+        Verb::Install => install_command(alloc, known, rest),
+        Verb::Post => post_command(alloc, known, threads, rest),
+        Verb::Fetch => fetch_command(alloc, known, threads, rest),
+        Verb::Pins => Ok(Command::Pins(lone_target(alloc, known, threads, rest)?)),
+        Verb::Read(question) => read_command(alloc, question, rest),
+        Verb::ReadOf(question) => read_of_command(alloc, known, threads, question, rest),
+    }
+}
+
+/// The command with this first word and the rest of its line, where the threads named so far are
+/// these.
+#[tactic(auto, unfolding(crate::specs::Commands::command))]
+pub fn command_of_line(
+    alloc: Global,
+    known: Option<&Known>,
+    threads: &List<ByteText>,
+    word: Piece<'_>,
+    rest: Piece<'_>,
+) -> Result<Command, TextFault>
+    requires some { 0 < length threads.now }
+    requires few { length threads.now ≤ THREAD_LIMIT }
+    ensures is { Gives (λ x. x) result (command (option_copied known.entry) threads.now (span word.entry) (span rest.entry)) }
+    ensures in_range { IfOk result (IsInRange (length threads.now)) }
+{
+    match command_named(word.bytes) {
+        Some(verb) => command_of(alloc, known, threads, verb, rest),
+        None => Err(TextFault::At(word.place, Reason::BadLine(LinePart::Command))),
+    }
+}

@@ -1,0 +1,2 @@
+mod ReplyExamples
+mod RefusalExamples

@@ -1,0 +1,4 @@
+pub mod ReadLemmas
+pub mod WordLemmas
+mod WordExamples
+mod NumberExamples

@@ -1,0 +1,6 @@
+pub mod Names
+pub mod Spans
+pub mod Words
+pub mod Numbers
+pub mod Seen
+pub mod Tables

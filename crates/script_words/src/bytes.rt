@@ -1,0 +1,67 @@
+//! How far words and blanks go.
+
+ghost use Rattle.std.specs.Prelude.{◌≡◌, ◌≤◌, not, length};
+ghost use Rattle.std.specs.List.{position_or_len};
+ghost use Rattle.script_words.specs.declared.piece.Within.TheVariants.{Bare};
+ghost use Rattle.script_words.specs.Spans.{is_blank, within_after, ends_word, word_length};
+
+use crate::piece::Within;
+
+/// Whether a byte is a space or a tab.
+fn is_blank(c: u8) -> bool
+    ensures { result ≡ is_blank c }
+{
+    c == b' ' || c == b'\t'
+}
+
+/// How many blanks stand in front.
+pub fn blanks(bytes: &[u8]) -> usize
+    ensures is { result ≡ position_or_len (λ c. not (is_blank c)) bytes.now }
+    ensures within { result ≤ length bytes.now }
+{
+    for (i, c) in bytes.iter().enumerate() {
+        if !is_blank(*c) {
+            return i;
+        }
+    }
+    bytes.len()
+}
+
+/// Where the next byte stands.
+fn within_after(within: Within, c: u8) -> Within
+    ensures { result ≡ within_after within c }
+{
+    match within {
+        Within::Bare if c == b'"' => Within::Quoted,
+        Within::Bare => Within::Bare,
+        Within::Quoted if c == b'"' => Within::Bare,
+        Within::Quoted if c == b'\\' => Within::Escaped,
+        Within::Quoted => Within::Quoted,
+        Within::Escaped => Within::Quoted,
+    }
+}
+
+/// Whether a word ends before this byte.
+fn ends_word(within: Within, c: u8) -> bool
+    ensures { result ≡ ends_word within c }
+{
+    match within {
+        Within::Bare => is_blank(c),
+        Within::Quoted | Within::Escaped => false,
+    }
+}
+
+/// How many bytes the word has with which a text begins.
+pub fn word_length(bytes: &[u8]) -> usize
+    ensures is { result ≡ word_length Bare bytes.now }
+    ensures within { result ≤ length bytes.now }
+{
+    let mut within = Within::Bare;
+    for (i, c) in bytes.iter().enumerate() {
+        if ends_word(within, *c) {
+            return i;
+        }
+        within = within_after(within, *c);
+    }
+    bytes.len()
+}

@@ -1,0 +1,137 @@
+//! What commands that format are given.
+
+ghost use Rattle.std.specs.Prelude.{◌≡◌, ◌≤◌, length};
+ghost use Rattle.script_words.specs.Words.{bounded};
+
+use lc_base::ByteText;
+use std::marker::Model;
+
+/// The most bytes of a format.
+pub const FORMAT_LIMIT: usize = 1024;
+
+/// The most bytes of a text, where a command says how many there may be.
+pub const MAX_LIMIT: u32 = 4096;
+
+/// The most bytes of a text, where a command does not say it.
+pub const DEFAULT_MAX: u32 = 1024;
+
+/// The most amounts of a command.
+pub const AMOUNT_LIMIT: usize = 64;
+
+/// The most digits of an amount in front of its point.
+pub const WHOLE_DIGITS: usize = 19;
+
+/// The most digits of an amount behind its point.
+pub const FRACTION_DIGITS: usize = 18;
+
+/// The most digits of a number of a time.
+pub const TIME_DIGITS: usize = 9;
+
+/// The most bytes of the name of a time zone.
+pub const ZONE_LIMIT: usize = 32;
+
+/// A format of at most 1024 bytes.
+#[derive(Debug, Drop)]
+pub struct Format {
+    text: ByteText,
+}
+
+impl Model for Format {
+    ghost use Rattle.std.specs.Prelude.{ℕ, ◌≤◌, List, length};
+    ghost use Rattle.script_words.specs.declared.given.TheConstants.{FORMAT_LIMIT};
+
+    ghost Value = { List ℕ };
+
+    ghost view = { λ f. f.text };
+
+    ghost invariant = { λ f. length f.text ≤ FORMAT_LIMIT };
+}
+
+impl Format {
+    ghost use Rattle.script_words.specs.declared.given.TheConstants.{FORMAT_LIMIT};
+
+    /// The format of a text; `None` where the text has more than 1024 bytes.
+    pub fn of(text: ByteText) -> Option<Format>
+        ensures { result ≡ bounded FORMAT_LIMIT text }
+    {
+        if text.as_bytes().len() > FORMAT_LIMIT {
+            return None;
+        }
+        Some(Format { text })
+    }
+
+    /// The bytes of the format.
+    pub fn as_bytes(&self) -> &[u8]
+        ensures is { result.now ≡ self.now }
+        ensures short { length result.now ≤ FORMAT_LIMIT }
+    {
+        self.text.as_bytes()
+    }
+}
+
+/// An amount of money as it is written: units / 10^scale.
+#[derive(Clone, Copy, Debug)]
+pub struct WrittenAmount {
+    units: i64,
+    scale: u8,
+}
+
+impl Model for WrittenAmount {
+    ghost use Rattle.std.specs.Prelude.{◌≤◌};
+    ghost use Rattle.script_words.specs.declared.given.TheConstants.{FRACTION_DIGITS};
+    ghost use Rattle.script_words.specs.Numbers.{Amount};
+
+    ghost Value = { Amount };
+
+    ghost view = { λ a. record { units = a.units; scale = a.scale } };
+
+    ghost invariant = { λ a. a.scale ≤ FRACTION_DIGITS };
+
+    ghost inverse = { λ a. record { units = a.units; scale = a.scale } };
+}
+
+impl WrittenAmount {
+    ghost use Rattle.script_words.specs.declared.given.TheConstants.{FRACTION_DIGITS};
+
+    /// The amount of units / 10^scale.
+    pub fn new(units: i64, scale: u8) -> WrittenAmount
+        requires { scale ≤ FRACTION_DIGITS }
+        ensures { result ≡ record { units = units; scale = scale } }
+    {
+        WrittenAmount { units, scale }
+    }
+
+    pub fn units(self) -> i64
+        ensures { result ≡ self.units }
+    {
+        self.units
+    }
+
+    /// The number of digits behind the point, at most 18.
+    pub fn scale(self) -> u8
+        ensures is { result ≡ self.scale }
+        ensures small { result ≤ FRACTION_DIGITS }
+    {
+        self.scale
+    }
+}
+
+/// A time as it is written, whose fields may be out of range.
+#[derive(Debug, Drop)]
+pub struct WrittenTime {
+    pub year: i32,
+    /// From 1.
+    pub mon: i32,
+    pub mday: i32,
+    pub hour: i32,
+    pub min: i32,
+    pub sec: i32,
+    /// From 0 on Sunday.
+    pub wday: i32,
+    /// From 0.
+    pub yday: i32,
+    /// Minutes east of UTC.
+    pub offset: Option<i32>,
+    /// The name of the time zone, which may be empty.
+    pub zone: ByteText,
+}
