@@ -23,7 +23,7 @@ use Rattle.category_store.specs.Library.{names_after, names_of, plain_number, na
 use Rattle.script_run.specs.Plan.{AreOnShelf, IsNumbered}
 
 -- each name has a number up to that of the names
-abbrev AreUpTo : ℕ → List (Name × ℕ) → Type 0
+abbrev pub AreUpTo : ℕ → List (Name × ℕ) → Type 0
 AreUpTo m named = AllByRecursion (λ (e : Name × ℕ). e.1 ≤ m) named
 
 abbrev AreCounted : List (Name × ℕ) → Type 0
@@ -47,6 +47,10 @@ with_one named name counted =
 after_counted : (named : List (Name × ℕ)) (sources : List Source) → AreCounted named → AreCounted (names_after named sources)
 after_counted named [] counted = counted
 after_counted named (s ∷ ss) counted = after_counted (with_named named s.name (length named + 1)) ss (with_one named s.name counted)
+
+-- so have the names of sources
+pub names_counted : (sources : List Source) → AreUpTo (length (names_of sources)) (names_of sources)
+names_counted sources = after_counted [] sources tt
 
 -- what is found among names is up to what they all are
 found_up_to : (m : ℕ) (es : List (Name × ℕ)) (name : Name) → AreUpTo m es → IfSome (first_named es name) (λ n. n ≤ m)

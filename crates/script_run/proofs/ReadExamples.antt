@@ -22,13 +22,13 @@ use Rattle.time_cat.specs.Values.{values_of}
 use Rattle.time_cat.specs.Shown.{expanded}
 use Rattle.category_store.specs.Catalog.{Catalog}
 use Rattle.category_store.specs.Library.{posix_locale}
-use Rattle.script_lang.specs.Numbers.{Amount}
-use Rattle.script_lang.specs.declared.given.WrittenTime.{WrittenTime}
-use Rattle.script_lang.specs.declared.command.Read.{Read}
-use Rattle.script_lang.specs.declared.command.Read.TheVariants.{Info, Conv, Class, Upper, Lower, Money, Time}
-use Rattle.script_lang.specs.declared.output.Said.{Said}
-use Rattle.script_lang.specs.declared.output.Said.TheVariants as said
-use Rattle.script_lang.specs.declared.output.Why.TheVariants as whys
+use Rattle.script_words.specs.Numbers.{Amount}
+use Rattle.script_words.specs.declared.given.WrittenTime.{WrittenTime}
+use Rattle.script_commands.specs.declared.command.Read.{Read}
+use Rattle.script_commands.specs.declared.command.Read.TheVariants.{Info, Conv, Class, Upper, Lower, Money, Time}
+use Rattle.script_out.specs.declared.output.Said.{Said}
+use Rattle.script_out.specs.declared.output.Said.TheVariants as said
+use Rattle.script_out.specs.declared.output.Why.TheVariants as whys
 use Rattle.script_run.specs.Reads.{sizes_text, local}
 
 -- ---- a locale with a class of its own, and with dollars in groups of three

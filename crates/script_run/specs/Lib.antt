@@ -1,8 +1,13 @@
 pub mod Plan
 pub mod Names
 pub mod Reads
+pub mod Holds
+pub mod Turns
 pub mod Variables
+pub mod Wishes
+pub mod Lines
 pub mod Serial
+pub mod Prints
 pub mod Thread
 pub mod Session
 pub mod Seen

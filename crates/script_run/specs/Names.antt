@@ -8,8 +8,8 @@ use Rattle.mask_compose.specs.Parts.{Parts, part_of}
 use Rattle.mask_compose.specs.Names.{mixed_name}
 use Rattle.category_store.specs.Catalog.{Catalog}
 use Rattle.category_store.specs.Library.{locale_at}
-use Rattle.script_lang.specs.declared.command.Categories.{Categories}
-use Rattle.script_lang.specs.declared.command.Categories.TheVariants.{All, One}
+use Rattle.script_words.specs.declared.categories.Categories.{Categories}
+use Rattle.script_words.specs.declared.categories.Categories.TheVariants.{All, One}
 
 -- the name of the locale that an object has for a category: the one that was named, also where it copies
 abbrev pub part_name : Catalog → Parts → Category → List ℕ

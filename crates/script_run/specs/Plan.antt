@@ -1,9 +1,9 @@
 -- The accepted bundle with its compiled locales (our own).
-use Rattle.std.specs.Prelude.{ℕ, ◌<◌, List, length, Ok, IfOk}
+use Rattle.std.specs.Prelude.{ℕ, ◌<◌, ◌≤◌, List, length, Ok, IfOk, IfSome}
 use Rattle.std.specs.List.{All}
 use Rattle.lc_base.specs.Reading.{Reads, ◌>>=◌}
 use Rattle.category_store.specs.Catalog.{Catalog}
-use Rattle.category_store.specs.Library.{catalog, numbers, opening}
+use Rattle.category_store.specs.Library.{catalog, numbers, opening, later}
 use Rattle.script_lang.specs.declared.bundle.Bundle.{Bundle}
 use Rattle.script_lang.specs.Accepted.{IsAccepted, bundle_of}
 use Rattle.script_run.specs.declared.plan.Counts.{Counts}
@@ -44,7 +44,12 @@ AreOnShelf library ns = All (λ n. n < length (opening library)) ns
 abbrev pub IsNumbered : Catalog → Type 0
 IsNumbered library = (name : List ℕ) (mask : ℕ) → IfOk (numbers library name mask) (AreOnShelf library)
 
--- the bundle is accepted, and its names are numbered
+-- what a key installs has a number of the shelf, which is not the POSIX locale's
+abbrev pub IsInstallable : Catalog → Type 0
+IsInstallable library = (key : List ℕ) → IfSome (later library key) (λ version. (1 ≤ version.0) × (version.0 < length (opening library)))
+
+-- the bundle is accepted, and its names and keys are numbered
 pub record IsSound (plan : PlanData) : Type 0 where
   pub accepted : IsAccepted plan.bundle
   pub numbered : IsNumbered plan.library
+  pub installable : IsInstallable plan.library

@@ -25,13 +25,13 @@ use Rattle.langinfo.specs.Items.{info}
 use Rattle.langinfo.specs.Conv.{conv}
 use Rattle.category_store.specs.Catalog.{Catalog}
 use Rattle.category_store.specs.Library.{locale_at}
-use Rattle.script_lang.specs.Numbers.{Amount}
-use Rattle.script_lang.specs.declared.given.WrittenTime.{WrittenTime}
-use Rattle.script_lang.specs.declared.command.Read.{Read}
-use Rattle.script_lang.specs.declared.command.Read.TheVariants as reads
-use Rattle.script_lang.specs.declared.output.Said.{Said}
-use Rattle.script_lang.specs.declared.output.Said.TheVariants as said
-use Rattle.script_lang.specs.declared.output.Why.TheVariants as whys
+use Rattle.script_words.specs.Numbers.{Amount}
+use Rattle.script_words.specs.declared.given.WrittenTime.{WrittenTime}
+use Rattle.script_commands.specs.declared.command.Read.{Read}
+use Rattle.script_commands.specs.declared.command.Read.TheVariants as reads
+use Rattle.script_out.specs.declared.output.Said.{Said}
+use Rattle.script_out.specs.declared.output.Said.TheVariants as said
+use Rattle.script_out.specs.declared.output.Why.TheVariants as whys
 
 -- ---- the categories of an object, each as its locale has it
 

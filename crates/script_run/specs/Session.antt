@@ -1,33 +1,47 @@
--- A thread with its table, and at which history they are.
-use Rattle.std.specs.Prelude.{◌≡◌, ◌+◌, ◌<◌, ◌≤◌, []}
-use Rattle.handle_table.specs.Entry.{History}
-use Rattle.handle_table.specs.Table.{StandsFor, steps}
-use Rattle.script_run.specs.declared.session.Session.{Session}
+-- A table and its threads, and at which point of a script they are.
+use Rattle.std.specs.Prelude.{◌≡◌, ℕ, ◌+◌, ◌*◌, ◌<◌, ◌≤◌, List, length, slice_index_or, All}
 use Rattle.category_store.specs.Catalog.{Catalog}
 use Rattle.category_store.specs.Library.{opening}
-use Rattle.script_run.specs.Thread.{Follows}
-use Rattle.script_run.specs.Variables.{Bindings}
+use Rattle.handle_table.specs.Entry.{History}
+use Rattle.handle_table.specs.Table.{TableData, StandsFor, steps}
+use Rattle.script_run.specs.Thread.{ThreadData, Knows, Follows}
+use Rattle.script_run.specs.Serial.{Run}
 
--- the session is at this history, with these bindings
-pub record IsAt (s : Session) (H : History) (bindings : Bindings) : Type 0 where
-  pub stands : StandsFor s.table H
-  pub follows : Follows s.thread H bindings
+-- the table and a thread are at this history
+pub record IsAt (table : TableData) (t : ThreadData) (H : History) : Type 0 where
+  pub stands : StandsFor table H
+  pub knows : Knows t H
 
--- the thread is one of the table's, and the table can make another step
-pub record IsReady (s : Session) : Type 0 where
-  pub number : s.thread.number < s.table.setting.threads
-  pub steps : steps s.table < 2147483647
+-- the table and a thread are at this point of a script
+pub record IsWith (table : TableData) (t : ThreadData) (run : Run) : Type 0 where
+  pub stands : StandsFor table run.history
+  pub follows : Follows t run
 
--- the thread and the setting are the same, and the table has made a step more at most
-pub record GoesOn (old new : Session) : Type 0 where
-  pub setting : new.table.setting ≡ old.table.setting
-  pub number : new.thread.number ≡ old.thread.number
-  pub steps : steps new.table ≤ steps old.table + 1
+-- the table and all threads are
+pub record AreAt (table : TableData) (threads : List ThreadData) (run : Run) : Type 0 where
+  pub stands : StandsFor table run.history
+  pub follow : All (λ (t : ThreadData). Follows t run) threads
 
--- the thread has made no command, and the table has the library's names
-pub record IsFresh (library : Catalog) (s : Session) : Type 0 where
-  pub at : IsAt s [] []
-  pub number : s.thread.number ≡ 0
-  pub threads : 0 < s.table.setting.threads
-  pub opening : s.table.setting.opening ≡ opening library
-  pub steps : steps s.table ≡ 0
+-- a thread is one of the table's, and the table can make so many steps more
+pub record IsReady (n : ℕ) (table : TableData) (t : ThreadData) : Type 0 where
+  pub number : t.number < table.setting.threads
+  pub steps : steps table + n ≤ 2147483647
+
+-- the table has its setting, and has made so many steps more at most
+pub record GoesOn (n : ℕ) (old new : TableData) : Type 0 where
+  pub setting : new.setting ≡ old.setting
+  pub steps : steps new ≤ steps old + n
+
+-- thread i stands at place i, and has no more than so many lines
+pub record IsNumberedThread (most i : ℕ) (t : ThreadData) : Type 0 where
+  pub number : t.number ≡ i
+  pub lines : t.lines ≤ most
+
+abbrev pub AreNumbered : ℕ → List ThreadData → Type 0
+AreNumbered lines threads = (i : ℕ) (d : ThreadData) → i < length threads → IsNumberedThread lines i (slice_index_or threads i d)
+
+-- the table is of these threads and of the library's names, and has steps for so many turns
+pub record CanPlay (library : Catalog) (table : TableData) (ts : List ThreadData) (turns : ℕ) : Type 0 where
+  pub opening : table.setting.opening ≡ opening library
+  pub threads : table.setting.threads ≡ length ts
+  pub steps : steps table + 2 * turns ≤ 2147483647

@@ -6,7 +6,7 @@ ghost use Rattle.script_run.specs.Names.{part_name, joint_name, object_name};
 use category_store::{Library, Share};
 use lc_base::{ByteText, Category};
 use mask_compose::{Object, join_names};
-use script_lang::Categories;
+use script_words::Categories;
 use std::alloc::{AllocError, Global};
 
 /// The name of an object for a category, or for all of them (XSH setlocale).

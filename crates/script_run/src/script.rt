@@ -1,41 +1,44 @@
 //! Runs a script on one thread.
 
-ghost use Rattle.std.specs.Prelude.{◌≡◌, ◌≤◌, ◌+◌, ◌∷◌, [], List, ℕ, length, IfOk, OnOk, Some, None};
+ghost use Rattle.std.specs.Prelude.{◌≡◌, ◌≤◌, ◌<◌, ◌+◌, ◌*◌, ◌^◌, List, length, map, All, IfOk, OnOk};
 ghost use Rattle.std.specs.Option.{option_copied};
 ghost use Rattle.handle_table.specs.Entry.{History};
 ghost use Rattle.handle_table.specs.Answer.{own};
-ghost use Rattle.handle_table.specs.Table.{Fits};
-ghost use Rattle.handle_table.specs.Seen.{op_of, reply_of};
+ghost use Rattle.handle_table.specs.Table.{StandsFor, Fits};
+ghost use Rattle.handle_table.specs.Seen.{op_of};
 ghost use Rattle.category_store.specs.Library.{opening};
-ghost use Rattle.script_lang.specs.declared.bundle.TheConstants.{ROUND_LIMIT, COMMAND_LIMIT};
-ghost use Rattle.script_run.specs.Variables.{Bindings};
-ghost use Rattle.script_run.specs.Seen.{caller, asked as asked_of};
-ghost use Rattle.script_run.specs.Session.{IsAt, IsReady, GoesOn, IsFresh};
-ghost use Rattle.script_run.specs.Plan.{IsNumbered};
-ghost use Rattle.script_run.specs.Serial.{bindings_after, handle_given, shown, version_made, line, read_line, name_line, told_line, placed_line, end_line, asks, step, lines_from, serial_lines};
+ghost use Rattle.script_run.specs.Holds.{open_holds, held_as};
+ghost use Rattle.script_run.specs.Lines.{object_line};
+ghost use Rattle.script_run.specs.Plan.{PlanData, IsSound, IsNumbered, IsInstallable};
+ghost use Rattle.script_run.specs.Prints.{PrintsInOrder};
+ghost use Rattle.script_run.specs.Seen.{caller, task_seen, turn_seen, wished, FitsTable, TaskFits, TurnFits};
+ghost use Rattle.script_run.specs.Serial.{Run, calls, held_or_refused, reads_of, read_line, name_line, granted, outcome, with_outcome, played, begun, closed, commands_played, serial_lines, setting};
+ghost use Rattle.script_run.specs.Session.{IsAt, IsWith, AreAt, AreNumbered, IsReady, GoesOn, CanPlay};
+ghost use Rattle.script_run.specs.Thread.{Knows, BindsAs, Follows, KeepsNames};
+ghost use Rattle.script_run.specs.Variables.{Bound, variable_of, variable_bound, bindings_after};
 
-use crate::asks::{free_op, new_op, setlocale_op, use_op};
+use crate::holds::object_held;
+use crate::lines::{Caller, handle_said, line, placed_line, told_line};
 use crate::names::object_name;
 use crate::plan::Plan;
 use crate::reads::local;
-use crate::session::Session;
+use crate::session::serve;
 use crate::thread::Thread;
+use crate::turns::{Task, Turn, closing_turns, command_turns};
+use crate::wishes::{Wish, wish_of};
 use category_store::{Library, Share};
-use handle_table::{Handle, Op, Reply, Table};
+use handle_table::{Named, Op, Table};
 use lc_base::{ByteText, List};
-use script_lang::{Categories, Command, OutLine, Placed, Places, Read, Said, Why};
+use mask_compose::Object;
+use script_commands::{Command, Read};
+use script_lang::Bundle;
+use script_out::{OutLine, Places, Said, Why};
+use script_words::Categories;
 use std::alloc::{AllocError, Global};
 
-/// Whose line it is: the round from 1, the thread from 0, and the index of its line from 1.
-#[derive(Clone, Copy)]
-struct Caller {
-    round: u32,
-    thread: u32,
-    index: u32,
-}
-
-/// The lines of the script's commands and of the thread's end, for a table with so many rows a
-/// thread and generations a row. A plan without threads has none.
+/// The lines of the script's commands, round by round and in a round thread by thread, and then the
+/// lines that close the threads: a Release of each open Hold, and the end. The table has so many rows
+/// a thread and generations a row. A plan without threads has no line.
 pub fn serial(
     alloc: Global,
     plan: &Plan,
@@ -46,129 +49,306 @@ pub fn serial(
     requires rows { rows ≤ 64 }
     requires some_generation { 1 ≤ generations }
     requires generations { generations ≤ 2147483647 }
-    ensures { IfOk result (λ lines. lines ≡ serial_lines rows generations plan.now) }
+    ensures lines { IfOk result (λ lines. lines ≡ serial_lines rows generations plan.now) }
+    ensures prints { IfOk result (λ lines. PrintsInOrder (setting plan.now rows generations) plan.now lines) }
 {
     let bundle = plan.bundle();
     if bundle.threads.is_empty() {
         return Ok(List::of(Vec::new(alloc)));
     }
-    let threads = bundle.threads.len() as u32;
+    let count = bundle.threads.len() as u32;
     let library = plan.library();
     let shelf = library.opening(alloc)?;
-    let mut session = Session {
-        table: Table::new(alloc, threads, rows, generations, shelf)?,
-        thread: Thread::new(alloc, 0),
-    };
-    let lines = lines_of(
-        alloc,
-        library,
-        bundle.rounds,
-        bundle.commands.as_slice(),
-        &mut session,
-    )?;
+    let mut table = Table::new(alloc, count, rows, generations, shelf)?;
+    let mut threads = new_threads(alloc, count)?;
+    let lines = all_lines(alloc, library, bundle, &mut table, threads.as_mut_slice())?;
     Ok(List::of(lines))
 }
 
-/// The lines of a thread's commands and of its end.
-fn lines_of(
+/// Threads before their first command, by their numbers.
+fn new_threads(alloc: Global, count: u32) -> Result<Vec<Thread>, AllocError>
+    ensures length { IfOk result (λ threads. length threads.items ≡ count) }
+    ensures numbered { IfOk result (λ threads. AreNumbered 0 threads.items) }
+    ensures follow { IfOk result (λ threads. All (λ t. Follows t begun) threads.items) }
+{
+    let mut threads = Vec::new(alloc);
+    for number in 0..count {
+        threads.push(Thread::new(alloc, number))?;
+    }
+    Ok(threads)
+}
+
+/// The lines of all commands and of what closes the threads.
+fn all_lines(
     alloc: Global,
     library: &Library,
-    rounds: u32,
-    commands: &[Placed],
-    session: &mut Session,
+    bundle: &Bundle,
+    table: &mut Table<Share>,
+    threads: &mut [Thread],
 ) -> Result<Vec<OutLine>, AllocError>
-    requires fresh { IsFresh library.now session.old }
-    requires numbered { IsNumbered library.now }
-    requires rounds { rounds ≤ ROUND_LIMIT }
-    requires few { length commands.now ≤ COMMAND_LIMIT }
-    ensures { IfOk result (λ lines. lines.items ≡ lines_from session.old.table.setting library.now rounds [] [] 1 commands.now) }
+    requires sound { IsSound (record { bundle = bundle.now; library = library.now }) }
+    requires begun { AreAt table.old threads.old begun }
+    requires numbered { AreNumbered 0 threads.old }
+    requires opening { table.old.setting.opening ≡ opening library.now }
+    requires threads { table.old.setting.threads ≡ length bundle.now.threads }
+    requires length { length threads.old ≡ length bundle.now.threads }
+    ensures { IfOk result (λ lines. let plan : PlanData = record { bundle = bundle.now; library = library.now } in lines.items ≡ (closed table.old.setting plan (commands_played table.old.setting plan)).lines) }
 {
     let mut lines = Vec::new(alloc);
-    for (i, placed) in commands.iter().enumerate() {
-        let at = Caller {
-            round: placed.round,
-            thread: 0,
-            index: i as u32 + 1,
-        };
-        lines.push(command_line(alloc, library, session, at, &placed.command)?)?;
-    }
-    let at = Caller {
-        round: rounds + 1,
-        thread: 0,
-        index: commands.len() as u32 + 1,
-    };
-    lines.push(end_line(alloc, library, session, at)?)?;
+    let turns = command_turns(alloc, bundle)?;
+    play(alloc, library, table, threads, turns.as_slice(), &mut lines)?;
+    let turns = closing_turns(alloc, bundle.rounds + 1, threads)?;
+    play(alloc, library, table, threads, turns.as_slice(), &mut lines)?;
     Ok(lines)
 }
 
-/// The line of a command.
-fn command_line(
+/// Adds the lines of turns.
+fn play(
     alloc: Global,
     library: &Library,
-    session: &mut Session,
-    at: Caller,
-    command: &Command,
-) -> Result<OutLine, AllocError>
-    requires ready { IsReady session.old }
-    requires caller { at.thread ≡ session.old.thread.number }
-    requires shelf { session.old.table.setting.opening ≡ opening library.now }
+    table: &mut Table<Share>,
+    threads: &mut [Thread],
+    turns: &[Turn<'_>],
+    lines: &mut Vec<OutLine>,
+) -> Result<(), AllocError>
     requires numbered { IsNumbered library.now }
-    ensures line { IfOk result (λ l. (H : History) (b : Bindings) → IsAt session.old H b → l ≡ (step session.old.table.setting library.now H b (caller at) command.now).line) }
-    ensures at { OnOk result ((H : History) (b : Bindings) → IsAt session.old H b → IsAt session.new (step session.old.table.setting library.now H b (caller at) command.now).history (step session.old.table.setting library.now H b (caller at) command.now).bindings) }
-    ensures on { OnOk result (GoesOn session.old session.new) }
+    requires installable { IsInstallable library.now }
+    requires can { CanPlay library.now table.old threads.old (length turns.now) }
+    requires threads { AreNumbered (length lines.old.items) threads.old }
+    requires few { length lines.old.items + length turns.now < 2 ^ 32 }
+    requires fit { All (TurnFits (length threads.old)) (map turn_seen turns.now) }
+    ensures at { OnOk result ((run : Run) → AreAt table.old threads.old run → run.lines ≡ lines.old.items → AreAt table.new threads.new (played table.old.setting library.now run (map turn_seen turns.now))) }
+    ensures lines { OnOk result ((run : Run) → AreAt table.old threads.old run → run.lines ≡ lines.old.items → lines.new.items ≡ (played table.old.setting library.now run (map turn_seen turns.now)).lines) }
+    ensures threads { OnOk result (AreNumbered (length lines.new.items) threads.new) }
+    ensures length { OnOk result (length lines.new.items ≡ length lines.old.items + length turns.now) }
+    ensures table { OnOk result (GoesOn (2 * length turns.now) table.old table.new) }
+{
+    for turn in turns {
+        let thread = &mut threads[turn.thread as usize];
+        let line = turn_line(alloc, library, table, thread, *turn)?;
+        lines.push(line)?;
+    }
+    Ok(())
+}
+
+/// The line of a turn of a thread.
+fn turn_line(
+    alloc: Global,
+    library: &Library,
+    table: &mut Table<Share>,
+    thread: &mut Thread,
+    turn: Turn<'_>,
+) -> Result<OutLine, AllocError>
+    requires numbered { IsNumbered library.now }
+    requires installable { IsInstallable library.now }
+    requires ready { IsReady 2 table.old thread.old }
+    requires opening { table.old.setting.opening ≡ opening library.now }
+    requires thread { turn.thread ≡ thread.old.number }
+    requires fits { TaskFits table.old.setting.threads (task_seen turn.task) }
+    requires few { thread.old.lines + 1 < 2 ^ 32 }
+    ensures line { IfOk result (λ l. (run : Run) → IsWith table.old thread.old run → l ≡ (outcome table.old.setting library.now run (turn_seen turn.entry)).line) }
+    ensures at { OnOk result ((run : Run) → IsWith table.old thread.old run → IsWith table.new thread.new (with_outcome run (turn_seen turn.entry) (outcome table.old.setting library.now run (turn_seen turn.entry)))) }
+    ensures table { OnOk result (GoesOn 2 table.old table.new) }
+    ensures number { OnOk result (thread.new.number ≡ thread.old.number) }
+    ensures lines { OnOk result (thread.new.lines ≡ thread.old.lines + 1) }
+{
+    let at = thread.next_caller(turn.round);
+    let wish = wish_of(library, thread, turn.task);
+    let line = granted(alloc, library, table, thread, at, wish)?;
+    bind_said(alloc, thread, turn.task, &line.reply)?;
+    Ok(line)
+}
+
+/// Binds the variable of a task to the handle that the reply tells.
+fn bind_said(
+    alloc: Global,
+    thread: &mut Thread,
+    task: Task<'_>,
+    reply: &Said,
+) -> Result<(), AllocError>
+    ensures at { OnOk result ((H : History) → Knows thread.old H → Knows thread.new H) }
+    ensures variables { OnOk result ((bounds : List Bound) → BindsAs thread.old bounds → BindsAs thread.new (bindings_after thread.old.number bounds (task_seen task.entry) reply.now)) }
+    ensures number { OnOk result (thread.new.number ≡ thread.old.number) }
+    ensures lines { OnOk result (thread.new.lines ≡ thread.old.lines) }
+{
+    let Some(variable) = variable_bound(task) else {
+        return Ok(());
+    };
+    match handle_said(reply) {
+        Some(handle) => thread.bind(alloc, variable.as_bytes(), handle),
+        None => Ok(()),
+    }
+}
+
+/// The variable that a task binds.
+fn variable_bound(task: Task<'_>) -> Option<&ByteText>
+    ensures { option_copied result ≡ variable_bound (task_seen task.entry) }
+{
+    match task {
+        Task::Command(command) => variable_of(command),
+        Task::Release(_) | Task::End => None,
+    }
+}
+
+/// The variable that a command binds.
+fn variable_of(command: &Command) -> Option<&ByteText>
+    ensures { option_copied result ≡ variable_of command.now }
 {
     match command {
-        Command::New {
-            variable,
-            mask,
-            locale,
-        } => {
-            let asked = new_op(library, *mask, locale);
-            asked_line(
-                alloc,
-                library,
-                session,
-                at,
-                Some(variable),
-                Categories::All,
-                asked,
-            )
-        }
-        Command::Free(target) => {
-            let asked = free_op(&session.thread, target);
-            asked_line(alloc, library, session, at, None, Categories::All, asked)
-        }
-        Command::Use(target) => {
-            let asked = use_op(&session.thread, target);
-            asked_line(alloc, library, session, at, None, Categories::All, asked)
-        }
-        Command::Selected => Ok(told_line(at, Said::Is(session.thread.selected()))),
-        Command::Setlocale { categories, locale } => {
-            let asked = setlocale_op(library, *categories, locale);
-            asked_line(alloc, library, session, at, None, *categories, asked)
-        }
-        Command::LocaleName(categories) => name_line(alloc, library, session, at, *categories),
-        Command::Read(read) => read_line(alloc, library, session, at, read),
+        Command::New { variable, .. }
+        | Command::Dup { variable, .. }
+        | Command::Fetch { variable, .. } => Some(variable),
+        Command::Free(_)
+        | Command::Use(_)
+        | Command::Selected
+        | Command::Hold(_)
+        | Command::Release(_)
+        | Command::Setlocale { .. }
+        | Command::LocaleName(_)
+        | Command::Install(_)
+        | Command::Post { .. }
+        | Command::Pins(_)
+        | Command::Read(_)
+        | Command::ReadOf { .. } => None,
     }
+}
+
+/// The line of a wish of the thread, or of its refusal without an entry.
+fn granted(
+    alloc: Global,
+    library: &Library,
+    table: &mut Table<Share>,
+    thread: &mut Thread,
+    at: Caller,
+    wish: Result<Wish<'_>, Why>,
+) -> Result<OutLine, AllocError>
+    requires ready { IsReady 2 table.old thread.old }
+    requires caller { at.thread ≡ thread.old.number }
+    requires fits { IfOk (wished wish) (FitsTable table.old.setting) }
+    ensures line { IfOk result (λ l. (H : History) → IsAt table.old thread.old H → l ≡ (granted table.old.setting library.now H (caller at) (wished wish.entry)).line) }
+    ensures at { OnOk result ((H : History) → IsAt table.old thread.old H → IsAt table.new thread.new (granted table.old.setting library.now H (caller at) (wished wish.entry)).history) }
+    ensures table { OnOk result (GoesOn 2 table.old table.new) }
+    ensures thread { OnOk result (KeepsNames thread.old thread.new) }
+{
+    match wish {
+        Err(why) => Ok(told_line(at, Said::Refused(why))),
+        Ok(Wish::Call(categories, op)) => {
+            call_line(alloc, library, table, thread, at, categories, op)
+        }
+        Ok(Wish::ReadOf(named, read)) => {
+            read_of_line(alloc, library, table, thread, at, named, read)
+        }
+        Ok(Wish::Read(read)) => read_line(alloc, library, table, thread, at, read),
+        Ok(Wish::Selection) => Ok(told_line(at, Said::Is(thread.selected()))),
+        Ok(Wish::Name(categories)) => name_line(alloc, library, table, at, categories),
+    }
+}
+
+/// The line of a call.
+fn call_line(
+    alloc: Global,
+    library: &Library,
+    table: &mut Table<Share>,
+    thread: &mut Thread,
+    at: Caller,
+    categories: Categories,
+    op: Op<Share>,
+) -> Result<OutLine, AllocError>
+    requires ready { IsReady 1 table.old thread.old }
+    requires caller { at.thread ≡ thread.old.number }
+    requires fits { Fits table.old.setting (op_of op) }
+    ensures line { IfOk result (λ l. (H : History) → IsAt table.old thread.old H → l ≡ (calls table.old.setting library.now H (caller at) categories (op_of op)).line) }
+    ensures at { OnOk result ((H : History) → IsAt table.old thread.old H → IsAt table.new thread.new (calls table.old.setting library.now H (caller at) categories (op_of op)).history) }
+    ensures table { OnOk result (GoesOn 1 table.old table.new) }
+    ensures thread { OnOk result (KeepsNames thread.old thread.new) }
+{
+    let place = u64::from(table.steps());
+    let reply = serve(table, thread, op)?;
+    placed_line(alloc, library, at, place, categories, &reply)
+}
+
+/// The line of a read of what is named: of the object of the thread's open Hold, or else between a
+/// Hold and a Release.
+fn read_of_line(
+    alloc: Global,
+    library: &Library,
+    table: &mut Table<Share>,
+    thread: &mut Thread,
+    at: Caller,
+    named: Named,
+    read: &Read,
+) -> Result<OutLine, AllocError>
+    requires ready { IsReady 2 table.old thread.old }
+    requires caller { at.thread ≡ thread.old.number }
+    ensures line { IfOk result (λ l. (H : History) → IsAt table.old thread.old H → l ≡ (reads_of table.old.setting library.now H (caller at) named read.now (held_as (open_holds H thread.old.number) named)).line) }
+    ensures at { OnOk result ((H : History) → IsAt table.old thread.old H → IsAt table.new thread.new (reads_of table.old.setting library.now H (caller at) named read.now (held_as (open_holds H thread.old.number) named)).history) }
+    ensures table { OnOk result (GoesOn 2 table.old table.new) }
+    ensures thread { OnOk result (KeepsNames thread.old thread.new) }
+{
+    match thread.held_as(named) {
+        Some(object) => object_line(alloc, library, at, read, object),
+        None => read_between(alloc, library, table, thread, at, named, read),
+    }
+}
+
+/// The line of a read between a Hold and a Release, or of a Hold that is refused.
+fn read_between(
+    alloc: Global,
+    library: &Library,
+    table: &mut Table<Share>,
+    thread: &mut Thread,
+    at: Caller,
+    named: Named,
+    read: &Read,
+) -> Result<OutLine, AllocError>
+    requires ready { IsReady 2 table.old thread.old }
+    requires caller { at.thread ≡ thread.old.number }
+    ensures line { IfOk result (λ l. (H : History) → IsAt table.old thread.old H → l ≡ (held_or_refused table.old.setting library.now H (caller at) named read.now).line) }
+    ensures at { OnOk result ((H : History) → IsAt table.old thread.old H → IsAt table.new thread.new (held_or_refused table.old.setting library.now H (caller at) named read.now).history) }
+    ensures table { OnOk result (GoesOn 2 table.old table.new) }
+    ensures thread { OnOk result (KeepsNames thread.old thread.new) }
+{
+    let place = u64::from(table.steps());
+    let reply = serve(table, thread, Op::Hold { h: named })?;
+    match object_held(&reply) {
+        Some(object) => {
+            let said = local(alloc, library, object, read)?;
+            serve(table, thread, Op::Release { h: named })?;
+            Ok(line(at, Places::Two(place, place + 1), None, said))
+        }
+        None => placed_line(alloc, library, at, place, Categories::All, &reply),
+    }
+}
+
+/// The line of a read of an object.
+fn object_line(
+    alloc: Global,
+    library: &Library,
+    at: Caller,
+    read: &Read,
+    object: &Object<Share>,
+) -> Result<OutLine, AllocError>
+    ensures { IfOk result (λ l. l ≡ object_line library.now (caller at) read.now object.now) }
+{
+    let said = local(alloc, library, object, read)?;
+    Ok(told_line(at, said))
 }
 
 /// The line of a read: it reads the thread's own object, or the global locale with its version.
 fn read_line(
     alloc: Global,
     library: &Library,
-    session: &Session,
+    table: &Table<Share>,
+    thread: &Thread,
     at: Caller,
     read: &Read,
 ) -> Result<OutLine, AllocError>
-    ensures { IfOk result (λ l. (H : History) (b : Bindings) → IsAt session.now H b → l ≡ read_line session.now.table.setting library.now H (caller at) read.now (own H session.now.thread.number)) }
+    ensures { IfOk result (λ l. (H : History) → IsAt table.now thread.now H → l ≡ read_line table.now.setting library.now H (caller at) read.now (own H thread.now.number)) }
 {
-    match session.thread.own() {
-        Some(object) => {
-            let said = local(alloc, library, object, read)?;
-            Ok(told_line(at, said))
-        }
+    match thread.own() {
+        Some(own) => object_line(alloc, library, at, read, own),
         None => {
-            let global = session.table.global();
+            let global = table.global();
             let said = local(alloc, library, global.peek(), read)?;
             Ok(line(at, Places::None, Some(global.version()), said))
         }
@@ -179,178 +359,13 @@ fn read_line(
 fn name_line(
     alloc: Global,
     library: &Library,
-    session: &Session,
+    table: &Table<Share>,
     at: Caller,
     categories: Categories,
 ) -> Result<OutLine, AllocError>
-    ensures { IfOk result (λ l. (H : History) (b : Bindings) → IsAt session.now H b → l ≡ name_line session.now.table.setting library.now H (caller at) categories) }
+    ensures { IfOk result (λ l. (H : History) → StandsFor table.now H → l ≡ name_line table.now.setting library.now H (caller at) categories) }
 {
-    let global = session.table.global();
+    let global = table.global();
     let name = object_name(alloc, library, global.peek(), categories)?;
     Ok(line(at, Places::None, Some(global.version()), Said::Name(name)))
-}
-
-/// The line of a command that makes the entry of an op, or is refused without one.
-fn asked_line(
-    alloc: Global,
-    library: &Library,
-    session: &mut Session,
-    at: Caller,
-    variable: Option<&ByteText>,
-    categories: Categories,
-    asked: Result<Op<Share>, Why>,
-) -> Result<OutLine, AllocError>
-    requires ready { IsReady session.old }
-    requires caller { at.thread ≡ session.old.thread.number }
-    requires fits { IfOk asked (λ op. Fits session.old.table.setting (op_of op)) }
-    ensures line { IfOk result (λ l. (H : History) (b : Bindings) → IsAt session.old H b → l ≡ (asks session.old.table.setting library.now H b (caller at) (option_copied variable.entry) categories (asked_of asked)).line) }
-    ensures at { OnOk result ((H : History) (b : Bindings) → IsAt session.old H b → IsAt session.new (asks session.old.table.setting library.now H b (caller at) (option_copied variable.entry) categories (asked_of asked)).history (asks session.old.table.setting library.now H b (caller at) (option_copied variable.entry) categories (asked_of asked)).bindings) }
-    ensures on { OnOk result (GoesOn session.old session.new) }
-{
-    match asked {
-        Err(why) => Ok(told_line(at, Said::Refused(why))),
-        Ok(op) => {
-            let place = u64::from(session.table.steps());
-            let reply = session.serve(op);
-            let line = entry_line(alloc, library, at, place, categories, &reply)?;
-            bind_given(alloc, session, variable, &reply)?;
-            Ok(line)
-        }
-    }
-}
-
-/// Binds a variable to the handle that a reply gives.
-fn bind_given(
-    alloc: Global,
-    session: &mut Session,
-    variable: Option<&ByteText>,
-    reply: &Reply<Share>,
-) -> Result<(), AllocError>
-    ensures at { OnOk result ((H : History) (b : Bindings) → IsAt session.old H b → IsAt session.new H (bindings_after b (option_copied variable.entry) (reply_of reply.now))) }
-    ensures table { OnOk result (session.new.table ≡ session.old.table) }
-    ensures number { OnOk result (session.new.thread.number ≡ session.old.thread.number) }
-{
-    let Some(variable) = variable else {
-        return Ok(());
-    };
-    match handle_given(reply) {
-        Some(handle) => session.thread.bind(alloc, variable.as_bytes(), handle),
-        None => Ok(()),
-    }
-}
-
-/// The handle that a reply gives.
-fn handle_given(reply: &Reply<Share>) -> Option<Handle>
-    ensures { result ≡ handle_given (reply_of reply.now) }
-{
-    match reply {
-        Reply::Made(handle) | Reply::Got(handle) => Some(*handle),
-        Reply::Freed
-        | Reply::Was { .. }
-        | Reply::Held(_)
-        | Reply::Released
-        | Reply::Set { .. }
-        | Reply::Installed(_)
-        | Reply::Posted
-        | Reply::Pins(_)
-        | Reply::Ended
-        | Reply::Refused(_) => None,
-    }
-}
-
-/// The closing line of the thread: its end.
-fn end_line(
-    alloc: Global,
-    library: &Library,
-    session: &mut Session,
-    at: Caller,
-) -> Result<OutLine, AllocError>
-    requires ready { IsReady session.old }
-    requires caller { at.thread ≡ session.old.thread.number }
-    ensures { IfOk result (λ l. (H : History) (b : Bindings) → IsAt session.old H b → l ≡ end_line session.old.table.setting library.now H (caller at)) }
-{
-    let place = u64::from(session.table.steps());
-    let reply = session.serve(Op::End);
-    entry_line(alloc, library, at, place, Categories::All, &reply)
-}
-
-/// The line of an entry with this place.
-fn entry_line(
-    alloc: Global,
-    library: &Library,
-    at: Caller,
-    place: u64,
-    categories: Categories,
-    reply: &Reply<Share>,
-) -> Result<OutLine, AllocError>
-    ensures { IfOk result (λ l. l ≡ placed_line library.now place (caller at) categories (reply_of reply.now)) }
-{
-    let said = shown(alloc, library, categories, reply)?;
-    Ok(line(at, Places::One(place), version_made(reply), said))
-}
-
-/// The printed form of a reply of the table.
-fn shown(
-    alloc: Global,
-    library: &Library,
-    categories: Categories,
-    reply: &Reply<Share>,
-) -> Result<Said, AllocError>
-    ensures { IfOk result (λ said. said ≡ shown library.now categories (reply_of reply.now)) }
-{
-    match reply {
-        Reply::Made(handle) | Reply::Got(handle) => Ok(Said::Handle(*handle)),
-        Reply::Freed => Ok(Said::Freed),
-        Reply::Was { former, .. } => Ok(Said::Was(*former)),
-        Reply::Held(_) => Ok(Said::Held),
-        Reply::Released => Ok(Said::Released),
-        Reply::Set { object, .. } => Ok(Said::Name(object_name(
-            alloc, library, object, categories,
-        )?)),
-        Reply::Installed(count) => Ok(Said::Installed(*count)),
-        Reply::Posted => Ok(Said::Posted),
-        Reply::Pins(count) => Ok(Said::Pins(*count)),
-        Reply::Ended => Ok(Said::Ended),
-        Reply::Refused(refusal) => Ok(Said::Refused(Why::Table(*refusal))),
-    }
-}
-
-/// The version that a reply prints.
-fn version_made(reply: &Reply<Share>) -> Option<u32>
-    ensures { result ≡ version_made (reply_of reply.now) }
-{
-    match reply {
-        Reply::Set { version, .. } => Some(*version),
-        Reply::Made(_)
-        | Reply::Freed
-        | Reply::Was { .. }
-        | Reply::Held(_)
-        | Reply::Released
-        | Reply::Installed(_)
-        | Reply::Posted
-        | Reply::Got(_)
-        | Reply::Pins(_)
-        | Reply::Ended
-        | Reply::Refused(_) => None,
-    }
-}
-
-/// A line of a command that tells something without an entry.
-fn told_line(at: Caller, reply: Said) -> OutLine
-    ensures { result ≡ told_line (caller at) reply }
-{
-    line(at, Places::None, None, reply)
-}
-
-fn line(at: Caller, places: Places, global: Option<u32>, reply: Said) -> OutLine
-    ensures { result ≡ line (caller at) places global reply }
-{
-    OutLine {
-        round: at.round,
-        thread: at.thread,
-        index: at.index,
-        places,
-        global,
-        reply,
-    }
 }

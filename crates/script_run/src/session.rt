@@ -1,37 +1,36 @@
-//! A thread with its table.
+//! Calls of a thread on the table.
 
-ghost use Rattle.std.specs.Prelude.{◌≡◌, ◌∷◌, ◌<◌, ◌≤◌, ◌^◌, [], IfOk};
+ghost use Rattle.std.specs.Prelude.{◌≡◌, IfOk, OnOk};
 ghost use Rattle.handle_table.specs.Entry.{History};
-ghost use Rattle.handle_table.specs.Answer.{answer, entry};
-ghost use Rattle.handle_table.specs.Table.{Fits};
+ghost use Rattle.handle_table.specs.Answer.{answer};
+ghost use Rattle.handle_table.specs.Table.{StandsFor, Fits};
 ghost use Rattle.handle_table.specs.Seen.{op_of, reply_of};
+ghost use Rattle.script_run.specs.Serial.{with_call};
+ghost use Rattle.script_run.specs.Session.{IsAt, IsReady, GoesOn};
+ghost use Rattle.script_run.specs.Thread.{KeepsNames};
 
+use crate::holds::hold_change;
 use crate::thread::{Thread, selection_after};
 use category_store::Share;
 use handle_table::{Op, Reply, Table};
+use std::alloc::AllocError;
 
-/// A thread with the table that it calls.
-#[derive(Drop)]
-pub struct Session {
-    pub table: Table<Share>,
-    pub thread: Thread,
-}
-
-impl Session {
-    ghost use Rattle.script_run.specs.Session.{IsAt, IsReady, GoesOn};
-    ghost use Rattle.script_run.specs.Variables.{Bindings};
-
-    /// Answers an op of the thread.
-    pub fn serve(&mut self, op: Op<Share>) -> Reply<Share>
-        requires ready { IsReady self.old }
-        requires op { Fits self.old.table.setting (op_of op) }
-        ensures reply { (H : History) (b : Bindings) → IsAt self.old H b → reply_of result ≡ answer self.old.table.setting H self.old.thread.number (op_of op) }
-        ensures at { (H : History) (b : Bindings) → IsAt self.old H b → IsAt self.new (entry self.old.table.setting H self.old.thread.number (op_of op) ∷ H) b }
-        ensures on { GoesOn self.old self.new }
-    {
-        let next = selection_after(&op, self.thread.selected());
-        let reply = self.table.step(self.thread.number(), op);
-        self.thread.follow(next, &reply);
-        reply
-    }
+/// Answers an op of a thread, which follows the reply.
+pub fn serve(
+    table: &mut Table<Share>,
+    thread: &mut Thread,
+    op: Op<Share>,
+) -> Result<Reply<Share>, AllocError>
+    requires ready { IsReady 1 table.old thread.old }
+    requires op { Fits table.old.setting (op_of op) }
+    ensures reply { IfOk result (λ reply. (H : History) → StandsFor table.old H → reply_of reply ≡ answer table.old.setting H thread.old.number (op_of op)) }
+    ensures at { OnOk result ((H : History) → IsAt table.old thread.old H → IsAt table.new thread.new (with_call table.old.setting H thread.old.number (op_of op))) }
+    ensures table { OnOk result (GoesOn 1 table.old table.new) }
+    ensures thread { OnOk result (KeepsNames thread.old thread.new) }
+{
+    let next = selection_after(&op, thread.selected());
+    let change = hold_change(&op);
+    let reply = table.step(thread.number(), op);
+    thread.follow(next, change, &reply)?;
+    Ok(reply)
 }
