@@ -3,14 +3,15 @@ use Rattle.std.proofs.Common.{◌≡◌, ℕ, length, List, [], ◌∷◌, None,
 use Rattle.std.specs.Prelude.{codes}
 use Rattle.std.specs.Fmt.{decimal}
 use Rattle.std.proofs.lemmas.Fmt.{decimal_digit}
-use Rattle.locale_cli.specs.declared.answer.TheConstants.{DEFAULT_ROWS, DEFAULT_GENERATIONS}
+use Rattle.locale_cli.specs.declared.words.TheConstants.{DEFAULT_ROWS, MOST_ROWS, DEFAULT_GENERATIONS, MOST_GENERATIONS}
 use Rattle.locale_cli.specs.declared.answer.Status.TheVariants.{Done, TooLarge}
 use Rattle.locale_cli.specs.declared.words.Mode.TheVariants.{Check, Serial}
 use Rattle.locale_cli.specs.declared.top.TheConstants.{INPUT_LIMIT}
 use Rattle.locale_cli.specs.Answer.{answer_of, counts_line}
 use Rattle.locale_cli.specs.Status.{status_of, due_status}
-use Rattle.locale_cli.specs.Words.{mode_of}
+use Rattle.locale_cli.specs.Words.{mode_of, with_option, number_up_to}
 use Rattle.script_lang.specs.Accepted.{bundle_of, bundle_with}
+use Rattle.script_words.specs.Words.{decimal_number, behind_front}
 use Rattle.script_run.specs.Plan.{plan_of}
 
 digit0 : decimal 0 ≡ codes "0"
@@ -50,7 +51,7 @@ ruleset digits = (digit0, digit1, digit2, digit3, digit4, digit5, digit6, digit7
 no_words : mode_of [] ≡ None
 no_words = refl
 
-serial_word : mode_of (codes "serial" ∷ []) ≡ Some Serial
+serial_word : mode_of (codes "serial" ∷ []) ≡ Some (Serial 16 65535)
 serial_word = refl
 
 check_word : mode_of (codes "check" ∷ []) ≡ Some Check
@@ -59,8 +60,98 @@ check_word = refl
 unknown_word : mode_of (codes "run" ∷ []) ≡ None
 unknown_word = refl
 
-a_word_more : mode_of (codes "serial" ∷ codes "rows=0" ∷ []) ≡ None
-a_word_more = refl
+two_modes : mode_of (codes "serial" ∷ codes "check" ∷ []) ≡ None
+unfolding with_option number_up_to behind_front decimal_number
+two_modes = refl
+
+check_with_an_option : mode_of (codes "check" ∷ codes "rows=1" ∷ []) ≡ None
+check_with_an_option = refl
+
+check_twice : mode_of (codes "check" ∷ codes "check" ∷ []) ≡ None
+check_twice = refl
+
+each_option : mode_of (codes "serial" ∷ codes "generations=2147483647" ∷ codes "rows=64" ∷ []) ≡ Some (Serial 64 2147483647)
+unfolding with_option number_up_to behind_front decimal_number
+each_option = refl
+
+the_other_order : mode_of (codes "serial" ∷ codes "rows=64" ∷ codes "generations=2147483647" ∷ []) ≡ Some (Serial 64 2147483647)
+unfolding with_option number_up_to behind_front decimal_number
+the_other_order = refl
+
+rows_alone : mode_of (codes "serial" ∷ codes "rows=1" ∷ []) ≡ Some (Serial 1 65535)
+unfolding with_option number_up_to behind_front decimal_number
+rows_alone = refl
+
+generations_alone : mode_of (codes "serial" ∷ codes "generations=1" ∷ []) ≡ Some (Serial 16 1)
+unfolding with_option number_up_to behind_front decimal_number
+generations_alone = refl
+
+rows_twice : mode_of (codes "serial" ∷ codes "rows=2" ∷ codes "rows=2" ∷ []) ≡ None
+unfolding with_option number_up_to behind_front decimal_number
+rows_twice = refl
+
+generations_twice : mode_of (codes "serial" ∷ codes "generations=2" ∷ codes "rows=2" ∷ codes "generations=3" ∷ []) ≡ None
+unfolding with_option number_up_to behind_front decimal_number
+generations_twice = refl
+
+no_rows : mode_of (codes "serial" ∷ codes "rows=0" ∷ []) ≡ None
+unfolding with_option number_up_to behind_front decimal_number
+no_rows = refl
+
+no_generations : mode_of (codes "serial" ∷ codes "generations=0" ∷ []) ≡ None
+unfolding with_option number_up_to behind_front decimal_number
+no_generations = refl
+
+rows_past_the_limit : mode_of (codes "serial" ∷ codes "rows=65" ∷ []) ≡ None
+unfolding with_option number_up_to behind_front decimal_number
+rows_past_the_limit = refl
+
+generations_past_the_limit : mode_of (codes "serial" ∷ codes "generations=2147483648" ∷ []) ≡ None
+unfolding with_option number_up_to behind_front decimal_number
+generations_past_the_limit = refl
+
+generations_of_thirty_digits : mode_of (codes "serial" ∷ codes "generations=100000000000000000000000000000" ∷ []) ≡ None
+unfolding with_option number_up_to behind_front decimal_number
+generations_of_thirty_digits = refl
+
+padded_rows : mode_of (codes "serial" ∷ codes "rows=01" ∷ []) ≡ None
+unfolding with_option number_up_to behind_front decimal_number
+padded_rows = refl
+
+padded_generations : mode_of (codes "serial" ∷ codes "generations=065535" ∷ []) ≡ None
+unfolding with_option number_up_to behind_front decimal_number
+padded_generations = refl
+
+empty_rows : mode_of (codes "serial" ∷ codes "rows=" ∷ []) ≡ None
+unfolding with_option number_up_to behind_front decimal_number
+empty_rows = refl
+
+signed_rows : mode_of (codes "serial" ∷ codes "rows=+1" ∷ []) ≡ None
+unfolding with_option number_up_to behind_front decimal_number
+signed_rows = refl
+
+letter_behind_rows : mode_of (codes "serial" ∷ codes "rows=1x" ∷ []) ≡ None
+unfolding with_option number_up_to behind_front decimal_number
+letter_behind_rows = refl
+
+blank_behind_rows : mode_of (codes "serial" ∷ codes "rows=1 " ∷ []) ≡ None
+unfolding with_option number_up_to behind_front decimal_number
+blank_behind_rows = refl
+
+unknown_option : mode_of (codes "serial" ∷ codes "seed=0" ∷ []) ≡ None
+unfolding with_option number_up_to behind_front decimal_number
+unknown_option = refl
+
+empty_option : mode_of (codes "serial" ∷ codes "" ∷ []) ≡ None
+unfolding with_option number_up_to behind_front decimal_number
+empty_option = refl
+
+option_before_the_mode : mode_of (codes "rows=1" ∷ codes "serial" ∷ []) ≡ None
+option_before_the_mode = refl
+
+word_behind_the_options : mode_of (codes "serial" ∷ codes "rows=1" ∷ codes "generations=1" ∷ codes "x" ∷ []) ≡ None
+unfolding with_option number_up_to behind_front decimal_number
+word_behind_the_options = refl
 
 -- ---- answers
 
@@ -68,7 +159,7 @@ some_counts : counts_line (record { locales = 3; charmaps = 1; threads = 2; roun
 some_counts = simp digits
 
 -- the empty input is a bundle without threads, which has one round
-empty_input : (answer_of Serial []).text ≡ []
+empty_input : (answer_of (Serial 16 65535) []).text ≡ []
 unfolding bundle_of bundle_with
 empty_input = refl
 
@@ -85,6 +176,12 @@ default_rows = refl
 
 default_generations : DEFAULT_GENERATIONS ≡ 65535
 default_generations = refl
+
+most_rows : MOST_ROWS ≡ 64
+most_rows = refl
+
+most_generations : MOST_GENERATIONS ≡ 2147483647
+most_generations = refl
 
 -- ---- the input's limit
 

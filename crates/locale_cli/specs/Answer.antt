@@ -2,14 +2,13 @@
 use Rattle.std.specs.Prelude.{ℕ, List, ◌++◌, codes, Ok, Err}
 use Rattle.std.specs.Fmt.{decimal}
 use Rattle.lc_base.specs.Reading.{Reads, ◌>>=◌}
-use Rattle.script_lang.specs.Output.{newline, printed}
-use Rattle.script_lang.specs.Refusal.{refusal_line}
+use Rattle.script_out.specs.Output.{newline, printed}
+use Rattle.script_out.specs.Refusal.{refusal_line}
 use Rattle.script_run.specs.declared.plan.Counts.{Counts}
 use Rattle.script_run.specs.Plan.{PlanData, counts, plan_of}
 use Rattle.script_run.specs.Serial.{serial_lines}
 use Rattle.locale_cli.specs.declared.words.Mode.{Mode}
 use Rattle.locale_cli.specs.declared.words.Mode.TheVariants.{Check, Serial}
-use Rattle.locale_cli.specs.declared.answer.TheConstants.{DEFAULT_ROWS, DEFAULT_GENERATIONS}
 use Rattle.locale_cli.specs.declared.answer.Status.{Status}
 use Rattle.locale_cli.specs.declared.answer.Status.TheVariants.{Done, Refused}
 use Rattle.locale_cli.specs.declared.answer.Answer.{Answer}
@@ -23,14 +22,14 @@ counts_line c =
     codes " rounds " ++ decimal c.rounds ++
     codes " commands " ++ decimal c.commands ++ newline
 
--- the lines of a script, whose threads have the default rows and generations
-abbrev pub serial_text : PlanData → List ℕ
-serial_text plan = printed (serial_lines DEFAULT_ROWS DEFAULT_GENERATIONS plan) plan.bundle.threads
+-- the lines of a script, whose threads have so many rows, and each row so many generations
+abbrev pub serial_text : ℕ → ℕ → PlanData → List ℕ
+serial_text rows generations plan = printed (serial_lines rows generations plan) plan.bundle.threads
 
 -- what an accepted bundle prints
 abbrev pub output : Mode → PlanData → List ℕ
 output Check plan = counts_line (counts plan.bundle)
-output Serial plan = serial_text plan
+output (Serial rows generations) plan = serial_text rows generations plan
 
 -- what an input prints, or its first fault
 abbrev pub output_of : Mode → List ℕ → Reads (List ℕ)

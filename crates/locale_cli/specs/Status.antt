@@ -11,9 +11,9 @@ use Rattle.locale_cli.specs.declared.answer.Status.{Status}
 use Rattle.locale_cli.specs.declared.answer.Status.TheVariants.{Done, Usage, Refused, ReadFault, WriteFault, Memory, TooLarge}
 use Rattle.locale_cli.specs.declared.words.Mode.{Mode}
 use Rattle.locale_cli.specs.Answer.{answer_of, output, counts_line}
-use Rattle.script_lang.specs.Output.{newline}
+use Rattle.script_out.specs.Output.{newline}
 use Rattle.script_run.specs.Plan.{PlanData, plan_of, counts_of}
-use Rattle.script_lang.specs.Refusal.{refusal_line}
+use Rattle.script_out.specs.Refusal.{refusal_line}
 
 -- what is written for wrong words
 abbrev pub usage_line : List ℕ

@@ -6,20 +6,15 @@ ghost use Rattle.lc_base.specs.Reading.{Gives};
 ghost use Rattle.locale_cli.specs.Answer.{answer_of, counts_line, serial_text, output_of};
 ghost use Rattle.locale_cli.specs.declared.words.Mode.TheVariants.{Check, Serial};
 ghost use Rattle.locale_cli.specs.StatusCode.{status_code};
-ghost use Rattle.script_lang.specs.Refusal.{refusal_line};
+ghost use Rattle.locale_cli.specs.Words.{IsSized};
+ghost use Rattle.script_out.specs.Refusal.{refusal_line};
 
 use crate::words::Mode;
 use itoa::Buffer;
 use lc_base::{ByteText, Place, Reason, TextFault};
-use script_lang::{print, push_refusal};
+use script_out::{print, push_refusal};
 use script_run::{Counts, Plan, check, prepare, serial};
 use std::alloc::{AllocError, Global};
-
-/// The rows of each thread.
-pub const DEFAULT_ROWS: u32 = 16;
-
-/// How many objects a row has in all its time.
-pub const DEFAULT_GENERATIONS: u32 = 65535;
 
 /// How the program ended.
 #[derive(Clone, Copy, Debug, PartialEq, Eq)]
@@ -66,12 +61,13 @@ pub struct Answer {
 
 /// The answer to an input.
 pub fn answer_to(alloc: Global, mode: Mode, input: &[u8]) -> Result<Answer, AllocError>
-    requires { length input.now < 2 ^ 31 }
+    requires length { length input.now < 2 ^ 31 }
+    requires sized { IsSized mode }
     ensures { IfOk result (λ a. a ≡ answer_of mode input.now) }
 {
     let output = match mode {
         Mode::Check => checked(alloc, input),
-        Mode::Serial => run(alloc, input),
+        Mode::Serial { rows, generations } => run(alloc, input, rows, generations),
     };
     match output {
         Ok(text) => Ok(Answer {
@@ -96,12 +92,13 @@ fn checked(alloc: Global, input: &[u8]) -> Result<ByteText, TextFault>
 }
 
 /// The lines of a bundle's script.
-fn run(alloc: Global, input: &[u8]) -> Result<ByteText, TextFault>
-    requires { length input.now < 2 ^ 31 }
-    ensures { Gives (λ text. text) result (output_of Serial input.now) }
+fn run(alloc: Global, input: &[u8], rows: u32, generations: u32) -> Result<ByteText, TextFault>
+    requires length { length input.now < 2 ^ 31 }
+    requires sized { IsSized (Serial rows generations) }
+    ensures { Gives (λ text. text) result (output_of (Serial rows generations) input.now) }
 {
     let plan = prepare(alloc, input)?;
-    let text = serial_text(alloc, &plan);
+    let text = serial_text(alloc, &plan, rows, generations);
     drop(plan);
     Ok(text?)
 }
@@ -130,10 +127,16 @@ fn push_count(line: &mut Vec<u8>, label: &[u8], count: u32) -> Result<(), AllocE
 }
 
 /// The lines of an accepted bundle's script.
-fn serial_text(alloc: Global, plan: &Plan) -> Result<ByteText, AllocError>
-    ensures { IfOk result (λ text. text ≡ serial_text plan.now) }
+fn serial_text(
+    alloc: Global,
+    plan: &Plan,
+    rows: u32,
+    generations: u32,
+) -> Result<ByteText, AllocError>
+    requires { IsSized (Serial rows generations) }
+    ensures { IfOk result (λ text. text ≡ serial_text rows generations plan.now) }
 {
-    let lines = serial(alloc, plan, DEFAULT_ROWS, DEFAULT_GENERATIONS)?;
+    let lines = serial(alloc, plan, rows, generations)?;
     print(alloc, &lines, plan.threads())
 }
 

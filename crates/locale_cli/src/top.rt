@@ -6,7 +6,7 @@ ghost use Rattle.lc_base.specs.Faults.{Rose};
 ghost use Rattle.lc_base.specs.Bytes.{CameAtMost, AddsPrefix};
 ghost use Rattle.locale_cli.specs.declared.words.Mode.{Mode};
 ghost use Rattle.locale_cli.specs.declared.words.Mode.TheVariants.{Check};
-ghost use Rattle.locale_cli.specs.Words.{mode_of};
+ghost use Rattle.locale_cli.specs.Words.{mode_of, IsSized};
 ghost use Rattle.locale_cli.specs.Run.{Told, Ran};
 ghost use Rattle.locale_cli.specs.Status.{usage_line, IsDone, IsChecked, IsRefused, IsTooLarge, IsCutShort, due_status, IsDue, StayedSound};
 
@@ -58,6 +58,7 @@ pub fn top<S: Source, K: Sink>(
 
 /// Reads the whole source, and writes the answer to it.
 fn run<S: Source, K: Sink>(alloc: Global, mode: Mode, source: &mut S, sink: &mut K) -> Status
+    requires { IsSized mode }
     ensures { Ran mode
         (record { left = S.left source.old; left' = S.left source.new; faults = S.faults source.old; faults' = S.faults source.new })
         (record { written = K.written sink.old; written' = K.written sink.new; faults = K.faults sink.old; faults' = K.faults sink.new })

@@ -11,14 +11,14 @@ pub returns-in-Some-clause-done : goal.returns-in-Some-clause-done
 returns-in-Some-clause-done g c = λ mode named e.
     let s : SourceStep = record { left = g.S.Source.left c.args.source.now; left' = g.S.Source.left c.run.new.source; faults = g.S.Source.faults c.args.source.now; faults' = g.S.Source.faults c.run.new.source } in
     let k : SinkStep = record { written = g.K.Sink.written c.args.sink.now; written' = g.K.Sink.written c.run.new.sink; faults = g.K.Sink.faults c.args.sink.now; faults' = g.K.Sink.faults c.run.new.sink } in
-    let same : c.in-Some.mode ≡ mode = same_mode (mode_of c.args.words.now) c.in-Some.mode mode (sym c.mode_of.ensures ∙ c.in-Some.is) named in
+    let same : c.in-Some.mode ≡ mode = same_mode (mode_of c.args.words.now) c.in-Some.mode mode (sym c.mode_of.ensures.is ∙ c.in-Some.is) named in
     subst (λ (m : Mode). IsDone m s.left s.left' k.written k.written') same (ran_done c.in-Some.mode s k (c.run.new.sink ≡ c.args.sink.now) c.run.result c.run.ensures e)
 
 pub returns-in-Some-clause-checked : goal.returns-in-Some-clause-checked
 returns-in-Some-clause-checked g c = λ named e.
     let s : SourceStep = record { left = g.S.Source.left c.args.source.now; left' = g.S.Source.left c.run.new.source; faults = g.S.Source.faults c.args.source.now; faults' = g.S.Source.faults c.run.new.source } in
     let k : SinkStep = record { written = g.K.Sink.written c.args.sink.now; written' = g.K.Sink.written c.run.new.sink; faults = g.K.Sink.faults c.args.sink.now; faults' = g.K.Sink.faults c.run.new.sink } in
-    let same : c.in-Some.mode ≡ Check = same_mode (mode_of c.args.words.now) c.in-Some.mode Check (sym c.mode_of.ensures ∙ c.in-Some.is) named in
+    let same : c.in-Some.mode ≡ Check = same_mode (mode_of c.args.words.now) c.in-Some.mode Check (sym c.mode_of.ensures.is ∙ c.in-Some.is) named in
     is_checked s.left s.left' k.written k.written' (subst (λ (m : Mode). IsDone m s.left s.left' k.written k.written') same (ran_done c.in-Some.mode s k (c.run.new.sink ≡ c.args.sink.now) c.run.result c.run.ensures e))
 
 pub returns-in-Some-clause-refused : goal.returns-in-Some-clause-refused
@@ -31,7 +31,7 @@ pub returns-in-Some-clause-cut_short : goal.returns-in-Some-clause-cut_short
 returns-in-Some-clause-cut_short g c = λ mode named e.
     let s : SourceStep = record { left = g.S.Source.left c.args.source.now; left' = g.S.Source.left c.run.new.source; faults = g.S.Source.faults c.args.source.now; faults' = g.S.Source.faults c.run.new.source } in
     let k : SinkStep = record { written = g.K.Sink.written c.args.sink.now; written' = g.K.Sink.written c.run.new.sink; faults = g.K.Sink.faults c.args.sink.now; faults' = g.K.Sink.faults c.run.new.sink } in
-    let same : c.in-Some.mode ≡ mode = same_mode (mode_of c.args.words.now) c.in-Some.mode mode (sym c.mode_of.ensures ∙ c.in-Some.is) named in
+    let same : c.in-Some.mode ≡ mode = same_mode (mode_of c.args.words.now) c.in-Some.mode mode (sym c.mode_of.ensures.is ∙ c.in-Some.is) named in
     subst (λ (m : Mode). IsCutShort m s.left s.left' k.written k.written') same (ran_cut c.in-Some.mode s k (c.run.new.sink ≡ c.args.sink.now) c.run.result c.run.ensures e)
 
 pub returns-in-Some-clause-due : goal.returns-in-Some-clause-due
