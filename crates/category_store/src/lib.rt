@@ -17,8 +17,6 @@ mod row;
 mod share;
 mod source;
 mod table;
-#[cfg(test)]
-mod tests;
 mod written;
 
 pub use compiled::Compiled;

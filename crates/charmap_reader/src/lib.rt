@@ -19,8 +19,6 @@ mod runs;
 mod spans;
 mod subject;
 mod tail;
-#[cfg(test)]
-mod tests;
 mod texts;
 mod unicode;
 

@@ -3,7 +3,5 @@
 
 mod merge;
 mod ranges;
-#[cfg(test)]
-mod tests;
 
 pub use ranges::Ranges;

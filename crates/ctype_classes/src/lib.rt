@@ -10,7 +10,5 @@ mod first_lines;
 mod lists;
 mod named;
 mod table;
-#[cfg(test)]
-mod tests;
 
 pub use ctype::Ctype;

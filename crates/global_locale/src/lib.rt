@@ -8,9 +8,6 @@ use lc_base::Mask;
 use mask_compose::{Object, Part, compose};
 use std::marker::Model;
 
-#[cfg(test)]
-mod tests;
-
 /// The global locale (XSH setlocale).
 #[derive(Drop)]
 pub struct Global<P: Part> {

@@ -8,7 +8,8 @@ use Rattle.std.specs.Prelude.{unwrap_or, slice_index_or, nat_lt}
 use Rattle.handle_table.specs.declared.handle.Handle.{Handle}
 use Rattle.handle_table.specs.declared.handle.Named.TheVariants.{Global}
 use Rattle.handle_table.specs.declared.row.Row.{Row}
-use Rattle.handle_table.specs.declared.setting.TheConstants.{CELLS, MAX_THREADS}
+use Rattle.handle_table.specs.declared.setting.TheConstants.{MAX_THREADS}
+use Rattle.lc_base.specs.declared.cells.TheConstants.{CELLS}
 use Rattle.handle_table.specs.Entry.{Setting}
 use Rattle.handle_table.specs.Shelf.{posix, opening_offer}
 use Rattle.handle_table.specs.History.{pins}

@@ -7,7 +7,7 @@ use Rattle.mask_compose.specs.Offer.{Offered}
 use Rattle.handle_table.specs.declared.handle.Handle.{Handle}
 use Rattle.handle_table.specs.declared.handle.Named.{Named}
 use Rattle.handle_table.specs.declared.handle.Named.TheVariants.{Global, Of}
-use Rattle.handle_table.specs.declared.setting.TheConstants.{CELLS}
+use Rattle.lc_base.specs.declared.cells.TheConstants.{CELLS}
 use Rattle.handle_table.specs.Entry.{Op, New, Dup, Free, Use, Hold, Release, SetGlobal, Install, Post, Fetch, Pins, End, Refusal, AlreadyHeld, NotHeld, Entry, History, Setting, names, is_accepted}
 use Rattle.handle_table.specs.Shelf.{posix, shelf, installs, from_shelf}
 use Rattle.handle_table.specs.History.{handle_in, makes, live, object_named, replies_with, object, selection, holding, posted, sets, global, is_free, free_row}

@@ -5,7 +5,7 @@ use Rattle.std.specs.Prelude.{slice_index_or, nat_lt, not, ◌||◌, IfSome}
 use Rattle.handle_table.specs.declared.handle.Handle.{Handle}
 use Rattle.handle_table.specs.declared.handle.Named.TheVariants.{Global}
 use Rattle.handle_table.specs.declared.row.Row.{Row}
-use Rattle.handle_table.specs.declared.setting.TheConstants.{CELLS}
+use Rattle.lc_base.specs.declared.cells.TheConstants.{CELLS}
 use Rattle.handle_table.specs.Entry.{History, Setting}
 use Rattle.handle_table.specs.Shelf.{no_offer}
 use Rattle.handle_table.specs.History.{made, live, holding, pins, free_row, selection, posted, object, least_below}

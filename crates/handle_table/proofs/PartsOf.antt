@@ -9,7 +9,7 @@ use Rattle.global_locale.specs.Versioned.{Versioned}
 use Rattle.handle_table.specs.declared.handle.Handle.{Handle}
 use Rattle.handle_table.specs.declared.handle.Named.{Named}
 use Rattle.handle_table.specs.declared.handle.Named.TheVariants.{Global, Of}
-use Rattle.handle_table.specs.declared.setting.TheConstants.{CELLS}
+use Rattle.lc_base.specs.declared.cells.TheConstants.{CELLS}
 use Rattle.handle_table.specs.Entry.{New, SetGlobal, Install, Post, Entry, History, Setting, is_accepted, same_handle}
 use Rattle.handle_table.specs.Shelf.{no_offer, opening_offer, shelf, from_shelf}
 use Rattle.handle_table.specs.History.{handle_made, is_handle, makes_handle, made, makes, object, selection_after, selection, is_kept, handle_named, posted, sets, global}

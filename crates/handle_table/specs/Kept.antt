@@ -7,7 +7,8 @@ use Rattle.handle_table.specs.declared.handle.Handle.{Handle}
 use Rattle.handle_table.specs.declared.handle.Named.{Named}
 use Rattle.handle_table.specs.declared.handle.Named.TheVariants.{Global}
 use Rattle.handle_table.specs.declared.row.Row.{Row}
-use Rattle.handle_table.specs.declared.setting.TheConstants.{CELLS, MAX_THREADS}
+use Rattle.handle_table.specs.declared.setting.TheConstants.{MAX_THREADS}
+use Rattle.lc_base.specs.declared.cells.TheConstants.{CELLS}
 use Rattle.handle_table.specs.Entry.{History, Setting}
 use Rattle.handle_table.specs.Shelf.{no_offer, opening_offer, shelf, installs}
 use Rattle.handle_table.specs.History.{makes, live, object, selection, holding, pins, is_kept, posted, sets, global}

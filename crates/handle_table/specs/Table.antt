@@ -3,7 +3,8 @@ use Rattle.std.specs.Prelude.{◌≡◌, ℕ, ◌<◌, ◌≤◌, Bool, false, L
 use Rattle.std.specs.List.{All}
 use Rattle.mask_compose.specs.Offer.{Offered}
 use Rattle.handle_table.specs.declared.handle.Handle.{Handle}
-use Rattle.handle_table.specs.declared.setting.TheConstants.{CELLS, MAX_THREADS}
+use Rattle.handle_table.specs.declared.setting.TheConstants.{MAX_THREADS}
+use Rattle.lc_base.specs.declared.cells.TheConstants.{CELLS}
 use Rattle.handle_table.specs.Entry.{Op, New, Dup, Free, Use, Hold, Release, SetGlobal, Install, Post, Fetch, Pins, End, History, Setting, names}
 use Rattle.handle_table.specs.Shelf.{shelf, installs}
 use Rattle.handle_table.specs.History.{made, makes, live, sets, global, object, selection, holding, pins, free_row, posted}

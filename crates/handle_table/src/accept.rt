@@ -15,9 +15,9 @@ use crate::checks::first_reason;
 use crate::handle::{Handle, Named};
 use crate::kept::Kept;
 use crate::op::{Op, Refusal, Reply};
-use crate::setting::{CELLS, MAX_THREADS, Setting};
+use crate::setting::{MAX_THREADS, Setting};
 use crate::shelf::from_shelf;
-use lc_base::Mask;
+use lc_base::{CELLS, Mask};
 use mask_compose::{Object, Offer, Part, compose};
 
 /// Answers the thread's op: refuses it for the first reason against it, else does what it asks for.

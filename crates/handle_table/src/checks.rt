@@ -12,9 +12,9 @@ ghost use Rattle.handle_table.specs.Kept.{Keeps};
 use crate::handle::Named;
 use crate::kept::Kept;
 use crate::op::{Op, Refusal};
-use crate::setting::{CELLS, MAX_THREADS, Setting};
+use crate::setting::{MAX_THREADS, Setting};
 use crate::shelf::lacking;
-use lc_base::Mask;
+use lc_base::{CELLS, Mask};
 use mask_compose::Part;
 
 /// Whether the named locales have the categories of the mask.

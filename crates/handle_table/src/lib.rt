@@ -13,10 +13,8 @@ mod rows;
 mod setting;
 mod shelf;
 mod table;
-#[cfg(test)]
-mod tests;
 
 pub use handle::{Handle, Named};
 pub use op::{Op, Refusal, Reply};
-pub use setting::{CELLS, MAX_THREADS};
+pub use setting::MAX_THREADS;
 pub use table::Table;

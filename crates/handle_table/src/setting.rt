@@ -10,9 +10,6 @@ use std::marker::Model;
 /// The most threads that a table is made for.
 pub const MAX_THREADS: usize = 16;
 
-/// How many cells each thread has.
-pub const CELLS: u32 = 8;
-
 /// The setting of a table, which no step changes.
 #[derive(Drop)]
 pub struct Setting<P: Part> {

@@ -11,9 +11,6 @@ use lc_base::{ByteText, List, Place, Reason};
 use locale_reader::{Entry, ValueRef, Values};
 use std::alloc::{AllocError, Global};
 
-#[cfg(test)]
-mod tests;
-
 /// What an operand of a keyword must be, beyond its kind.
 #[derive(Clone, Copy, Debug, PartialEq, Eq)]
 pub enum Rule {

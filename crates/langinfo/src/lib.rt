@@ -4,8 +4,6 @@
 mod conv;
 mod items;
 mod keyword;
-#[cfg(test)]
-mod tests;
 
 pub use conv::{Lconv, localeconv};
 pub use items::nl_langinfo;

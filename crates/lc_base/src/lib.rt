@@ -3,6 +3,7 @@
 
 mod block;
 mod category;
+mod cells;
 mod fault;
 mod item;
 mod lines;
@@ -12,12 +13,11 @@ mod place;
 mod reason;
 mod standard;
 mod stream;
-#[cfg(test)]
-mod tests;
 mod whole;
 
 pub use block::{Block, Later};
 pub use category::{CATEGORIES, Category, Mask};
+pub use cells::CELLS;
 pub use fault::TextFault;
 pub use item::Item;
 pub use lines::{after, ended_line, next_line};

@@ -46,7 +46,7 @@ impl From<AllocError> for ReadRefusal {
 
 /// All bytes of the source up to its end, at most `limit` of them.
 ///
-/// No more than `limit` + 1 bytes are read: where these come, the answer is `TooLarge`.
+/// Whatever the answer, no more than `limit` + 1 bytes are read: where these come, it is `TooLarge`, or `Memory`.
 pub fn read_all<S: Source>(
     alloc: Global,
     source: &mut S,
@@ -56,6 +56,7 @@ pub fn read_all<S: Source>(
     ensures within { IfOk result (λ text. length text ≤ limit) }
     ensures too_large { IsErrOf result ReadRefusal.TooLarge → CameExactly (S.left source.old) (S.left source.new) (limit + 1) }
     ensures fault_within { IsErrOf result ReadRefusal.ReadFault → CameAtMost (S.left source.old) (S.left source.new) limit }
+    ensures at_most { CameAtMost (S.left source.old) (S.left source.new) (limit + 1) }
     ensures fault { IsErrOf result ReadRefusal.ReadFault → Rose (S.faults source.old) (S.faults source.new) }
     ensures sound { ¬ IsErrOf result ReadRefusal.ReadFault → S.faults source.new ≡ S.faults source.old }
     ensures never_falls { S.faults source.old ≤ S.faults source.new }
@@ -84,6 +85,7 @@ fn read_by<S: Source>(
     ensures within { IfOk result (λ v. vec_len v ≤ limit) }
     ensures too_large { IsErrOf result ReadRefusal.TooLarge → CameExactly (S.left source.old) (S.left source.new) (limit + 1) }
     ensures fault_within { IsErrOf result ReadRefusal.ReadFault → CameAtMost (S.left source.old) (S.left source.new) limit }
+    ensures at_most { CameAtMost (S.left source.old) (S.left source.new) (limit + 1) }
     ensures fault { IsErrOf result ReadRefusal.ReadFault → Rose (S.faults source.old) (S.faults source.new) }
     ensures sound { ¬ IsErrOf result ReadRefusal.ReadFault → S.faults source.new ≡ S.faults source.old }
     ensures never_falls { S.faults source.old ≤ S.faults source.new }

@@ -9,8 +9,6 @@ mod locale;
 mod number;
 mod opened;
 mod source;
-#[cfg(test)]
-mod tests;
 mod text;
 mod value;
 mod words;

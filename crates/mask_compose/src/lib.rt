@@ -5,8 +5,6 @@ mod names;
 mod object;
 mod offer;
 mod part;
-#[cfg(test)]
-mod tests;
 
 pub use names::{join_names, read_names};
 pub use object::{Object, compose};

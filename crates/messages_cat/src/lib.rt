@@ -11,8 +11,6 @@ use locale_reader::Entry;
 use std::alloc::{AllocError, Global};
 use std::marker::Model;
 
-#[cfg(test)]
-mod tests;
 
 /// What a user answers in the POSIX locale to say yes, and no: extended regular expressions.
 const POSIX_YES: &[u8] = b"^[yY]";

@@ -13,8 +13,6 @@ use std::alloc::{AllocError, Global};
 use std::marker::Model;
 
 mod keys;
-#[cfg(test)]
-mod tests;
 mod values;
 
 pub use keys::{MonNumber, MonText};

@@ -12,8 +12,6 @@ use locale_reader::Entry;
 use std::alloc::{AllocError, Global};
 use std::marker::Model;
 
-#[cfg(test)]
-mod tests;
 
 /// The keywords, with what their operands must be.
 const RULES: [(&[u8], Rule); 3] = [

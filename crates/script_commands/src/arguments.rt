@@ -16,8 +16,8 @@ ghost use Rattle.script_commands.specs.Commands.{argument, read_as, no_more, is_
 
 use crate::command::Target;
 use crate::known::{Known, THREAD_LIMIT, lacks_key, thread_number};
-use handle_table::{CELLS, Handle};
-use lc_base::{ByteText, Item, Limit, LinePart, List, Place, Reason, TextFault};
+use handle_table::Handle;
+use lc_base::{ByteText, CELLS, Item, Limit, LinePart, List, Place, Reason, TextFault};
 use script_words::{
     AMOUNT_LIMIT, Categories, DEFAULT_MAX, Format, Piece, WrittenAmount, WrittenCell,
     WrittenHandle, WrittenTime, amount_of_word, behind_front, categories_of_word, cell_number,

@@ -6,7 +6,5 @@ mod directive;
 mod lines;
 mod reading;
 mod steps;
-#[cfg(test)]
-mod tests;
 
 pub use bundle::{Bundle, CHARMAP_LIMIT, COMMAND_LIMIT, LATER_LIMIT, LOCALE_LIMIT, ROUND_LIMIT};

@@ -13,7 +13,7 @@ use Rattle.script_words.specs.declared.categories.Categories.TheVariants.{All, O
 use Rattle.script_words.specs.declared.word.Quoting.{Quoting}
 use Rattle.script_words.specs.declared.word.Quoting.TheVariants.{Text, Escape, High, Low, Closed}
 use Rattle.script_words.specs.declared.given.TheConstants.{ZONE_LIMIT, MAX_LIMIT}
-use Rattle.handle_table.specs.declared.setting.TheConstants.{CELLS}
+use Rattle.lc_base.specs.declared.cells.TheConstants.{CELLS}
 use Rattle.script_words.specs.Names.{is_locale_name, is_thread_name, is_class_name}
 
 -- ---- texts

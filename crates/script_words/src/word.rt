@@ -11,8 +11,7 @@ ghost use Rattle.script_words.specs.Seen.{seen_handle, seen_cell, IsQuoting};
 use crate::categories::Categories;
 use crate::given::{MAX_LIMIT, ZONE_LIMIT};
 use crate::names::{is_class_name, is_locale_name, is_thread_name};
-use handle_table::CELLS;
-use lc_base::{ByteText, CATEGORIES, Category, Mask};
+use lc_base::{ByteText, CATEGORIES, CELLS, Category, Mask};
 use std::alloc::{AllocError, Global};
 
 /// What stands before a byte of a quoted text.

@@ -28,5 +28,3 @@ pub use signs::{Kind, Signs};
 pub use spelling::have_spellings;
 pub use words::{Word, closes, next_word};
 
-#[cfg(test)]
-mod tests;

@@ -14,8 +14,6 @@ mod fault;
 mod format;
 mod layout;
 mod look;
-#[cfg(test)]
-mod tests;
 mod write;
 
 pub use amount::Amount;

@@ -6,8 +6,6 @@ mod expand;
 mod fault;
 mod output;
 mod plain;
-#[cfg(test)]
-mod tests;
 mod text;
 mod weeks;
 

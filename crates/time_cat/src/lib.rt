@@ -8,8 +8,6 @@ mod keywords;
 mod segment;
 mod step;
 mod steps;
-#[cfg(test)]
-mod tests;
 mod texts;
 mod time;
 mod tm;

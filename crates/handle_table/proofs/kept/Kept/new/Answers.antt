@@ -5,7 +5,8 @@ use Rattle.global_locale.specs.Versioned.{Versioned}
 use Rattle.handle_table.specs.declared.handle.Handle.{Handle}
 use Rattle.handle_table.specs.declared.handle.Named.TheVariants.{Global}
 use Rattle.handle_table.specs.declared.row.Row.{Row}
-use Rattle.handle_table.specs.declared.setting.TheConstants.{CELLS, MAX_THREADS}
+use Rattle.handle_table.specs.declared.setting.TheConstants.{MAX_THREADS}
+use Rattle.lc_base.specs.declared.cells.TheConstants.{CELLS}
 use Rattle.handle_table.specs.Entry.{Setting}
 use Rattle.handle_table.specs.Grid.{GridData}
 use Rattle.handle_table.proofs.Fresh.{empty_row, keeps_fresh}
