@@ -6,8 +6,8 @@ use Rattle.lc_base.specs.Lines.{◌>>=◌}
 use Rattle.lc_base.specs.declared.category.Category.{Category}
 use Rattle.lc_base.specs.declared.category.Category.TheVariants.{Ctype, Numeric, Monetary, Time, Messages}
 use Rattle.charmap_reader.specs.Portable.{Name, first_named}
-use Rattle.locale_reader.specs.declared.source.Section.{Section}
-use Rattle.locale_reader.specs.declared.source.Body.TheVariants.{Copy, Entries}
+use Rattle.keyword_lists.specs.declared.source.Section.{Section}
+use Rattle.keyword_lists.specs.declared.source.Body.TheVariants.{Copy, Entries}
 use Rattle.category_store.specs.Sources.{Source}
 use Rattle.category_store.specs.Copies.{is_posix, section_of, section_at, locale_numbers, target, step_from, step, followed, last, end_of}
 use Rattle.category_store.specs.Tables.{led, repeated, IsClosed}

@@ -7,10 +7,10 @@ use Rattle.lc_base.specs.declared.reason.Reason.TheVariants.{CopyMissing, CopyCy
 use Rattle.lc_base.specs.declared.block.Block.{Block}
 use Rattle.lc_base.specs.declared.block.Later.{Later}
 use Rattle.charmap_reader.specs.CodedSet.{utf8, posix, listed}
-use Rattle.locale_reader.specs.declared.source.Value.TheVariants.{Text, Chars}
-use Rattle.locale_reader.specs.declared.source.Entry.{Entry}
-use Rattle.locale_reader.specs.declared.source.Section.{Section}
-use Rattle.locale_reader.specs.declared.source.Body.TheVariants.{Copy, Entries}
+use Rattle.keyword_lists.specs.declared.source.Value.TheVariants.{Text, Chars}
+use Rattle.keyword_lists.specs.declared.source.Entry.{Entry}
+use Rattle.keyword_lists.specs.declared.source.Section.{Section}
+use Rattle.keyword_lists.specs.declared.source.Body.TheVariants.{Copy, Entries}
 use Rattle.ctype_classes.specs.Lists.{classes_of}
 use Rattle.ctype_classes.specs.Ctype.{ctype_values, posix_values as posix_classes}
 use Rattle.numeric_cat.specs.NumericValues.{NumericValues}

@@ -12,9 +12,9 @@ use Rattle.lc_base.specs.declared.reason.Reason.TheVariants.{CopyMissing, CopyCy
 use Rattle.lc_base.specs.Mask.{category_bit}
 use Rattle.lc_base.specs.Lines.{◌>>=◌}
 use Rattle.charmap_reader.specs.Portable.{Name, first_named}
-use Rattle.locale_reader.specs.declared.source.Section.{Section}
-use Rattle.locale_reader.specs.declared.source.Body.{Body}
-use Rattle.locale_reader.specs.declared.source.Body.TheVariants.{Copy, Entries}
+use Rattle.keyword_lists.specs.declared.source.Section.{Section}
+use Rattle.keyword_lists.specs.declared.source.Body.{Body}
+use Rattle.keyword_lists.specs.declared.source.Body.TheVariants.{Copy, Entries}
 use Rattle.category_store.specs.Sources.{Source, with_named}
 
 -- whether a name is one of the POSIX locale's (XBD 7.2)

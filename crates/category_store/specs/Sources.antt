@@ -6,7 +6,7 @@ use Rattle.lc_base.specs.Reading.{Reads, ◌>>=◌}
 use Rattle.charmap_reader.specs.Portable.{Name, first_named}
 use Rattle.charmap_reader.specs.CodedSet.{CodedSet, utf8, posix}
 use Rattle.charmap_reader.specs.Charmap.{charmap}
-use Rattle.locale_reader.specs.declared.source.Section.{Section}
+use Rattle.keyword_lists.specs.declared.source.Section.{Section}
 use Rattle.locale_reader.specs.Source.{source}
 use Rattle.category_store.specs.Blocks.{Placed}
 

@@ -4,9 +4,9 @@ use Rattle.lc_base.specs.declared.place.Place.{Place}
 use Rattle.lc_base.specs.declared.category.Category.{Category}
 use Rattle.lc_base.specs.Lines.{◌>>=◌}
 use Rattle.charmap_reader.specs.CodedSet.{CodedSet}
-use Rattle.locale_reader.specs.declared.source.Section.{Section}
-use Rattle.locale_reader.specs.declared.source.Entry.{Entry}
-use Rattle.locale_reader.specs.declared.source.Body.TheVariants.{Copy, Entries}
+use Rattle.keyword_lists.specs.declared.source.Section.{Section}
+use Rattle.keyword_lists.specs.declared.source.Entry.{Entry}
+use Rattle.keyword_lists.specs.declared.source.Body.TheVariants.{Copy, Entries}
 use Rattle.category_store.specs.Sources.{Source}
 use Rattle.category_store.specs.Copies.{section_of}
 

@@ -9,8 +9,8 @@ ghost use Rattle.category_store.specs.Copies.{is_posix, section_of, section_at, 
 
 use crate::named::{Named, add_named, get_named};
 use crate::source::Source;
+use keyword_lists::{Body, Section};
 use lc_base::{Category, Place, Reason};
-use locale_reader::{Body, Section};
 use std::alloc::{AllocError, Global};
 
 /// Whether a name is one of the POSIX locale's.

@@ -12,8 +12,8 @@ use crate::copies::{section_at, steps, target};
 use crate::named::Named;
 use crate::source::Source;
 use crate::table::{led, repeated};
+use keyword_lists::{Body, Section};
 use lc_base::{Category, Place, Reason};
-use locale_reader::{Body, Section};
 use std::alloc::{AllocError, Global};
 
 /// For each category where the copies end that begin at each number.

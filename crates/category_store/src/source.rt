@@ -9,8 +9,9 @@ ghost use Rattle.category_store.specs.Seen.{placed, source};
 use crate::blocks::Placed;
 use crate::charsets::Charsets;
 use charmap_reader::Charset;
+use keyword_lists::Section;
 use lc_base::{List, TextFault};
-use locale_reader::{Section, read_locale};
+use locale_reader::read_locale;
 use std::alloc::Global;
 
 /// A locale's source: its key where it is a later version, its name, its charset and its sections.

@@ -7,8 +7,8 @@ ghost use Rattle.category_store.specs.Written.{written_for};
 use crate::copies::section_of;
 use crate::source::Source;
 use charmap_reader::Charset;
+use keyword_lists::{Body, Entry};
 use lc_base::{Category, List, Place};
-use locale_reader::{Body, Entry};
 
 /// A keyword list, with the place of its section's header and the charset of its source.
 #[derive(Clone, Copy)]

@@ -2,7 +2,7 @@
 use Rattle.std.proofs.Common.{◌≡◌, ℕ, ◌-◌, List, [], ◌∷◌, ◌++◌, length, take, drop, All, refl, ◌∙◌, ap, arith, length-append}
 use Rattle.std.proofs.lemmas.List.{length-drop, drop-append-le, take-append-le, drop_at, take_all, map_push}
 use Rattle.std.proofs.lemmas.List.Elements.{All-weaker, All-push}
-use Rattle.src_lines.proofs.Storing.{map_same}
+use Rattle.lc_base.proofs.Slices.{map_same}
 use Rattle.charmap_reader.specs.Texts.{text_from, texts_in, IsPartOf}
 
 -- a byte string stays where bytes come behind

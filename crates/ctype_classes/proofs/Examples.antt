@@ -5,9 +5,9 @@ use Rattle.lc_base.specs.declared.place.Place.{Place}
 use Rattle.lc_base.specs.declared.reason.Class.TheVariants.{Alpha, Space, Punct}
 use Rattle.lc_base.specs.declared.reason.Reason.TheVariants.{BadClassName, DigitsNotTen, NotCased, Excluded}
 use Rattle.charmap_reader.specs.CodedSet.{CodedSet, utf8, posix, listed}
-use Rattle.locale_reader.specs.declared.source.Value.{Value}
-use Rattle.locale_reader.specs.declared.source.Value.TheVariants.{Text, Chars, Pair}
-use Rattle.locale_reader.specs.declared.source.Entry.{Entry}
+use Rattle.keyword_lists.specs.declared.source.Value.{Value}
+use Rattle.keyword_lists.specs.declared.source.Value.TheVariants.{Text, Chars, Pair}
+use Rattle.keyword_lists.specs.declared.source.Entry.{Entry}
 use Rattle.ctype_classes.specs.Characters.{characters}
 use Rattle.ctype_classes.specs.Classes.{members_of}
 use Rattle.ctype_classes.specs.Lists.{classes_of}

@@ -11,9 +11,9 @@ use Rattle.lc_base.specs.Reading.{Reads, ◌>>=◌}
 use Rattle.class_ranges.specs.Ranges.{Range, covers}
 use Rattle.charmap_reader.specs.Portable.{Name, first_named}
 use Rattle.charmap_reader.specs.CodedSet.{CodedSet, has}
-use Rattle.locale_reader.specs.declared.source.Value.{Value}
-use Rattle.locale_reader.specs.declared.source.Value.TheVariants.{Text, Number, Chars, Pair}
-use Rattle.locale_reader.specs.declared.source.Entry.{Entry}
+use Rattle.keyword_lists.specs.declared.source.Value.{Value}
+use Rattle.keyword_lists.specs.declared.source.Value.TheVariants.{Text, Number, Chars, Pair}
+use Rattle.keyword_lists.specs.declared.source.Entry.{Entry}
 use Rattle.ctype_classes.specs.Lines.{is_line, operands_of}
 use Rattle.ctype_classes.specs.Named.{with_named}
 use Rattle.ctype_classes.specs.Characters.{characters}

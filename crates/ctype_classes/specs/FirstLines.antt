@@ -4,8 +4,8 @@ use Rattle.std.specs.Option.{option_copied}
 use Rattle.std.specs.Borrow.{Bor}
 use Rattle.lc_base.specs.declared.place.Place.{Place}
 use Rattle.charmap_reader.specs.Portable.{Name, first_named}
-use Rattle.locale_reader.specs.declared.source.Value.{Value}
-use Rattle.locale_reader.specs.declared.source.Entry.{Entry}
+use Rattle.keyword_lists.specs.declared.source.Value.{Value}
+use Rattle.keyword_lists.specs.declared.source.Entry.{Entry}
 use Rattle.ctype_classes.specs.Lines.{operands_of}
 
 -- a list of names gives the operands of the first line of each keyword

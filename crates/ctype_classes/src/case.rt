@@ -6,7 +6,7 @@ ghost use Rattle.ctype_classes.specs.Lines.{pairs_in};
 ghost use Rattle.ctype_classes.specs.Case.{letter_pairs, reversed, upper_pairs, lower_pairs, map_of, image};
 
 use crate::first_lines::KeywordList;
-use locale_reader::{ValueRef, Values};
+use keyword_lists::{ValueRef, Values};
 use std::alloc::{AllocError, Global};
 use std::collections::BTreeMap;
 

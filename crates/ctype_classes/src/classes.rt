@@ -13,7 +13,7 @@ use crate::named::Named;
 use crate::table::{Row, TABLE};
 use charmap_reader::Charset;
 use class_ranges::Ranges;
-use locale_reader::{ValueRef, Values};
+use keyword_lists::{ValueRef, Values};
 use std::alloc::{AllocError, Global};
 
 /// Classes with their members.

@@ -15,7 +15,7 @@ use crate::first_lines::KeywordList;
 use crate::lists::classes_of;
 use charmap_reader::Charset;
 use lc_base::{ByteText, List, Place, TextFault};
-use locale_reader::Entry;
+use keyword_lists::Entry;
 use std::alloc::{AllocError, Global};
 use std::marker::Model;
 

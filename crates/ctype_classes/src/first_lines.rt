@@ -6,7 +6,7 @@ ghost use Rattle.ctype_classes.specs.Lines.{operands_of};
 ghost use Rattle.ctype_classes.specs.FirstLines.{AreFirstLines};
 
 use crate::named::Named;
-use locale_reader::{Entry, Values};
+use keyword_lists::{Entry, Values};
 use std::alloc::{AllocError, Global};
 use std::marker::Model;
 
@@ -19,7 +19,7 @@ pub struct KeywordList<'a> {
 
 impl<'a> Model for KeywordList<'a> {
     ghost use Rattle.std.specs.Prelude.{List};
-    ghost use Rattle.locale_reader.specs.declared.source.Entry.{Entry as Line};
+    ghost use Rattle.keyword_lists.specs.declared.source.Entry.{Entry as Line};
     ghost use Rattle.ctype_classes.specs.FirstLines.{AreFirstLines};
 
     ghost Value = { List Line };

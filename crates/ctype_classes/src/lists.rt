@@ -6,7 +6,7 @@ ghost use Rattle.std.specs.Char.{is_ascii_alphanumeric};
 ghost use Rattle.std.specs.Str.{bytes_eq};
 ghost use Rattle.lc_base.specs.Reading.{Gives};
 ghost use Rattle.lc_base.specs.declared.reason.Reason.TheVariants.{DigitsNotTen as NotTen, NotCased as Caseless};
-ghost use Rattle.locale_reader.specs.Cells.{seen};
+ghost use Rattle.keyword_lists.specs.Cells.{seen};
 ghost use Rattle.ctype_classes.specs.Lists.{is_ten, is_cased, is_cased_pair, each_passes, is_word, is_class_name, is_taken, declaring, declaring_value, declaring_values, after_line, after_lines, classes_of};
 
 use crate::classes::{Classes, has_member, twelve_classes, with_class};
@@ -14,7 +14,7 @@ use crate::first_lines::KeywordList;
 use crate::table::Row;
 use charmap_reader::Charset;
 use lc_base::{Place, Reason, TextFault};
-use locale_reader::{Entry, ValueRef, Values};
+use keyword_lists::{Entry, ValueRef, Values};
 use std::alloc::Global;
 
 const DIGIT: &[u8] = b"digit";

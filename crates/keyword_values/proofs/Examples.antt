@@ -3,9 +3,9 @@ use Rattle.std.proofs.Common.{◌≡◌, ℕ, List, [], ◌∷◌, Some, None, r
 use Rattle.std.specs.Prelude.{codes, ℤ, pos, negsuc}
 use Rattle.lc_base.specs.declared.place.Place.{Place}
 use Rattle.lc_base.specs.declared.reason.Reason.TheVariants.{EmptyRadix, BadCurrency, BadNumber}
-use Rattle.locale_reader.specs.declared.source.Value.{Value}
-use Rattle.locale_reader.specs.declared.source.Value.TheVariants.{Text, Number}
-use Rattle.locale_reader.specs.declared.source.Entry.{Entry}
+use Rattle.keyword_lists.specs.declared.source.Value.{Value}
+use Rattle.keyword_lists.specs.declared.source.Value.TheVariants.{Text, Number}
+use Rattle.keyword_lists.specs.declared.source.Entry.{Entry}
 use Rattle.keyword_values.specs.declared.Rule.{Rule}
 use Rattle.keyword_values.specs.declared.Rule.TheVariants.{NotEmpty, EmptyOrFour, Between}
 use Rattle.keyword_values.specs.Keywords.{operands, text_or, number_or, numbers_or}

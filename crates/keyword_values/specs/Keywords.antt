@@ -2,9 +2,9 @@
 use Rattle.std.specs.Prelude.{ℕ, ℤ, List, [], ◌∷◌, Option, Some, None, if◌then◌else◌}
 use Rattle.std.specs.Str.{bytes_eq}
 use Rattle.lc_base.specs.declared.place.Place.{Place}
-use Rattle.locale_reader.specs.declared.source.Value.{Value}
-use Rattle.locale_reader.specs.declared.source.Value.TheVariants.{Text, Number, Chars, Pair}
-use Rattle.locale_reader.specs.declared.source.Entry.{Entry}
+use Rattle.keyword_lists.specs.declared.source.Value.{Value}
+use Rattle.keyword_lists.specs.declared.source.Value.TheVariants.{Text, Number, Chars, Pair}
+use Rattle.keyword_lists.specs.declared.source.Entry.{Entry}
 
 -- the operands of the first line with this keyword
 abbrev pub operands : List Entry → List ℕ → Option (List (Place × Value))

@@ -3,12 +3,12 @@
 
 ghost use Rattle.std.specs.Prelude.{◌≡◌, map, IfOk, ◌∷◌, [], option_map, option_and_then, slice_get};
 ghost use Rattle.std.specs.Option.{option_copied};
-ghost use Rattle.locale_reader.specs.Cells.{seen};
+ghost use Rattle.keyword_lists.specs.Cells.{seen};
 ghost use Rattle.keyword_values.specs.Keywords.{operands, text_or, number_or, numbers_or, numbers};
 ghost use Rattle.keyword_values.specs.Rules.{fault_of, operand_fault, rule_of, line_fault, first_fault};
 
 use lc_base::{ByteText, List, Place, Reason};
-use locale_reader::{Entry, ValueRef, Values};
+use keyword_lists::{Entry, ValueRef, Values};
 use std::alloc::{AllocError, Global};
 
 /// What an operand of a keyword must be, beyond its kind.

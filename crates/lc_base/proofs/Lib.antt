@@ -3,3 +3,4 @@ pub mod ReadingLemmas
 pub mod LineLemmas
 mod MemoryExamples
 mod Examples
+pub mod Slices

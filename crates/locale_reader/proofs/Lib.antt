@@ -1,8 +1,6 @@
 mod SourceExamples
 pub mod WordLemmas
 pub mod Lists
-pub mod CellLemmas
 pub mod LineSteps
 pub mod Sections
 pub mod NumberLemmas
-mod CellExamples

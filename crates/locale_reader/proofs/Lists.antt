@@ -7,8 +7,8 @@ use Rattle.std.specs.List.{list_any}
 use Rattle.lc_base.specs.declared.place.Place.{Place}
 use Rattle.lc_base.specs.Reading.{Reads, ◌>>=◌}
 use Rattle.charmap_reader.specs.CodedSet.{CodedSet}
-use Rattle.locale_reader.specs.declared.source.Value.{Value}
-use Rattle.locale_reader.specs.declared.source.Value.TheVariants.{Chars}
+use Rattle.keyword_lists.specs.declared.source.Value.{Value}
+use Rattle.keyword_lists.specs.declared.source.Value.TheVariants.{Chars}
 use Rattle.locale_reader.specs.declared.keywords.Element.{Element}
 use Rattle.locale_reader.specs.Values.{Placed, one_character, is_dots, range_end, members, followed, element, several}
 use Rattle.locale_reader.specs.Steps.{member, first_member}

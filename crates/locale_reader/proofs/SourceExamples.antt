@@ -14,10 +14,10 @@ use Rattle.src_lines.specs.Tokens.{tokens, operands, separated, operand, run, te
 use Rattle.charmap_reader.specs.Portable.{portable_code}
 use Rattle.charmap_reader.specs.Hex.{numbered}
 use Rattle.charmap_reader.specs.CodedSet.{CodedSet, utf8, posix, listed, valued}
-use Rattle.locale_reader.specs.declared.source.Value.{Value}
-use Rattle.locale_reader.specs.declared.source.Value.TheVariants.{Text, Number, Chars, Pair}
-use Rattle.locale_reader.specs.declared.source.Body.TheVariants.{Copy, Entries}
-use Rattle.locale_reader.specs.declared.source.LocaleSource.{LocaleSource}
+use Rattle.keyword_lists.specs.declared.source.Value.{Value}
+use Rattle.keyword_lists.specs.declared.source.Value.TheVariants.{Text, Number, Chars, Pair}
+use Rattle.keyword_lists.specs.declared.source.Body.TheVariants.{Copy, Entries}
+use Rattle.keyword_lists.specs.declared.source.LocaleSource.{LocaleSource}
 use Rattle.locale_reader.specs.Values.{character, one_character, case_pair, quote, word, number, element}
 use Rattle.locale_reader.specs.Section.{taken, allowed, keyword_line, body}
 use Rattle.locale_reader.specs.Source.{with_section, section_from, outside, source}

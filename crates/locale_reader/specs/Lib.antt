@@ -2,7 +2,6 @@ pub use Rattle.lc_base.specs.Lines
 pub use Rattle.lc_base.specs.Reading
 pub mod Keywords
 pub mod Values
-pub mod Cells
 pub mod Steps
 pub mod Opened
 pub mod Section

@@ -11,7 +11,7 @@ use Rattle.src_lines.specs.Places.{Logical}
 use Rattle.src_lines.specs.Tokens.{tokens}
 use Rattle.charmap_reader.specs.Portable.{Name, first_named}
 use Rattle.charmap_reader.specs.CodedSet.{CodedSet}
-use Rattle.locale_reader.specs.declared.source.Body.{Body}
+use Rattle.keyword_lists.specs.declared.source.Body.{Body}
 use Rattle.locale_reader.specs.declared.keywords.Operands.{Operands}
 use Rattle.locale_reader.specs.declared.keywords.Operands.TheVariants.{Copied, Characters, One, Several, PassedOver}
 use Rattle.locale_reader.specs.Keywords.{keywords}

@@ -13,8 +13,8 @@ use Rattle.src_lines.specs.Places.{Logical, start, closes_line}
 use Rattle.src_lines.specs.Logical.{ends_head, front}
 use Rattle.src_lines.specs.Tokens.{tokens}
 use Rattle.charmap_reader.specs.CodedSet.{CodedSet}
-use Rattle.locale_reader.specs.declared.source.Section.{Section}
-use Rattle.locale_reader.specs.declared.source.LocaleSource.{LocaleSource}
+use Rattle.keyword_lists.specs.declared.source.Section.{Section}
+use Rattle.keyword_lists.specs.declared.source.LocaleSource.{LocaleSource}
 use Rattle.locale_reader.specs.Keywords.{category_named}
 use Rattle.locale_reader.specs.Section.{body}
 

@@ -15,8 +15,8 @@ use Rattle.src_lines.specs.declared.line.Operand.{Operand}
 use Rattle.src_lines.specs.declared.line.Operand.TheVariants.{Plain, Quoted, Dots, Pair as Paired}
 use Rattle.charmap_reader.specs.CodedSet.{CodedSet, named, encoded, valued}
 use Rattle.src_lines.specs.Pieces.{only_bytes}
-use Rattle.locale_reader.specs.declared.source.Value.{Value}
-use Rattle.locale_reader.specs.declared.source.Value.TheVariants.{Text, Number, Chars, Pair}
+use Rattle.keyword_lists.specs.declared.source.Value.{Value}
+use Rattle.keyword_lists.specs.declared.source.Value.TheVariants.{Text, Number, Chars, Pair}
 use Rattle.locale_reader.specs.declared.text.TheConstants.{TEXT_LIMIT}
 use Rattle.locale_reader.specs.declared.keywords.Element.{Element}
 use Rattle.locale_reader.specs.declared.keywords.Element.TheVariants.{CasePair, Word, Quote, Whole}

@@ -7,13 +7,12 @@ ghost use Rattle.src_lines.specs.Places.{line_at};
 ghost use Rattle.locale_reader.specs.Opened.{is_copy, nothing};
 ghost use Rattle.locale_reader.specs.Section.{operands_of, taken, allowed, is_passed_over, keyword_line, keyword_lines, copies_category, body};
 
-use crate::cells::Values;
 use crate::character::members;
 use crate::keywords::{Operands, keyword_operands};
 use crate::opened::{Opened, is_charclass, is_copy};
-use crate::source::Body;
 use crate::value::{copied_name, one, several};
 use charmap_reader::Charset;
+use keyword_lists::{Body, Values};
 use lc_base::{Category, Reason, TextFault};
 use src_lines::{Line, Lines};
 use std::alloc::Global;

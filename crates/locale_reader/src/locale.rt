@@ -8,8 +8,8 @@ ghost use Rattle.locale_reader.specs.Source.{opens_section, has_section, with_se
 
 use crate::keyword_line::read_body;
 use crate::keywords::category_named;
-use crate::source::{LocaleSource, Section};
 use charmap_reader::Charset;
+use keyword_lists::{LocaleSource, Section};
 use lc_base::{Category, List, Place, Reason, TextFault};
 use src_lines::{Kind, Lines, ends_head, split_front};
 use std::alloc::Global;

@@ -5,9 +5,8 @@ ghost use Rattle.std.specs.List.{list_any};
 ghost use Rattle.locale_reader.specs.Opened.{is_copy, is_charclass, is_text, nothing, is_given, is_begun, is_declared, with_entry, body_of};
 ghost use Rattle.locale_reader.specs.Words.{has_word};
 
-use crate::cells::{ValueRef, Values};
-use crate::source::{Body, Entry};
 use crate::words::{Words, add_word, has_word};
+use keyword_lists::{Body, Entry, ValueRef, Values};
 use lc_base::{ByteText, List, Place};
 use src_lines::Line;
 use std::alloc::{AllocError, Global};

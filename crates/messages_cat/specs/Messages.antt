@@ -1,7 +1,7 @@
 -- The values of LC_MESSAGES's keywords (XBD 7.3.6).
 use Rattle.std.specs.Prelude.{List, [], codes, Ok}
 use Rattle.lc_base.specs.Reading.{Reads}
-use Rattle.locale_reader.specs.declared.source.Entry.{Entry}
+use Rattle.keyword_lists.specs.declared.source.Entry.{Entry}
 use Rattle.keyword_values.specs.Keywords.{operands, text_or}
 use Rattle.messages_cat.specs.MessagesValues.{MessagesValues}
 

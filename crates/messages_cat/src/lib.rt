@@ -7,7 +7,7 @@ ghost use Rattle.messages_cat.specs.Messages.{messages_values, values_of, posix_
 
 use keyword_values::text_or;
 use lc_base::{ByteText, List, TextFault};
-use locale_reader::Entry;
+use keyword_lists::Entry;
 use std::alloc::{AllocError, Global};
 use std::marker::Model;
 

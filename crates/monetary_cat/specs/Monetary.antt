@@ -3,7 +3,7 @@ use Rattle.std.specs.Prelude.{ℕ, negsuc, pos, ℤ, List, [], ◌∷◌, codes,
 use Rattle.lc_base.specs.declared.place.Place.{Place}
 use Rattle.lc_base.specs.declared.reason.Reason.{Reason}
 use Rattle.lc_base.specs.Reading.{Reads}
-use Rattle.locale_reader.specs.declared.source.Entry.{Entry}
+use Rattle.keyword_lists.specs.declared.source.Entry.{Entry}
 use Rattle.keyword_values.specs.declared.Rule.{Rule}
 use Rattle.keyword_values.specs.declared.Rule.TheVariants.{AnyText, EmptyOrFour, Between}
 use Rattle.keyword_values.specs.Keywords.{operands, text_or, number_or, numbers_or}

@@ -8,7 +8,7 @@ ghost use Rattle.monetary_cat.specs.Monetary.{rules, monetary_values, posix_valu
 
 use keyword_values::{Rule, first_fault, numbers_or};
 use lc_base::{List, Place, Reason, TextFault};
-use locale_reader::Entry;
+use keyword_lists::Entry;
 use std::alloc::{AllocError, Global};
 use std::marker::Model;
 

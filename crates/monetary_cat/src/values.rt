@@ -6,7 +6,7 @@ ghost use Rattle.monetary_cat.specs.Monetary.{text, number, texts_of, local_of, 
 
 use keyword_values::{number_or, text_or};
 use lc_base::{ByteText, List};
-use locale_reader::Entry;
+use keyword_lists::Entry;
 use std::alloc::{AllocError, Global};
 
 /// The texts.

@@ -8,7 +8,7 @@ ghost use Rattle.numeric_cat.specs.Numeric.{rules, values_of, numeric_values, po
 
 use keyword_values::{Rule, first_fault, numbers_or, text_or};
 use lc_base::{ByteText, List, Place, Reason, TextFault};
-use locale_reader::Entry;
+use keyword_lists::Entry;
 use std::alloc::{AllocError, Global};
 use std::marker::Model;
 

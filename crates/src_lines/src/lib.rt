@@ -27,4 +27,3 @@ pub use pieces::{PieceRef, Pieces, Walk};
 pub use signs::{Kind, Signs};
 pub use spelling::have_spellings;
 pub use words::{Word, closes, next_word};
-

@@ -4,9 +4,9 @@ use Rattle.std.specs.Prelude.{codes, pos, negsuc}
 use Rattle.lc_base.specs.declared.place.Place.{Place}
 use Rattle.lc_base.specs.declared.reason.Reason.TheVariants.{WrongCount, BadEra, BadFormat, FormatRank, OverLimit}
 use Rattle.lc_base.specs.declared.reason.Limit.TheVariants.{Conversions}
-use Rattle.locale_reader.specs.declared.source.Value.{Value}
-use Rattle.locale_reader.specs.declared.source.Value.TheVariants.{Text}
-use Rattle.locale_reader.specs.declared.source.Entry.{Entry}
+use Rattle.keyword_lists.specs.declared.source.Value.{Value}
+use Rattle.keyword_lists.specs.declared.source.Value.TheVariants.{Text}
+use Rattle.keyword_lists.specs.declared.source.Entry.{Entry}
 use Rattle.time_cat.specs.Conversions.{conversion}
 use Rattle.time_cat.specs.declared.conversion.TimeText.TheVariants.{HalfDayClock, EraDate}
 use Rattle.time_cat.specs.declared.step.Step.TheVariants.{End, Byte, Conv, Bad}

@@ -12,8 +12,8 @@ use Rattle.lc_base.specs.declared.reason.Reason.TheVariants.{WrongCount, FormatR
 use Rattle.lc_base.specs.declared.reason.Limit.TheVariants.{Conversions}
 use Rattle.lc_base.specs.Reading.{Reads}
 use Rattle.lc_base.proofs.ReadingLemmas.{value_of}
-use Rattle.locale_reader.specs.declared.source.Value.{Value}
-use Rattle.locale_reader.specs.declared.source.Entry.{Entry}
+use Rattle.keyword_lists.specs.declared.source.Value.{Value}
+use Rattle.keyword_lists.specs.declared.source.Entry.{Entry}
 use Rattle.time_cat.specs.declared.segment.Segment.{Segment}
 use Rattle.time_cat.specs.declared.keywords.Takes.{Takes}
 use Rattle.time_cat.specs.declared.texts.NameLists.{NameLists}

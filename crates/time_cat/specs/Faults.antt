@@ -6,9 +6,9 @@ use Rattle.lc_base.specs.declared.reason.Reason.{Reason}
 use Rattle.lc_base.specs.declared.reason.Reason.TheVariants.{WrongCount, BadEra, BadFormat, FormatRank, TooManyDigits, OverLimit}
 use Rattle.lc_base.specs.declared.reason.Limit.TheVariants.{Texts, Conversions}
 use Rattle.lc_base.specs.Reading.{Reads, ◌>>=◌}
-use Rattle.locale_reader.specs.declared.source.Value.{Value}
-use Rattle.locale_reader.specs.declared.source.Value.TheVariants.{Text, Number, Chars, Pair}
-use Rattle.locale_reader.specs.declared.source.Entry.{Entry}
+use Rattle.keyword_lists.specs.declared.source.Value.{Value}
+use Rattle.keyword_lists.specs.declared.source.Value.TheVariants.{Text, Number, Chars, Pair}
+use Rattle.keyword_lists.specs.declared.source.Entry.{Entry}
 use Rattle.time_cat.specs.declared.segment.Segment.{Segment}
 use Rattle.time_cat.specs.declared.keywords.Takes.{Takes}
 use Rattle.time_cat.specs.declared.keywords.Takes.TheVariants.{Names, Format, Segments, Digits}

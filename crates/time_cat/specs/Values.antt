@@ -5,8 +5,8 @@ use Rattle.std.specs.List.{flat_map}
 use Rattle.std.specs.Option.{option_to_list}
 use Rattle.lc_base.specs.declared.place.Place.{Place}
 use Rattle.lc_base.specs.Reading.{Reads, ◌>>=◌}
-use Rattle.locale_reader.specs.declared.source.Value.{Value}
-use Rattle.locale_reader.specs.declared.source.Entry.{Entry}
+use Rattle.keyword_lists.specs.declared.source.Value.{Value}
+use Rattle.keyword_lists.specs.declared.source.Entry.{Entry}
 use Rattle.time_cat.specs.declared.segment.Segment.{Segment}
 use Rattle.time_cat.specs.declared.texts.NameLists.{NameLists}
 use Rattle.time_cat.specs.declared.texts.FormatTexts.{FormatTexts}

@@ -3,7 +3,7 @@
 ghost use Rattle.std.specs.Prelude.{◌≡◌, ◌+◌, ◌≤◌, length, count_by, None, Some, IfOk, IfErr};
 ghost use Rattle.std.specs.List.{list_any};
 ghost use Rattle.lc_base.specs.Reading.{Gives};
-ghost use Rattle.locale_reader.specs.Cells.{seen};
+ghost use Rattle.keyword_lists.specs.Cells.{seen};
 ghost use Rattle.time_cat.specs.Formats.{pieces, is_conversion, has_rank, bad_place};
 ghost use Rattle.time_cat.specs.Faults.{text_of, byte_place, format_reason, segment_reason, list_reason, operand_reason, unless, most_digits, most_bytes, operands_checked, is_wrong_count, line_checked, checked};
 
@@ -11,7 +11,7 @@ use crate::keywords::{Takes, takes_of};
 use crate::segment::segment_of;
 use crate::step::{Step, step_here};
 use lc_base::{Limit, Place, Reason, TextFault};
-use locale_reader::{Entry, ValueRef, Values};
+use keyword_lists::{Entry, ValueRef, Values};
 
 /// The most conversions of a format.
 const CONVERSIONS: usize = 16;

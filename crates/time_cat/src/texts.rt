@@ -3,7 +3,7 @@
 ghost use Rattle.std.specs.Prelude.{◌≡◌, ◌∷◌, ◌++◌, ◌<◌, length, map, IfOk, OnOk};
 ghost use Rattle.std.specs.List.{flat_map};
 ghost use Rattle.std.specs.Option.{option_copied};
-ghost use Rattle.locale_reader.specs.Cells.{seen};
+ghost use Rattle.keyword_lists.specs.Cells.{seen};
 ghost use Rattle.time_cat.specs.Faults.{text_of};
 ghost use Rattle.time_cat.specs.TimeValues.{text_at, joined};
 ghost use Rattle.time_cat.specs.Values.{line_of, texts_in, texts_or, first_or, text_or, spelled, segments_in, names_in, formats_in};
@@ -11,7 +11,7 @@ ghost use Rattle.time_cat.specs.Values.{line_of, texts_in, texts_or, first_or, t
 use crate::faults::text_of;
 use crate::segment::{Segment, segment_of};
 use lc_base::{ByteText, List};
-use locale_reader::{Entry, Values};
+use keyword_lists::{Entry, Values};
 use std::alloc::{AllocError, Global};
 
 /// The names of days, months and half days.

@@ -15,7 +15,7 @@ use crate::texts::{
     FormatTexts, NO_TEXTS, NameLists, formats_in, joined, names, names_in, segments_in, text_at,
 };
 use lc_base::{ByteText, List, TextFault};
-use locale_reader::Entry;
+use keyword_lists::Entry;
 use std::alloc::{AllocError, Global};
 use std::marker::Model;
 

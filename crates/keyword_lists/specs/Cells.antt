@@ -1,13 +1,13 @@
 -- The values of a keyword line, as they are kept: a cell each, and beside the cells the pairs and the bytes that are too long for one.
 use Rattle.std.specs.Prelude.{◌≡◌, ℕ, ◌+◌, ◌<◌, ◌≤◌, List, length, take, map, get_or, slice_range}
 use Rattle.lc_base.specs.declared.place.Place.{Place}
-use Rattle.locale_reader.specs.declared.source.Value.{Value}
-use Rattle.locale_reader.specs.declared.source.Value.TheVariants.{Text, Number, Chars, Pair}
-use Rattle.locale_reader.specs.declared.cells.ValueRef.{ValueRef}
-use Rattle.locale_reader.specs.declared.cells.ValueRef.TheVariants.{Text as TextRef, Number as NumberRef, Chars as CharsRef, Pair as PairRef}
-use Rattle.locale_reader.specs.declared.cells.Content.{Content}
-use Rattle.locale_reader.specs.declared.cells.Content.TheVariants.{Short, Long, Number as Whole, One, Range, Pair as Two}
-use Rattle.locale_reader.specs.declared.cells.Cell.{Cell}
+use Rattle.keyword_lists.specs.declared.source.Value.{Value}
+use Rattle.keyword_lists.specs.declared.source.Value.TheVariants.{Text, Number, Chars, Pair}
+use Rattle.keyword_lists.specs.declared.cells.ValueRef.{ValueRef}
+use Rattle.keyword_lists.specs.declared.cells.ValueRef.TheVariants.{Text as TextRef, Number as NumberRef, Chars as CharsRef, Pair as PairRef}
+use Rattle.keyword_lists.specs.declared.cells.Content.{Content}
+use Rattle.keyword_lists.specs.declared.cells.Content.TheVariants.{Short, Long, Number as Whole, One, Range, Pair as Two}
+use Rattle.keyword_lists.specs.declared.cells.Cell.{Cell}
 
 -- a borrowed value as a value
 abbrev pub seen : ValueRef → Value

@@ -2,12 +2,12 @@
 use Rattle.std.proofs.Common.{◌≡◌, ℕ, List, [], ◌∷◌, Bor, refl}
 use Rattle.std.specs.Prelude.{codes, pos}
 use Rattle.lc_base.specs.declared.place.Place.{Place}
-use Rattle.locale_reader.specs.declared.source.Value.TheVariants.{Text, Number, Chars, Pair}
-use Rattle.locale_reader.specs.declared.cells.ValueRef.TheVariants.{Text as TextRef, Pair as PairRef}
-use Rattle.locale_reader.specs.declared.cells.Content.{Content}
-use Rattle.locale_reader.specs.declared.cells.Content.TheVariants.{Short, Long, Number as Whole, One, Range, Pair as Two}
-use Rattle.locale_reader.specs.declared.cells.Cell.{Cell}
-use Rattle.locale_reader.specs.Cells.{seen, Pairs, values_in}
+use Rattle.keyword_lists.specs.declared.source.Value.TheVariants.{Text, Number, Chars, Pair}
+use Rattle.keyword_lists.specs.declared.cells.ValueRef.TheVariants.{Text as TextRef, Pair as PairRef}
+use Rattle.keyword_lists.specs.declared.cells.Content.{Content}
+use Rattle.keyword_lists.specs.declared.cells.Content.TheVariants.{Short, Long, Number as Whole, One, Range, Pair as Two}
+use Rattle.keyword_lists.specs.declared.cells.Cell.{Cell}
+use Rattle.keyword_lists.specs.Cells.{seen, Pairs, values_in}
 
 abbrev at : Place
 at = record { line = 2; column = 7 }

@@ -3,12 +3,12 @@ use Rattle.std.proofs.Common.{◌≡◌, ℕ, ◌+◌, ◌<◌, ◌≤◌, List,
 use Rattle.std.specs.Prelude.{slice_range}
 use Rattle.std.proofs.lemmas.List.{get_or-take, map-append}
 use Rattle.std.proofs.lemmas.List.Elements.{All-tail, All-push}
-use Rattle.src_lines.proofs.Storing.{range-take, map_same}
-use Rattle.locale_reader.specs.declared.source.Value.{Value}
-use Rattle.locale_reader.specs.declared.cells.Content.{Content}
-use Rattle.locale_reader.specs.declared.cells.Content.TheVariants.{Short, Long, Number as Whole, One, Range, Pair as Two}
-use Rattle.locale_reader.specs.declared.cells.Cell.{Cell}
-use Rattle.locale_reader.specs.Cells.{Pairs, pair_at, value_in, cell_in, values_in, IsWithin, IsCellWithin, Extends}
+use Rattle.lc_base.proofs.Slices.{range-take, map_same}
+use Rattle.keyword_lists.specs.declared.source.Value.{Value}
+use Rattle.keyword_lists.specs.declared.cells.Content.{Content}
+use Rattle.keyword_lists.specs.declared.cells.Content.TheVariants.{Short, Long, Number as Whole, One, Range, Pair as Two}
+use Rattle.keyword_lists.specs.declared.cells.Cell.{Cell}
+use Rattle.keyword_lists.specs.Cells.{Pairs, pair_at, value_in, cell_in, values_in, IsWithin, IsCellWithin, Extends}
 
 -- what is there stays there
 longer : {A : Type 0} (xs more : List A) → take (length xs) more ≡ xs → length xs ≤ length more

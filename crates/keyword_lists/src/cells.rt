@@ -1,8 +1,8 @@
 //! The values of a keyword line, in little memory.
 
 ghost use Rattle.std.specs.Prelude.{◌≡◌, ◌∷◌, ◌++◌, [], length, IfOk, OnOk, IfSome, IsNone};
-ghost use Rattle.locale_reader.specs.declared.source.Value.TheVariants.{Text as TextValue};
-ghost use Rattle.locale_reader.specs.Cells.{seen, value_in, IsWithin, Extends};
+ghost use Rattle.keyword_lists.specs.declared.source.Value.TheVariants.{Text as TextValue};
+ghost use Rattle.keyword_lists.specs.Cells.{seen, value_in, IsWithin, Extends};
 
 use crate::source::Value;
 use lc_base::Place;
@@ -44,11 +44,11 @@ pub struct Values {
 impl Model for Values {
     ghost use Rattle.std.specs.Prelude.{List, length, All};
     ghost use Rattle.lc_base.specs.declared.place.Place.{Place};
-    ghost use Rattle.locale_reader.specs.declared.source.Value.{Value as Decoded};
+    ghost use Rattle.keyword_lists.specs.declared.source.Value.{Value as Decoded};
 
     ghost Value = { List (Place × Decoded) };
 
-    ghost use Rattle.locale_reader.specs.Cells.{values_in, IsCellWithin};
+    ghost use Rattle.keyword_lists.specs.Cells.{values_in, IsCellWithin};
 
     ghost view = { λ v. values_in v.pairs.items v.bytes.items v.cells.items };
 
@@ -79,11 +79,11 @@ pub struct ValueWalk<'a> {
 impl<'a> Model for ValueWalk<'a> {
     ghost use Rattle.std.specs.Prelude.{List, length, All};
     ghost use Rattle.lc_base.specs.declared.place.Place.{Place};
-    ghost use Rattle.locale_reader.specs.declared.source.Value.{Value as Decoded};
+    ghost use Rattle.keyword_lists.specs.declared.source.Value.{Value as Decoded};
 
     ghost Value = { List (Place × Decoded) };
 
-    ghost use Rattle.locale_reader.specs.Cells.{values_in, IsCellWithin};
+    ghost use Rattle.keyword_lists.specs.Cells.{values_in, IsCellWithin};
 
     ghost view = { λ w. values_in w.pairs.now w.bytes.now w.cells.now };
 

@@ -1,5 +1,5 @@
-use Rattle.locale_reader.proofs.CellLemmas.{values_push, all_push}
-use Rattle.locale_reader.proofs.cells.Values.with.Goals as goal
+use Rattle.keyword_lists.proofs.CellLemmas.{values_push, all_push}
+use Rattle.keyword_lists.proofs.cells.Values.with.Goals as goal
 
 pub returns : goal.returns
 returns c = rw (← c.self.view_is) (values_push c.self.inside.pairs.items c.self.inside.bytes.items _ _ c.in_ok-content.ensures.kept c.self.inside.cells.items _ _ _ c.self.invariant c.in_ok-push.ensures.items c.in_ok-content.ensures.is)

@@ -1,0 +1,2 @@
+pub mod CellLemmas
+mod CellExamples
