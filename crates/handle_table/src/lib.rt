@@ -16,5 +16,5 @@ mod table;
 
 pub use handle::{Handle, Named};
 pub use op::{Op, Refusal, Reply};
-pub use setting::MAX_THREADS;
+pub use setting::{MAX_THREADS, Setting};
 pub use table::Table;

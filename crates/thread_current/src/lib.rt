@@ -1,0 +1,9 @@
+//! Threads, each with its current locale, over one table of locale objects.
+#![tactic(auto)]
+
+mod held;
+mod locales;
+mod mine;
+mod shared;
+
+pub use locales::{Ask, Locales};
