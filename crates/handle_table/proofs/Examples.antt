@@ -14,10 +14,10 @@ use Rattle.handle_table.specs.Shelf.{lacking}
 use Rattle.handle_table.specs.History.{global_at, holders, Selects, Holds, free_row}
 use Rattle.handle_table.specs.Answer.{answer, entry, own_after, own}
 use Rattle.handle_table.specs.Table.{AreOnShelf, IsOpening, Fits, has_base, SaysTheSame}
-use Rattle.handle_table.proofs.Laws.{refused_changes_nothing}
+use Rattle.handle_table.proofs.Unchanged.{refused_changes_nothing}
 
 -- the history after some calls, given oldest first
-abbrev played : Setting → History → List (ℕ × Op) → History
+abbrev pub played : Setting → History → List (ℕ × Op) → History
 played c H [] = H
 played c H ((t, op) ∷ calls) = played c (entry c H t op ∷ H) calls
 
@@ -27,7 +27,7 @@ replies c H [] = []
 replies c H ((t, op) ∷ calls) = answer c H t op ∷ replies c (entry c H t op ∷ H) calls
 
 -- the object of one part in each category
-abbrev all_of : ℕ → Parts
+abbrev pub all_of : ℕ → Parts
 all_of n = record { ctype = n; numeric = n; monetary = n; time = n; messages = n }
 
 -- an object of part n for LC_NUMERIC, over that of part m
@@ -40,27 +40,27 @@ time_of n m = record { ctype = m; numeric = m; monetary = m; time = n; messages 
 
 -- the names 0 to 4: the POSIX locale, two locales with all categories, one with LC_NUMERIC alone, and
 -- one that only an Install gives anything
-abbrev offers : List Offered
+abbrev pub offers : List Offered
 offers =
     record { object = all_of 0; available = 31 } ∷ record { object = all_of 1; available = 31 } ∷ record { object = all_of 2; available = 31 }
     ∷ record { object = numeric_of 3 0; available = 2 } ∷ record { object = all_of 0; available = 0 } ∷ []
 
-abbrev usual : Setting
+abbrev pub usual : Setting
 usual = record { threads = 2; rows = 16; generations = 65535; opening = offers }
 
 -- one row with two generations
 abbrev narrow : Setting
 narrow = record { threads = 2; rows = 1; generations = 2; opening = offers }
 
-abbrev handle : ℕ → ℕ → ℕ → Handle
+abbrev pub handle : ℕ → ℕ → ℕ → Handle
 handle t r g = record { owner = t; row = r; generation = g }
 
 -- one name for each category
-abbrev all : ℕ → List ℕ
+abbrev pub all : ℕ → List ℕ
 all n = n ∷ n ∷ n ∷ n ∷ n ∷ []
 
 -- a new object of a name in each category
-abbrev make : ℕ → Op
+abbrev pub make : ℕ → Op
 make n = New 31 (all n) None
 
 -- an object that is freed while its thread has it selected stays the thread's own until the next Use

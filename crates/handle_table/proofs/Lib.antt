@@ -15,5 +15,6 @@ pub mod PartsOf
 pub mod KeepsOf
 pub mod KeptSays
 pub mod AcceptsOf
-pub mod Laws
+pub mod Unchanged
 pub mod Fresh
+pub mod IsolationExamples

@@ -2,6 +2,7 @@ pub mod Entry
 pub mod Shelf
 pub mod History
 pub mod Answer
+pub mod Isolation
 pub mod Seen
 pub mod Table
 pub mod Grid

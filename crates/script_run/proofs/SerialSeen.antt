@@ -15,7 +15,7 @@ use Rattle.handle_table.specs.History.{sets, sets_after, global, global_at, sele
 use Rattle.handle_table.specs.Shelf.{from_shelf}
 use Rattle.handle_table.specs.Answer.{answer, entry, own, own_after, reasons, first_reason, reply_to, unless, made_in, of_handle, got}
 use Rattle.handle_table.proofs.Changes.{holding_of_caller}
-use Rattle.handle_table.proofs.Laws.{version_stays, newest_version}
+use Rattle.handle_table.proofs.Unchanged.{version_stays, newest_version}
 use Rattle.handle_table.proofs.Numbering.{same_itself}
 use Rattle.script_commands.specs.declared.command.Read.{Read}
 use Rattle.script_out.specs.declared.output.Why.{Why}

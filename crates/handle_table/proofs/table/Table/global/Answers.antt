@@ -1,7 +1,7 @@
 use Rattle.std.proofs.Common.{ap, sym, ◌∙◌}
 use Rattle.global_locale.specs.Versioned.{Versioned}
 use Rattle.handle_table.specs.Table.{TableData}
-use Rattle.handle_table.proofs.Laws.{newest_version}
+use Rattle.handle_table.proofs.Unchanged.{newest_version}
 use Rattle.handle_table.proofs.table.Table.global.Goals as goal
 
 pub returns-clause-newest : goal.returns-clause-newest

@@ -6,7 +6,7 @@ use Rattle.handle_table.specs.Kept.{Keeps}
 use Rattle.handle_table.specs.Table.{TableData}
 use Rattle.handle_table.proofs.Gone.{freed_stays}
 use Rattle.handle_table.proofs.Changes.{object_stays, own_of_other, own_of_caller}
-use Rattle.handle_table.proofs.Laws.{refused_changes_nothing, version_stays}
+use Rattle.handle_table.proofs.Unchanged.{refused_changes_nothing, version_stays}
 use Rattle.handle_table.proofs.table.Table.step.Goals as goal
 
 pub answer-reply-requires-clause-few : goal.answer-reply-requires-clause-few
