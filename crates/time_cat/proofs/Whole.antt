@@ -186,13 +186,13 @@ unfolding values_of
 whole list ok = record { names = names_good list ok; formats = formats_good list ok; era = eras_by list (line_of list (codes "era")) refl ok }
 
 -- the values by their parts
-pub view_is : (list : List Entry) (n : NameLists) (f : FormatTexts) (eras : List (List ℕ)) (segments : List Segment) (era_list : List ℕ) (digits : List (List ℕ)) →
-    n ≡ names_in list → f ≡ formats_in list → segments ≡ segments_in eras → era_list ≡ joined eras →
-    eras ≡ texts_or [] (line_of list (codes "era")) → digits ≡ texts_or [] (line_of list (codes "alt_digits")) →
+pub view_is : (list : List Entry) (n : NameLists) (f : FormatTexts) (segments : List Segment) (era_list : List ℕ) (digits : List (List ℕ)) →
+    n ≡ names_in list → f ≡ formats_in list →
+    segments ≡ segments_in (texts_or [] (line_of list (codes "era"))) → era_list ≡ joined (texts_or [] (line_of list (codes "era"))) →
+    digits ≡ texts_or [] (line_of list (codes "alt_digits")) →
     values_by n f segments era_list digits ≡ values_of list
 unfolding values_of
-view_is list n f eras segments era_list digits n-is f-is segments-is era_list-is eras-is digits-is =
-    rw (n-is, f-is, segments-is, era_list-is, digits-is, eras-is) refl
+view_is list n f segments era_list digits n-is f-is segments-is era_list-is digits-is = rw (n-is, f-is, segments-is, era_list-is, digits-is) refl
 
 found_by : (x : Segment) (xs : List Segment) (test : Segment → Bool) (s : Segment) (b : Bool) → IsFormat 1 x.format → (find test xs ≡ Some s → IsFormat 1 s.format) → cond b (Some x) (find test xs) ≡ Some s → IsFormat 1 s.format
 found_by x xs test s true good others is =

@@ -10,8 +10,8 @@ ghost use Rattle.time_cat.specs.Faults.{text_of, byte_place, format_reason, segm
 use crate::keywords::{Takes, takes_of};
 use crate::segment::segment_of;
 use crate::step::{Step, step_here};
-use lc_base::{Limit, Place, Reason, TextFault};
 use keyword_lists::{Entry, ValueRef, Values};
+use lc_base::{Limit, Place, Reason, TextFault};
 
 /// The most conversions of a format.
 const CONVERSIONS: usize = 16;

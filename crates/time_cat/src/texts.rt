@@ -1,6 +1,6 @@
 //! The texts that a keyword list defines (XBD 7.3.5.2).
 
-ghost use Rattle.std.specs.Prelude.{◌≡◌, ◌∷◌, ◌++◌, ◌<◌, length, map, IfOk, OnOk};
+ghost use Rattle.std.specs.Prelude.{◌≡◌, [], ◌∷◌, ◌++◌, ◌<◌, length, codes, map, IfOk, OnOk};
 ghost use Rattle.std.specs.List.{flat_map};
 ghost use Rattle.std.specs.Option.{option_copied};
 ghost use Rattle.keyword_lists.specs.Cells.{seen};
@@ -10,8 +10,8 @@ ghost use Rattle.time_cat.specs.Values.{line_of, texts_in, texts_or, first_or, t
 
 use crate::faults::text_of;
 use crate::segment::{Segment, segment_of};
-use lc_base::{ByteText, List};
 use keyword_lists::{Entry, Values};
+use lc_base::{ByteText, List};
 use std::alloc::{AllocError, Global};
 
 /// The names of days, months and half days.
@@ -69,7 +69,7 @@ const MONTHS: [&[u8]; 12] = [
 
 const HALF_DAYS: [&[u8]; 2] = [b"AM", b"PM"];
 
-pub const NO_TEXTS: [&[u8]; 0] = [];
+const NO_TEXTS: [&[u8]; 0] = [];
 
 /// The first line of a keyword.
 fn line_of<'a>(entries: &'a [Entry], keyword: &[u8]) -> Option<&'a Entry>
@@ -131,7 +131,7 @@ fn text_or(alloc: Global, posix: &[u8], line: Option<&Entry>) -> Result<ByteText
 }
 
 /// The names of a keyword.
-pub fn names(
+fn names(
     alloc: Global,
     posix: &[&[u8]],
     list: &[Entry],
@@ -167,18 +167,47 @@ pub fn names_in(alloc: Global, list: &[Entry]) -> Result<NameLists, AllocError>
     })
 }
 
+/// The formats of date and time.
+fn plain_formats_in(
+    alloc: Global,
+    list: &[Entry],
+) -> Result<(ByteText, ByteText, ByteText, ByteText), AllocError>
+    ensures { IfOk result (λ f. f ≡ (let formats = formats_in list.now in (formats.d_t_fmt, formats.d_fmt, formats.t_fmt, formats.t_fmt_ampm))) }
+{
+    let d_t_fmt = format(alloc, b"%a %b %e %H:%M:%S %Y", list, b"d_t_fmt")?;
+    let d_fmt = format(alloc, b"%m/%d/%y", list, b"d_fmt")?;
+    let t_fmt = format(alloc, b"%H:%M:%S", list, b"t_fmt")?;
+    let t_fmt_ampm = format(alloc, b"%I:%M:%S %p", list, b"t_fmt_ampm")?;
+    Ok((d_t_fmt, d_fmt, t_fmt, t_fmt_ampm))
+}
+
+/// The formats of eras.
+fn era_formats_in(
+    alloc: Global,
+    list: &[Entry],
+) -> Result<(ByteText, ByteText, ByteText), AllocError>
+    ensures { IfOk result (λ f. f ≡ (let formats = formats_in list.now in (formats.era_d_t_fmt, formats.era_d_fmt, formats.era_t_fmt))) }
+{
+    let era_d_t_fmt = format(alloc, b"", list, b"era_d_t_fmt")?;
+    let era_d_fmt = format(alloc, b"", list, b"era_d_fmt")?;
+    let era_t_fmt = format(alloc, b"", list, b"era_t_fmt")?;
+    Ok((era_d_t_fmt, era_d_fmt, era_t_fmt))
+}
+
 /// The formats that a list defines.
 pub fn formats_in(alloc: Global, list: &[Entry]) -> Result<FormatTexts, AllocError>
     ensures { IfOk result (λ formats. formats ≡ formats_in list.now) }
 {
+    let (d_t_fmt, d_fmt, t_fmt, t_fmt_ampm) = plain_formats_in(alloc, list)?;
+    let (era_d_t_fmt, era_d_fmt, era_t_fmt) = era_formats_in(alloc, list)?;
     Ok(FormatTexts {
-        d_t_fmt: format(alloc, b"%a %b %e %H:%M:%S %Y", list, b"d_t_fmt")?,
-        d_fmt: format(alloc, b"%m/%d/%y", list, b"d_fmt")?,
-        t_fmt: format(alloc, b"%H:%M:%S", list, b"t_fmt")?,
-        t_fmt_ampm: format(alloc, b"%I:%M:%S %p", list, b"t_fmt_ampm")?,
-        era_d_t_fmt: format(alloc, b"", list, b"era_d_t_fmt")?,
-        era_d_fmt: format(alloc, b"", list, b"era_d_fmt")?,
-        era_t_fmt: format(alloc, b"", list, b"era_t_fmt")?,
+        d_t_fmt,
+        d_fmt,
+        t_fmt,
+        t_fmt_ampm,
+        era_d_t_fmt,
+        era_d_fmt,
+        era_t_fmt,
     })
 }
 
@@ -196,7 +225,7 @@ fn add_segment(alloc: Global, segments: &mut Vec<Segment>, text: &[u8]) -> Resul
 }
 
 /// The segments that texts spell.
-pub fn segments_in(alloc: Global, texts: &[ByteText]) -> Result<List<Segment>, AllocError>
+fn segments_in(alloc: Global, texts: &[ByteText]) -> Result<List<Segment>, AllocError>
     ensures { IfOk result (λ segments. segments ≡ segments_in texts.now) }
 {
     let mut segments = Vec::with_capacity(alloc, texts.len())?;
@@ -218,7 +247,7 @@ fn add_texts(bytes: &mut Vec<u8>, texts: &[ByteText]) -> Result<(), AllocError>
 }
 
 /// Texts in a row with `;` between.
-pub fn joined(alloc: Global, texts: &[ByteText]) -> Result<ByteText, AllocError>
+fn joined(alloc: Global, texts: &[ByteText]) -> Result<ByteText, AllocError>
     ensures { IfOk result (λ text. text ≡ joined texts.now) }
 {
     match texts {
@@ -229,6 +258,27 @@ pub fn joined(alloc: Global, texts: &[ByteText]) -> Result<ByteText, AllocError>
             Ok(ByteText::from_vec(bytes))
         }
     }
+}
+
+/// The segments of eras, and their texts joined.
+pub fn eras_in(alloc: Global, list: &[Entry]) -> Result<(List<Segment>, ByteText), AllocError>
+    ensures segments { IfOk result (λ eras. eras.0 ≡ segments_in (texts_or [] (line_of list.now (codes "era")))) }
+    ensures joined { IfOk result (λ eras. eras.1 ≡ joined (texts_or [] (line_of list.now (codes "era")))) }
+{
+    let texts = names(alloc, &NO_TEXTS, list, b"era")?;
+    let segments = segments_in(alloc, texts.as_slice())?;
+    let joined = joined(alloc, texts.as_slice())?;
+    Ok((segments, joined))
+}
+
+/// The alternative digits, and their texts joined.
+pub fn digits_in(alloc: Global, list: &[Entry]) -> Result<(List<ByteText>, ByteText), AllocError>
+    ensures texts { IfOk result (λ digits. digits.0 ≡ texts_or [] (line_of list.now (codes "alt_digits"))) }
+    ensures joined { IfOk result (λ digits. digits.1 ≡ joined digits.0) }
+{
+    let texts = names(alloc, &NO_TEXTS, list, b"alt_digits")?;
+    let joined = joined(alloc, texts.as_slice())?;
+    Ok((texts, joined))
 }
 
 /// A text of a list.

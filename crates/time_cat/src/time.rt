@@ -5,17 +5,15 @@ ghost use Rattle.std.specs.Option.{option_copied};
 ghost use Rattle.lc_base.specs.Reading.{Gives};
 ghost use Rattle.time_cat.specs.Eras.{Hit, era};
 ghost use Rattle.time_cat.specs.Faults.{checked, IsFormat};
-ghost use Rattle.time_cat.specs.TimeValues.{format_text, rank_of, text_at, joined};
+ghost use Rattle.time_cat.specs.TimeValues.{format_text, rank_of, text_at, joined, IsWhole};
 ghost use Rattle.time_cat.specs.Values.{values_of, posix_values, time_values};
 
 use crate::conversion::TimeText;
 use crate::faults::check;
 use crate::segment::{Segment, day_number, segment_at};
-use crate::texts::{
-    FormatTexts, NO_TEXTS, NameLists, formats_in, joined, names, names_in, segments_in, text_at,
-};
-use lc_base::{ByteText, List, TextFault};
+use crate::texts::{FormatTexts, NameLists, digits_in, eras_in, formats_in, names_in, text_at};
 use keyword_lists::Entry;
+use lc_base::{ByteText, List, TextFault};
 use std::alloc::{AllocError, Global};
 use std::marker::Model;
 
@@ -81,17 +79,26 @@ impl Time {
         requires { checked list.now ≡ Ok tt }
         ensures { IfOk result (λ t. t ≡ values_of list.now) }
     {
-        let eras = names(alloc, &NO_TEXTS, list, b"era")?;
-        let alt_digits = names(alloc, &NO_TEXTS, list, b"alt_digits")?;
-        let alt_list = joined(alloc, alt_digits.as_slice())?;
+        let names = names_in(alloc, list)?;
+        let formats = formats_in(alloc, list)?;
+        let (era, era_list) = eras_in(alloc, list)?;
+        let (alt_digits, alt_list) = digits_in(alloc, list)?;
         Ok(Time {
-            names: names_in(alloc, list)?,
-            formats: formats_in(alloc, list)?,
-            era: segments_in(alloc, eras.as_slice())?,
-            era_list: joined(alloc, eras.as_slice())?,
+            names,
+            formats,
+            era,
+            era_list,
             alt_digits,
             alt_list,
         })
+    }
+
+    /// The values obey the rules of the category: the lists have their numbers of names, and each
+    /// format is of its rank.
+    pub fn rules_hold(&self)
+        ensures { IsWhole self.now }
+    {
+        let _formats = &self.formats;
     }
 
     /// A format. It is of its rank: each `%` begins a conversion, there are at most 16, and all are
