@@ -14,8 +14,8 @@ use crate::exclusions::check_exclusions;
 use crate::first_lines::KeywordList;
 use crate::lists::classes_of;
 use charmap_reader::Charset;
-use lc_base::{ByteText, List, Place, TextFault};
 use keyword_lists::Entry;
+use lc_base::{ByteText, List, Place, TextFault};
 use std::alloc::{AllocError, Global};
 use std::marker::Model;
 

@@ -13,8 +13,8 @@ use crate::classes::{Classes, has_member, twelve_classes, with_class};
 use crate::first_lines::KeywordList;
 use crate::table::Row;
 use charmap_reader::Charset;
-use lc_base::{Place, Reason, TextFault};
 use keyword_lists::{Entry, ValueRef, Values};
+use lc_base::{Place, Reason, TextFault};
 use std::alloc::Global;
 
 const DIGIT: &[u8] = b"digit";

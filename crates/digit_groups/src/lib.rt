@@ -9,7 +9,6 @@ use lc_base::ByteText;
 use std::alloc::{AllocError, Global};
 use std::mem::replace;
 
-
 /// Appends digits with `sep` between their groups. The first size is that of the group next to the
 /// radix, the next one that of the group before it. The last one repeats; -1 ends the grouping, and
 /// the list of sizes ends at its first 0.

@@ -7,8 +7,8 @@ ghost use Rattle.keyword_lists.specs.Cells.{seen};
 ghost use Rattle.keyword_values.specs.Keywords.{operands, text_or, number_or, numbers_or, numbers};
 ghost use Rattle.keyword_values.specs.Rules.{fault_of, operand_fault, rule_of, line_fault, first_fault};
 
-use lc_base::{ByteText, List, Place, Reason};
 use keyword_lists::{Entry, ValueRef, Values};
+use lc_base::{ByteText, List, Place, Reason};
 use std::alloc::{AllocError, Global};
 
 /// What an operand of a keyword must be, beyond its kind.

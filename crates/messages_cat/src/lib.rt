@@ -5,12 +5,11 @@ ghost use Rattle.std.specs.Prelude.{◌≡◌, IfOk};
 ghost use Rattle.lc_base.specs.Reading.{Gives};
 ghost use Rattle.messages_cat.specs.Messages.{messages_values, values_of, posix_values};
 
+use keyword_lists::Entry;
 use keyword_values::text_or;
 use lc_base::{ByteText, List, TextFault};
-use keyword_lists::Entry;
 use std::alloc::{AllocError, Global};
 use std::marker::Model;
-
 
 /// What a user answers in the POSIX locale to say yes, and no: extended regular expressions.
 const POSIX_YES: &[u8] = b"^[yY]";

@@ -6,9 +6,9 @@ ghost use Rattle.lc_base.specs.Reading.{Gives};
 ghost use Rattle.keyword_values.specs.Rules.{first_fault};
 ghost use Rattle.monetary_cat.specs.Monetary.{rules, monetary_values, posix_values, values_of};
 
+use keyword_lists::Entry;
 use keyword_values::{Rule, first_fault, numbers_or};
 use lc_base::{List, Place, Reason, TextFault};
-use keyword_lists::Entry;
 use std::alloc::{AllocError, Global};
 use std::marker::Model;
 

@@ -4,9 +4,9 @@ ghost use Rattle.std.specs.Prelude.{◌≡◌, IfOk, FitsSigned};
 ghost use Rattle.std.specs.Int.{w32};
 ghost use Rattle.monetary_cat.specs.Monetary.{text, number, texts_of, local_of, international_of};
 
+use keyword_lists::Entry;
 use keyword_values::{number_or, text_or};
 use lc_base::{ByteText, List};
-use keyword_lists::Entry;
 use std::alloc::{AllocError, Global};
 
 /// The texts.

@@ -6,12 +6,11 @@ ghost use Rattle.lc_base.specs.Reading.{Gives};
 ghost use Rattle.keyword_values.specs.Rules.{first_fault};
 ghost use Rattle.numeric_cat.specs.Numeric.{rules, values_of, numeric_values, posix_values};
 
+use keyword_lists::Entry;
 use keyword_values::{Rule, first_fault, numbers_or, text_or};
 use lc_base::{ByteText, List, Place, Reason, TextFault};
-use keyword_lists::Entry;
 use std::alloc::{AllocError, Global};
 use std::marker::Model;
-
 
 /// The keywords, with what their operands must be.
 const RULES: [(&[u8], Rule); 3] = [
