@@ -1,1 +1,4 @@
 pub mod Seen
+pub mod Thread
+pub mod Causes
+pub mod Mine

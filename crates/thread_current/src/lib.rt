@@ -6,4 +6,7 @@ mod locales;
 mod mine;
 mod shared;
 
+pub use held::Held;
 pub use locales::{Ask, Locales};
+pub use mine::Mine;
+pub use shared::{Fault, Shared};

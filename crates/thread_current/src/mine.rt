@@ -1,1 +1,72 @@
 //! A thread's own side: its seat, what it has selected, and its cached global object.
+
+ghost use Rattle.std.specs.Prelude.{◌≡◌, ◌↔◌, ◌<◌, [], Some};
+ghost use Rattle.std.specs.Option.{option_copied, IsNone};
+ghost use Rattle.handle_table.specs.declared.handle.Named.TheVariants as names;
+ghost use Rattle.turn_gate.specs.declared.entry.Terms.{Terms};
+ghost use Rattle.handle_table.specs.Entry.{Setting};
+ghost use Rattle.handle_table.specs.History.{global_at};
+ghost use Rattle.thread_current.specs.Thread.{thread_of, selected, own_object};
+
+use crate::locales::Locales;
+use handle_table::Named;
+use mask_compose::{Object, Part};
+use std::marker::Model;
+use turn_gate::Seat;
+
+/// A thread at a shared table: its seat, what it has selected with the object that it took up, and
+/// the global object that it read last.
+///
+/// It goes with one thread at a time, and can be sent to another. Its reads wait for nobody.
+#[derive(Drop)]
+pub struct Mine<P: Part> {
+    pub(crate) seat: Seat<Locales<P>>,
+    pub(crate) named: Named,
+    pub(crate) own: Option<Object<P>>,
+    pub(crate) version: u32,
+    pub(crate) object: Object<P>,
+}
+
+impl<P: Part> Model for Mine<P> {
+    ghost use Rattle.thread_current.specs.Thread.{Thread, thread_of};
+    ghost use Rattle.thread_current.specs.Mine.{IsMine};
+
+    ghost Value = { Thread };
+
+    ghost view = { λ m. thread_of m.version m.seat };
+
+    ghost invariant = { λ m. IsMine (thread_of m.version m.seat) m.named m.own m.object };
+}
+
+impl<P: Part> Mine<P> {
+    // The thread of a seat that has made no call, with the POSIX locale's object.
+    pub(crate) fn first(seat: Seat<Locales<P>>, posix: Object<P>) -> Mine<P>
+        requires in_order { (terms : Terms Setting) → seat.terms ≡ Some terms → (seat.number < terms.seats) × (posix ≡ global_at terms.setting [] 0) }
+        requires first { (seat.seen ≡ []) × (seat.own ≡ []) }
+        ensures { result ≡ thread_of 0 seat }
+    {
+        Mine {
+            seat,
+            named: Named::Global,
+            own: None,
+            version: 0,
+            object: posix,
+        }
+    }
+
+    /// The object that the thread took up when it selected it (XSH uselocale). `None` exactly where
+    /// it has the global locale selected.
+    pub fn own(&self) -> Option<&Object<P>>
+        ensures own { option_copied result ≡ own_object self.now }
+        ensures none { IsNone result ↔ (selected self.now ≡ names.Global) }
+    {
+        self.own.as_ref()
+    }
+
+    /// What the thread has selected.
+    pub fn named(&self) -> Named
+        ensures { result ≡ selected self.now }
+    {
+        self.named
+    }
+}

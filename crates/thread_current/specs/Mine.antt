@@ -1,0 +1,25 @@
+-- What a thread keeps beside its seat.
+use Rattle.std.specs.Prelude.{◌≡◌, ◌↔◌, ◌≤◌, Option, Some, None}
+use Rattle.mask_compose.specs.Parts.{Parts}
+use Rattle.turn_gate.specs.declared.entry.Terms.{Terms}
+use Rattle.handle_table.specs.declared.handle.Handle.{Handle}
+use Rattle.handle_table.specs.declared.handle.Named.{Named}
+use Rattle.handle_table.specs.declared.handle.Named.TheVariants.{Global}
+use Rattle.handle_table.specs.Entry.{Setting}
+use Rattle.handle_table.specs.History.{sets, global_at}
+use Rattle.thread_current.specs.Thread.{Thread, selected, own_object, IsInOrder}
+
+-- an open Hold: the handle, and its object as it was at the Hold
+pub record HeldData : Type 0 where
+  pub handle : Handle
+  pub object : Parts
+
+-- the selection and the object that was taken up with it are as the thread has seen, and so is the global object that it
+-- read last
+pub record IsMine (t : Thread) (named : Named) (own : Option Parts) (object : Parts) : Type 0 where
+  pub in_order : (terms : Terms Setting) → t.terms ≡ Some terms → IsInOrder terms t
+  pub named_is : named ≡ selected t
+  pub own_is : own ≡ own_object t
+  pub both : (own ≡ None) ↔ (named ≡ Global)
+  pub version : t.cached ≤ sets t.seen
+  pub object_is : (terms : Terms Setting) → t.terms ≡ Some terms → object ≡ global_at terms.setting t.seen t.cached
