@@ -128,34 +128,39 @@ same_either false x = refl
 named_base : (n : Named) (h : Handle) → n ≡ Of h → names n h ≡ true
 named_base n h is = ap (λ x. names x h) is ∙ same_itself h
 
-object_kept : (c : Setting) (e : Entry) (H : History) (h : Handle) (op : Op) → e.op ≡ op → IsLegal c (e ∷ H) → made H h ≡ true → has_base op h ≡ false
+object_kept : (c : Setting) (e : Entry) (H : History) (h : Handle) (op : Op) → e.op ≡ op → IsLegal c (e ∷ H) → makes_handle e h ≡ false → has_base op h ≡ false
     → (if replies_with e.reply h then object_after c H (object c H) op h else object c H h) ≡ object c H h
-object_kept c e H h (New mask numbers None) is legal before other =
+object_kept c e H h (New mask numbers None) is legal un other =
     object_if (replies_with e.reply h) _ _ (λ answers.
-    absurd (false≢true (sym (made_once c e H h legal before) ∙ ap (λ o. is_handle (handle_made o e.reply) h) is ∙ answers)))
-object_kept c e H h (New mask numbers (Some n)) is legal before other =
+    absurd (false≢true (sym un ∙ ap (λ o. is_handle (handle_made o e.reply) h) is ∙ answers)))
+object_kept c e H h (New mask numbers (Some n)) is legal un other =
     object_if (replies_with e.reply h) _ _ (λ answers.
     let reply : e.reply ≡ answer c H e.who (New mask numbers (Some n)) = legal.0 ∙ ap (answer c H e.who) is in
     let base = with_base c H e.who mask numbers n h (first_reason (reasons c H e.who (New mask numbers (Some n)))) (sym (ap (λ r. replies_with r h) reply) ∙ answers) in
     absurd (false≢true (sym other ∙ named_base n h base.1)))
-object_kept c e H h (Dup n) is legal before other =
+object_kept c e H h (Dup n) is legal un other =
     object_if (replies_with e.reply h) _ _ (λ answers.
-    absurd (false≢true (sym (made_once c e H h legal before) ∙ ap (λ o. is_handle (handle_made o e.reply) h) is ∙ answers)))
-object_kept c e H h (Free n) is legal before other = same_either (replies_with e.reply h) (object c H h)
-object_kept c e H h (Use n) is legal before other = same_either (replies_with e.reply h) (object c H h)
-object_kept c e H h (Hold n) is legal before other = same_either (replies_with e.reply h) (object c H h)
-object_kept c e H h (Release n) is legal before other = same_either (replies_with e.reply h) (object c H h)
-object_kept c e H h (SetGlobal mask numbers) is legal before other = same_either (replies_with e.reply h) (object c H h)
-object_kept c e H h (Install m offer) is legal before other = same_either (replies_with e.reply h) (object c H h)
-object_kept c e H h (Post k n) is legal before other = same_either (replies_with e.reply h) (object c H h)
-object_kept c e H h (Fetch owner k) is legal before other = same_either (replies_with e.reply h) (object c H h)
-object_kept c e H h (Pins n) is legal before other = same_either (replies_with e.reply h) (object c H h)
-object_kept c e H h End is legal before other = same_either (replies_with e.reply h) (object c H h)
+    absurd (false≢true (sym un ∙ ap (λ o. is_handle (handle_made o e.reply) h) is ∙ answers)))
+object_kept c e H h (Free n) is legal un other = same_either (replies_with e.reply h) (object c H h)
+object_kept c e H h (Use n) is legal un other = same_either (replies_with e.reply h) (object c H h)
+object_kept c e H h (Hold n) is legal un other = same_either (replies_with e.reply h) (object c H h)
+object_kept c e H h (Release n) is legal un other = same_either (replies_with e.reply h) (object c H h)
+object_kept c e H h (SetGlobal mask numbers) is legal un other = same_either (replies_with e.reply h) (object c H h)
+object_kept c e H h (Install m offer) is legal un other = same_either (replies_with e.reply h) (object c H h)
+object_kept c e H h (Post k n) is legal un other = same_either (replies_with e.reply h) (object c H h)
+object_kept c e H h (Fetch owner k) is legal un other = same_either (replies_with e.reply h) (object c H h)
+object_kept c e H h (Pins n) is legal un other = same_either (replies_with e.reply h) (object c H h)
+object_kept c e H h End is legal un other = same_either (replies_with e.reply h) (object c H h)
+
+-- an entry that makes no such handle, and does not have it as base, leaves its object
+pub object_unmade : (c : Setting) (e : Entry) (H : History) (h : Handle) → IsLegal c (e ∷ H) → makes_handle e h ≡ false → has_base e.op h ≡ false
+    → object c (e ∷ H) h ≡ object c H h
+object_unmade c e H h legal un other = object_kept c e H h e.op refl legal un other
 
 -- an object is changed by a New with its handle as base alone
 pub object_stays : (c : Setting) (e : Entry) (H : History) (h : Handle) → IsLegal c (e ∷ H) → made H h ≡ true → has_base e.op h ≡ false
     → object c (e ∷ H) h ≡ object c H h
-object_stays c e H h legal before other = object_kept c e H h e.op refl legal before other
+object_stays c e H h legal before other = object_unmade c e H h legal (made_once c e H h legal before) other
 
 -- an accepted New with the handle as base gives it what the mask and the numbers take from the shelf, over what it had
 pub object_rebuilt : (c : Setting) (e : Entry) (H : History) (h : Handle) (mask : ℕ) (numbers : List ℕ) → IsLegal c (e ∷ H)

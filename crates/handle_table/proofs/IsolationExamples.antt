@@ -1,12 +1,12 @@
 -- Closed sets of threads and their parts at worked examples.
-use Rattle.std.proofs.Common.{◌≡◌, ℕ, Bool, true, false, List, [], ◌∷◌, None, Some, refl, ap, ◌∙◌}
+use Rattle.std.proofs.Common.{◌≡◌, ℕ, Bool, true, false, List, [], ◌∷◌, None, Some, refl}
 use Rattle.std.proofs.lemmas.Bool.{and_parts}
 use Rattle.std.specs.Prelude.{◌&&◌}
 use Rattle.handle_table.specs.declared.handle.Named.TheVariants.{Global, Of}
-use Rattle.handle_table.specs.Entry.{Op, New, Dup, Free, Use, Hold, Release, SetGlobal, Install, Post, Fetch, Pins, End, Stale, TooMany, NeverMade, Reply, Made, Freed, Was, Held, Set, Installed, Posted, Got, Pinned, Ended, Refused, Entry, History, Setting}
-use Rattle.handle_table.specs.Answer.{answer, entry}
+use Rattle.handle_table.specs.Entry.{Op, New, Dup, Free, Use, Hold, Release, SetGlobal, Install, Post, Fetch, Pins, End, Stale, TooMany, Made, Freed, Was, Held, Posted, Got, Pinned, Ended, Refused, Entry, History, Setting}
+use Rattle.handle_table.specs.Answer.{entry}
 use Rattle.handle_table.specs.Isolation.{keeps_apart, IsClosed, part_of, calls_of, replies_of}
-use Rattle.handle_table.proofs.Examples.{played, usual, offers, handle, all, make, all_of}
+use Rattle.handle_table.proofs.Examples.{played, offers, handle, all, make, all_of}
 
 -- three threads of one row each, which makes two objects
 abbrev trio : Setting

@@ -17,4 +17,6 @@ pub mod KeptSays
 pub mod AcceptsOf
 pub mod Unchanged
 pub mod Fresh
+pub mod Apart
+pub mod Isolated
 pub mod IsolationExamples

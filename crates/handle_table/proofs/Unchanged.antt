@@ -1,6 +1,6 @@
 -- A refused entry changes nothing of what a history says, and the newest version of the global locale is
 -- the global locale.
-use Rattle.std.proofs.Common.{◌≡◌, ℕ, zero, suc, ◌+◌, ◌≤◌, Bool, true, false, ◌&&◌, ◌||◌, not, List, [], ◌∷◌, length, None, Some, refl, ap, sym, ◌∙◌, arith}
+use Rattle.std.proofs.Common.{◌≡◌, ℕ, zero, suc, ◌+◌, ◌≤◌, Bool, true, false, ◌&&◌, ◌||◌, not, List, [], ◌∷◌, ◌++◌, length, None, Some, refl, ap, sym, ◌∙◌, arith}
 use Rattle.std.specs.List.{list_any}
 use Rattle.std.specs.Option.{option_or}
 use Rattle.std.specs.Prelude.{if◌then◌else◌, nat_lt, nat_le}
@@ -18,7 +18,7 @@ any_same : (p q : Handle → Bool) (hs : List Handle) → ((h : Handle) → p h 
 any_same p q [] same = refl
 any_same p q (h ∷ hs) same = ap (λ b. b || list_any p hs) (same h) ∙ ap (λ b. q h || b) (any_same p q hs same)
 
-least_same : (p q : ℕ → Bool) (n : ℕ) → ((r : ℕ) → p r ≡ q r) → least_below n p ≡ least_below n q
+pub least_same : (p q : ℕ → Bool) (n : ℕ) → ((r : ℕ) → p r ≡ q r) → least_below n p ≡ least_below n q
 least_same p q zero same = refl
 least_same p q (suc n) same =
     ap (λ o. option_or o (if p n then Some n else None)) (least_same p q n same)
@@ -68,9 +68,32 @@ refused_changes_nothing c e H refused = record {
 
 -- ---- versions of the global locale
 
+more_after : (op : Op) (n : ℕ) → n ≤ sets_after op n
+more_after (SetGlobal mask numbers) n = omega arith
+more_after _ n = omega arith
+
+more_if : (b : Bool) (n m : ℕ) → n ≤ m → n ≤ (if b then m else n)
+more_if true n m more = more
+more_if false n m more = omega arith
+
+-- an entry makes a version or none
+pub fewer_sets : (e : Entry) (H : History) → sets H ≤ sets (e ∷ H)
+fewer_sets e H = more_if (is_accepted e.reply) (sets H) (sets_after e.op (sets H)) (more_after e.op (sets H))
+
+-- there are never fewer versions
+pub sets_never_fall : (G H : History) → sets H ≤ sets (G ++ H)
+sets_never_fall [] H = omega arith
+sets_never_fall (e ∷ G) H = let below = sets_never_fall G H in let more = fewer_sets e (G ++ H) in omega arith
+
 -- an earlier version is what it was
 pub version_stays : (c : Setting) (e : Entry) (H : History) (k : ℕ) → k ≤ sets H → global_at c (e ∷ H) k ≡ global_at c H k
 version_stays c e H k below = ap (λ b. if b then global_at c H k else global c (e ∷ H)) (le-leb k (sets H) below)
+
+pub versions_stay : (c : Setting) (G H : History) (k : ℕ) → k ≤ sets H → global_at c (G ++ H) k ≡ global_at c H k
+versions_stay c [] H k below = refl
+versions_stay c (e ∷ G) H k below =
+    let fewer = sets_never_fall G H in
+    version_stays c e (G ++ H) k (omega arith) ∙ versions_stay c G H k below
 
 unchanged_newest : (c : Setting) (H : History) → global_at c H (sets H) ≡ global c H
     → (if nat_le (sets H) (sets H) then global_at c H (sets H) else global c H) ≡ global c H

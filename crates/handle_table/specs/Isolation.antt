@@ -3,8 +3,10 @@
 use Rattle.std.specs.Prelude.{◌≡◌, ℕ, Bool, true, false, ◌==◌, not, ◌&&◌, ◌||◌, if◌then◌else◌, List, [], ◌∷◌, map, Option, None, Some}
 use Rattle.std.specs.List.{list_any}
 use Rattle.handle_table.specs.declared.handle.Handle.{Handle}
-use Rattle.handle_table.specs.Entry.{Op, New, Dup, Free, Use, Hold, Release, SetGlobal, Install, Post, Fetch, Pins, End, Reply, Entry, History}
-use Rattle.handle_table.specs.History.{handle_named}
+use Rattle.handle_table.specs.Entry.{Op, New, Dup, Free, Use, Hold, Release, SetGlobal, Install, Post, Fetch, Pins, End, Reply, Entry, History, Setting}
+use Rattle.handle_table.specs.Shelf.{shelf, installs}
+use Rattle.handle_table.specs.History.{made, makes, live, sets, global, global_at, object, selection, holding, pins, free_row, handle_named, posted}
+use Rattle.handle_table.specs.Answer.{own, answer, entry, IsLegal}
 
 -- whether the thread is one of the list
 abbrev pub has_thread : List ℕ → ℕ → Bool
@@ -79,3 +81,44 @@ calls_of H = map (λ e. (e.who, e.op)) H
 -- what was replied, of each entry
 abbrev pub replies_of : History → List Reply
 replies_of H = map (λ e. e.reply) H
+
+-- a history says of the threads what another says of them: of the handles that they own, of what each of
+-- them selects, has taken up, holds, may take and has posted, and of what all threads see
+pub record SaysOfThreads (c : Setting) (S : List ℕ) (G H : History) : Type 0 where
+  pub made : (h : Handle) → has_thread S h.owner ≡ true → made G h ≡ made H h
+  pub live : (h : Handle) → has_thread S h.owner ≡ true → live G h ≡ live H h
+  pub object : (h : Handle) → has_thread S h.owner ≡ true → object c G h ≡ object c H h
+  pub pins : (h : Handle) → has_thread S h.owner ≡ true → pins c G h ≡ pins c H h
+  pub makes : (t r : ℕ) → has_thread S t ≡ true → makes G t r ≡ makes H t r
+  pub free_row : (t : ℕ) → has_thread S t ≡ true → free_row c G t ≡ free_row c H t
+  pub selection : (t : ℕ) → has_thread S t ≡ true → selection G t ≡ selection H t
+  pub own : (t : ℕ) → has_thread S t ≡ true → own G t ≡ own H t
+  pub holding : (t : ℕ) (h : Handle) → has_thread S t ≡ true → holding G t h ≡ holding H t h
+  pub posted : (t k : ℕ) → has_thread S t ≡ true → posted G t k ≡ posted H t k
+  pub shelf : (n : ℕ) → shelf c G n ≡ shelf c H n
+  pub installs : installs G ≡ installs H
+  pub sets : sets G ≡ sets H
+  pub global : global c G ≡ global c H
+  pub versions : (k : ℕ) → global_at c G k ≡ global_at c H k
+
+-- ---- laws
+
+-- the part of a legal history that is closed for the threads is legal, says of them what the whole says, and
+-- answers each of their calls that keeps them apart as the whole does
+abbrev pub PartIsLegal : Type 0
+PartIsLegal = (c : Setting) (S : List ℕ) (H : History) → IsLegal c H → IsClosed S H → IsLegal c (part_of S H)
+
+abbrev pub PartSaysTheSame : Type 0
+PartSaysTheSame = (c : Setting) (S : List ℕ) (H : History) → IsLegal c H → IsClosed S H → SaysOfThreads c S (part_of S H) H
+
+abbrev pub PartAnswersTheSame : Type 0
+PartAnswersTheSame =
+    (c : Setting) (S : List ℕ) (H : History) (t : ℕ) (op : Op) → IsLegal c H → has_thread S t ≡ true → IsClosed S (entry c H t op ∷ H)
+    → answer c H t op ≡ answer c (part_of S H) t op
+
+-- two worlds: where two legal histories are closed for the threads, and their parts have the same callers and ops in
+-- order, these parts have the same replies
+abbrev pub AreTwoWorldsAlike : Type 0
+AreTwoWorldsAlike =
+    (c : Setting) (S : List ℕ) (G H : History) → IsLegal c G → IsLegal c H → IsClosed S G → IsClosed S H
+    → calls_of (part_of S G) ≡ calls_of (part_of S H) → replies_of (part_of S G) ≡ replies_of (part_of S H)

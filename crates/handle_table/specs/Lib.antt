@@ -5,6 +5,7 @@ pub mod Answer
 pub mod Isolation
 pub mod Seen
 pub mod Table
+pub mod Lasting
 pub mod Grid
 pub mod Row
 pub mod Rows

@@ -7,6 +7,7 @@ mod checks;
 mod grid;
 mod handle;
 mod kept;
+pub mod laws;
 mod op;
 mod row;
 mod rows;

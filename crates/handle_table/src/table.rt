@@ -1,6 +1,6 @@
 //! The table.
 
-ghost use Rattle.std.specs.Prelude.{◌≡◌, ◌≢◌, ℕ, ◌+◌, ◌<◌, ◌≤◌, [], ◌∷◌, length, true, false, IfOk};
+ghost use Rattle.std.specs.Prelude.{◌≡◌, ℕ, ◌+◌, ◌<◌, ◌≤◌, List, [], ◌∷◌, length, true, false, IfOk};
 
 use crate::accept::answer;
 use crate::kept::Kept;
@@ -35,11 +35,11 @@ impl<P: Part> Model for Table<P> {
 
 impl<P: Part> Table<P> {
     ghost use Rattle.handle_table.specs.Entry.{History, is_accepted};
-    ghost use Rattle.handle_table.specs.declared.handle.Handle.{Handle};
-    ghost use Rattle.handle_table.specs.History.{made, live, object, sets, global, global_at};
+    ghost use Rattle.handle_table.specs.History.{sets, global, global_at};
     ghost use Rattle.handle_table.specs.Answer.{answer, entry, own_after, own};
+    ghost use Rattle.handle_table.specs.Isolation.{has_thread, IsClosed, part_of};
     ghost use Rattle.handle_table.specs.Seen.{op_of, reply_of};
-    ghost use Rattle.handle_table.specs.Table.{StandsFor, SaysTheSame, IsOpening, Fits, has_base, steps};
+    ghost use Rattle.handle_table.specs.Table.{StandsFor, SaysTheSame, IsOpening, Fits, steps};
 
     /// A table without objects, for 1 to 16 threads of 1 to 64 rows with 1 to 2147483647
     /// generations each. The shelf has the offers of the locale names by number, and begins with the
@@ -92,16 +92,13 @@ impl<P: Part> Table<P> {
         // What a step leaves.
         ensures refused { (H : History) → StandsFor self.old H → is_accepted (reply_of result) ≡ false →
             SaysTheSame self.old.setting (entry self.old.setting H who (op_of op) ∷ H) H }
-        ensures freed_stays { (H : History) (h : Handle) → StandsFor self.old H → made H h ≡ true → live H h ≡ false →
-            live (entry self.old.setting H who (op_of op) ∷ H) h ≡ false }
-        ensures object_stays { (H : History) (h : Handle) → StandsFor self.old H → made H h ≡ true → has_base (op_of op) h ≡ false →
-            object self.old.setting (entry self.old.setting H who (op_of op) ∷ H) h ≡ object self.old.setting H h }
-        ensures own_stays { (H : History) (t : ℕ) → StandsFor self.old H → t ≢ who →
-            own (entry self.old.setting H who (op_of op) ∷ H) t ≡ own H t }
         ensures own_taken { (H : History) → StandsFor self.old H →
             own (entry self.old.setting H who (op_of op) ∷ H) who ≡ own_after (reply_of result) (own H who) }
-        ensures versions_stay { (H : History) (k : ℕ) → StandsFor self.old H → k ≤ sets H →
-            global_at self.old.setting (entry self.old.setting H who (op_of op) ∷ H) k ≡ global_at self.old.setting H k }
+
+        // Threads that share handles with themselves alone get what they would get without the others.
+        ensures isolated { (H : History) (S : List ℕ) → StandsFor self.old H → has_thread S who ≡ true →
+            IsClosed S (entry self.old.setting H who (op_of op) ∷ H) →
+            reply_of result ≡ answer self.old.setting (part_of S H) who (op_of op) }
 
         ensures setting { self.new.setting ≡ self.old.setting }
         ensures steps { steps self.new ≡ steps self.old + 1 }

@@ -4,9 +4,9 @@ use Rattle.handle_table.specs.Answer.{answer, entry, own_after, own}
 use Rattle.handle_table.specs.Seen.{op_of, reply_of}
 use Rattle.handle_table.specs.Kept.{Keeps}
 use Rattle.handle_table.specs.Table.{TableData}
-use Rattle.handle_table.proofs.Gone.{freed_stays}
-use Rattle.handle_table.proofs.Changes.{object_stays, own_of_other, own_of_caller}
-use Rattle.handle_table.proofs.Unchanged.{refused_changes_nothing, version_stays}
+use Rattle.handle_table.proofs.Changes.{own_of_caller}
+use Rattle.handle_table.proofs.Unchanged.{refused_changes_nothing}
+use Rattle.handle_table.proofs.Isolated.{answer_apart}
 use Rattle.handle_table.proofs.table.Table.step.Goals as goal
 
 pub answer-reply-requires-clause-few : goal.answer-reply-requires-clause-few
@@ -24,18 +24,6 @@ returns-clause-refused g c = λ H s refused.
     in
     refused_changes_nothing c.args.self.now.setting (entry c.args.self.now.setting H c.args.who op) H (sym (ap is_accepted answered) ∙ refused)
 
-pub returns-clause-freed_stays : goal.returns-clause-freed_stays
-returns-clause-freed_stays g c = λ H h s before freed.
-    freed_stays c.args.self.now.setting (entry c.args.self.now.setting H c.args.who (op_of c.args.op)) H h (refl, s.keeps.legal) before freed
-
-pub returns-clause-object_stays : goal.returns-clause-object_stays
-returns-clause-object_stays g c = λ H h s before other.
-    object_stays c.args.self.now.setting (entry c.args.self.now.setting H c.args.who (op_of c.args.op)) H h (refl, s.keeps.legal) before other
-
-pub returns-clause-own_stays : goal.returns-clause-own_stays
-returns-clause-own_stays g c = λ H t s other.
-    own_of_other (entry c.args.self.now.setting H c.args.who (op_of c.args.op)) H t (λ same. other (sym same))
-
 pub returns-clause-own_taken : goal.returns-clause-own_taken
 returns-clause-own_taken g c = λ H s.
     let op = op_of c.args.op in
@@ -45,6 +33,10 @@ returns-clause-own_taken g c = λ H s.
     in
     own_of_caller (entry c.args.self.now.setting H c.args.who op) H c.args.who refl ∙ ap (λ r. own_after r (own H c.args.who)) (sym answered)
 
-pub returns-clause-versions_stay : goal.returns-clause-versions_stay
-returns-clause-versions_stay g c = λ H k s below.
-    version_stays c.args.self.now.setting (entry c.args.self.now.setting H c.args.who (op_of c.args.op)) H k below
+pub returns-clause-isolated : goal.returns-clause-isolated
+returns-clause-isolated g c = λ H S s inside closed.
+    let op = op_of c.args.op in
+    let keeps = subst (λ (v : TableData). Keeps v.setting H v.kept) (sym c.self.view_is) s.keeps in
+    c.answer-reply.ensures.replies H keeps
+    ∙ ap (λ (v : TableData). answer v.setting H c.args.who op) c.self.view_is
+    ∙ answer_apart c.args.self.now.setting S H c.args.who op s.keeps.legal inside closed
