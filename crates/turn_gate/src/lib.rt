@@ -11,6 +11,8 @@ mod steps;
 #[cfg(test)]
 mod tests;
 mod turns;
+#[cfg(test)]
+mod waking;
 
 pub use entry::Entry;
 pub use machine::Machine;

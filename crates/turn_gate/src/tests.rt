@@ -201,13 +201,10 @@ fn quotas(rt: HostRuntime) -> Result<(), Fail> {
 }
 
 // The four seats.
-fn four_of(
-    turns: &Turns<Register>,
-    seats: List<Seat<Register>>,
-) -> (
-    (Seat<Register>, Seat<Register>),
-    (Seat<Register>, Seat<Register>),
-)
+pub(crate) fn four_of<M: Machine>(
+    turns: &Turns<M>,
+    seats: List<Seat<M>>,
+) -> ((Seat<M>, Seat<M>), (Seat<M>, Seat<M>))
     requires { seats ≡ map (first_caller turns.now) (range_with_len 0 4) }
     ensures first { (result.0.0 ≡ first_caller turns.now 0) × (result.0.1 ≡ first_caller turns.now 1) }
     ensures last { (result.1.0 ≡ first_caller turns.now 2) × (result.1.1 ≡ first_caller turns.now 3) }
@@ -228,13 +225,13 @@ fn four_of(
     ((first, second), (third, fourth))
 }
 
-// Closes four seats, and gives the register.
-fn close_four(
+// Closes four seats, and gives the machine.
+pub(crate) fn close_four<M: Machine>(
     alloc: Global,
-    turns: Turns<Register>,
-    front: (Seat<Register>, Seat<Register>),
-    back: (Seat<Register>, Seat<Register>),
-) -> Result<Register, AllocError>
+    turns: Turns<M>,
+    front: (Seat<M>, Seat<M>),
+    back: (Seat<M>, Seat<M>),
+) -> Result<M, AllocError>
     requires front { IsSeatOf turns front.0 × IsSeatOf turns front.1 × (front.0.number ≡ 0) × (front.1.number ≡ 1) }
     requires back { IsSeatOf turns back.0 × IsSeatOf turns back.1 × (back.0.number ≡ 2) × (back.1.number ≡ 3) }
     requires seats { turns.terms.seats ≡ 4 }
