@@ -16,6 +16,7 @@ use Rattle.time_cat.specs.Shown.{expanded}
 use Rattle.strftime_fields.specs.declared.fault.TimeFault.{TimeFault}
 use Rattle.strftime_fields.specs.declared.fault.TimeFault.TheVariants.{BadFormat, TooBig}
 use Rattle.strftime_fields.specs.Answers.{answer}
+use Rattle.strftime_fields.specs.Cost.{cost, reads}
 
 -- a day at 14:05:06, an hour and a half west of UTC
 abbrev day : ℕ → ℕ → ℕ → ℕ → ℕ → TmValues
@@ -64,6 +65,18 @@ faults : answer posix_values (day 2021 1 3 0 2) (codes "a%d%Q") 0 ∷ answer pos
 unfolding values_of expanded pieces conversion
 faults = refl
 
+-- what a format costs: its conversions once, and again with those of the format for which one stands, until the text is too long
+abbrev costs : List ℕ → ℕ → ℕ
+costs format max = cost posix_values (day 2021 1 3 0 2) format max
+
+steps : costs (codes "%c") 4096 ∷ costs (codes "%c") 4 ∷ costs (codes "%c") 3 ∷ costs (codes "%c") 2 ∷ [] ≡ 9 ∷ 4 ∷ 3 ∷ 3 ∷ []
+unfolding values_of expanded reads pieces conversion digits
+steps = refl
+
+steps_of_few : costs (codes "%d%d") 4 ∷ costs (codes "%d%d") 2 ∷ costs (codes "%d%d") 1 ∷ costs (codes "a%d%Q%d") 4096 ∷ costs (codes "ab") 4096 ∷ [] ≡ 4 ∷ 4 ∷ 3 ∷ 1 ∷ 0 ∷ []
+unfolding values_of expanded reads pieces conversion
+steps_of_few = refl
+
 -- ---- eras
 
 abbrev at : ℕ → ℕ → Place
@@ -88,3 +101,7 @@ in_era year mon mday = answer japanese (day year mon mday 0 0) (codes "%EY") 409
 era_years : in_era 2019 5 1 ∷ in_era 2019 4 30 ∷ in_era 1989 1 7 ∷ in_era 2021 2 3 ∷ in_era 7 1 1 ∷ [] ≡ Ok (codes "Reiwa 1") ∷ Ok (codes "Heisei 31") ∷ Ok (codes "1989") ∷ Ok (codes "Reiwa 3") ∷ Ok (codes "-2") ∷ []
 unfolding values_of expanded pieces conversion digits split few_digits year_of date end_number segment
 era_years = refl
+
+steps_of_eras : cost japanese (day 2021 2 3 0 0) (codes "%EY") 4096 ∷ cost japanese (day 1989 1 7 0 0) (codes "%EY") 4096 ∷ [] ≡ 4 ∷ 2 ∷ []
+unfolding values_of expanded reads pieces conversion digits split few_digits year_of date end_number segment
+steps_of_eras = refl

@@ -1,6 +1,5 @@
 -- What the pieces of a format give that are left at a place, and how many conversions they are.
-use Rattle.std.proofs.Common.{◌≡◌, ℕ, zero, suc, ◌+◌, ◌-◌, ◌*◌, ◌<◌, ◌≤◌, List, [], ◌∷◌, ◌++◌, Option, Some, None, cond, refl, arith, count_by, flat_map}
-use Rattle.std.proofs.Math.Nat.{mul-le-mul_left}
+use Rattle.std.proofs.Common.{◌≡◌, ℕ, zero, suc, ◌+◌, ◌-◌, ◌<◌, List, [], ◌∷◌, ◌++◌, Option, Some, None, cond, refl, arith, count_by, flat_map}
 use Rattle.std.proofs.lemmas.List.Sums.{sum_by-cons}
 use Rattle.time_cat.specs.declared.conversion.Conversion.{Conversion}
 use Rattle.time_cat.specs.Conversions.{conversion}
@@ -8,7 +7,6 @@ use Rattle.time_cat.specs.Formats.{Piece, Literal, Converted, Wrong, pieces, res
 use Rattle.time_cat.specs.Times.{TmValues}
 use Rattle.time_cat.specs.TimeValues.{TimeValues}
 use Rattle.time_cat.specs.Shown.{expanded, converted, piece_text, format_for, plain_text, conversions_of}
-use Rattle.strftime_fields.specs.Cost.{cost}
 
 -- ---- texts
 
@@ -76,21 +74,3 @@ unfolding conversions_left
 conversions_at_conversion format at modifier letter rank next is =
     let more : count_by is_conversion (Converted modifier letter rank ∷ rest_of format next) ≡ 1 + count_by is_conversion (rest_of format next) = sum_by-cons (λ (p : Piece). cond (is_conversion p) 1 0) (Converted modifier letter rank) (rest_of format next) in
     rw is (omega (arith, more))
-
--- ---- their price
-
--- what is spent, with the price of what is left, stays within what is allowed over a conversion
-pub paid : (levels spent more left total : ℕ) → 0 < levels → spent + cost levels * (left + 1) ≤ total → more ≤ spent + 1 + cost (levels - 1) * 16 → more + cost levels * left ≤ total
-paid zero spent more left total some before price = absurd (omega arith)
-paid (suc levels) spent more left total some before price =
-    let one : suc levels - 1 ≡ levels = omega arith in
-    let price' : more ≤ spent + 1 + cost levels * 16 = rw one at price in
-    omega arith
-
--- a format of the locale has at most 16 conversions
-pub format_paid : (levels n spent more : ℕ) → n ≤ 16 → more ≤ spent + cost levels * n → more ≤ spent + cost levels * 16
-format_paid levels n spent more few price = omega (arith, mul-le-mul_left (cost levels) few, price)
-
--- five levels
-pub five_levels : cost 5 ≡ 69905
-five_levels = refl

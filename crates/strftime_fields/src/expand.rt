@@ -1,10 +1,10 @@
 //! Formats within formats.
 
-ghost use Rattle.std.specs.Prelude.{◌≡◌, ◌+◌, ◌*◌, ◌≤◌, length};
+ghost use Rattle.std.specs.Prelude.{◌+◌, ◌≤◌, length};
 ghost use Rattle.time_cat.specs.Conversions.{conversion};
-ghost use Rattle.time_cat.specs.Shown.{expanded, converted, conversions_of};
+ghost use Rattle.time_cat.specs.Shown.{expanded, converted};
 ghost use Rattle.strftime_fields.specs.Appending.{Appends};
-ghost use Rattle.strftime_fields.specs.Cost.{cost};
+ghost use Rattle.strftime_fields.specs.Cost.{read_for, reads, Counts};
 
 use crate::fault::TimeFault;
 use crate::output::put_byte;
@@ -25,7 +25,7 @@ pub fn put_format<L: Ledger>(
 ) -> Result<(), TimeFault>
     requires { length out.old.items ≤ max }
     ensures text { Appends max out.old.items (expanded levels t.now tm.now format.now) out.new.items result }
-    ensures price { steps.new ≤ steps.old + cost levels * conversions_of format.now }
+    ensures steps { Counts result (steps.old + reads max levels t.now tm.now (length out.old.items) format.now) steps.new }
 {
     if levels == 0 {
         return Ok(());
@@ -66,7 +66,7 @@ fn put_conversion<L: Ledger>(
 ) -> Result<(), TimeFault>
     requires { length out.old.items ≤ max }
     ensures text { Appends max out.old.items (converted t.now tm.now (expanded levels t.now tm.now) (conversion modifier letter)) out.new.items result }
-    ensures price { steps.new ≤ steps.old + cost levels * 16 }
+    ensures steps { Counts result (steps.old + read_for t.now tm.now (reads max levels t.now tm.now (length out.old.items)) (conversion modifier letter)) steps.new }
 {
     match conversion_of(modifier, letter) {
         None => Ok(()),

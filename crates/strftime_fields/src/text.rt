@@ -1,9 +1,10 @@
 //! The text of a time (XSH strftime).
 
-ghost use Rattle.std.specs.Prelude.{◌≡◌, ◌+◌, ◌*◌, ◌≤◌, ◌<◌, length, None, Some};
+ghost use Rattle.std.specs.Prelude.{◌≡◌, ◌+◌, ◌*◌, ◌≤◌, ◌<◌};
 ghost use Rattle.time_cat.specs.Formats.{pieces, bad_place};
 ghost use Rattle.time_cat.specs.Shown.{conversions_of};
 ghost use Rattle.strftime_fields.specs.Answers.{answer, Answers};
+ghost use Rattle.strftime_fields.specs.Cost.{cost, Counts};
 
 use crate::expand::put_format;
 use crate::fault::TimeFault;
@@ -20,7 +21,7 @@ const LEVELS: u8 = 5;
 #[tactic(auto, using(crate::proofs::Left::pieces_at_start))]
 fn bad_byte<L: Ledger>(format: &[u8], steps: &mut Steps<L>) -> Option<usize>
     ensures is { result ≡ bad_place (pieces format.now) }
-    ensures cost { steps.new ≤ steps.old + conversions_of format.now }
+    ensures steps { steps.new ≡ steps.old + conversions_of format.now }
 {
     let mut at = 0;
     'reading: loop {
@@ -36,7 +37,8 @@ fn bad_byte<L: Ledger>(format: &[u8], steps: &mut Steps<L>) -> Option<usize>
 /// The text of a time by a format, of at most `max` bytes; each conversion that is read is a step.
 ///
 /// `BadFormat` comes exactly where a `%` of the format begins no conversion, at the first one, and
-/// `TooBig` exactly where none does and the text is longer than `max`.
+/// `TooBig` exactly where none does and the text is longer than `max`. The steps are those that the
+/// format costs, or where memory is wanting at most so many.
 pub fn strftime_counted<L: Ledger>(
     alloc: Global,
     t: &Time,
@@ -46,8 +48,10 @@ pub fn strftime_counted<L: Ledger>(
     steps: &mut Steps<L>,
 ) -> Result<ByteText, TimeFault>
     ensures answer { Answers result (answer t.now tm.now format.now max) }
-    ensures cost { steps.new ≤ steps.old + 69906 * conversions_of format.now }
+    ensures steps { Counts result (steps.old + cost t.now tm.now format.now max) steps.new }
+    ensures bound { cost t.now tm.now format.now max ≤ 69906 * conversions_of format.now }
 {
+    t.rules_hold();
     if let Some(at) = bad_byte(format, steps) {
         return Err(TimeFault::BadFormat { at });
     }

@@ -1,9 +1,10 @@
-use Rattle.std.proofs.Common.{◌+◌, ◌-◌, ◌<◌, [], ◌∷◌, ◌++◌, refl, sym, ap, ◌∙◌, arith}
+use Rattle.std.proofs.Common.{◌≡◌, ◌+◌, ◌-◌, ◌<◌, [], ◌∷◌, ◌++◌, length, Err, refl, sym, ap, ◌∙◌, arith, length-append}
 use Rattle.std.proofs.lemmas.Result.{err_from_is_err_and}
 use Rattle.time_cat.specs.Conversions.{conversion}
 use Rattle.time_cat.specs.Shown.{expanded, converted}
 use Rattle.strftime_fields.proofs.Adding.{goes_on, stops, ends}
-use Rattle.strftime_fields.proofs.Left.{text_left, text_at_start, text_at_end, text_at_wrong, text_at_byte, text_at_conversion, no_levels, conversions_left, conversions_at_start, conversions_at_byte, conversions_at_conversion, paid}
+use Rattle.strftime_fields.proofs.Left.{text_left, text_at_start, text_at_end, text_at_wrong, text_at_byte, text_at_conversion, no_levels}
+use Rattle.strftime_fields.proofs.Counting.{reads_left, reads_at_start, reads_at_end, reads_at_wrong, reads_at_byte, reads_at_conversion, none_left, no_levels_read, counts_same, counts_stop}
 use Rattle.strftime_fields.proofs.expand.+expand.Goals as goal
 
 pub put_format-returns-then-levels-eq0-clause-text : goal.put_format-returns-then-levels-eq0-clause-text
@@ -19,7 +20,7 @@ put_format-reading-init g t c =
       some = some;
       short = c.requires;
       text = ap (λ x. c.args.out.now.items ++ x) (text_at_start c.args.levels c.args.t.now c.args.tm.now c.args.format.now some);
-      price = rw (conversions_at_start c.args.format.now) (omega arith);
+      steps = ap (λ n. c.args.steps.now + n) (reads_at_start c.args.max c.args.levels c.args.t.now c.args.tm.now (length c.args.out.now.items) c.args.format.now some);
     }
 
 pub put_format-returns-in-End-clause-text : goal.put_format-returns-in-End-clause-text
@@ -44,33 +45,67 @@ put_format-returns-in_err-put_conversion-in-Conv-clause-text g t c =
     let left = text_at_conversion c.args.levels c.args.t.now c.args.tm.now c.args.format.now c.reading.at c.in-Conv.modifier c.in-Conv.letter _ c.in-Conv.next c.in-Conv.ensures.stands.2 in
     rw (p.1, p.2) (stops c.args.max c.args.out.now.items (expanded c.args.levels c.args.t.now c.args.tm.now c.args.format.now) c.reading.out.items c.put_conversion.new.out.items c.put_conversion.new.out.items (converted c.args.t.now c.args.tm.now (expanded (c.args.levels - 1) c.args.t.now c.args.tm.now) (conversion c.in-Conv.modifier c.in-Conv.letter)) (text_left c.args.levels c.args.t.now c.args.tm.now c.args.format.now c.in-Conv.next) c.in_err-put_conversion-in-Conv.field-0.0 (ap (λ x. c.reading.out.items ++ x) (sym left) ∙ c.reading.invariant.text) c.in_err-put_conversion-in-Conv.ensures.text)
 
-pub put_format-returns-in_err-put_conversion-in-Conv-clause-price : goal.put_format-returns-in_err-put_conversion-in-Conv-clause-price
-put_format-returns-in_err-put_conversion-in-Conv-clause-price g t c =
-    let more = conversions_at_conversion c.args.format.now c.reading.at c.in-Conv.modifier c.in-Conv.letter _ c.in-Conv.next c.in-Conv.ensures.stands.2 in
-    let spent = paid c.args.levels c.reading.steps c.put_conversion.new.steps (conversions_left c.args.format.now c.in-Conv.next) _ c.reading.invariant.some (rw more at c.reading.invariant.price) (omega (arith, c.in_err-put_conversion-in-Conv.ensures.price, c.in-Conv.ensures.counted)) in
-    omega (arith, spent)
+pub put_format-returns-then-levels-eq0-clause-steps : goal.put_format-returns-then-levels-eq0-clause-steps
+put_format-returns-then-levels-eq0-clause-steps g t c =
+    let none = no_levels_read c.args.max c.args.levels c.args.t.now c.args.tm.now (length c.args.out.now.items) c.args.format.now c.if-levels-eq0.true in
+    omega (arith, none)
+
+pub put_format-returns-in-End-clause-steps : goal.put_format-returns-in-End-clause-steps
+put_format-returns-in-End-clause-steps g t c =
+    let none = reads_at_end c.args.max c.args.levels c.args.t.now c.args.tm.now (length c.reading.out.items) c.args.format.now c.reading.at c.in-End.ensures.stands in
+    omega (arith, none, c.reading.invariant.steps, c.in-End.ensures.counted)
+
+pub put_format-returns-in-Bad-clause-steps : goal.put_format-returns-in-Bad-clause-steps
+put_format-returns-in-Bad-clause-steps g t c =
+    let none = reads_at_wrong c.args.max c.args.levels c.args.t.now c.args.tm.now (length c.reading.out.items) c.args.format.now c.reading.at c.in-Bad.ensures.stands in
+    omega (arith, none, c.reading.invariant.steps, c.in-Bad.ensures.counted)
+
+pub put_format-returns-in_err-put_byte-in-Byte-clause-steps : goal.put_format-returns-in_err-put_byte-in-Byte-clause-steps
+put_format-returns-in_err-put_byte-in-Byte-clause-steps g t c =
+    let p = err_from_is_err_and c.from_residual.result c.from_residual.ensures.1 in
+    let left = reads_at_byte c.args.max c.args.levels c.args.t.now c.args.tm.now (length c.reading.out.items) c.args.format.now c.reading.at c.in-Byte.byte (c.reading.at + 1) c.in-Byte.ensures.stands.1 in
+    let rest = reads_left c.args.max c.args.levels c.args.t.now c.args.tm.now (length c.reading.out.items + 1) c.args.format.now (c.reading.at + 1) in
+    rw (p.1, p.2) (counts_stop c.args.max c.reading.out.items (c.in-Byte.byte ∷ []) c.put_byte.new.out.items c.in_err-put_byte-in-Byte.field-0.0 c.reading.steps rest _ _
+    c.in_err-put_byte-in-Byte.ensures
+    (counts_same {A = Unit {0}} (Err c.in_err-put_byte-in-Byte.field-0.0) c.reading.steps _ (omega (arith, c.in-Byte.ensures.counted)))
+    (omega (arith, left, c.reading.invariant.steps))
+    (λ long. none_left c.args.max c.args.levels c.args.t.now c.args.tm.now (length c.reading.out.items + 1) c.args.format.now (c.reading.at + 1) long))
+
+pub put_format-returns-in_err-put_conversion-in-Conv-clause-steps : goal.put_format-returns-in_err-put_conversion-in-Conv-clause-steps
+put_format-returns-in_err-put_conversion-in-Conv-clause-steps g t c =
+    let p = err_from_is_err_and c.from_residual-in_err-put_conversion-in-Conv.result c.from_residual-in_err-put_conversion-in-Conv.ensures.1 in
+    let left = reads_at_conversion c.args.max c.args.levels c.args.t.now c.args.tm.now (length c.reading.out.items) c.args.format.now c.reading.at c.in-Conv.modifier c.in-Conv.letter _ c.in-Conv.next c.in-Conv.ensures.stands.2 c.reading.invariant.short in
+    let piece = converted c.args.t.now c.args.tm.now (expanded (c.args.levels - 1) c.args.t.now c.args.tm.now) (conversion c.in-Conv.modifier c.in-Conv.letter) in
+    let rest = reads_left c.args.max c.args.levels c.args.t.now c.args.tm.now (length c.reading.out.items + length piece) c.args.format.now c.in-Conv.next in
+    rw (p.1, p.2) (counts_stop c.args.max c.reading.out.items piece c.put_conversion.new.out.items c.in_err-put_conversion-in-Conv.field-0.0 _ rest _ _
+    c.in_err-put_conversion-in-Conv.ensures.text
+    c.in_err-put_conversion-in-Conv.ensures.steps
+    (omega (arith, left, c.reading.invariant.steps, c.in-Conv.ensures.counted))
+    (λ long. none_left c.args.max c.args.levels c.args.t.now c.args.tm.now (length c.reading.out.items + length piece) c.args.format.now c.in-Conv.next long))
 
 pub put_format-reading-preserved-in-Byte : goal.put_format-reading-preserved-in-Byte
 put_format-reading-preserved-in-Byte g t c =
     let left = text_at_byte c.args.levels c.args.t.now c.args.tm.now c.args.format.now c.reading.at c.in-Byte.byte (c.reading.at + 1) c.in-Byte.ensures.stands.1 in
-    let same = conversions_at_byte c.args.format.now c.reading.at c.in-Byte.byte (c.reading.at + 1) c.in-Byte.ensures.stands.1 in
-    let price = rw same at c.reading.invariant.price in
+    let reads = reads_at_byte c.args.max c.args.levels c.args.t.now c.args.tm.now (length c.reading.out.items) c.args.format.now c.reading.at c.in-Byte.byte (c.reading.at + 1) c.in-Byte.ensures.stands.1 in
+    let longer : length c.put_byte.new.out.items ≡ length c.reading.out.items + 1 = ap length c.in_ok-put_byte-in-Byte.ensures.0 ∙ length-append c.reading.out.items (c.in-Byte.byte ∷ []) in
     record {
       within = omega (arith, c.in-Byte.ensures.stands.0);
       some = c.reading.invariant.some;
       short = c.in_ok-put_byte-in-Byte.ensures.1;
       text = goes_on c.args.out.now.items (expanded c.args.levels c.args.t.now c.args.tm.now c.args.format.now) c.reading.out.items c.put_byte.new.out.items (c.in-Byte.byte ∷ []) (text_left c.args.levels c.args.t.now c.args.tm.now c.args.format.now (c.reading.at + 1)) (ap (λ x. c.reading.out.items ++ x) (sym left) ∙ c.reading.invariant.text) c.in_ok-put_byte-in-Byte.ensures.0;
-      price = omega (arith, price, c.in-Byte.ensures.counted);
+      steps = rw longer (omega (arith, reads, c.reading.invariant.steps, c.in-Byte.ensures.counted));
     }
 
 pub put_format-reading-preserved : goal.put_format-reading-preserved
 put_format-reading-preserved g t c =
     let left = text_at_conversion c.args.levels c.args.t.now c.args.tm.now c.args.format.now c.reading.at c.in-Conv.modifier c.in-Conv.letter _ c.in-Conv.next c.in-Conv.ensures.stands.2 in
-    let more = conversions_at_conversion c.args.format.now c.reading.at c.in-Conv.modifier c.in-Conv.letter _ c.in-Conv.next c.in-Conv.ensures.stands.2 in
+    let piece = converted c.args.t.now c.args.tm.now (expanded (c.args.levels - 1) c.args.t.now c.args.tm.now) (conversion c.in-Conv.modifier c.in-Conv.letter) in
+    let reads = reads_at_conversion c.args.max c.args.levels c.args.t.now c.args.tm.now (length c.reading.out.items) c.args.format.now c.reading.at c.in-Conv.modifier c.in-Conv.letter _ c.in-Conv.next c.in-Conv.ensures.stands.2 c.reading.invariant.short in
+    let longer : length c.put_conversion.new.out.items ≡ length c.reading.out.items + length piece = ap length c.in_ok-put_conversion-in-Conv.ensures.text.0 ∙ length-append c.reading.out.items piece in
     record {
       within = c.in-Conv.ensures.stands.1;
       some = c.reading.invariant.some;
       short = c.in_ok-put_conversion-in-Conv.ensures.text.1;
       text = goes_on c.args.out.now.items (expanded c.args.levels c.args.t.now c.args.tm.now c.args.format.now) c.reading.out.items c.put_conversion.new.out.items (converted c.args.t.now c.args.tm.now (expanded (c.args.levels - 1) c.args.t.now c.args.tm.now) (conversion c.in-Conv.modifier c.in-Conv.letter)) (text_left c.args.levels c.args.t.now c.args.tm.now c.args.format.now c.in-Conv.next) (ap (λ x. c.reading.out.items ++ x) (sym left) ∙ c.reading.invariant.text) c.in_ok-put_conversion-in-Conv.ensures.text.0;
-      price = paid c.args.levels c.reading.steps c.put_conversion.new.steps (conversions_left c.args.format.now c.in-Conv.next) _ c.reading.invariant.some (rw more at c.reading.invariant.price) (omega (arith, c.in_ok-put_conversion-in-Conv.ensures.price, c.in-Conv.ensures.counted));
+      steps = rw longer (omega (arith, reads, c.reading.invariant.steps, c.in_ok-put_conversion-in-Conv.ensures.steps, c.in-Conv.ensures.counted));
     }

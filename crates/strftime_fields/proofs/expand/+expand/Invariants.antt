@@ -1,17 +1,18 @@
 use Rattle.std.proofs.Common.{◌≡◌, ◌+◌, ◌-◌, ◌*◌, ◌≤◌, ◌<◌, ◌++◌, length}
-use Rattle.time_cat.specs.Shown.{expanded, conversions_of}
-use Rattle.strftime_fields.specs.Cost.{cost}
-use Rattle.strftime_fields.proofs.Left.{text_left, conversions_left}
+use Rattle.time_cat.specs.Shown.{expanded}
+use Rattle.strftime_fields.specs.Cost.{reads}
+use Rattle.strftime_fields.proofs.Left.{text_left}
+use Rattle.strftime_fields.proofs.Counting.{reads_left}
 use Rattle.strftime_fields.proofs.expand.+expand.Given as goal
 
--- what was added so far, and what the pieces that are left give, are what the whole format gives
+-- what was added so far, and what the pieces that are left give, are what the whole format gives, and so it is with what is read
 abbrev pub invariant-put_format-reading : goal.invariant-put_format-reading
 invariant-put_format-reading g l = record {
   within : l.at ≤ length l.format;
   some : 0 < l.levels;
   short : length l.out.items ≤ l.max;
   text : l.out.items ++ text_left l.levels l.t l.tm l.format l.at ≡ l.initial.out.items ++ expanded l.levels l.t l.tm l.format;
-  price : l.steps + cost l.levels * conversions_left l.format l.at ≤ l.initial.steps + cost l.levels * conversions_of l.format;
+  steps : l.steps + reads_left l.max l.levels l.t l.tm (length l.out.items) l.format l.at ≡ l.initial.steps + reads l.max l.levels l.t l.tm (length l.initial.out.items) l.format;
 }
 
 abbrev pub decreases-put_format-reading : goal.decreases-put_format-reading

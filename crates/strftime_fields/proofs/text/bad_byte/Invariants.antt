@@ -6,7 +6,7 @@ abbrev pub invariant-reading : goal.invariant-reading
 invariant-reading g l = record {
   within : l.at ≤ length l.format;
   bad : bad_place (rest_of l.format l.at) ≡ bad_place (pieces l.format);
-  cost : l.steps + count_by is_conversion (rest_of l.format l.at) ≤ l.initial.steps + count_by is_conversion (pieces l.format);
+  steps : l.steps + count_by is_conversion (rest_of l.format l.at) ≡ l.initial.steps + count_by is_conversion (pieces l.format);
 }
 
 abbrev pub decreases-reading : goal.decreases-reading

@@ -1,5 +1,8 @@
-use Rattle.std.proofs.Common.{sym}
+use Rattle.std.proofs.Common.{◌≡◌, ℕ, ◌+◌, List, sym, arith}
 use Rattle.std.proofs.lemmas.Result.{err_from_is_err_and}
+use Rattle.strftime_fields.specs.Cost.{reads, cost}
+use Rattle.strftime_fields.proofs.Bound.{cost_most}
+use Rattle.strftime_fields.proofs.Counting.{counts_fault, cost_wrong, cost_right}
 use Rattle.strftime_fields.proofs.Answering.{answers_bad, answers_text, answers_fault}
 use Rattle.strftime_fields.proofs.text.strftime_counted.Goals as goal
 
@@ -15,3 +18,31 @@ returns-clause-answer g c =
 
 pub returns-in-Some-clause-answer : goal.returns-in-Some-clause-answer
 returns-in-Some-clause-answer g c = answers_bad c.args.t.now c.args.tm.now c.args.format.now c.args.max c.in-Some.at (sym c.in-Some.ensures.is)
+
+pub returns-in_err-put_format-clause-steps : goal.returns-in_err-put_format-clause-steps
+returns-in_err-put_format-clause-steps g c =
+    let p = err_from_is_err_and c.from_residual.result c.from_residual.ensures.1 in
+    let right = cost_right c.args.t.now c.args.tm.now c.args.format.now c.args.max (sym c.in_default.ensures.is) in
+    let read = rw c.new-out.ensures.items at c.in_err-put_format.ensures.steps in
+    let whole : c.bad_byte.new.steps + reads c.args.max 5 c.args.t.now c.args.tm.now 0 c.args.format.now ≡ c.args.steps.now + cost c.args.t.now c.args.tm.now c.args.format.now c.args.max = omega (arith, right, c.in_default.ensures.steps) in
+    rw (p.1, p.2, sym whole) (counts_fault (Unit {0}) (List ℕ) c.in_err-put_format.field-0.0 _ _ read)
+
+pub returns-clause-steps : goal.returns-clause-steps
+returns-clause-steps g c =
+    let right = cost_right c.args.t.now c.args.tm.now c.args.format.now c.args.max (sym c.in_default.ensures.is) in
+    let read = rw c.new-out.ensures.items at c.in_ok-put_format.ensures.steps in
+    omega (arith, right, read, c.in_default.ensures.steps)
+
+pub returns-in-Some-clause-steps : goal.returns-in-Some-clause-steps
+returns-in-Some-clause-steps g c =
+    let wrong = cost_wrong c.args.t.now c.args.tm.now c.args.format.now c.args.max c.in-Some.at (sym c.in-Some.ensures.is) in
+    omega (arith, wrong, c.in-Some.ensures.steps)
+
+pub returns-in_err-put_format-clause-bound : goal.returns-in_err-put_format-clause-bound
+returns-in_err-put_format-clause-bound g c = cost_most c.args.t.now c.args.tm.now c.args.format.now c.args.max c.rules_hold.ensures
+
+pub returns-clause-bound : goal.returns-clause-bound
+returns-clause-bound g c = cost_most c.args.t.now c.args.tm.now c.args.format.now c.args.max c.rules_hold.ensures
+
+pub returns-in-Some-clause-bound : goal.returns-in-Some-clause-bound
+returns-in-Some-clause-bound g c = cost_most c.args.t.now c.args.tm.now c.args.format.now c.args.max c.rules_hold.ensures

@@ -1,0 +1,106 @@
+-- How many conversions are read of what is left of a format.
+use Rattle.std.proofs.Common.{◌≡◌, ℕ, zero, suc, ◌+◌, ◌-◌, ◌<◌, ◌≤◌, Bool, true, false, cond, leb, List, [], ◌∷◌, ◌++◌, length, Option, Some, None, Result, Ok, Err, refl, sym, ap, ◌∙◌, arith}
+use Rattle.std.proofs.lemmas.Bool.{le-leb, lt-leb}
+use Rattle.time_cat.specs.declared.conversion.Conversion.{Conversion}
+use Rattle.time_cat.specs.Conversions.{conversion}
+use Rattle.time_cat.specs.Formats.{Piece, Literal, Converted, Wrong, pieces, rest_of, bad_place}
+use Rattle.time_cat.specs.Times.{TmValues}
+use Rattle.time_cat.specs.TimeValues.{TimeValues}
+use Rattle.time_cat.specs.Shown.{expanded, converted, piece_text, format_for, conversions_of}
+use Rattle.strftime_fields.specs.declared.fault.TimeFault.{TimeFault}
+use Rattle.strftime_fields.specs.declared.fault.TimeFault.TheVariants.{BadFormat, TooBig, Memory}
+use Rattle.strftime_fields.specs.Appending.{Appends}
+use Rattle.strftime_fields.specs.Cost.{read_of, read_for, piece_reads, pieces_read, reads, cost, Counts}
+
+-- of what is left at a place, behind so many bytes of the text
+unfoldable pub reads_left : ℕ → ℕ → TimeValues → TmValues → ℕ → List ℕ → ℕ → ℕ
+reads_left max levels v t before format at = pieces_read max v t (expanded (levels - 1) v t) (reads max (levels - 1) v t) before (rest_of format at)
+
+pub reads_at_start : (max levels : ℕ) (v : TimeValues) (t : TmValues) (before : ℕ) (format : List ℕ) → 0 < levels → reads_left max levels v t before format 0 ≡ reads max levels v t before format
+unfolding reads_left reads rest_of pieces
+reads_at_start max zero v t before format some = absurd (omega arith)
+reads_at_start max (suc levels) v t before format some = let one : suc levels - 1 ≡ levels = omega arith in rw one refl
+
+pub reads_at_end : (max levels : ℕ) (v : TimeValues) (t : TmValues) (before : ℕ) (format : List ℕ) (at : ℕ) → rest_of format at ≡ [] → reads_left max levels v t before format at ≡ 0
+unfolding reads_left
+reads_at_end max levels v t before format at is = rw is refl
+
+pub reads_at_wrong : (max levels : ℕ) (v : TimeValues) (t : TmValues) (before : ℕ) (format : List ℕ) (at : ℕ) → rest_of format at ≡ Wrong at ∷ [] → reads_left max levels v t before format at ≡ 0
+unfolding reads_left
+reads_at_wrong max levels v t before format at is = rw is refl
+
+pub reads_at_byte : (max levels : ℕ) (v : TimeValues) (t : TmValues) (before : ℕ) (format : List ℕ) (at c next : ℕ) → rest_of format at ≡ Literal c ∷ rest_of format next → reads_left max levels v t before format at ≡ reads_left max levels v t (before + 1) format next
+unfolding reads_left
+reads_at_byte max levels v t before format at c next is =
+    let same : (n : ℕ) → 0 + n ≡ n = λ n. omega arith in
+    rw is (same (pieces_read max v t (expanded (levels - 1) v t) (reads max (levels - 1) v t) (before + 1) (rest_of format next)))
+
+read_here : (max before n : ℕ) → before ≤ max → cond (leb before max) n 0 ≡ n
+read_here max before n fits = let b : leb before max ≡ true = le-leb before max fits in rw b refl
+
+pub reads_at_conversion : (max levels : ℕ) (v : TimeValues) (t : TmValues) (before : ℕ) (format : List ℕ) (at modifier letter rank next : ℕ) → rest_of format at ≡ Converted modifier letter rank ∷ rest_of format next → before ≤ max
+    → reads_left max levels v t before format at ≡ (1 + read_for v t (reads max (levels - 1) v t before) (conversion modifier letter)) + reads_left max levels v t (before + length (converted v t (expanded (levels - 1) v t) (conversion modifier letter))) format next
+unfolding reads_left
+reads_at_conversion max levels v t before format at modifier letter rank next is fits =
+    rw is (ap (λ (n : ℕ). n + pieces_read max v t (expanded (levels - 1) v t) (reads max (levels - 1) v t) (before + length (converted v t (expanded (levels - 1) v t) (conversion modifier letter))) (rest_of format next)) (read_here max before (1 + read_for v t (reads max (levels - 1) v t before) (conversion modifier letter)) fits))
+
+-- nothing is read behind a text that is too long
+none_here : (v : TimeValues) (t : TmValues) (inner : List ℕ → ℕ) (p : Piece) → piece_reads v t inner false p ≡ 0
+none_here v t inner (Literal c) = refl
+none_here v t inner (Converted modifier letter rank) = refl
+none_here v t inner (Wrong at) = refl
+
+none_read : (max : ℕ) (v : TimeValues) (t : TmValues) (expand : List ℕ → List ℕ) (inner : ℕ → List ℕ → ℕ) (before : ℕ) (ps : List Piece) → max < before → pieces_read max v t expand inner before ps ≡ 0
+none_read max v t expand inner before [] long = refl
+none_read max v t expand inner before (p ∷ ps) long =
+    let b : leb before max ≡ false = lt-leb before max long in
+    let here : piece_reads v t (inner before) (leb before max) p ≡ 0 = rw b (none_here v t (inner before) p) in
+    let later = none_read max v t expand inner (before + length (piece_text v t expand p)) ps (omega (arith, long)) in
+    omega (arith, here, later)
+
+pub none_left : (max levels : ℕ) (v : TimeValues) (t : TmValues) (before : ℕ) (format : List ℕ) (at : ℕ) → max < before → reads_left max levels v t before format at ≡ 0
+unfolding reads_left
+none_left max levels v t before format at long = none_read max v t (expanded (levels - 1) v t) (reads max (levels - 1) v t) before (rest_of format at) long
+
+-- nothing is read of a format without levels
+pub no_levels_read : (max levels : ℕ) (v : TimeValues) (t : TmValues) (before : ℕ) (format : List ℕ) → levels ≡ 0 → reads max levels v t before format ≡ 0
+unfolding reads
+no_levels_read max levels v t before format none = rw none refl
+
+-- ---- what a conversion reads behind it
+
+pub no_conversion_read : (v : TimeValues) (t : TmValues) (inner : List ℕ → ℕ) (o : Option Conversion) → o ≡ None → read_for v t inner o ≡ 0
+no_conversion_read v t inner o none = rw none refl
+
+pub plain_read : (v : TimeValues) (t : TmValues) (inner : List ℕ → ℕ) (o : Option Conversion) (c : Conversion) → o ≡ Some c → format_for v t c.shows ≡ None → read_for v t inner o ≡ 0
+plain_read v t inner o c some none = rw some (rw none refl)
+
+pub format_read : (v : TimeValues) (t : TmValues) (inner : List ℕ → ℕ) (o : Option Conversion) (c : Conversion) (format : List ℕ) → o ≡ Some c → format_for v t c.shows ≡ Some format → read_for v t inner o ≡ inner format
+format_read v t inner o c format some is = rw some (rw is refl)
+
+-- ---- counts
+
+pub counts_same : {A : Type 0} (r : Result A TimeFault) (wanted steps : ℕ) → steps ≡ wanted → Counts r wanted steps
+counts_same (Ok x) wanted steps is = is
+counts_same (Err Memory) wanted steps is = omega (arith, is)
+counts_same (Err TooBig) wanted steps is = is
+counts_same (Err (BadFormat at)) wanted steps is = is
+
+-- a fault counts the same, whatever there is else
+pub counts_fault : (A B : Type 0) (e : TimeFault) (wanted steps : ℕ) → Counts {A = A} (Err e) wanted steps → Counts {A = B} (Err e) wanted steps
+counts_fault A B Memory wanted steps is = is
+counts_fault A B TooBig wanted steps is = is
+counts_fault A B (BadFormat at) wanted steps is = is
+
+-- the price of a format with a wrong `%`, and of one without
+pub cost_wrong : (v : TimeValues) (t : TmValues) (format : List ℕ) (max at : ℕ) → bad_place (pieces format) ≡ Some at → cost v t format max ≡ conversions_of format
+cost_wrong v t format max at bad = rw bad (omega arith)
+
+pub cost_right : (v : TimeValues) (t : TmValues) (format : List ℕ) (max : ℕ) → bad_place (pieces format) ≡ None → cost v t format max ≡ conversions_of format + reads max 5 v t 0 format
+cost_right v t format max good = rw good refl
+
+-- where a piece can't be added, nothing is read behind it
+pub counts_stop : (max : ℕ) (out piece new : List ℕ) (e : TimeFault) (here rest total steps : ℕ) → Appends max out piece new (Err e) → Counts {A = Unit {0}} (Err e) here steps → here + rest ≡ total → (max < length out + length piece → rest ≡ 0) → Counts {A = Unit {0}} (Err e) total steps
+counts_stop max out piece new TooBig here rest total steps long is whole none = omega (arith, is, whole, none long)
+counts_stop max out piece new Memory here rest total steps lacking is whole none = omega (arith, is, whole)
+counts_stop max out piece new (BadFormat at) here rest total steps impossible is whole none = absurd impossible
