@@ -1,7 +1,4 @@
 mod Examples
-pub mod NamedLemmas
-pub mod BlockLemmas
-pub mod TableLemmas
-pub mod CopyLemmas
-pub mod CompileLemmas
 pub mod LibraryLemmas
+pub mod Numbered
+pub mod Installable

@@ -1,12 +1,3 @@
-pub mod Named
-pub mod Blocks
-pub mod Sources
-pub mod Tables
-pub mod Copies
-pub mod Written
-pub mod Compiled
 pub mod Catalog
 pub mod Library
-pub mod Seen
-pub mod Ends
-pub mod Kept
+pub mod Shelf

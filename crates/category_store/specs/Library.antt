@@ -1,5 +1,5 @@
 -- The library of a bundle's compiled locales: what it is built from, and what it answers (XSH newlocale, setlocale).
-use Rattle.std.specs.Prelude.{ℕ, zero, suc, ◌+◌, Bool, ◌==◌, List, [], ◌∷◌, ◌++◌, length, map, codes, replicate, slice_get, Option, Some, None, unwrap_or, option_map, Result, Ok, Err, if◌then◌else◌}
+use Rattle.std.specs.Prelude.{ℕ, ◌+◌, ◌==◌, List, [], ◌∷◌, length, map, replicate, slice_get, Option, Some, None, unwrap_or, option_map, Result, Ok, Err, if◌then◌else◌}
 use Rattle.lc_base.specs.declared.place.Place.{Place}
 use Rattle.lc_base.specs.declared.category.Category.{Category}
 use Rattle.lc_base.specs.declared.category.Category.TheVariants.{Ctype, Numeric, Monetary, Time, Messages}
@@ -9,20 +9,20 @@ use Rattle.lc_base.specs.declared.block.Later.{Later}
 use Rattle.lc_base.specs.Mask.{includes}
 use Rattle.lc_base.specs.Reading.{Reads, ◌>>=◌}
 use Rattle.charmap_reader.specs.Portable.{Name, first_named}
+use Rattle.charmap_reader.specs.CodedSet.{CodedSet}
 use Rattle.mask_compose.specs.Parts.{Parts}
 use Rattle.mask_compose.specs.Offer.{Offered}
 use Rattle.lc_base.specs.Categories.{categories}
 use Rattle.mask_compose.specs.Names.{mixed_parts}
-use Rattle.ctype_classes.specs.Ctype.{posix_values as posix_classes}
-use Rattle.numeric_cat.specs.Numeric.{posix_values}
-use Rattle.monetary_cat.specs.Monetary.{posix_values as posix_money}
-use Rattle.time_cat.specs.Values.{posix_values as posix_times}
-use Rattle.messages_cat.specs.Messages.{posix_values as posix_messages}
-use Rattle.category_store.specs.Blocks.{by_place}
-use Rattle.category_store.specs.Sources.{Source, with_named, charsets, sources_of}
-use Rattle.category_store.specs.Copies.{is_posix, locale_numbers, copy_fault}
-use Rattle.category_store.specs.Compiled.{locales_of}
-use Rattle.category_store.specs.Catalog.{Locale, Catalog}
+use Rattle.locale_sources.specs.Named.{with_named}
+use Rattle.locale_sources.specs.Sources.{Source}
+use Rattle.locale_sources.specs.Sections.{is_posix}
+use Rattle.source_blocks.specs.Blocks.{by_place}
+use Rattle.source_blocks.specs.Sources.{charsets, sources_of}
+use Rattle.category_copies.specs.Copies.{locale_numbers, copy_fault}
+use Rattle.compiled_categories.specs.Locale.{Locale, locale_among}
+use Rattle.compiled_categories.specs.Compiled.{locales_of}
+use Rattle.category_store.specs.Catalog.{Catalog}
 
 -- ---- what a bundle's blocks make
 
@@ -71,30 +71,17 @@ unless_fault (Some fault) locales = Err fault
 abbrev pub catalog_from : Option Name → List Source → Reads Catalog
 catalog_from native sources = unless_fault (copy_fault sources) (locales_of sources) >>= λ locales. Ok (catalog_of sources native locales)
 
+-- the library of locales and later versions over charsets, or its first fault: sources in order of place come before copies, and
+-- copies before categories
+abbrev pub catalog_over : List (Name × CodedSet) → List Block → List Later → Option Name → Reads Catalog
+catalog_over sets locales later native = sources_of sets (by_place locales later) >>= catalog_from native
+
 -- the library of a bundle with these charmaps, locales and later versions, or its first fault: charmaps in order come before
--- sources in order of place, then copies, and then categories
+-- sources
 abbrev pub catalog : List Block → List Block → List Later → Option Name → Reads Catalog
-catalog charmaps locales later native =
-    charsets charmaps >>= λ sets. sources_of sets (by_place locales later) >>= catalog_from native
+catalog charmaps locales later native = charsets charmaps >>= λ sets. catalog_over sets locales later native
 
 -- ---- what it answers
-
--- the POSIX locale, which has all categories
-abbrev pub posix_locale : Locale
-posix_locale = record {
-  name = codes "C";
-  available = 31;
-  ctype = posix_classes;
-  numeric = posix_values;
-  monetary = posix_money;
-  time = posix_times;
-  messages = posix_messages;
-}
-
--- the compiled locale with a number; 0, and a number that no locale has, are the POSIX locale
-abbrev pub locale_among : List Locale → ℕ → Locale
-locale_among locales zero = posix_locale
-locale_among locales (suc k) = unwrap_or (slice_get locales k) posix_locale
 
 abbrev pub locale_at : Catalog → ℕ → Locale
 locale_at c n = locale_among c.locales n

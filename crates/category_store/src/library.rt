@@ -1,28 +1,25 @@
 //! The library of a bundle's compiled locales.
 
-ghost use Rattle.std.specs.Prelude.{◌≡◌, ◌+◌, ◌<◌, ◌≤◌, ◌^◌, ℕ, List, Ok, Err, length, map, All, IfOk, MatchResult, option_map};
+ghost use Rattle.std.specs.Prelude.{◌≡◌, ◌+◌, ◌<◌, ◌≤◌, ◌^◌, List, Ok, Err, length, map, All, IfOk, MatchResult};
 ghost use Rattle.std.specs.Option.{option_copied};
 ghost use Rattle.lc_base.specs.Reading.{Gives};
-ghost use Rattle.category_store.specs.Blocks.{IsSized};
-ghost use Rattle.category_store.specs.Seen.{source};
 ghost use Rattle.mask_compose.specs.Names.{spanned};
-ghost use Rattle.category_store.specs.Named.{pairs_of};
-ghost use Rattle.category_store.specs.Copies.{locale_numbers, copy_fault};
-ghost use Rattle.category_store.specs.Compiled.{locales_of};
-ghost use Rattle.category_store.specs.Library.{catalog, catalog_from, locale_at, number_of, number_in, numbers, names_given, posix_object, object_of, offer_at, first_offer, name_at, opening, later, unless_fault};
+ghost use Rattle.locale_sources.specs.Named.{pairs_of};
+ghost use Rattle.locale_sources.specs.Seen.{source};
+ghost use Rattle.source_blocks.specs.Blocks.{IsSized};
+ghost use Rattle.category_copies.specs.Copies.{locale_numbers, copy_fault};
+ghost use Rattle.compiled_categories.specs.Compiled.{locales_of};
+ghost use Rattle.category_store.specs.Library.{catalog, catalog_over, catalog_from, locale_at, number_of, number_in, numbers, names_given, posix_object, object_of, offer_at, first_offer, name_at, opening, later, unless_fault};
+ghost use Rattle.category_store.specs.Shelf.{IsNumbered, IsInstallable};
 
-use crate::blocks::by_place;
-use crate::charsets::Charsets;
-use crate::compiled::Compiled;
-use crate::copies::locale_numbers;
-use crate::ends::{Ends, copy_fault};
-use crate::locales::Locales;
-use crate::named::{Named, get_named};
-use crate::names::{keys_of, names_of, native_number, plain_number};
+use crate::names::{Names, plain_number};
 use crate::share::Share;
-use crate::source::{Source, read_sources};
+use category_copies::read_rows;
+use compiled_categories::{Compiled, Locales};
 use lc_base::{Block, Category, Later, List, Mask, TextFault};
+use locale_sources::{Named, Source, get_named};
 use mask_compose::{Object, Offer, read_names};
+use source_blocks::{Charsets, read_blocks};
 use std::alloc::{AllocError, Global};
 use std::marker::Model;
 
@@ -30,24 +27,21 @@ use std::marker::Model;
 #[derive(Drop)]
 pub struct Library {
     locales: Locales,
-    names: Named<u32>,
-    first: Named<u32>,
-    keys: Named<u32>,
-    native: u32,
+    names: Names,
 }
 
 impl Model for Library {
     ghost use Rattle.category_store.specs.Catalog.{Catalog};
-    ghost use Rattle.category_store.specs.Named.{pairs_of};
+    ghost use Rattle.locale_sources.specs.Named.{pairs_of};
 
     ghost Value = { Catalog };
 
     ghost view = { λ l. record {
       locales = l.locales;
-      names = pairs_of l.names;
-      first = pairs_of l.first;
-      keys = pairs_of l.keys;
-      native = l.native;
+      names = pairs_of l.names.names;
+      first = pairs_of l.names.first;
+      keys = pairs_of l.names.keys;
+      native = l.names.native;
     } };
 }
 
@@ -74,30 +68,12 @@ impl Library {
         requires charmaps { All IsSized charmaps.now }
         requires locales { All IsSized locales.now }
         requires later { All (λ l. IsSized l.block) later.now }
-        ensures { Gives (λ l. l) result (catalog charmaps.now locales.now later.now (option_copied native.entry)) }
+        ensures library { Gives (λ l. l) result (catalog charmaps.now locales.now later.now (option_copied native.entry)) }
+        ensures numbered { IfOk result IsNumbered }
+        ensures installable { IfOk result IsInstallable }
     {
         let charsets = Charsets::read(alloc, charmaps)?;
-        let blocks = by_place(alloc, locales, later)?;
-        let sources = read_sources(alloc, &charsets, blocks.as_slice())?;
-        library_of(alloc, sources.as_slice(), native)
-    }
-
-    fn of(
-        locales: Locales,
-        names: Named<u32>,
-        first: Named<u32>,
-        keys: Named<u32>,
-        native: u32,
-    ) -> Library
-        ensures { result ≡ record { locales = locales; names = pairs_of names; first = pairs_of first; keys = pairs_of keys; native = native } }
-    {
-        Library {
-            locales,
-            names,
-            first,
-            keys,
-            native,
-        }
+        library_over(alloc, &charsets, locales, later, native)
     }
 
     /// The compiled locale of a share. The POSIX locale has the number 0, and stands for a number
@@ -120,9 +96,9 @@ impl Library {
         ensures { result ≡ number_of self.now name.now }
     {
         if name.is_empty() {
-            return Some(self.native);
+            return Some(self.names.native);
         }
-        plain_number(&self.names, name)
+        plain_number(&self.names.names, name)
     }
 
     /// The number of a name in a category.
@@ -170,7 +146,7 @@ impl Library {
     fn first_offer(&self, name: &[u8]) -> Offer<Share>
         ensures { result ≡ first_offer self.now name.now }
     {
-        match get_named(&self.first, name) {
+        match get_named(&self.names.first, name) {
             Some(number) => self.offer_at(*number),
             None => Offer {
                 object: object_of(Mask::all(), 0),
@@ -183,14 +159,14 @@ impl Library {
     fn name_count(&self) -> usize
         ensures { result ≡ length self.now.names }
     {
-        self.names.len()
+        self.names.names.len()
     }
 
     /// A name by its place, from 0.
     fn name_at(&self, i: usize) -> &[u8]
         ensures { result.now ≡ name_at self.now i }
     {
-        match self.names.get_index(i) {
+        match self.names.names.get_index(i) {
             Some((name, _)) => name.as_slice(),
             None => b"",
         }
@@ -214,9 +190,9 @@ impl Library {
     pub fn later(&self, key: &[u8]) -> Option<(u32, Offer<Share>)>
         ensures { result ≡ later self.now key.now }
     {
-        let number = *get_named(&self.keys, key)?;
+        let number = *get_named(&self.names.keys, key)?;
         let name = self.compiled(Share { number }).name();
-        let name_number = get_named(&self.names, name).copied().unwrap_or(0);
+        let name_number = get_named(&self.names.names, name).copied().unwrap_or(0);
         Some((name_number, self.offer_at(number)))
     }
 }
@@ -267,11 +243,8 @@ fn compile(alloc: Global, sources: &[Source<'_>], first: &Named<u32>) -> Result<
     requires few { length sources.now < 2 ^ 31 }
     ensures { let S = map source sources.now in Gives (λ l. l) result (unless_fault (copy_fault S) (locales_of S)) }
 {
-    let ends = Ends::of(alloc, sources, first)?;
-    match copy_fault(sources, first, &ends) {
-        Some((place, reason)) => Err(TextFault::At(place, reason)),
-        None => Locales::compile(alloc, sources, &ends),
-    }
+    let rows = read_rows(alloc, sources, first)?;
+    Locales::compile(alloc, sources, rows)
 }
 
 /// The library of sources, or the first fault of their copies or categories.
@@ -281,12 +254,30 @@ fn library_of(
     native: Option<&[u8]>,
 ) -> Result<Library, TextFault>
     requires { length sources.now < 2 ^ 31 }
-    ensures { Gives (λ l. l) result (catalog_from (option_copied native.entry) (map source sources.now)) }
+    ensures library { Gives (λ l. l) result (catalog_from (option_copied native.entry) (map source sources.now)) }
+    ensures numbered { IfOk result IsNumbered }
+    ensures installable { IfOk result IsInstallable }
 {
-    let first = locale_numbers(alloc, sources)?;
-    let names = names_of(alloc, sources)?;
-    let native = native_number(&names, native);
-    let keys = keys_of(alloc, sources)?;
-    let locales = compile(alloc, sources, &first)?;
-    Ok(Library::of(locales, names, first, keys, native))
+    let names = Names::read(alloc, sources, native)?;
+    let locales = compile(alloc, sources, &names.first)?;
+    Ok(Library { locales, names })
+}
+
+/// The library of the blocks of locales and later versions, over charsets that were read.
+fn library_over(
+    alloc: Global,
+    charsets: &Charsets,
+    locales: &List<Block>,
+    later: &List<Later>,
+    native: Option<&[u8]>,
+) -> Result<Library, TextFault>
+    requires few { (length locales.now ≤ 64) × (length later.now ≤ 64) }
+    requires locales { All IsSized locales.now }
+    requires later { All (λ l. IsSized l.block) later.now }
+    ensures library { Gives (λ l. l) result (catalog_over charsets.now locales.now later.now (option_copied native.entry)) }
+    ensures numbered { IfOk result IsNumbered }
+    ensures installable { IfOk result IsInstallable }
+{
+    let sources = read_blocks(alloc, charsets, locales, later)?;
+    library_of(alloc, sources.as_slice(), native)
 }

@@ -1,31 +1,79 @@
 //! Numbers of names and keys.
 
-ghost use Rattle.std.specs.Prelude.{◌≡◌, ◌+◌, ◌<◌, ◌≤◌, ◌^◌, length, map, IfOk};
+ghost use Rattle.std.specs.Prelude.{◌≡◌, ◌+◌, ◌<◌, ◌≤◌, ◌^◌, length, map, IfOk, OnOk};
 ghost use Rattle.std.specs.Option.{option_copied};
-ghost use Rattle.category_store.specs.Named.{pairs_of};
-ghost use Rattle.category_store.specs.Seen.{source};
+ghost use Rattle.locale_sources.specs.Named.{pairs_of, with_named};
+ghost use Rattle.locale_sources.specs.Seen.{source};
+ghost use Rattle.category_copies.specs.Copies.{locale_numbers};
 ghost use Rattle.category_store.specs.Library.{names_of, keys_of, plain_number, native_number};
 
-use crate::copies::is_posix;
-use crate::named::{Named, add_named, get_named};
-use crate::source::Source;
+use category_copies::locale_numbers;
+use locale_sources::{Named, Source, add_named, get_named, is_posix};
 use std::alloc::{AllocError, Global};
 
+/// The names of a library with their numbers.
+#[derive(Drop)]
+pub struct Names {
+    /// All names, in the order in which they first appear.
+    pub names: Named<u32>,
+    /// Those that a locale has at first, with the number of that locale.
+    pub first: Named<u32>,
+    /// The keys of later versions, with their numbers.
+    pub keys: Named<u32>,
+    /// The number of the native locale's name.
+    pub native: u32,
+}
+
+impl Names {
+    /// The names of sources, where the native locale has this name.
+    pub fn read(
+        alloc: Global,
+        sources: &[Source<'_>],
+        native: Option<&[u8]>,
+    ) -> Result<Names, AllocError>
+        requires { length sources.now < 2 ^ 31 }
+        ensures names { IfOk result (λ n. pairs_of n.names ≡ names_of (map source sources.now)) }
+        ensures first { IfOk result (λ n. pairs_of n.first ≡ locale_numbers (map source sources.now)) }
+        ensures keys { IfOk result (λ n. pairs_of n.keys ≡ keys_of (map source sources.now)) }
+        ensures native { IfOk result (λ n. n.native ≡ native_number (pairs_of n.names) (option_copied native.entry)) }
+    {
+        let names = names_of(alloc, sources)?;
+        let first = locale_numbers(alloc, sources)?;
+        let keys = keys_of(alloc, sources)?;
+        let native = native_number(&names, native);
+        Ok(Names {
+            names,
+            first,
+            keys,
+            native,
+        })
+    }
+}
+
 /// The names of sources with their numbers, in the order in which they first appear.
-pub fn names_of(alloc: Global, sources: &[Source<'_>]) -> Result<Named<u32>, AllocError>
+fn names_of(alloc: Global, sources: &[Source<'_>]) -> Result<Named<u32>, AllocError>
     requires { length sources.now < 2 ^ 31 }
     ensures { IfOk result (λ named. pairs_of named ≡ names_of (map source sources.now)) }
 {
     let mut names = Named::new(alloc);
     for source in sources {
-        let number = names.len() as u32 + 1;
-        add_named(alloc, &mut names, source.name, number)?;
+        add_name(alloc, &mut names, source.name)?;
     }
     Ok(names)
 }
 
+/// Gives a new name the next number.
+fn add_name(alloc: Global, names: &mut Named<u32>, name: &[u8]) -> Result<(), AllocError>
+    requires { length (pairs_of names.old) < 2 ^ 31 }
+    ensures named { OnOk result (pairs_of names.new ≡ with_named (pairs_of names.old) name.now (length (pairs_of names.old) + 1)) }
+    ensures few { OnOk result (length (pairs_of names.new) ≤ length (pairs_of names.old) + 1) }
+{
+    let number = names.len() as u32 + 1;
+    add_named(alloc, names, name, number)
+}
+
 /// The keys of later versions, with the numbers of their sources.
-pub fn keys_of(alloc: Global, sources: &[Source<'_>]) -> Result<Named<u32>, AllocError>
+fn keys_of(alloc: Global, sources: &[Source<'_>]) -> Result<Named<u32>, AllocError>
     requires { length sources.now < 2 ^ 31 }
     ensures { IfOk result (λ named. pairs_of named ≡ keys_of (map source sources.now)) }
 {
@@ -51,7 +99,7 @@ pub fn plain_number(names: &Named<u32>, name: &[u8]) -> Option<u32>
 }
 
 /// The number of the native locale's name.
-pub fn native_number(names: &Named<u32>, native: Option<&[u8]>) -> u32
+fn native_number(names: &Named<u32>, native: Option<&[u8]>) -> u32
     ensures { result ≡ native_number (pairs_of names.now) (option_copied native.entry) }
 {
     match native {

@@ -4,8 +4,8 @@ use Rattle.std.specs.Prelude.{negsuc, codes}
 use Rattle.lc_base.specs.declared.category.Category.TheVariants as categories
 use Rattle.lc_base.specs.declared.block.Block.{Block}
 use Rattle.numeric_cat.specs.NumericValues.{NumericValues}
-use Rattle.category_store.specs.Catalog.{Locale, Catalog}
-use Rattle.category_store.specs.Library.{posix_locale}
+use Rattle.compiled_categories.specs.Locale.{Locale, posix_locale}
+use Rattle.category_store.specs.Catalog.{Catalog}
 use Rattle.handle_table.specs.declared.handle.Handle.{Handle}
 use Rattle.handle_table.specs.declared.handle.Named.TheVariants as named
 use Rattle.handle_table.specs.Entry as table

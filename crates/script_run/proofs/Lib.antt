@@ -1,9 +1,7 @@
 pub mod Examples
 pub mod HoldLaws
-pub mod Installable
 pub mod Joined
 pub mod LineLists
-pub mod Numbered
 pub mod OnlySerial
 pub mod OutcomeLemmas
 pub mod PlayLemmas

@@ -21,7 +21,7 @@ use Rattle.time_cat.specs.Times.{time_of}
 use Rattle.time_cat.specs.Values.{values_of}
 use Rattle.time_cat.specs.Shown.{expanded}
 use Rattle.category_store.specs.Catalog.{Catalog}
-use Rattle.category_store.specs.Library.{posix_locale}
+use Rattle.compiled_categories.specs.Locale.{posix_locale}
 use Rattle.script_words.specs.Numbers.{Amount}
 use Rattle.script_words.specs.declared.given.WrittenTime.{WrittenTime}
 use Rattle.script_commands.specs.declared.command.Read.{Read}

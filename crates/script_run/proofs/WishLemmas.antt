@@ -17,7 +17,7 @@ use Rattle.script_commands.specs.declared.command.Target.{Target}
 use Rattle.script_commands.specs.declared.command.Target.TheVariants as targets
 use Rattle.script_out.specs.declared.output.Why.{Why}
 use Rattle.script_commands.specs.InRange.{IsInRange}
-use Rattle.script_run.specs.Plan.{AreOnShelf, IsNumbered, IsInstallable}
+use Rattle.category_store.specs.Shelf.{AreOnShelf, IsNumbered, IsInstallable}
 use Rattle.script_run.specs.Seen.{FitsTable, TaskFits}
 use Rattle.script_run.specs.Turns.{Task, Runs, Releases, Ends}
 use Rattle.script_run.specs.Variables.{Bindings, bound}

@@ -3,7 +3,8 @@ use Rattle.std.specs.Prelude.{ℕ, ◌<◌, ◌≤◌, List, length, Ok, IfOk, I
 use Rattle.std.specs.List.{All}
 use Rattle.lc_base.specs.Reading.{Reads, ◌>>=◌}
 use Rattle.category_store.specs.Catalog.{Catalog}
-use Rattle.category_store.specs.Library.{catalog, numbers, opening, later}
+use Rattle.category_store.specs.Library.{catalog}
+use Rattle.category_store.specs.Shelf.{IsNumbered, IsInstallable}
 use Rattle.script_lang.specs.declared.bundle.Bundle.{Bundle}
 use Rattle.script_lang.specs.Accepted.{IsAccepted, bundle_of}
 use Rattle.script_run.specs.declared.plan.Counts.{Counts}
@@ -36,17 +37,6 @@ abbrev pub counts_of : List ℕ → Reads Counts
 counts_of text = plan_of text >>= λ plan. Ok (counts plan.bundle)
 
 -- ---- what holds of each plan
-
--- the numbers that names give are on the shelf of the library
-abbrev pub AreOnShelf : Catalog → List ℕ → Type 0
-AreOnShelf library ns = All (λ n. n < length (opening library)) ns
-
-abbrev pub IsNumbered : Catalog → Type 0
-IsNumbered library = (name : List ℕ) (mask : ℕ) → IfOk (numbers library name mask) (AreOnShelf library)
-
--- what a key installs has a number of the shelf, which is not the POSIX locale's
-abbrev pub IsInstallable : Catalog → Type 0
-IsInstallable library = (key : List ℕ) → IfSome (later library key) (λ version. (1 ≤ version.0) × (version.0 < length (opening library)))
 
 -- the bundle is accepted, and its names and keys are numbered
 pub record IsSound (plan : PlanData) : Type 0 where

@@ -1,12 +1,18 @@
-use Rattle.std.proofs.Common.{map, ap, sym, ◌∙◌, Ok}
+use Rattle.std.proofs.Common.{map}
 use Rattle.std.specs.Option.{option_copied}
-use Rattle.category_store.specs.Catalog.{Catalog}
-use Rattle.category_store.specs.Seen.{source}
+use Rattle.locale_sources.specs.Seen.{source}
+use Rattle.category_store.proofs.Installable.{is_installable}
 use Rattle.category_store.proofs.LibraryLemmas.{library_is}
+use Rattle.category_store.proofs.Numbered.{is_numbered}
 use Rattle.category_store.proofs.library.library_of.Goals as goal
 
-pub returns : goal.returns
-returns c =
-    library_is (map source c.args.sources.now) (option_copied c.args.native) _ _ _ _ c.native_number-native.result
-    c.in_ok-locales.ensures c.in_ok-names.ensures c.in_ok-first.ensures c.in_ok-keys.ensures c.native_number-native.ensures
-    ∙ ap (λ (x : Catalog). Ok x) (sym c.of.ensures)
+pub returns-clause-library : goal.returns-clause-library
+returns-clause-library c =
+    library_is (map source c.args.sources.now) (option_copied c.args.native) _ _ _ _ c.in_ok-names.names.native
+    c.in_ok-locales.ensures c.in_ok-names.ensures.names c.in_ok-names.ensures.first c.in_ok-names.ensures.keys c.in_ok-names.ensures.native
+
+pub returns-clause-numbered : goal.returns-clause-numbered
+returns-clause-numbered c = is_numbered (option_copied c.args.native) (map source c.args.sources.now) _ (returns-clause-library c)
+
+pub returns-clause-installable : goal.returns-clause-installable
+returns-clause-installable c = is_installable (option_copied c.args.native) (map source c.args.sources.now) _ (returns-clause-library c)

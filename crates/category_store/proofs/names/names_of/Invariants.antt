@@ -1,6 +1,6 @@
 use Rattle.std.proofs.Common.{◌≡◌, ◌≤◌, drop, map, length}
-use Rattle.category_store.specs.Named.{pairs_of}
-use Rattle.category_store.specs.Seen.{source}
+use Rattle.locale_sources.specs.Named.{pairs_of}
+use Rattle.locale_sources.specs.Seen.{source}
 use Rattle.category_store.specs.Library.{names_of, names_after}
 use Rattle.category_store.proofs.names.names_of.Given as goal
 

@@ -1,0 +1,3 @@
+mod Examples
+pub mod TableLemmas
+pub mod CopyLemmas

@@ -1,0 +1,4 @@
+pub mod Named
+pub mod Sources
+pub mod Sections
+pub mod Seen

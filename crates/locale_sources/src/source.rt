@@ -1,0 +1,14 @@
+//! A locale's source.
+
+use charmap_reader::Charset;
+use keyword_lists::Section;
+use lc_base::List;
+
+/// A locale's source: its key where it is a later version, its name, its charset and its sections.
+#[derive(Drop)]
+pub struct Source<'a> {
+    pub key: Option<&'a [u8]>,
+    pub name: &'a [u8],
+    pub charset: &'a Charset,
+    pub sections: List<Section>,
+}
