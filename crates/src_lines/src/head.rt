@@ -1,14 +1,13 @@
 //! Head lines, which change the signs (XBD 7.3 and 6.4).
 
-ghost use Rattle.std.specs.Prelude.{◌≡◌, ◌≤◌, ℕ, length};
-ghost use Rattle.lc_base.specs.Reading.{Gives, Fails};
+ghost use Rattle.std.specs.Prelude.{◌≡◌, ◌≤◌, ℕ, Err, length};
 ghost use Rattle.src_lines.specs.Logical.{is_dropped, sign_of, escape_word, comment_word, bad_head, head_sign, ends_head, fate};
 ghost use Rattle.src_lines.specs.Rows.{line_of};
 
 use crate::row::Row;
 use crate::signs::{Kind, Signs};
 use crate::words::{Word, blanks, next_word};
-use lc_base::{Reason, TextFault};
+use lc_base::{Place, Reason};
 
 /// What becomes of a logical line.
 #[derive(Clone, Copy, Debug, PartialEq, Eq)]
@@ -62,19 +61,19 @@ fn comment_word(kind: Kind) -> &'static [u8]
 }
 
 /// The fault of a head line that is wrong at its byte `k`.
-fn bad_head(kind: Kind, row: &Row<'_>, k: usize) -> TextFault
+fn bad_head(kind: Kind, row: &Row<'_>, k: usize) -> (Place, Reason)
     requires { k ≤ length row.now.bytes.now }
-    ensures { Fails result (bad_head {A = ℕ} kind (line_of row.now) k) }
+    ensures { bad_head {A = ℕ} kind (line_of row.now) k ≡ Err result }
 {
     match kind {
-        Kind::Locale => TextFault::At(row.place_at(k), Reason::WrongOperand),
-        Kind::Charmap => TextFault::At(row.place_at(blanks(row.bytes)), Reason::BadHeader),
+        Kind::Locale => (row.place_at(k), Reason::WrongOperand),
+        Kind::Charmap => (row.place_at(blanks(row.bytes)), Reason::BadHeader),
     }
 }
 
 /// The sign that a head line gives.
-fn head_sign(kind: Kind, row: &Row<'_>, other: u8) -> Result<u8, TextFault>
-    ensures { Gives (λ sign. sign) result (head_sign kind (line_of row.now) other) }
+fn head_sign(kind: Kind, row: &Row<'_>, other: u8) -> Result<u8, (Place, Reason)>
+    ensures { result ≡ head_sign kind (line_of row.now) other }
 {
     let first = next_word(row.bytes);
     let second = next_word(first.rest);
@@ -108,8 +107,8 @@ pub fn ends_head(kind: Kind, first: &[u8], second: &[u8]) -> bool
 }
 
 /// What becomes of a line, where head lines may still come or not.
-pub fn fate_of(kind: Kind, heads: bool, row: &Row<'_>) -> Result<Fate, TextFault>
-    ensures { Gives (λ f. f) result (fate kind heads (line_of row.now)) }
+pub fn fate_of(kind: Kind, heads: bool, row: &Row<'_>) -> Result<Fate, (Place, Reason)>
+    ensures { result ≡ fate kind heads (line_of row.now) }
 {
     let Signs { escape, comment } = row.signs;
     if is_dropped(comment, row.bytes) {

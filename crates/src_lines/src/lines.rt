@@ -148,8 +148,7 @@ fn end_line(
 {
     let fate = match fate_of(kind, heads, &store.draft()) {
         Ok(fate) => fate,
-        Err(TextFault::At(place, reason)) => return Ok(Err((place, reason))),
-        Err(TextFault::Memory) => return Err(AllocError),
+        Err(fault) => return Ok(Err(fault)),
     };
     if fate.kept {
         store.keep(fate.signs, next)?;
