@@ -37,7 +37,6 @@ pub fn strfmon(
     amounts: &[Amount],
     max: usize,
 ) -> Result<ByteText, MoneyFault>
-    requires { length format.now ≤ 1024 }
     ensures { Answers (λ text. text) result (money m.now format.now amounts.now max) }
 {
     match refusal(format, amounts.len()) {
@@ -48,7 +47,6 @@ pub fn strfmon(
 
 /// The first refusal of a format with so many amounts.
 fn refusal(format: &[u8], amounts: usize) -> Option<MoneyFault>
-    requires { length format.now ≤ 1024 }
     ensures { result ≡ refusal (pieces 0 0 format.now) amounts }
 {
     let mut at = 0;
@@ -90,8 +88,7 @@ fn pieces_text(
     amounts: &[Amount],
     max: usize,
 ) -> Result<Vec<u8>, MoneyFault>
-    requires short { length format.now ≤ 1024 }
-    requires good { refusal (pieces 0 0 format.now) (length amounts.now) ≡ None }
+    requires { refusal (pieces 0 0 format.now) (length amounts.now) ≡ None }
     ensures { Answers (λ text. text.items) result (within max (pieces_text m.now (good_pieces (pieces 0 0 format.now)) amounts.now)) }
 {
     let mut out = Vec::new(alloc);
