@@ -1,9 +1,12 @@
 pub mod Examples
+pub mod Fronts
 pub mod HoldLaws
+pub mod IsolationExamples
 pub mod Joined
 pub mod LineLists
 pub mod OnlySerial
 pub mod OutcomeLemmas
+pub mod PlacedCalls
 pub mod PlayLemmas
 pub mod PrintsExamples
 pub mod ReadExamples
@@ -15,6 +18,7 @@ pub mod SerialNewest
 pub mod SerialPrints
 pub mod SerialSeen
 pub mod SerialTold
+pub mod ToldApart
 pub mod TurnLemmas
 pub mod VariableLemmas
 pub mod VersionExamples

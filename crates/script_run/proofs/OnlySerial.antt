@@ -30,7 +30,7 @@ use Rattle.script_run.specs.Lines.{Caller, told_line, placed_line, held_line, gl
 use Rattle.script_run.specs.Variables.{Bound, bindings_of}
 use Rattle.script_run.specs.Wishes.{Wish, Calls, ReadsOf, Reads, AsksSelection, AsksName, wish_of}
 use Rattle.script_run.specs.Serial.{Outcome, Run, reads_between, reads_of, read_line, granted, next_caller, outcome, with_outcome, played, begun, commands_played, serial_lines, setting}
-use Rattle.script_run.specs.Prints.{Told, told, bound_by, places_in, all_places, PlacedCall, calls_after, with_placed, history_below, Around, past, next_place, seen, global_of, IsReadBetween, IsHoldRefused, IsReadOf, IsRead, IsGranted, AreTold, caller_of, caller_after, callers_after, command_calls, all_turns, AreNewest, PrintsInOrder}
+use Rattle.script_run.specs.Prints.{Told, told, bound_by, places_in, all_places, PlacedCall, calls_after, with_placed, history_below, Around, around, past, next_place, seen, global_of, IsReadBetween, IsHoldRefused, IsReadOf, IsRead, IsGranted, AreTold, caller_of, caller_after, callers_after, command_calls, all_turns, AreNewest, PrintsInOrder}
 use Rattle.script_run.proofs.LineLists.{GoUp, is_this, bit_of, count_more}
 use Rattle.script_run.proofs.SerialLines.{granted_caller, next_is, first_places, IsCounted, one_turn, granted_places, added, added_append}
 use Rattle.script_run.proofs.SerialCalls.{call_at, calls_from, calls_length, is_at, find_newest, legal_before, same_entry, GoesOnFrom, goes_nowhere, one_entry, goes_on, past_is, granted_legal, granted_gains, wish_in, wished_calls, told_of, line_thread, bound_next, calls_here, calls_played, told_first}
@@ -140,7 +140,7 @@ placed_on : (c : Setting) (H : History) (call : Option PlacedCall) → GoesOnFro
 placed_on c H None = goes_nowhere H
 placed_on c H (Some call) = one_entry H (entry c H call.thread call.op)
 
-below_on : (c : Setting) (calls : List PlacedCall) (a b : ℕ) → a ≤ b → GoesOnFrom (history_below c calls a) (history_below c calls b)
+pub below_on : (c : Setting) (calls : List PlacedCall) (a b : ℕ) → a ≤ b → GoesOnFrom (history_below c calls a) (history_below c calls b)
 below_on c calls a zero le = let none : a ≡ 0 = omega (arith, le) in subst (λ (n : ℕ). GoesOnFrom (history_below c calls n) []) (sym none) (goes_nowhere [])
 below_on c calls a (suc b) le =
     elim (cases_lt a (suc b)) [
@@ -156,7 +156,7 @@ below_on c calls a (suc b) le =
 pub record Comes (x : Around) (H : History) (at : Caller) (l : OutLine) : Type 0 where
   pub here : past x (length H) ≡ H
   pub seen : seen x at.thread ≡ own_past H at.thread
-  pub whole : GoesOnFrom H (past x (length x.calls))
+  pub whole : GoesOnFrom H x.whole
   pub rest : List ℕ
   pub many : ℕ
   pub at_next : places_in l.places ++ rest ≡ range_with_len (length H) many
@@ -172,7 +172,7 @@ two_are {x} {H} {at} {l} k hold release is =
     (first_is hold (release ∷ k.rest) (length H) k.many all, second_is hold release k.rest (length H) k.many all)
 
 global_is : {x : Around} {H : History} {at : Caller} {l : OutLine} (k : Comes x H at l) → global_of x (sets H) ≡ global x.setting H
-global_is {x} {H} {at} {l} k = global_on x.setting H (past x (length x.calls)) k.whole
+global_is {x} {H} {at} {l} k = global_on x.setting H x.whole k.whole
 
 between_same : (x : Around) (H : History) (at : Caller) (l : OutLine) (n : Named) (read : Read) → Comes x H at l → IsReadBetween x at l n read ⊎ IsHoldRefused x at l n
     → l ≡ (reads_between x.setting x.plan.library H at n read (object_held (answer x.setting H at.thread (table.Hold n)))).line
@@ -273,7 +273,7 @@ line_is : (c : Setting) (plan : PlanData) (all : List OutLine) (calls : List Pla
 line_is c plan all calls run before turn turns l lines w =
     let H : History = run.history in
     let at : Caller = next_caller run turn in
-    let x : Around = record { setting = c; plan = plan; lines = all; calls = calls; before = before; after = told turns lines } in
+    let x : Around = around c plan all calls before (told turns lines) in
     let later : List PlacedCall = calls_after plan.library before (told (turn ∷ turns) (l ∷ lines)) in
     let back : (G : History) → GoesOnFrom G H → past x (length G) ≡ G = λ G on. ap (λ (cs : List PlacedCall). history_below c cs (length G)) w.calls_are ∙ past_back c H G later w.legal on in
     let here : past x (length H) ≡ H = back H (goes_nowhere H) in

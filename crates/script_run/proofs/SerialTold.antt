@@ -25,7 +25,7 @@ use Rattle.script_run.specs.Turns.{Turn}
 use Rattle.script_run.specs.Variables.{Bound, bindings_of}
 use Rattle.script_run.specs.Wishes.{Wish, Calls, ReadsOf, Reads, AsksSelection, AsksName, wish_of}
 use Rattle.script_run.specs.Serial.{Outcome, Run, with_call, reads_between, reads_of, read_line, granted, next_caller, outcome, with_outcome, played}
-use Rattle.script_run.specs.Prints.{Told, told, bound_by, places_in, all_places, of_thread, before_round, up_to_round, PlacedCall, history_below, Around, past, next_place, seen, lines_of, first_of, versions, IsUpToPlace, IsVersion, global_of, IsReadOf, IsRead, IsGranted, IsTold, AreTold, caller_of}
+use Rattle.script_run.specs.Prints.{Told, told, bound_by, places_in, all_places, of_thread, before_round, up_to_round, history_below, Around, around, past, next_place, seen, lines_of, first_of, versions, IsUpToPlace, IsVersion, global_of, IsReadOf, IsRead, IsGranted, IsTold, AreTold, caller_of}
 use Rattle.script_run.proofs.LineLists.{all_kept, fewer_kept, filter_all, filter_none}
 use Rattle.script_run.proofs.SerialLines.{granted_caller, IsCounted, one_turn, added}
 use Rattle.script_run.proofs.SerialCalls.{calls_from, calls_length, GoesOnFrom, goes_nowhere, one_entry, goes_on, past_is, granted_on, turn_on, played_on, wish_in, told_of, line_thread, line_round, bound_next}
@@ -36,24 +36,21 @@ use Rattle.script_run.proofs.SerialSeen.{own_past, next_of, own_seen, selection_
 -- what a line is judged by, where the history before it is H and all lines come to F
 pub record Judges (x : Around) (H F : History) (at : Caller) : Type 0 where
   pub legal : IsLegal x.setting F
-  pub calls : x.calls ≡ calls_from F
+  pub pasts : (n : ℕ) → past x n ≡ history_below x.setting (calls_from F) n
+  pub whole : x.whole ≡ F
   pub seen : next_place at.thread x.before ≡ length (own_past H at.thread)
   pub version : IsVersion x at (sets H)
 
-past_at : (x : Around) (F H : History) → IsLegal x.setting F → x.calls ≡ calls_from F → GoesOnFrom H F → past x (length H) ≡ H
-past_at x F H legal calls on = ap (λ (cs : List PlacedCall). history_below x.setting cs (length H)) calls ∙ past_is x.setting F H legal on
+past_at : (x : Around) (F H : History) → IsLegal x.setting F → ((n : ℕ) → past x n ≡ history_below x.setting (calls_from F) n) → GoesOnFrom H F → past x (length H) ≡ H
+past_at x F H legal pasts on = pasts (length H) ∙ past_is x.setting F H legal on
 
 seen_is : (x : Around) (H F : History) (at : Caller) → Judges x H F at → GoesOnFrom H F → seen x at.thread ≡ own_past H at.thread
 seen_is x H F at j on =
     ap (past x) j.seen
-    ∙ past_at x F (own_past H at.thread) j.legal j.calls (goes_on (own_past H at.thread) H F (own_back H at.thread) on)
+    ∙ past_at x F (own_past H at.thread) j.legal j.pasts (goes_on (own_past H at.thread) H F (own_back H at.thread) on)
 
 global_is : (x : Around) (H F : History) (at : Caller) → Judges x H F at → GoesOnFrom H F → global_of x (sets H) ≡ global x.setting H
-global_is x H F at j on =
-    let long : length x.calls ≡ length F = ap length j.calls ∙ calls_length F in
-    ap (λ (n : ℕ). global_at x.setting (past x n) (sets H)) long
-    ∙ ap (λ (G : History). global_at x.setting G (sets H)) (past_at x F F j.legal j.calls (goes_nowhere F))
-    ∙ global_on x.setting H F on
+global_is x H F at j on = ap (λ (G : History). global_at x.setting G (sets H)) j.whole ∙ global_on x.setting H F on
 
 read_judged : (x : Around) (H F : History) (at : Caller) (read : Read) (object : Option Parts) → Judges x H F at → GoesOnFrom H F
     → IsRead x at (read_line x.setting x.plan.library H at read object) read object
@@ -70,7 +67,7 @@ between_judged : (x : Around) (H F : History) (at : Caller) (n : Named) (read : 
     → IsReadOf x at (reads_between x.setting x.plan.library H at n read object).line n read None
 between_judged x H F at n read None j is on =
     let c : Setting = x.setting in
-    let before : past x (length H) ≡ H = past_at x F H j.legal j.calls (goes_on H (with_call c H at.thread (table.Hold n)) F (one_entry H (entry c H at.thread (table.Hold n))) on) in
+    let before : past x (length H) ≡ H = past_at x F H j.legal j.pasts (goes_on H (with_call c H at.thread (table.Hold n)) F (one_entry H (entry c H at.thread (table.Hold n))) on) in
     inr (record {
       place = length H;
       held = ap (λ (G : History). object_held (answer c G at.thread (table.Hold n))) before ∙ is;
@@ -81,8 +78,8 @@ between_judged x H F at n read (Some object) j is on =
     let held : History = with_call c H at.thread (table.Hold n) in
     let released : History = with_call c held at.thread (table.Release n) in
     let later : GoesOnFrom held F = goes_on held released F (one_entry held (entry c held at.thread (table.Release n))) on in
-    let before : past x (length H) ≡ H = past_at x F H j.legal j.calls (goes_on H held F (one_entry H (entry c H at.thread (table.Hold n))) later) in
-    let between : past x (length held) ≡ held = past_at x F held j.legal j.calls later in
+    let before : past x (length H) ≡ H = past_at x F H j.legal j.pasts (goes_on H held F (one_entry H (entry c H at.thread (table.Hold n))) later) in
+    let between : past x (length held) ≡ held = past_at x F held j.legal j.pasts later in
     inl (record {
       hold = length H;
       release = length held;
@@ -105,7 +102,7 @@ granted_judged : (x : Around) (H F : History) (at : Caller) (w : Result Wish Why
 granted_judged x H F at (Err why) j on = refl
 granted_judged x H F at (Ok (Calls categories op)) j on =
     let c : Setting = x.setting in
-    let before : past x (length H) ≡ H = past_at x F H j.legal j.calls (goes_on H (with_call c H at.thread op) F (one_entry H (entry c H at.thread op)) on) in
+    let before : past x (length H) ≡ H = past_at x F H j.legal j.pasts (goes_on H (with_call c H at.thread op) F (one_entry H (entry c H at.thread op)) on) in
     record {
       place = length H;
       is = ap (λ (G : History). placed_line x.plan.library (length H) at categories (answer c G at.thread op)) (sym before);
@@ -246,29 +243,22 @@ lines_up_to c plan lines F run before turn turns w =
 pub places_so_far : (run : Run) → IsCounted run → length (all_places run.lines) ≡ length run.history
 places_so_far run counted = ap length counted ∙ length-range_with_len 0 (length run.history)
 
-up_to_first : (x : Around) (H : History) (ps : List ℕ) → past x (length H) ≡ H → All (λ (p : ℕ). length H ≤ p) ps → IsUpToPlace x (sets H) (first_of ps)
-up_to_first x H [] here from = tt
-up_to_first x H (p ∷ ps) here from =
-    subst (λ (G : History). sets G ≤ sets (past x p)) here (past_up x.setting x.calls (length H) p (All-head (λ (q : ℕ). length H ≤ q) p ps from))
+up_to_first : (x : Around) (H : History) (ps : List ℕ) → ((p : ℕ) → length H ≤ p → sets H ≤ sets (past x p)) → All (λ (p : ℕ). length H ≤ p) ps → IsUpToPlace x (sets H) (first_of ps)
+up_to_first x H [] above from = tt
+up_to_first x H (p ∷ ps) above from = above p (All-head (λ (q : ℕ). length H ≤ q) p ps from)
 
 -- what the next line is judged by
-abbrev around : Setting → PlanData → List OutLine → History → Run → List Told → Turn → List Turn → Around
-around c plan lines F run before turn turns = record {
-  setting = c;
-  plan = plan;
-  lines = lines;
-  calls = calls_from F;
-  before = before;
-  after = told turns (added c plan.library (with_outcome run turn (outcome c plan.library run turn)) turns);
-}
+abbrev next_around : Setting → PlanData → List OutLine → History → Run → List Told → Turn → List Turn → Around
+next_around c plan lines F run before turn turns =
+    around c plan lines (calls_from F) before (told turns (added c plan.library (with_outcome run turn (outcome c plan.library run turn)) turns))
 
 on_way : (c : Setting) (plan : PlanData) (lines : List OutLine) (F : History) (run : Run) (before : List Told) (turns : List Turn) → IsOnItsWay c plan lines F run before turns → GoesOnFrom run.history F
 on_way c plan lines F run before turns w = subst (GoesOnFrom run.history) (sym w.final) (played_on c plan.library run turns)
 
 version_is : (c : Setting) (plan : PlanData) (lines : List OutLine) (F : History) (run : Run) (before : List Told) (turn : Turn) (turns : List Turn) → IsOnItsWay c plan lines F run before (turn ∷ turns)
-    → IsVersion (around c plan lines F run before turn turns) (next_caller run turn) (sets run.history)
+    → IsVersion (next_around c plan lines F run before turn turns) (next_caller run turn) (sets run.history)
 version_is c plan lines F run before turn turns w =
-    let x : Around = around c plan lines F run before turn turns in
+    let x : Around = next_around c plan lines F run before turn turns in
     let H : History = run.history in
     let t : ℕ = turn.thread in
     let next : Run = with_outcome run turn (outcome c plan.library run turn) in
@@ -302,7 +292,7 @@ version_is c plan lines F run before turn turns w =
     record {
       seen = subst (λ (n : ℕ). sets (past x n) ≤ sets H) (sym (w.next t)) (below (length (own_past H t)) shorter);
       rounds = below (length (all_places (before_round turn.round lines))) fewer;
-      next = up_to_first x H (all_places (of_thread t (lines_of x.after))) here behind;
+      next = up_to_first x H (all_places (of_thread t (lines_of x.after))) above behind;
       round = above (length (all_places (up_to_round turn.round lines))) more;
       told = all_kept (λ (l : OutLine). option_to_list l.global) (λ (v : ℕ). v ≤ sets H) (λ (l : OutLine). l.thread == t) (lines_of before) w.printed_before;
       told_earlier = subst (λ (ls : List OutLine). All (λ (v : ℕ). v ≤ sets H) (versions ls)) (sym (lines_before c plan lines F run before turn turns w))
@@ -311,16 +301,17 @@ version_is c plan lines F run before turn turns w =
 
 -- the next line tells what its turn asks for
 line_told : (c : Setting) (plan : PlanData) (lines : List OutLine) (F : History) (run : Run) (before : List Told) (turn : Turn) (turns : List Turn) → IsOnItsWay c plan lines F run before (turn ∷ turns)
-    → IsTold (around c plan lines F run before turn turns) (told_of turn (outcome c plan.library run turn).line)
+    → IsTold (next_around c plan lines F run before turn turns) (told_of turn (outcome c plan.library run turn).line)
 line_told c plan lines F run before turn turns w =
-    let x : Around = around c plan lines F run before turn turns in
+    let x : Around = next_around c plan lines F run before turn turns in
     let at : Caller = next_caller run turn in
     let done : Outcome = outcome c plan.library run turn in
     let wished : Result Wish Why = wish_in plan.library run turn in
     let next : Run = with_outcome run turn done in
     let judges : Judges x run.history F at = record {
       legal = w.legal;
-      calls = refl;
+      pasts = λ n. refl;
+      whole = ap (history_below c (calls_from F)) (calls_length F) ∙ past_is c F F w.legal (goes_nowhere F);
       seen = w.next turn.thread;
       version = version_is c plan lines F run before turn turns w;
     }

@@ -8,6 +8,8 @@ pub mod Wishes
 pub mod Lines
 pub mod Serial
 pub mod Prints
+pub mod Isolation
+pub mod Laws
 pub mod Thread
 pub mod Session
 pub mod Seen

@@ -99,18 +99,19 @@ history_below c calls (suc n) = with_placed c (history_below c calls n) (find (�
 
 -- ---- what a line is judged by
 
--- the lines before it, of which the newest stands first, those behind it, and the calls of all lines
+-- the lines before it, of which the newest stands first, those behind it, the history before each place, and the whole one
 pub record Around : Type 0 where
   pub setting : Setting
   pub plan : PlanData
   pub lines : List OutLine
-  pub calls : List PlacedCall
+  pub history : ℕ → History
+  pub whole : History
   pub before : List Told
   pub after : List Told
 
 -- the history before a place
 abbrev pub past : Around → ℕ → History
-past x place = history_below x.setting x.calls place
+past x place = x.history place
 
 -- one more than the last place of a thread's lines, of which the newest stands first, or 0
 abbrev pub behind_last : List ℕ → Option ℕ
@@ -163,7 +164,7 @@ pub record IsVersion (x : Around) (at : Caller) (version : ℕ) : Type 0 where
 
 -- the global object of a version, in the history of all calls
 abbrev pub global_of : Around → ℕ → Parts
-global_of x version = global_at x.setting (past x (length x.calls)) version
+global_of x version = global_at x.setting x.whole version
 
 -- ---- what a line prints
 
@@ -226,12 +227,22 @@ caller_of l = record { round = l.round; thread = l.thread; index = l.index }
 abbrev pub IsTold : Around → Told → Type 0
 IsTold x d = IsGranted x (caller_of d.line) d.line (wish_of x.plan.library (bindings_of d.line.thread (bound_by x.before)) d.task)
 
+-- what a line is judged by among lines with these calls
+abbrev pub around : Setting → PlanData → List OutLine → List PlacedCall → List Told → List Told → Around
+around c plan lines calls before after = record {
+  setting = c;
+  plan = plan;
+  lines = lines;
+  history = history_below c calls;
+  whole = history_below c calls (length calls);
+  before = before;
+  after = after;
+}
+
 -- each line does, by what stands before it and behind it
 abbrev pub AreTold : Setting → PlanData → List OutLine → List PlacedCall → List Told → List Told → Type 0
 AreTold c plan lines calls before [] = Unit {0}
-AreTold c plan lines calls before (d ∷ after) =
-    IsTold (record { setting = c; plan = plan; lines = lines; calls = calls; before = before; after = after }) d
-    × AreTold c plan lines calls (d ∷ before) after
+AreTold c plan lines calls before (d ∷ after) = IsTold (around c plan lines calls before after) d × AreTold c plan lines calls (d ∷ before) after
 
 -- ---- the whole
 

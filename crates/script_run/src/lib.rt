@@ -2,6 +2,7 @@
 #![tactic(auto)]
 
 mod holds;
+pub mod laws;
 mod lines;
 mod names;
 mod plan;

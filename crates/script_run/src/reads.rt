@@ -131,17 +131,23 @@ fn fields_said(alloc: Global, fields: Lconv) -> Result<Said, AllocError>
 fn conv_texts(alloc: Global, fields: Lconv) -> Result<List<ByteText>, AllocError>
     ensures { IfOk result (λ texts. texts ≡ conv_texts fields) }
 {
-    let mut texts = Vec::new(alloc);
-    texts.push(fields.decimal_point)?;
-    texts.push(fields.thousands_sep)?;
-    texts.push(sizes_text(alloc, fields.grouping.as_bytes())?)?;
-    texts.push(fields.int_curr_symbol)?;
-    texts.push(fields.currency_symbol)?;
-    texts.push(fields.mon_decimal_point)?;
-    texts.push(fields.mon_thousands_sep)?;
-    texts.push(sizes_text(alloc, fields.mon_grouping.as_bytes())?)?;
-    texts.push(fields.positive_sign)?;
-    texts.push(fields.negative_sign)?;
+    let grouping = sizes_text(alloc, fields.grouping.as_bytes())?;
+    let mon_grouping = sizes_text(alloc, fields.mon_grouping.as_bytes())?;
+    let texts = Vec::from_array(
+        alloc,
+        [
+            fields.decimal_point,
+            fields.thousands_sep,
+            grouping,
+            fields.int_curr_symbol,
+            fields.currency_symbol,
+            fields.mon_decimal_point,
+            fields.mon_thousands_sep,
+            mon_grouping,
+            fields.positive_sign,
+            fields.negative_sign,
+        ],
+    )?;
     Ok(List::of(texts))
 }
 

@@ -8,6 +8,7 @@ ghost use Rattle.handle_table.specs.Table.{StandsFor, Fits};
 ghost use Rattle.handle_table.specs.Seen.{op_of};
 ghost use Rattle.category_store.specs.Library.{opening};
 ghost use Rattle.script_run.specs.Holds.{open_holds, held_as};
+ghost use Rattle.script_run.specs.Isolation.{IsIsolated};
 ghost use Rattle.script_run.specs.Lines.{object_line};
 ghost use Rattle.category_store.specs.Shelf.{IsNumbered, IsInstallable};
 ghost use Rattle.script_run.specs.Plan.{PlanData, IsSound};
@@ -52,6 +53,7 @@ pub fn serial(
     requires generations { generations ≤ 2147483647 }
     ensures lines { IfOk result (λ lines. lines ≡ serial_lines rows generations plan.now) }
     ensures prints { IfOk result (λ lines. PrintsInOrder (setting plan.now rows generations) plan.now lines) }
+    ensures isolated { IfOk result (λ lines. IsIsolated (setting plan.now rows generations) plan.now lines) }
 {
     let bundle = plan.bundle();
     if bundle.threads.is_empty() {

@@ -2,6 +2,7 @@ use Rattle.std.proofs.Common.{◌≡◌, [], sym, ap, ◌∙◌}
 use Rattle.script_lang.specs.declared.bundle.Bundle.{Bundle}
 use Rattle.script_run.proofs.PlayLemmas.{no_lines, sound_parts, serial_told}
 use Rattle.script_run.proofs.SerialNewest.{printed_in_order}
+use Rattle.script_run.proofs.ToldApart.{printed_isolated}
 use Rattle.script_run.proofs.script.serial.Goals as goal
 
 pub returns-then-is_empty-clause-lines : goal.returns-then-is_empty-clause-lines
@@ -23,3 +24,9 @@ returns-then-is_empty-clause-prints c = printed_in_order c.args.plan.now c.args.
 
 pub returns-clause-prints : goal.returns-clause-prints
 returns-clause-prints c = printed_in_order c.args.plan.now c.args.rows c.args.generations (returns-clause-lines c)
+
+pub returns-then-is_empty-clause-isolated : goal.returns-then-is_empty-clause-isolated
+returns-then-is_empty-clause-isolated c = printed_isolated c.args.plan.now c.args.rows c.args.generations (returns-then-is_empty-clause-lines c)
+
+pub returns-clause-isolated : goal.returns-clause-isolated
+returns-clause-isolated c = printed_isolated c.args.plan.now c.args.rows c.args.generations (returns-clause-lines c)
