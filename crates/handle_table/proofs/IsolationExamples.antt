@@ -1,11 +1,12 @@
 -- Closed sets of threads and their parts at worked examples.
 use Rattle.std.proofs.Common.{◌≡◌, ℕ, Bool, true, false, List, [], ◌∷◌, None, Some, refl}
 use Rattle.std.proofs.lemmas.Bool.{and_parts}
-use Rattle.std.specs.Prelude.{◌&&◌}
+use Rattle.std.specs.Prelude.{◌&&◌, ◌||◌, if◌then◌else◌}
+use Rattle.lc_base.specs.declared.category.Category.TheVariants as categories
 use Rattle.handle_table.specs.declared.handle.Named.TheVariants.{Global, Of}
-use Rattle.handle_table.specs.Entry.{Op, New, Dup, Free, Use, Hold, Release, SetGlobal, Install, Post, Fetch, Pins, End, Stale, TooMany, Made, Freed, Was, Held, Posted, Got, Pinned, Ended, Refused, Entry, History, Setting}
+use Rattle.handle_table.specs.Entry.{Op, New, Dup, Free, Use, Hold, Release, SetGlobal, Install, Post, Fetch, Pins, End, NoData, NeverMade, Stale, TooMany, EmptyCell, Made, Freed, Was, Held, Posted, Got, Pinned, Ended, Refused, Entry, History, Setting}
 use Rattle.handle_table.specs.Answer.{entry}
-use Rattle.handle_table.specs.Isolation.{keeps_apart, IsClosed, part_of, calls_of, replies_of}
+use Rattle.handle_table.specs.Isolation.{has_thread, keeps_apart, IsClosed, part_of, calls_of, replies_of}
 use Rattle.handle_table.proofs.Examples.{played, offers, handle, all, make, all_of}
 
 -- three threads of one row each, which makes two objects
@@ -136,3 +137,77 @@ part_sees_all : calls_of (part_of pair (played trio [] seen_by_all)) ≡
     (1, Use (Of (handle 1 0 1))) ∷ (0, Use (Of (handle 0 0 1))) ∷ (2, SetGlobal 31 (all 3)) ∷ (1, Dup Global) ∷ (2, SetGlobal 31 (all 1))
     ∷ (0, make 4) ∷ (2, Install 4 (record { object = all_of 6; available = 31 })) ∷ []
 part_sees_all = refl
+
+-- ---- what would go wrong without one of the cases: the same calls of threads 0 and 1, and other replies
+
+-- the part, if an op that passes the test were all that is seen by everyone
+abbrev part_by : (Op → Bool) → List ℕ → History → History
+part_by is_seen S [] = []
+part_by is_seen S (e ∷ H) = if has_thread S e.who || is_seen e.op then e ∷ part_by is_seen S H else part_by is_seen S H
+
+abbrev is_install : Op → Bool
+is_install (Install m offer) = true
+is_install _ = false
+
+abbrev is_set : Op → Bool
+is_set (SetGlobal mask numbers) = true
+is_set _ = false
+
+-- an Install of thread 2 left out of the part
+abbrev with_install : History
+with_install = played trio [] ((2, Install 4 (record { object = all_of 6; available = 31 })) ∷ (0, make 4) ∷ [])
+
+abbrev without_install : History
+without_install = played trio [] ((0, make 4) ∷ [])
+
+install_left_out : calls_of (part_by is_set pair with_install) ≡ calls_of (part_by is_set pair without_install)
+install_left_out = refl
+
+install_replies : replies_of (part_by is_set pair with_install) ≡ Made (handle 0 0 1) ∷ []
+install_replies = refl
+
+no_install_replies : replies_of (part_by is_set pair without_install) ≡ Refused (NoData categories.Ctype) ∷ []
+no_install_replies = refl
+
+install_closed : IsClosed pair with_install
+install_closed = closed_from pair with_install refl
+
+-- a SetGlobal of thread 2 left out of the part
+abbrev with_set : History
+with_set = played trio [] ((2, SetGlobal 31 (all 1)) ∷ (0, Dup Global) ∷ (0, Use (Of (handle 0 0 1))) ∷ [])
+
+abbrev without_set : History
+without_set = played trio [] ((0, Dup Global) ∷ (0, Use (Of (handle 0 0 1))) ∷ [])
+
+set_left_out : calls_of (part_by is_install pair with_set) ≡ calls_of (part_by is_install pair without_set)
+set_left_out = refl
+
+set_replies : replies_of (part_by is_install pair with_set) ≡ Was Global (Some (all_of 1)) ∷ Made (handle 0 0 1) ∷ []
+set_replies = refl
+
+no_set_replies : replies_of (part_by is_install pair without_set) ≡ Was Global (Some (all_of 0)) ∷ Made (handle 0 0 1) ∷ []
+no_set_replies = refl
+
+-- a handle of thread 0 named by thread 2, with what thread 0 would get alone
+named_by_another : replies_of (part_of pair (played trio [] ((0, make 1) ∷ (2, Free (Of (handle 0 0 1))) ∷ (0, Use (Of (handle 0 0 1))) ∷ [])))
+    ≡ Refused Stale ∷ Made (handle 0 0 1) ∷ []
+named_by_another = refl
+
+named_by_none : replies_of (played trio [] ((0, make 1) ∷ (0, Use (Of (handle 0 0 1))) ∷ [])) ≡ Was Global (Some (all_of 1)) ∷ Made (handle 0 0 1) ∷ []
+named_by_none = refl
+
+-- a handle of thread 2 named by thread 0, whose call is refused in both worlds, and not alike
+names_another : replies_of (part_of pair (played trio [] ((2, make 1) ∷ (2, Free (Of (handle 2 0 1))) ∷ (0, Use (Of (handle 2 0 1))) ∷ [])))
+    ≡ Refused Stale ∷ []
+names_another = refl
+
+names_none : replies_of (played trio [] ((0, Use (Of (handle 2 0 1))) ∷ [])) ≡ Refused NeverMade ∷ []
+names_none = refl
+
+-- a cell of thread 2 that thread 0 fetches from
+fetched_from_another : replies_of (part_of pair (played trio [] ((2, make 1) ∷ (2, Post 3 (Of (handle 2 0 1))) ∷ (0, Fetch 2 3) ∷ [])))
+    ≡ Got (handle 2 0 1) ∷ []
+fetched_from_another = refl
+
+fetched_from_none : replies_of (played trio [] ((0, Fetch 2 3) ∷ [])) ≡ Refused EmptyCell ∷ []
+fetched_from_none = refl
