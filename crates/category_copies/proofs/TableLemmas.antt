@@ -1,5 +1,5 @@
 -- Tables that are followed many times.
-use Rattle.std.proofs.Common.{◌≡◌, ℕ, zero, suc, ◌+◌, ◌-◌, ◌/◌, ◌%◌, ◌<◌, ◌≤◌, List, ◌∷◌, length, map, Option, Some, None, IfSome, refl, sym, ◌∙◌, ap, arith, add-zero, zero-add, option_map}
+use Rattle.std.proofs.Common.{◌≡◌, ℕ, zero, suc, ◌+◌, ◌/◌, ◌%◌, ◌<◌, ◌≤◌, List, ◌∷◌, length, map, Option, Some, None, IfSome, refl, sym, ◌∙◌, ap, arith, add-zero, zero-add, option_map}
 use Rattle.std.specs.List.{range_with_len, slice_get}
 use Rattle.std.proofs.lemmas.Option.{slice_get-map}
 use Rattle.lc_base.specs.Lines.{◌>>=◌}
