@@ -15,6 +15,7 @@ use Rattle.ctype_classes.specs.Exclusions.{all_kept_apart}
 use Rattle.ctype_classes.specs.Case.{upper_pairs, lower_pairs, map_of, image}
 use Rattle.ctype_classes.specs.Ctype.{ctype_values, posix_values}
 use Rattle.ctype_classes.specs.Members.{membership}
+use Rattle.ctype_classes.specs.Excluded.{is_in, in_both, IsExcluded, AreApart}
 
 abbrev at : ℕ → ℕ → Place
 at line column = record { line = line; column = column }
@@ -182,3 +183,19 @@ listed_cntrl = refl
 graph_of_xdigit : membership utf8 (line 3 (codes "xdigit") ((at 3 8, one 0xFF21) ∷ []) ∷ []) (codes "graph") 0xFF21 ≡ Some true
 unfolding membership
 graph_of_xdigit = refl
+
+-- an underscore that is a letter: the first pair with a common member, and no less one
+letter_in_both : in_both (is_in posix (line 3 (codes "alpha") ((at 3 7, one 95) ∷ []) ∷ [])) (Alpha, Punct) 95 ≡ true
+unfolding membership
+letter_in_both = refl
+
+none_less : in_both (is_in posix (line 3 (codes "alpha") ((at 3 7, one 95) ∷ []) ∷ [])) (Alpha, Punct) 94 ≡ false
+unfolding membership
+none_less = refl
+
+-- behind the last pair it is the space character in punct
+space_last : IsExcluded (λ class w. true) [] Punct Space 32
+space_last = (refl, refl, refl, refl)
+
+nothing_in_punct : AreApart (λ class w. false) []
+nothing_in_punct = refl

@@ -4,3 +4,4 @@ pub mod LineLemmas
 pub mod CharacterLemmas
 pub mod CaseLemmas
 pub mod MemberLemmas
+pub mod ExclusionLemmas

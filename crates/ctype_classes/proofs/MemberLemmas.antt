@@ -41,7 +41,7 @@ first_named-answers w (c ∷ cs) name =
     elim (bytes_eq c.0 name) as P [ true ↦ refl | false ↦ first_named-answers w cs name ]
 
 -- a class that is not there has no members
-answer_or_none : (w : ℕ) (o : Option (List Range)) → covers (unwrap_or o []) w ≡ unwrap_or (option_map (λ (members : List Range). covers members w) o) false
+pub answer_or_none : (w : ℕ) (o : Option (List Range)) → covers (unwrap_or o []) w ≡ unwrap_or (option_map (λ (members : List Range). covers members w) o) false
 answer_or_none w None = refl
 answer_or_none w (Some members) = refl
 

@@ -12,3 +12,4 @@ pub mod Ctype
 pub mod Rows
 pub mod FirstLines
 pub mod Members
+pub mod Excluded

@@ -6,6 +6,7 @@ ghost use Rattle.charmap_reader.specs.CodedSet.{set_name};
 ghost use Rattle.ctype_classes.specs.Case.{image, first_image, upper_pairs, lower_pairs};
 ghost use Rattle.ctype_classes.specs.Classes.{class_answer};
 ghost use Rattle.ctype_classes.specs.Members.{membership};
+ghost use Rattle.ctype_classes.specs.Excluded.{is_in, IsFirstExcluded, AreAllApart, Names};
 ghost use Rattle.ctype_classes.specs.Ctype.{ctype_with, ctype_values, posix_values};
 
 use crate::case::{CaseMap, image, lower_pairs, map_of, upper_pairs};
@@ -64,7 +65,9 @@ impl Ctype {
         section: Place,
         list: &KeywordList<'_>,
     ) -> Result<Ctype, TextFault>
-        ensures { Gives (λ c. c) result (ctype_values list.now section charset.now) }
+        ensures is { Gives (λ c. c) result (ctype_values list.now section charset.now) }
+        ensures excluded { Names (IsFirstExcluded (is_in charset.now list.now)) section result }
+        ensures apart { IfOk result (λ c. AreAllApart (is_in charset.now list.now)) }
     {
         let classes = classes_of(alloc, charset, list)?;
         check_exclusions(section, &classes)?;
@@ -85,6 +88,8 @@ impl Ctype {
         charset: &Charset,
     ) -> Result<Ctype, TextFault>
         ensures is { Gives (λ c. c) result (ctype_values entries.now section charset.now) }
+        ensures excluded { Names (IsFirstExcluded (is_in charset.now entries.now)) section result }
+        ensures apart { IfOk result (λ c. AreAllApart (is_in charset.now entries.now)) }
         ensures members { IfOk result (λ c. (class : List ℕ) (w : ℕ) → class_answer c.classes class w ≡ membership charset.now entries.now class w) }
         ensures upper { IfOk result (λ c. (w : ℕ) → image c.upper w ≡ unwrap_or (first_image (upper_pairs entries.now) w) w) }
         ensures lower { IfOk result (λ c. (w : ℕ) → image c.lower w ≡ unwrap_or (first_image (lower_pairs entries.now) w) w) }

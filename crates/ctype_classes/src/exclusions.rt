@@ -1,11 +1,13 @@
 //! Classes that exclude one another.
 
-ghost use Rattle.std.specs.Prelude.{◌≡◌, ◌&&◌, [], unwrap_or};
+ghost use Rattle.std.specs.Prelude.{◌≡◌, ◌&&◌, ℕ, [], unwrap_or, OnOk};
 ghost use Rattle.std.specs.Option.{option_copied};
+ghost use Rattle.lc_base.specs.declared.reason.Class.{Class as Excluding};
 ghost use Rattle.lc_base.specs.Reading.{Gives};
 ghost use Rattle.class_ranges.specs.Ranges.{IsLeast, covers, first_common};
 ghost use Rattle.ctype_classes.specs.Classes.{members_of};
-ghost use Rattle.ctype_classes.specs.Exclusions.{class_name, exclusions, common_member, kept_apart, without_space, all_kept_apart};
+ghost use Rattle.ctype_classes.specs.Exclusions.{class_name, common_member, kept_apart, without_space, all_kept_apart};
+ghost use Rattle.ctype_classes.specs.Excluded.{is_kept_in, in_both, IsExcluded, AreApart, IsFirstExcluded, AreAllApart, Names};
 
 use crate::classes::{Classes, has_member};
 use class_ranges::Ranges;
@@ -70,7 +72,7 @@ fn common(first: Option<&Ranges>, second: Option<&Ranges>) -> Option<u32>
 /// The least common member of two classes.
 fn common_member(classes: &Classes, pair: (Class, Class)) -> Option<u32>
     ensures is { result ≡ common_member classes.now pair }
-    ensures least { IsLeast (λ w. covers (members_of classes.now (class_name pair.0)) w && covers (members_of classes.now (class_name pair.1)) w) result }
+    ensures least { IsLeast (in_both (is_kept_in classes.now) pair) result }
 {
     let first = classes.get(class_name(pair.0));
     let second = classes.get(class_name(pair.1));
@@ -79,7 +81,10 @@ fn common_member(classes: &Classes, pair: (Class, Class)) -> Option<u32>
 
 /// The classes of each pair have no common member.
 fn check_pairs(section: Place, classes: &Classes, pairs: &[(Class, Class)]) -> Result<(), TextFault>
-    ensures { Gives (λ u. u) result (kept_apart section classes.now pairs.now) }
+    ensures is { Gives (λ u. u) result (kept_apart section classes.now pairs.now) }
+    ensures excluded { Names (IsExcluded (is_kept_in classes.now) pairs.now) section result }
+    ensures behind { OnOk result ((a b : Excluding) (w : ℕ) → IsExcluded (is_kept_in classes.now) [] a b w → IsExcluded (is_kept_in classes.now) pairs.now a b w) }
+    ensures apart { OnOk result (AreApart (is_kept_in classes.now) [] → AreApart (is_kept_in classes.now) pairs.now) }
 {
     for pair in pairs {
         if let Some(w) = common_member(classes, *pair) {
@@ -91,7 +96,9 @@ fn check_pairs(section: Place, classes: &Classes, pairs: &[(Class, Class)]) -> R
 
 /// The space character is not in `punct`.
 fn check_space(section: Place, classes: &Classes) -> Result<(), TextFault>
-    ensures { Gives (λ u. u) result (without_space section classes.now) }
+    ensures is { Gives (λ u. u) result (without_space section classes.now) }
+    ensures excluded { Names (IsExcluded (is_kept_in classes.now) []) section result }
+    ensures apart { OnOk result (AreApart (is_kept_in classes.now) []) }
 {
     if has_member(classes, b"punct", 32) {
         return Err(TextFault::At(section, Reason::Excluded(Class::Punct, Class::Space, 32)));
@@ -102,7 +109,9 @@ fn check_space(section: Place, classes: &Classes) -> Result<(), TextFault>
 /// The classes keep to all exclusions.
 #[tactic(auto, unfolding(crate::specs::Exclusions::all_kept_apart))]
 pub fn check_exclusions(section: Place, classes: &Classes) -> Result<(), TextFault>
-    ensures { Gives (λ u. u) result (all_kept_apart section classes.now) }
+    ensures is { Gives (λ u. u) result (all_kept_apart section classes.now) }
+    ensures excluded { Names (IsFirstExcluded (is_kept_in classes.now)) section result }
+    ensures apart { OnOk result (AreAllApart (is_kept_in classes.now)) }
 {
     check_pairs(section, classes, &EXCLUSIONS)?;
     check_space(section, classes)
