@@ -15,7 +15,7 @@ use Rattle.time_cat.specs.Formats.{Piece, Literal, Converted, Wrong, pieces, is_
 use Rattle.time_cat.specs.Times.{TmValues}
 use Rattle.time_cat.specs.TimeValues.{TimeValues, format_text, AreSegments, IsWhole}
 use Rattle.time_cat.specs.Shown.{era_format, or_plain, format_for, piece_text, expanded, conversions_of}
-use Rattle.strftime_fields.specs.Cost.{read_of, read_for, piece_reads, pieces_read, reads, unless_wrong, cost}
+use Rattle.strftime_fields.specs.Cost.{read_of, read_for, pieces_read, reads, unless_wrong, cost}
 
 -- ---- formats of the locale
 

@@ -1,5 +1,5 @@
 -- How many conversions are read of what is left of a format.
-use Rattle.std.proofs.Common.{◌≡◌, ℕ, zero, suc, ◌+◌, ◌-◌, ◌<◌, ◌≤◌, Bool, true, false, cond, leb, List, [], ◌∷◌, ◌++◌, length, Option, Some, None, Result, Ok, Err, refl, sym, ap, ◌∙◌, arith}
+use Rattle.std.proofs.Common.{◌≡◌, ℕ, zero, suc, ◌+◌, ◌-◌, ◌<◌, ◌≤◌, true, false, cond, leb, List, [], ◌∷◌, length, Option, Some, None, Result, Ok, Err, refl, ap, arith}
 use Rattle.std.proofs.lemmas.Bool.{le-leb, lt-leb}
 use Rattle.time_cat.specs.declared.conversion.Conversion.{Conversion}
 use Rattle.time_cat.specs.Conversions.{conversion}
@@ -10,7 +10,7 @@ use Rattle.time_cat.specs.Shown.{expanded, converted, piece_text, format_for, co
 use Rattle.strftime_fields.specs.declared.fault.TimeFault.{TimeFault}
 use Rattle.strftime_fields.specs.declared.fault.TimeFault.TheVariants.{BadFormat, TooBig, Memory}
 use Rattle.strftime_fields.specs.Appending.{Appends}
-use Rattle.strftime_fields.specs.Cost.{read_of, read_for, piece_reads, pieces_read, reads, cost, Counts}
+use Rattle.strftime_fields.specs.Cost.{read_for, piece_reads, pieces_read, reads, cost, Counts}
 
 -- of what is left at a place, behind so many bytes of the text
 unfoldable pub reads_left : ℕ → ℕ → TimeValues → TmValues → ℕ → List ℕ → ℕ → ℕ
