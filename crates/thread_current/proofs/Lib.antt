@@ -1,1 +1,3 @@
 pub mod Longer
+pub mod Calls
+pub mod Refusals

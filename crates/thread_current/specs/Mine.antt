@@ -1,7 +1,10 @@
 -- What a thread keeps beside its seat.
-use Rattle.std.specs.Prelude.{◌≡◌, ◌↔◌, ◌≤◌, Option, Some, None}
+use Rattle.std.specs.Prelude.{◌≡◌, ◌↔◌, ◌<◌, ◌≤◌, [], Option, Some, None}
 use Rattle.mask_compose.specs.Parts.{Parts}
 use Rattle.turn_gate.specs.declared.entry.Terms.{Terms}
+use Rattle.turn_gate.specs.Callers.{Caller}
+use Rattle.handle_table.specs.declared.op.Op as ops
+use Rattle.handle_table.specs.declared.op.Reply as replies
 use Rattle.handle_table.specs.declared.handle.Handle.{Handle}
 use Rattle.handle_table.specs.declared.handle.Named.{Named}
 use Rattle.handle_table.specs.declared.handle.Named.TheVariants.{Global}
@@ -23,3 +26,10 @@ pub record IsMine (t : Thread) (named : Named) (own : Option Parts) (object : Pa
   pub both : (own ≡ None) ↔ (named ≡ Global)
   pub version : t.cached ≤ sets t.seen
   pub object_is : (terms : Terms Setting) → t.terms ≡ Some terms → object ≡ global_at terms.setting t.seen t.cached
+
+-- a seat that has made no call, at a table with this POSIX object
+pub record IsUnused {P : Type 0} (posix : Parts) (seat : Caller Setting (ops.Op P) (replies.Reply P)) : Type 0 where
+  pub unseen : seat.seen ≡ []
+  pub no_calls : seat.own ≡ []
+  pub in_reach : (terms : Terms Setting) → seat.terms ≡ Some terms → seat.number < terms.seats
+  pub object_is : (terms : Terms Setting) → seat.terms ≡ Some terms → posix ≡ global_at terms.setting [] 0

@@ -8,10 +8,10 @@ use Rattle.handle_table.specs.declared.op.Op as ops
 use Rattle.handle_table.specs.declared.op.Reply as replies
 use Rattle.handle_table.specs.declared.handle.Handle.{Handle}
 use Rattle.handle_table.specs.declared.handle.Named.{Named}
-use Rattle.handle_table.specs.Entry.{Op, Use, End, Reply, Entry, History, Setting}
-use Rattle.handle_table.specs.History.{selection, holding}
+use Rattle.handle_table.specs.Entry.{Op, Use, End, Reply, Entry, History, Setting, is_accepted}
+use Rattle.handle_table.specs.History.{selection_after, selection, holding_after, holding}
 use Rattle.handle_table.specs.Kept.{AreThreads}
-use Rattle.handle_table.specs.Answer.{answer, own, IsLegal}
+use Rattle.handle_table.specs.Answer.{answer, own_after, own, IsLegal}
 use Rattle.thread_current.specs.Seen.{entries_of}
 
 -- a thread: at which table, by what was agreed, its number, the history that it has seen, its own calls in it, and the
@@ -89,6 +89,12 @@ pub record Answered (gate : Gate Setting) (old new : Thread) (op : Op) (place : 
   pub reply_is : reply ≡ answer gate.terms.setting (before new) old.number op
   pub seen : new.seen ≡ record { who = old.number; op = op; reply = reply } ∷ before new
   pub calls : new.calls ≡ record { who = old.number; op = op; reply = reply } ∷ old.calls
+
+-- what the thread says after its call, by what it said before
+pub record After (old new : Thread) (op : Op) (reply : Reply) : Type 0 where
+  pub selection : selected new ≡ (if is_accepted reply then selection_after op (selected old) else selected old)
+  pub own : own_object new ≡ own_after reply (own_object old)
+  pub holds : (h : Handle) → holds new h ≡ (if is_accepted reply then holding_after op h (holds old h) else holds old h)
 
 -- the thread has seen more, or as much, and made no call
 pub record SawMore (old new : Thread) : Type 0 where

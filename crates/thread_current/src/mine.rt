@@ -1,11 +1,12 @@
 //! A thread's own side: its seat, what it has selected, and its cached global object.
 
-ghost use Rattle.std.specs.Prelude.{◌≡◌, ◌↔◌, ◌<◌, [], Some};
+ghost use Rattle.std.specs.Prelude.{◌≡◌, ◌↔◌, Some};
 ghost use Rattle.std.specs.Option.{option_copied, IsNone};
 ghost use Rattle.handle_table.specs.declared.handle.Named.TheVariants as names;
 ghost use Rattle.turn_gate.specs.declared.entry.Terms.{Terms};
 ghost use Rattle.handle_table.specs.Entry.{Setting};
-ghost use Rattle.handle_table.specs.History.{global_at};
+ghost use Rattle.handle_table.specs.History.{sets, global_at};
+ghost use Rattle.thread_current.specs.Mine.{IsUnused};
 ghost use Rattle.thread_current.specs.Thread.{thread_of, selected, own_object};
 
 use crate::locales::Locales;
@@ -41,8 +42,7 @@ impl<P: Part> Model for Mine<P> {
 impl<P: Part> Mine<P> {
     // The thread of a seat that has made no call, with the POSIX locale's object.
     pub(crate) fn first(seat: Seat<Locales<P>>, posix: Object<P>) -> Mine<P>
-        requires in_order { (terms : Terms Setting) → seat.terms ≡ Some terms → (seat.number < terms.seats) × (posix ≡ global_at terms.setting [] 0) }
-        requires first { (seat.seen ≡ []) × (seat.own ≡ []) }
+        requires { IsUnused posix seat }
         ensures { result ≡ thread_of 0 seat }
     {
         Mine {
@@ -52,6 +52,16 @@ impl<P: Part> Mine<P> {
             version: 0,
             object: posix,
         }
+    }
+
+    // Keeps the global object that was read now, with its version.
+    pub(crate) fn read(&mut self, version: u32, object: Object<P>)
+        requires version { version ≡ sets self.old.seen }
+        requires object { (terms : Terms Setting) → self.old.terms ≡ Some terms → object ≡ global_at terms.setting self.old.seen version }
+        ensures { self.new ≡ record self.old { cached = version } }
+    {
+        self.version = version;
+        self.object = object;
     }
 
     /// The object that the thread took up when it selected it (XSH uselocale). `None` exactly where

@@ -1,21 +1,22 @@
 //! The table of locale objects that threads share.
-ghost use Rattle.std.specs.Prelude.{◌≡◌, ◌≢◌, ◌↔◌, ℕ, ◌*◌, ◌<◌, ◌≤◌, ◌&&◌, ◌||◌, not, true, false, length, map, IfOk, IfErr, IfSome, MatchOption, MatchResult};
+ghost use Rattle.std.specs.Prelude.{◌≡◌, ◌≢◌, ◌↔◌, ℕ, ◌*◌, ◌<◌, ◌≤◌, ◌++◌, ◌&&◌, ◌||◌, not, true, false, length, map, IfOk, OnOk, IfErr, IfSome, MatchOption, MatchResult};
 ghost use Rattle.std.specs.List.{All, range_with_len};
 ghost use Rattle.std.specs.Option.{IsNone, IsSomeAnd};
 ghost use Rattle.lc_base.specs.declared.category.Category.{Category};
 ghost use Rattle.turn_gate.specs.Callers.{IsSeatOf, IsSameCaller};
 ghost use Rattle.turn_gate.specs.Ends.{SomeCaller};
 ghost use Rattle.handle_table.specs.declared.handle.Handle.{Handle};
-ghost use Rattle.handle_table.specs.declared.handle.Named.TheVariants as names;
+ghost use Rattle.handle_table.specs.declared.handle.Named.TheVariants as targets;
 ghost use Rattle.handle_table.specs.Entry as data_of;
 ghost use Rattle.handle_table.specs.Entry.{same_handle};
 ghost use Rattle.handle_table.specs.Shelf.{lacking};
-ghost use Rattle.handle_table.specs.History.{sets, global_at, free_row, posted};
+ghost use Rattle.handle_table.specs.History.{sets, global_at, holding, free_row, posted};
 ghost use Rattle.handle_table.specs.Answer.{target_object};
 ghost use Rattle.handle_table.specs.Table.{IsOpening, AreOnShelf, Fits, StandsFor};
 ghost use Rattle.handle_table.specs.Seen.{op_of, reply_of, refusal_of};
 ghost use Rattle.thread_current.specs.Seen.{entries_of};
-ghost use Rattle.thread_current.specs.Thread.{IsThreadOf, IsInOrder, IsPart, takes_up, Answered, SawMore, Keeps, KeepsSelection, KeepsHolds, Extends, before, selected, own_object, holds, first_thread, thread_of};
+ghost use Rattle.thread_current.specs.Thread.{IsThreadOf, IsInOrder, IsPart, After, takes_up, Answered, SawMore, Keeps, KeepsSelection, KeepsHolds, Extends, before, selected, own_object, holds, first_thread, thread_of};
+ghost use Rattle.thread_current.specs.Mine.{IsUnused};
 ghost use Rattle.thread_current.specs.Causes.{refusal_in, IsNeverMade, IsStale, IsThere, IsHeldAlready};
 
 use crate::held::Held;
@@ -50,6 +51,7 @@ pub struct Shared<P: Part> {
 }
 
 impl<P: Part> Model for Shared<P> {
+    ghost use Rattle.std.specs.Prelude.{◌≡◌};
     ghost use Rattle.turn_gate.specs.Callers.{Gate};
     ghost use Rattle.handle_table.specs.Entry.{Setting};
 
@@ -58,6 +60,22 @@ impl<P: Part> Model for Shared<P> {
     ghost view = { λ s. s.turns };
 
     ghost invariant = { λ s. s.turns.terms.seats ≡ s.turns.terms.setting.threads };
+}
+
+// Adds a thread for each of the seats, in their order.
+fn seat_all<P: Part>(
+    seats: &mut Vec<Seat<Locales<P>>>,
+    posix: &Object<P>,
+    all: &mut Vec<Mine<P>>,
+) -> Result<(), AllocError>
+    requires { All (IsUnused posix.now) seats.old.items }
+    ensures { OnOk result (all.new.items ≡ all.old.items ++ map (thread_of 0) seats.old.items) }
+{
+    if let Some(seat) = seats.pop() {
+        seat_all(seats, posix, all)?;
+        all.push(Mine::first(seat, posix.share()))?;
+    }
+    Ok(())
 }
 
 impl<P: Part> Shared<P> {
@@ -96,9 +114,8 @@ impl<P: Part> Shared<P> {
         let posix = table.global().peek().share();
         let mut all = Vec::with_capacity(alloc, threads as usize)?;
         let (turns, seats) = Turns::new(rt, alloc, Locales { table }, threads, quota)?;
-        for seat in seats.into_vec() {
-            all.push_reserved(Mine::first(seat, posix.share()));
-        }
+        let mut seats = seats.into_vec();
+        seat_all(&mut seats, &posix, &mut all)?;
         Ok((Shared { turns }, List::of(all)))
     }
 
@@ -110,6 +127,8 @@ impl<P: Part> Shared<P> {
         requires plain { takes_up (op_of op) ≡ false }
         ensures answered { Answered self.now mine.old mine.new (op_of op) result.0 (reply_of result.1) }
         ensures in_order { IsInOrder self.now.terms mine.new }
+        ensures before { (h : Handle) → holding (before mine.new) mine.old.number h ≡ holds mine.old h }
+        ensures after { After mine.old mine.new (op_of op) (reply_of result.1) }
         ensures selection { KeepsSelection mine.old mine.new }
         ensures cached { mine.new.cached ≡ mine.old.cached }
     {
@@ -135,14 +154,15 @@ impl<P: Part> Shared<P> {
         ensures in_order { IsInOrder self.now.terms mine.new }
         ensures keeps { Keeps mine.old mine.new }
         ensures no_data { (k : Category) → (refusal_in result ≡ Some (data_of.NoData k)) ↔ (lacking self.now.terms.setting (before mine.new) mask names ≡ Some k) }
-        ensures global_handle { (refusal_in result ≡ Some data_of.GlobalHandle) ↔ ((lacking self.now.terms.setting (before mine.new) mask names ≡ None) × (base ≡ Some names.Global)) }
+        ensures global_handle { (refusal_in result ≡ Some data_of.GlobalHandle) ↔ ((lacking self.now.terms.setting (before mine.new) mask names ≡ None) × (base ≡ Some targets.Global)) }
         ensures never_made { (refusal_in result ≡ Some data_of.NeverMade) ↔ ((lacking self.now.terms.setting (before mine.new) mask names ≡ None) × IsSomeAnd base (IsNeverMade (before mine.new))) }
         ensures stale { (refusal_in result ≡ Some data_of.Stale) ↔ ((lacking self.now.terms.setting (before mine.new) mask names ≡ None) × IsSomeAnd base (IsStale (before mine.new))) }
         ensures too_many { (refusal_in result ≡ Some data_of.TooMany) ↔ ((lacking self.now.terms.setting (before mine.new) mask names ≡ None) × (base ≡ None) × (free_row self.now.terms.setting (before mine.new) mine.old.number ≡ None)) }
     {
-        match self.enter(rt, mine, Op::New { mask, names, base }) {
-            (place, Reply::Made(handle)) => Ok((place, handle)),
-            (place, Reply::Refused(refusal)) => Err(Fault { place, refusal }),
+        let (place, reply) = self.enter(rt, mine, Op::New { mask, names, base });
+        match reply {
+            Reply::Made(handle) => Ok((place, handle)),
+            Reply::Refused(refusal) => Err(Fault { place, refusal }),
             _ => unreachable!(),
         }
     }
@@ -179,7 +199,7 @@ impl<P: Part> Shared<P> {
         ensures fault { IfErr result (λ f. Answered self.now mine.old mine.new (data_of.Free h) f.place (data_of.Refused (refusal_of f.refusal))) }
         ensures in_order { IsInOrder self.now.terms mine.new }
         ensures keeps { Keeps mine.old mine.new }
-        ensures global_handle { (refusal_in result ≡ Some data_of.GlobalHandle) ↔ (h ≡ names.Global) }
+        ensures global_handle { (refusal_in result ≡ Some data_of.GlobalHandle) ↔ (h ≡ targets.Global) }
         ensures never_made { (refusal_in result ≡ Some data_of.NeverMade) ↔ IsNeverMade (before mine.new) h }
         ensures stale { (refusal_in result ≡ Some data_of.Stale) ↔ IsStale (before mine.new) h }
     {
@@ -212,13 +232,14 @@ impl<P: Part> Shared<P> {
         ensures never_made { (refusal_in result ≡ Some data_of.NeverMade) ↔ IsNeverMade (before mine.new) to }
         ensures stale { (refusal_in result ≡ Some data_of.Stale) ↔ IsStale (before mine.new) to }
     {
-        match self.turns.turn(rt, &mut mine.seat, Op::Use { to }) {
-            (place, Reply::Was { former, now }) => {
+        let (place, reply) = self.turns.turn(rt, &mut mine.seat, Op::Use { to });
+        match reply {
+            Reply::Was { former, now } => {
                 mine.named = to;
                 mine.own = now;
                 Ok((place, former))
             }
-            (place, Reply::Refused(refusal)) => Err(Fault { place, refusal }),
+            Reply::Refused(refusal) => Err(Fault { place, refusal }),
             _ => unreachable!(),
         }
     }
@@ -245,13 +266,13 @@ impl<P: Part> Shared<P> {
         ensures cached { MatchResult result (λ r. mine.new.cached ≡ r.1) (λ f. mine.new.cached ≡ mine.old.cached) }
         ensures no_data { (k : Category) → (refusal_in result ≡ Some (data_of.NoData k)) ↔ (lacking self.now.terms.setting (before mine.new) mask names ≡ Some k) }
     {
-        match self.enter(rt, mine, Op::SetGlobal { mask, names }) {
-            (place, Reply::Set { version, object }) => {
-                mine.version = version;
-                mine.object = object;
+        let (place, reply) = self.enter(rt, mine, Op::SetGlobal { mask, names });
+        match reply {
+            Reply::Set { version, object } => {
+                mine.read(version, object);
                 Ok((place, version))
             }
-            (place, Reply::Refused(refusal)) => Err(Fault { place, refusal }),
+            Reply::Refused(refusal) => Err(Fault { place, refusal }),
             _ => unreachable!(),
         }
     }
@@ -291,12 +312,12 @@ impl<P: Part> Shared<P> {
         ensures made { IfOk result (λ r. Answered self.now mine.old mine.new (data_of.Hold h) r.0 (data_of.Held r.1.object)) }
         ensures fault { IfErr result (λ f. Answered self.now mine.old mine.new (data_of.Hold h) f.place (data_of.Refused (refusal_of f.refusal))) }
         ensures in_order { IsInOrder self.now.terms mine.new }
-        ensures handle { IfOk result (λ r. h ≡ names.Of r.1.handle) }
+        ensures handle { IfOk result (λ r. h ≡ targets.Of r.1.handle) }
         ensures selection { KeepsSelection mine.old mine.new }
         ensures holds { MatchResult result (λ r. (g : Handle) → holds mine.new g ≡ (same_handle r.1.handle g || holds mine.old g))
             (λ f. KeepsHolds mine.old mine.new) }
         ensures cached { mine.new.cached ≡ mine.old.cached }
-        ensures global_handle { (refusal_in result ≡ Some data_of.GlobalHandle) ↔ (h ≡ names.Global) }
+        ensures global_handle { (refusal_in result ≡ Some data_of.GlobalHandle) ↔ (h ≡ targets.Global) }
         ensures never_made { (refusal_in result ≡ Some data_of.NeverMade) ↔ IsNeverMade (before mine.new) h }
         ensures stale { (refusal_in result ≡ Some data_of.Stale) ↔ IsStale (before mine.new) h }
         ensures already_held { (refusal_in result ≡ Some data_of.AlreadyHeld) ↔ IsHeldAlready (before mine.new) mine.old.number h }
@@ -316,7 +337,7 @@ impl<P: Part> Shared<P> {
         requires thread { IsThreadOf self.now mine.old }
         requires quota { length mine.old.calls < self.now.terms.quota }
         requires held { holds mine.old held.handle ≡ true }
-        ensures made { Answered self.now mine.old mine.new (data_of.Release (names.Of held.handle)) result data_of.Released }
+        ensures made { Answered self.now mine.old mine.new (data_of.Release (targets.Of held.handle)) result data_of.Released }
         ensures in_order { IsInOrder self.now.terms mine.new }
         ensures selection { KeepsSelection mine.old mine.new }
         ensures holds { (g : Handle) → holds mine.new g ≡ (not (same_handle held.handle g) && holds mine.old g) }
@@ -331,15 +352,16 @@ impl<P: Part> Shared<P> {
     pub fn release_unheld<R: Wait>(&self, rt: &R, mine: &mut Mine<P>, h: Named) -> (u64, Refusal)
         requires thread { IsThreadOf self.now mine.old }
         requires quota { length mine.old.calls < self.now.terms.quota }
-        requires unheld { (g : Handle) → h ≡ names.Of g → holds mine.old g ≡ false }
+        requires unheld { (g : Handle) → h ≡ targets.Of g → holds mine.old g ≡ false }
         ensures fault { Answered self.now mine.old mine.new (data_of.Release h) result.0 (data_of.Refused (refusal_of result.1)) }
         ensures in_order { IsInOrder self.now.terms mine.new }
         ensures keeps { Keeps mine.old mine.new }
-        ensures global_handle { (refusal_of result.1 ≡ data_of.GlobalHandle) ↔ (h ≡ names.Global) }
-        ensures not_held { (refusal_of result.1 ≡ data_of.NotHeld) ↔ (h ≢ names.Global) }
+        ensures global_handle { (refusal_of result.1 ≡ data_of.GlobalHandle) ↔ (h ≡ targets.Global) }
+        ensures not_held { (refusal_of result.1 ≡ data_of.NotHeld) ↔ (h ≢ targets.Global) }
     {
-        match self.enter(rt, mine, Op::Release { h }) {
-            (place, Reply::Refused(refusal)) => (place, refusal),
+        let (place, reply) = self.enter(rt, mine, Op::Release { h });
+        match reply {
+            Reply::Refused(refusal) => (place, refusal),
             _ => unreachable!(),
         }
     }
@@ -359,7 +381,7 @@ impl<P: Part> Shared<P> {
         ensures fault { IfErr result (λ f. Answered self.now mine.old mine.new (data_of.Post cell h) f.place (data_of.Refused (refusal_of f.refusal))) }
         ensures in_order { IsInOrder self.now.terms mine.new }
         ensures keeps { Keeps mine.old mine.new }
-        ensures global_handle { (refusal_in result ≡ Some data_of.GlobalHandle) ↔ (h ≡ names.Global) }
+        ensures global_handle { (refusal_in result ≡ Some data_of.GlobalHandle) ↔ (h ≡ targets.Global) }
         ensures never_made { (refusal_in result ≡ Some data_of.NeverMade) ↔ IsNeverMade (before mine.new) h }
         ensures stale { (refusal_in result ≡ Some data_of.Stale) ↔ IsStale (before mine.new) h }
     {
@@ -380,7 +402,7 @@ impl<P: Part> Shared<P> {
     ) -> Result<(u64, Handle), Fault>
         requires thread { IsThreadOf self.now mine.old }
         requires quota { length mine.old.calls < self.now.terms.quota }
-        requires owner { owner < self.now.terms.seats }
+        requires owner { owner < self.now.terms.setting.threads }
         requires cell { cell < CELLS }
         ensures made { IfOk result (λ r. Answered self.now mine.old mine.new (data_of.Fetch owner cell) r.0 (data_of.Got r.1)) }
         ensures fault { IfErr result (λ f. Answered self.now mine.old mine.new (data_of.Fetch owner cell) f.place (data_of.Refused (refusal_of f.refusal))) }
@@ -403,7 +425,7 @@ impl<P: Part> Shared<P> {
         ensures fault { IfErr result (λ f. Answered self.now mine.old mine.new (data_of.Pins h) f.place (data_of.Refused (refusal_of f.refusal))) }
         ensures in_order { IsInOrder self.now.terms mine.new }
         ensures keeps { Keeps mine.old mine.new }
-        ensures global_handle { (refusal_in result ≡ Some data_of.GlobalHandle) ↔ (h ≡ names.Global) }
+        ensures global_handle { (refusal_in result ≡ Some data_of.GlobalHandle) ↔ (h ≡ targets.Global) }
         ensures never_made { (refusal_in result ≡ Some data_of.NeverMade) ↔ IsNeverMade (before mine.new) h }
     {
         match self.enter(rt, mine, Op::Pins { h }) {
@@ -483,6 +505,18 @@ impl<P: Part> Shared<P> {
         }
     }
 
+    // The same by a turn, which leaves the cached object.
+    fn ask<R: Wait>(&self, rt: &R, mine: &mut Mine<P>) -> (u32, Object<P>)
+        requires { IsThreadOf self.now mine.old }
+        ensures saw { SawMore mine.old mine.new }
+        ensures keeps { Keeps mine.old mine.new }
+        ensures in_order { IsInOrder self.now.terms mine.new }
+        ensures version { result.0 ≡ sets mine.new.seen }
+        ensures object { result.1 ≡ global_at self.now.terms.setting mine.new.seen result.0 }
+    {
+        self.turns.peek(rt, &mut mine.seat, &Ask::Global)
+    }
+
     /// The global object with its version, whatever the thread has selected.
     pub fn global_now<R: Wait>(&self, rt: &R, mine: &mut Mine<P>) -> (u32, Object<P>)
         requires { IsThreadOf self.now mine.old }
@@ -498,9 +532,8 @@ impl<P: Part> Shared<P> {
         if let Some(read) = self.cached(mine) {
             return read;
         }
-        let (version, object) = self.turns.peek(rt, &mut mine.seat, &Ask::Global);
-        mine.version = version;
-        mine.object = object.share();
+        let (version, object) = self.ask(rt, mine);
+        mine.read(version, object.share());
         (version, object)
     }
 
@@ -514,7 +547,7 @@ impl<P: Part> Shared<P> {
         ensures holds { KeepsHolds mine.old mine.new }
         ensures in_order { IsInOrder self.now.terms mine.new }
         ensures own { IsNone result.0 → own_object mine.old ≡ Some result.1 }
-        ensures no_version { IsNone result.0 ↔ (selected mine.old ≢ names.Global) }
+        ensures no_version { IsNone result.0 ↔ (selected mine.old ≢ targets.Global) }
         ensures version { IfSome result.0 (λ v. v ≡ sets mine.new.seen) }
         ensures newer { IfSome result.0 (λ v. sets mine.old.seen ≤ v) }
         ensures object { IfSome result.0 (λ v. result.1 ≡ global_at self.now.terms.setting mine.new.seen v) }
