@@ -38,6 +38,8 @@ pub fn top<S: Source, K: Sink>(
     // A fault comes just where its count rose.
     ensures read_fault { result ≡ Status.ReadFault → Rose (S.faults source.old) (S.faults source.new) }
     ensures read_sound { result ≢ Status.ReadFault → S.faults source.new ≡ S.faults source.old }
+    // Whatever the status, also where memory is wanting, at most one byte past the limit came.
+    ensures at_most { CameAtMost (S.left source.old) (S.left source.new) (INPUT_LIMIT + 1) }
     ensures read_short { result ≡ Status.ReadFault → CameAtMost (S.left source.old) (S.left source.new) INPUT_LIMIT }
     ensures write_fault { result ≡ Status.WriteFault → Rose (K.faults sink.old) (K.faults sink.new) }
     ensures write_sound { result ≢ Status.WriteFault → K.faults sink.new ≡ K.faults sink.old }
@@ -59,7 +61,8 @@ pub fn top<S: Source, K: Sink>(
 /// Reads the whole source, and writes the answer to it.
 fn run<S: Source, K: Sink>(alloc: Global, mode: Mode, source: &mut S, sink: &mut K) -> Status
     requires { IsSized mode }
-    ensures { Ran mode
+    ensures at_most { CameAtMost (S.left source.old) (S.left source.new) (INPUT_LIMIT + 1) }
+    ensures ran { Ran mode
         (record { left = S.left source.old; left' = S.left source.new; faults = S.faults source.old; faults' = S.faults source.new })
         (record { written = K.written sink.old; written' = K.written sink.new; faults = K.faults sink.old; faults' = K.faults sink.new })
         (sink.new ≡ sink.old) result }
