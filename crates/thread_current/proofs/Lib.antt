@@ -1,3 +1,5 @@
 pub mod Longer
 pub mod Calls
 pub mod Refusals
+pub mod Rounds
+pub mod Examples

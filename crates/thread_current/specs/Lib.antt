@@ -2,3 +2,4 @@ pub mod Seen
 pub mod Thread
 pub mod Causes
 pub mod Mine
+pub mod Rounds
