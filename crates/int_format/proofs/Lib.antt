@@ -1,0 +1,5 @@
+pub mod DigitLemmas
+pub mod FormatLemmas
+pub mod IntLemmas
+pub mod ReadLemmas
+mod Examples

@@ -1,0 +1,24 @@
+use Rattle.std.proofs.Common.{◌≡◌, ◌+◌, ◌/◌, ◌≤◌, arith, ap}
+use Rattle.int_format.specs.Digits.{digit_count}
+use Rattle.int_format.proofs.DigitLemmas.{few_digits, more_digits}
+use Rattle.int_format.proofs.digits.digit_count.Goals as goal
+
+pub overflow_add-count : goal.overflow_add-count
+overflow_add-count c =
+    let few : digit_count c.args.n ≤ 20 = few_digits c.args.n (omega arith) in
+    omega (arith, c.loop-left.invariant)
+
+pub loop-left-preserved : goal.loop-left-preserved
+loop-left-preserved c =
+    let more : digit_count c.loop-left.left ≡ digit_count (c.loop-left.left / 10) + 1 = more_digits c.loop-left.left (omega arith) in
+    omega (arith, c.loop-left.invariant)
+
+pub returns-clause-is : goal.returns-clause-is
+returns-clause-is c =
+    let none : c.loop-left.left ≡ 0 = omega arith in
+    omega (arith, c.loop-left.invariant, ap (λ n. digit_count n) none)
+
+pub returns-clause-few : goal.returns-clause-few
+returns-clause-few c =
+    let few : digit_count c.args.n ≤ 20 = few_digits c.args.n (omega arith) in
+    omega (arith, c.loop-left.invariant)

@@ -1,0 +1,9 @@
+use Rattle.std.proofs.Common.{◌≡◌, drop}
+use Rattle.int_format.specs.Formats.{counted, flags, flags_behind}
+use Rattle.int_format.proofs.format.flags_of.Given as goal
+
+abbrev pub invariant-loop-byte : goal.invariant-loop-byte
+invariant-loop-byte l = record {
+  rest : flags l.bytes ≡ counted l.count (flags_behind l.flags (drop l.byte-index l.bytes));
+  count : l.count ≡ l.byte-index;
+}

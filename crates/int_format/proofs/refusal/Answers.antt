@@ -1,0 +1,28 @@
+use Rattle.std.proofs.Common.{◌≡◌, ◌+◌, Some, arith, ap, sym, ◌∙◌, drop}
+use Rattle.int_format.specs.Formats.{pieces}
+use Rattle.int_format.specs.Ints.{refusal_behind}
+use Rattle.int_format.proofs.FormatLemmas.{piece_bad, piece_more, pieces_over}
+use Rattle.int_format.proofs.IntLemmas.{refusal_bad, refusal_over}
+use Rattle.int_format.proofs.refusal.Goals as goal
+
+pub returns-in_default : goal.returns-in_default
+returns-in_default c =
+    sym (c.loop-at.invariant.rest
+    ∙ ap (λ r. refusal_behind c.loop-at.lacking r c.loop-at.left) (piece_bad c.args.format.now c.loop-at.at (omega arith) (sym c.piece_of.ensures.is ∙ c.in_default.is))
+    ∙ refusal_bad c.loop-at.lacking c.loop-at.at c.loop-at.left)
+
+pub loop-at-preserved : goal.loop-at-preserved
+loop-at-preserved c =
+    let is : c.piece_of.result ≡ Some (c.in-Some.piece, c.in-Some.used) = c.in-Some.is in
+    record {
+      rest = c.loop-at.invariant.rest
+          ∙ ap (λ r. refusal_behind c.loop-at.lacking r c.loop-at.left) (piece_more c.args.format.now c.loop-at.at c.in-Some.used c.in-Some.piece (omega arith) (sym c.piece_of.ensures.is ∙ is))
+          ∙ c.behind_piece.ensures (pieces 0 (c.loop-at.at + (1 + c.in-Some.used)) (drop (c.loop-at.at + (1 + c.in-Some.used)) c.args.format.now));
+      within = omega (arith, c.in-Some.ensures.within);
+    }
+
+pub returns : goal.returns
+returns c =
+    sym (c.loop-at.invariant.rest
+    ∙ ap (λ r. refusal_behind c.loop-at.lacking r c.loop-at.left) (pieces_over c.args.format.now c.loop-at.at (omega arith))
+    ∙ refusal_over c.loop-at.lacking c.loop-at.left)

@@ -1,0 +1,131 @@
+-- Formats of whole numbers: conversions and bytes that are copied (XSH fprintf; bounds and the refusal are our own).
+use Rattle.std.specs.Prelude.{ℕ, zero, suc, ◌+◌, ◌-◌, ◌*◌, nat_lt, ◌==◌, ◌||◌, Bool, true, false, List, [], ◌∷◌, drop, Option, Some, None, option_map, Result, Ok, Err, if◌then◌else◌}
+use Rattle.std.specs.Char.{is_ascii_digit}
+use Rattle.std.specs.List.{find}
+use Rattle.lc_base.specs.Lines.{◌>>=◌}
+use Rattle.int_format.specs.declared.format.Mark.{Mark}
+use Rattle.int_format.specs.declared.format.Mark.TheVariants.{Groups, LeftAligned, PlusSign, SpaceSign, Zeros}
+use Rattle.int_format.specs.declared.format.Flags.{Flags}
+use Rattle.int_format.specs.declared.format.Conversion.{Conversion}
+use Rattle.int_format.specs.declared.format.Piece.{Piece}
+use Rattle.int_format.specs.declared.format.Piece.TheVariants.{Literal, Convert}
+
+-- ---- flags
+
+-- the flags, each of one byte
+abbrev pub marks : List (ℕ × Mark)
+marks =
+    (39, Groups) ∷
+    (45, LeftAligned) ∷
+    (43, PlusSign) ∷
+    (32, SpaceSign) ∷
+    (48, Zeros) ∷ []
+
+abbrev pub mark_of : ℕ → Option Mark
+mark_of c = option_map (λ m. m.1) (find (λ m. m.0 == c) marks)
+
+abbrev pub no_flags : Flags
+no_flags = record { groups = false; left = false; plus = false; space = false; zeros = false }
+
+-- a flag more, perhaps one that was given before
+abbrev pub with_mark : Flags → Mark → Flags
+with_mark f Groups = record f { groups = true }
+with_mark f LeftAligned = record f { left = true }
+with_mark f PlusSign = record f { plus = true }
+with_mark f SpaceSign = record f { space = true }
+with_mark f Zeros = record f { zeros = true }
+
+-- so many bytes more
+abbrev pub counted : {A : Type 0} → ℕ → A × ℕ → A × ℕ
+counted n r = (r.0, r.1 + n)
+
+-- the flags that bytes begin with, beside those before them, and how many bytes they take
+unfoldable pub flags_behind : Flags → List ℕ → Flags × ℕ
+flags_behind f [] = (f, 0)
+flags_behind f (c ∷ cs) = elim (mark_of c) [
+  | None ↦ (f, 0)
+  | Some mark ↦ counted 1 (flags_behind (with_mark f mark) cs)
+]
+
+abbrev pub flags : List ℕ → Flags × ℕ
+flags bs = flags_behind no_flags bs
+
+-- ---- numbers
+
+abbrev pub further : {A : Type 0} → ℕ → Option (A × ℕ) → Option (A × ℕ)
+further n r = option_map (λ x. counted n x) r
+
+-- the number that digits are which bytes begin with, behind others of this value, and how many they are; it is at most 255
+unfoldable pub number_behind : ℕ → List ℕ → Option (ℕ × ℕ)
+number_behind v [] = Some (v, 0)
+number_behind v (c ∷ cs) = elim (is_ascii_digit c) [
+  | false ↦ Some (v, 0)
+  | true ↦ elim (nat_lt 255 (v * 10 + (c - 48))) [
+    | true ↦ None
+    | false ↦ further 1 (number_behind (v * 10 + (c - 48)) cs)
+  ]
+]
+
+-- the number that bytes begin with, 0 where no digit is there
+abbrev pub number : List ℕ → Option (ℕ × ℕ)
+number bs = number_behind 0 bs
+
+-- the precision behind a `.`, if the `.` is there; without digits it is 0
+abbrev pub precision : List ℕ → Option (Option ℕ × ℕ)
+precision [] = Some (None, 0)
+precision (c ∷ cs) = if c == 46 then (number cs >>= λ r. Some (Some r.0, r.1 + 1)) else Some (None, 0)
+
+-- ---- conversions
+
+-- whether bytes begin with `l`
+abbrev pub begins_with_l : List ℕ → Bool
+begins_with_l [] = false
+begins_with_l (c ∷ cs) = c == 108
+
+-- how many bytes `l`, `ll` or `j` take where bytes begin with one of them; they change nothing
+abbrev pub modifier : List ℕ → ℕ
+modifier [] = 0
+modifier (c ∷ cs) = if c == 108 then (if begins_with_l cs then 2 else 1) else if c == 106 then 1 else 0
+
+-- whether a conversion is `d` or `i`, or else `u`
+abbrev pub is_signed : List ℕ → Option Bool
+is_signed [] = None
+is_signed (c ∷ cs) = if c == 100 || c == 105 then Some true else if c == 117 then Some false else None
+
+-- whether it is `d` or `i`, and how many bytes it takes with `l`, `ll` or `j` before it
+abbrev pub letter : List ℕ → Option (Bool × ℕ)
+letter bs = option_map (λ s. (s, modifier bs + 1)) (is_signed (drop (modifier bs) bs))
+
+-- the conversion that bytes behind a `%` begin with, whose flags take so many bytes: the width, the precision and the letter, and how many bytes it takes
+unfoldable pub conversion_with : Flags → ℕ → List ℕ → Option (Conversion × ℕ)
+conversion_with f n bs = do
+  w ← number (drop n bs)
+  p ← precision (drop (n + w.1) bs)
+  l ← letter (drop (n + w.1 + p.1) bs)
+  Some (record { flags = f; width = w.0; precision = p.0; signed = l.0 }, n + w.1 + p.1 + l.1)
+
+abbrev pub conversion : List ℕ → Option (Conversion × ℕ)
+conversion bs = conversion_with (flags bs).0 (flags bs).1 bs
+
+-- what a `%` begins: `%%`, which is a `%`, or a conversion
+abbrev pub behind_percent : List ℕ → Option (Piece × ℕ)
+behind_percent [] = None
+behind_percent (c ∷ cs) = if c == 37 then Some (Literal 37, 1) else option_map (λ r. (Convert r.0, r.1)) (conversion (c ∷ cs))
+
+-- the piece that a byte begins, and how many of the bytes behind it belong to it
+unfoldable pub piece : ℕ → List ℕ → Option (Piece × ℕ)
+piece c cs = if c == 37 then behind_percent cs else Some (Literal c, 0)
+
+-- a piece with its place before others
+abbrev pub followed : ℕ × Piece → Result (List (ℕ × Piece)) ℕ → Result (List (ℕ × Piece)) ℕ
+followed p (Ok ps) = Ok (p ∷ ps)
+followed p (Err at) = Err at
+
+-- the pieces of a format, each with its place, from a place on and behind so many bytes that belong to a piece before them; or the place of the first `%` that begins no conversion
+unfoldable pub pieces : ℕ → ℕ → List ℕ → Result (List (ℕ × Piece)) ℕ
+pieces skip at [] = Ok []
+pieces (suc skip) at (c ∷ cs) = pieces skip (at + 1) cs
+pieces zero at (c ∷ cs) = elim (piece c cs) [
+  | None ↦ Err at
+  | Some p ↦ followed (at, p.0) (pieces p.1 (at + 1) cs)
+]

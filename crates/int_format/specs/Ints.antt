@@ -1,0 +1,149 @@
+-- The text of a format with its numbers (XSH fprintf: `d`, `i` and `u`, with the flag `'`).
+use Rattle.std.specs.Prelude.{◌≡◌, ℕ, ℤ, pos, negsuc, zero, suc, ◌+◌, ◌-◌, ◌^◌, nat_lt, ◌&&◌, Bool, true, false, List, [], ◌∷◌, ◌++◌, length, replicate, codes, Option, Some, None, is_none, unwrap_or, option_map, Result, Ok, Err, if◌then◌else◌}
+use Rattle.digit_groups.specs.Groups.{grouped, separates}
+use Rattle.numeric_cat.specs.NumericValues.{NumericValues}
+use Rattle.int_format.specs.declared.format.Conversion.{Conversion}
+use Rattle.int_format.specs.declared.format.Piece.{Piece}
+use Rattle.int_format.specs.declared.format.Piece.TheVariants.{Literal, Convert}
+use Rattle.int_format.specs.declared.layout.Fill.{Fill}
+use Rattle.int_format.specs.declared.layout.Fill.TheVariants.{Before, Between, Behind}
+use Rattle.int_format.specs.declared.fault.IntFault.{IntFault}
+use Rattle.int_format.specs.declared.fault.IntFault.TheVariants.{BadFormat, MissingNumber, TooBig, Memory}
+use Rattle.int_format.specs.Digits.{digits_at_least}
+use Rattle.int_format.specs.Formats.{pieces}
+
+-- whether a number is from -2 ^ 63 to 2 ^ 64 - 1
+abbrev pub is_number : ℤ → Bool
+is_number (pos n) = nat_lt n (2 ^ 64)
+is_number (negsuc n) = nat_lt n (2 ^ 63)
+
+-- ---- a conversion
+
+-- the magnitude that a conversion shows: `u` shows a number below 0 with 2 ^ 64 more
+abbrev pub shown : Bool → ℤ → ℕ
+shown signed (pos n) = n
+shown true (negsuc n) = suc n
+shown false (negsuc n) = 2 ^ 64 - suc n
+
+-- the least number of digits, which is the precision or else 1
+abbrev pub least_digits : Conversion → ℕ
+least_digits c = unwrap_or c.precision 1
+
+-- the sizes of groups, where `'` asks for them
+abbrev pub sizes_of : NumericValues → Conversion → List ℤ
+sizes_of n c = if c.flags.groups then n.grouping else []
+
+-- the digits, in groups
+abbrev pub digits_text : NumericValues → Conversion → ℤ → List ℕ
+digits_text n c v = grouped (digits_at_least (least_digits c) (shown c.signed v)) (sizes_of n c) n.thousands_sep
+
+-- the sign; a number that is not below 0 has the one that its flags ask for, and `u` has none
+abbrev pub sign_text : Conversion → ℤ → List ℕ
+sign_text c (negsuc n) = if c.signed then codes "-" else []
+sign_text c (pos n) = if c.signed then (if c.flags.plus then codes "+" else if c.flags.space then codes " " else []) else []
+
+-- where the bytes stand that fill the field: `0` does nothing beside `-`, nor beside a precision
+abbrev pub fill_of : Conversion → Fill
+fill_of c = if c.flags.left then Behind else if c.flags.zeros && is_none c.precision then Between else Before
+
+-- a sign and digits with so many bytes that fill the field
+abbrev pub padded : Fill → ℕ → List ℕ → List ℕ → List ℕ
+padded Before n sign digits = replicate n 32 ++ (sign ++ digits)
+padded Between n sign digits = sign ++ (replicate n 48 ++ digits)
+padded Behind n sign digits = sign ++ (digits ++ replicate n 32)
+
+-- the text of a number
+abbrev pub conversion_text : NumericValues → Conversion → ℤ → List ℕ
+conversion_text n c v = padded (fill_of c) (c.width - (length (sign_text c v) + length (digits_text n c v))) (sign_text c v) (digits_text n c v)
+
+-- ---- a format
+
+-- the text of a piece, which is that of the first number where it is a conversion
+abbrev pub piece_text : NumericValues → Piece → List ℤ → List ℕ
+piece_text n (Literal b) numbers = b ∷ []
+piece_text n (Convert c) [] = []
+piece_text n (Convert c) (v ∷ numbers) = conversion_text n c v
+
+-- the numbers that a piece leaves
+abbrev pub numbers_behind : Piece → List ℤ → List ℤ
+numbers_behind (Literal b) numbers = numbers
+numbers_behind (Convert c) [] = []
+numbers_behind (Convert c) (v ∷ numbers) = numbers
+
+-- the text of pieces with their numbers; those that are left over are passed over
+unfoldable pub pieces_text : NumericValues → List (ℕ × Piece) → List ℤ → List ℕ
+pieces_text n [] numbers = []
+pieces_text n (p ∷ ps) numbers = piece_text n p.1 numbers ++ pieces_text n ps (numbers_behind p.1 numbers)
+
+-- the place of the first conversion for which no number is left of so many
+unfoldable pub missing : List (ℕ × Piece) → ℕ → Option ℕ
+missing [] n = None
+missing ((at, Literal b) ∷ ps) n = missing ps n
+missing ((at, Convert c) ∷ ps) zero = Some at
+missing ((at, Convert c) ∷ ps) (suc n) = missing ps n
+
+-- the first refusal of a format with so many numbers: a bad conversion goes before a missing number
+abbrev pub refusal : Result (List (ℕ × Piece)) ℕ → ℕ → Option IntFault
+refusal (Err at) numbers = Some (BadFormat at)
+refusal (Ok ps) numbers = option_map (λ at. MissingNumber at) (missing ps numbers)
+
+-- the same behind a piece that perhaps lacked its number
+abbrev pub refusal_behind : Option IntFault → Result (List (ℕ × Piece)) ℕ → ℕ → Option IntFault
+refusal_behind lacking (Err at) numbers = Some (BadFormat at)
+refusal_behind None (Ok ps) numbers = refusal (Ok ps) numbers
+refusal_behind (Some fault) (Ok ps) numbers = Some fault
+
+-- the pieces, where no conversion is bad
+abbrev pub good_pieces : Result (List (ℕ × Piece)) ℕ → List (ℕ × Piece)
+good_pieces (Err at) = []
+good_pieces (Ok ps) = ps
+
+-- the text, or what goes before it
+abbrev pub unless_refused : Option IntFault → List ℕ → Result (List ℕ) IntFault
+unless_refused None text = Ok text
+unless_refused (Some fault) text = Err fault
+
+-- the text of a format with its numbers, or the refusal
+abbrev pub ints : NumericValues → List ℕ → List ℤ → Result (List ℕ) IntFault
+ints n format numbers = unless_refused (refusal (pieces 0 0 format) (length numbers)) (pieces_text n (good_pieces (pieces 0 0 format)) numbers)
+
+-- a text of at most so many bytes
+abbrev pub within : ℕ → List ℕ → Result (List ℕ) IntFault
+within max_len text = if nat_lt max_len (length text) then Err TooBig else Ok text
+
+-- an answer whose text has at most so many bytes
+abbrev pub at_most : ℕ → Result (List ℕ) IntFault → Result (List ℕ) IntFault
+at_most max_len (Ok text) = within max_len text
+at_most max_len (Err fault) = Err fault
+
+-- a refusal is that of the definition, or want of memory, which says nothing
+abbrev pub Refuses : IntFault → Result (List ℕ) IntFault → Type 0
+Refuses (BadFormat at) answer = answer ≡ Err (BadFormat at)
+Refuses (MissingNumber at) answer = answer ≡ Err (MissingNumber at)
+Refuses TooBig answer = answer ≡ Err TooBig
+Refuses Memory answer = Unit {0}
+
+-- a result, its text seen by view, is the answer, unless memory is wanting
+abbrev pub Answers : {X : Type 0} → (X → List ℕ) → Result X IntFault → Result (List ℕ) IntFault → Type 0
+Answers view (Ok x) answer = answer ≡ Ok (view x)
+Answers view (Err e) answer = Refuses e answer
+
+-- ---- grouped digits, read
+
+-- the grouped digits of a number, at least one
+abbrev pub grouped_digits : NumericValues → ℕ → List ℕ
+grouped_digits n x = grouped (digits_at_least 1 x) n.grouping n.thousands_sep
+
+-- what stands before the last k digits
+abbrev pub between : List ℤ → List ℕ → ℕ → List ℕ
+between sizes sep k = if separates sizes k then sep else []
+
+-- the number below 0 of a magnitude, where it is from -2 ^ 63
+abbrev pub below_zero : ℕ → Option ℤ
+below_zero zero = None
+below_zero (suc n) = if nat_lt n (2 ^ 63) then Some (negsuc n) else None
+
+-- a number has this text under `%'d`
+pub record IsTextOf (n : NumericValues) (v : ℤ) (text : List ℕ) : Type 0 where
+  pub is_in_range : is_number v ≡ true
+  pub is_text : ints n (codes "%'d") (v ∷ []) ≡ Ok text

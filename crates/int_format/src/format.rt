@@ -1,0 +1,219 @@
+//! Formats of whole numbers (XSH fprintf).
+
+ghost use Rattle.std.specs.Prelude.{◌≡◌, ◌+◌, ◌≤◌, ◌<◌, length, IfSome};
+ghost use Rattle.int_format.specs.Formats.{mark_of, with_mark, flags, number, precision, modifier, is_signed, letter, conversion, behind_percent, piece};
+
+/// A flag.
+#[derive(Clone, Copy, Debug, PartialEq, Eq)]
+pub enum Mark {
+    /// `'`: digits in groups.
+    Groups,
+    /// `-`: to the left of its field.
+    LeftAligned,
+    /// `+`: a sign before numbers that are not below 0.
+    PlusSign,
+    /// A space: a space before numbers that are not below 0.
+    SpaceSign,
+    /// `0`: zeros up to the width.
+    Zeros,
+}
+
+/// The flags of a conversion.
+#[derive(Clone, Copy, Debug, PartialEq, Eq)]
+pub struct Flags {
+    pub groups: bool,
+    pub left: bool,
+    pub plus: bool,
+    pub space: bool,
+    pub zeros: bool,
+}
+
+/// The conversion of one number.
+#[derive(Clone, Copy, Debug, PartialEq, Eq)]
+pub struct Conversion {
+    pub flags: Flags,
+    /// The least number of bytes.
+    pub width: u8,
+    /// The least number of digits.
+    pub precision: Option<u8>,
+    /// `d` or `i`, and not `u`.
+    pub signed: bool,
+}
+
+/// A part of a format.
+#[derive(Clone, Copy, Debug, PartialEq, Eq)]
+pub enum Piece {
+    /// A byte that is copied.
+    Literal(u8),
+    /// A number.
+    Convert(Conversion),
+}
+
+const NO_FLAGS: Flags = Flags {
+    groups: false,
+    left: false,
+    plus: false,
+    space: false,
+    zeros: false,
+};
+
+fn mark_of(byte: u8) -> Option<Mark>
+    ensures { result ≡ mark_of byte }
+{
+    match byte {
+        b'\'' => Some(Mark::Groups),
+        b'-' => Some(Mark::LeftAligned),
+        b'+' => Some(Mark::PlusSign),
+        b' ' => Some(Mark::SpaceSign),
+        b'0' => Some(Mark::Zeros),
+        _ => None,
+    }
+}
+
+/// The flags with one more.
+fn with_mark(flags: Flags, mark: Mark) -> Flags
+    ensures { result ≡ with_mark flags mark }
+{
+    let mut more = flags;
+    match mark {
+        Mark::Groups => more.groups = true,
+        Mark::LeftAligned => more.left = true,
+        Mark::PlusSign => more.plus = true,
+        Mark::SpaceSign => more.space = true,
+        Mark::Zeros => more.zeros = true,
+    }
+    more
+}
+
+/// The flags that bytes begin with, and how many bytes they take.
+#[tactic(auto, unfolding(crate::specs::Formats::flags_behind))]
+fn flags_of(bytes: &[u8]) -> (Flags, usize)
+    ensures is { result ≡ flags bytes.now }
+    ensures within { result.1 ≤ length bytes.now }
+{
+    let mut flags = NO_FLAGS;
+    let mut count = 0;
+    for byte in bytes {
+        let Some(mark) = mark_of(*byte) else {
+            break;
+        };
+        flags = with_mark(flags, mark);
+        count += 1;
+    }
+    (flags, count)
+}
+
+/// The number that bytes begin with, and how many digits it has; it is at most 255.
+#[tactic(auto, unfolding(crate::specs::Formats::number_behind))]
+fn number(bytes: &[u8]) -> Option<(u8, usize)>
+    ensures is { result ≡ number bytes.now }
+    ensures within { IfSome result (λ r. r.1 ≤ length bytes.now) }
+{
+    let mut value: u16 = 0;
+    let mut count = 0;
+    for byte in bytes {
+        if !byte.is_ascii_digit() {
+            break;
+        }
+        value = value * 10 + u16::from(*byte - b'0');
+        if value > 255 {
+            return None;
+        }
+        count += 1;
+    }
+    Some((value as u8, count))
+}
+
+/// The precision that bytes begin with, if a `.` is there, and how many bytes it takes.
+fn precision_of(bytes: &[u8]) -> Option<(Option<u8>, usize)>
+    ensures is { result ≡ precision bytes.now }
+    ensures within { IfSome result (λ r. r.1 ≤ length bytes.now) }
+{
+    match bytes {
+        [b'.', rest @ ..] => {
+            let (value, count) = number(rest)?;
+            Some((Some(value), count + 1))
+        }
+        _ => Some((None, 0)),
+    }
+}
+
+/// How many bytes `l`, `ll` or `j` take, if one of them is there.
+fn modifier(bytes: &[u8]) -> usize
+    ensures is { result ≡ modifier bytes.now }
+    ensures within { result ≤ length bytes.now }
+{
+    match bytes {
+        [b'l', b'l', ..] => 2,
+        [b'l' | b'j', ..] => 1,
+        _ => 0,
+    }
+}
+
+/// Whether bytes begin with `d` or `i`, or with `u`.
+fn is_signed(bytes: &[u8]) -> Option<bool>
+    ensures is { result ≡ is_signed bytes.now }
+    ensures some { IfSome result (λ r. 0 < length bytes.now) }
+{
+    match bytes.first()? {
+        b'd' | b'i' => Some(true),
+        b'u' => Some(false),
+        _ => None,
+    }
+}
+
+/// Whether a conversion ends with `d` or `i`, or with `u`, and how many bytes that takes with `l`,
+/// `ll` or `j` before it.
+fn letter_of(bytes: &[u8]) -> Option<(bool, usize)>
+    ensures is { result ≡ letter bytes.now }
+    ensures within { IfSome result (λ r. r.1 ≤ length bytes.now) }
+{
+    let used = modifier(bytes);
+    let signed = is_signed(&bytes[used..])?;
+    Some((signed, used + 1))
+}
+
+/// The conversion that bytes behind a `%` begin with, and how many bytes it takes.
+fn conversion_of(bytes: &[u8]) -> Option<(Conversion, usize)>
+    ensures is { result ≡ conversion bytes.now }
+    ensures within { IfSome result (λ r. r.1 ≤ length bytes.now) }
+{
+    let (flags, mut at) = flags_of(bytes);
+    let (width, digits) = number(&bytes[at..])?;
+    at += digits;
+    let (precision, more) = precision_of(&bytes[at..])?;
+    at += more;
+    let (signed, last) = letter_of(&bytes[at..])?;
+    let conversion = Conversion {
+        flags,
+        width,
+        precision,
+        signed,
+    };
+    Some((conversion, at + last))
+}
+
+/// What a `%` begins, and how many bytes behind it belong to it.
+fn behind_percent(bytes: &[u8]) -> Option<(Piece, usize)>
+    ensures is { result ≡ behind_percent bytes.now }
+    ensures within { IfSome result (λ r. r.1 ≤ length bytes.now) }
+{
+    if *bytes.first()? == b'%' {
+        return Some((Piece::Literal(b'%'), 1));
+    }
+    let (conversion, used) = conversion_of(bytes)?;
+    Some((Piece::Convert(conversion), used))
+}
+
+/// The piece that a byte begins, and how many of the bytes behind it belong to it.
+#[tactic(auto, unfolding(crate::specs::Formats::piece))]
+pub fn piece_of(byte: u8, behind: &[u8]) -> Option<(Piece, usize)>
+    ensures is { result ≡ piece byte behind.now }
+    ensures within { IfSome result (λ r. r.1 ≤ length behind.now) }
+{
+    if byte == b'%' {
+        behind_percent(behind)
+    } else {
+        Some((Piece::Literal(byte), 0))
+    }
+}

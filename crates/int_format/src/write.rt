@@ -1,0 +1,125 @@
+//! The text of a number, written (XSH fprintf).
+
+ghost use Rattle.std.specs.Prelude.{◌≡◌, ◌<◌, ◌≤◌, ◌⊎◌, length, ◌++◌, replicate, Err, OnOk, IfErr, true};
+ghost use Rattle.digit_groups.specs.Groups.{grouped};
+ghost use Rattle.int_format.specs.Digits.{last_digits};
+ghost use Rattle.int_format.specs.Ints.{is_number, sizes_of, padded, conversion_text};
+ghost use Rattle.int_format.specs.declared.fault.IntFault.TheVariants.{TooBig, Memory};
+
+use crate::digits::write_digits;
+use crate::fault::IntFault;
+use crate::format::Conversion;
+use crate::layout::{Fill, Laid, laid_out, sizes_of};
+use digit_groups::group;
+use lc_base::ByteText;
+use numeric_cat::Numeric;
+use std::alloc::{AllocError, Global};
+use std::mem::replace;
+
+/// The most digits of a conversion.
+const DIGITS: usize = 255;
+
+/// Appends the same byte so many times.
+fn add_repeated(out: &mut Vec<u8>, byte: u8, count: usize) -> Result<(), AllocError>
+    ensures { OnOk result (out.new.items ≡ out.old.items ++ replicate count byte) }
+{
+    for _ in 0..count {
+        out.push(byte)?;
+    }
+    Ok(())
+}
+
+/// Appends the last digits of a number, in groups.
+fn add_digits(
+    alloc: Global,
+    out: &mut Vec<u8>,
+    magnitude: u64,
+    count: usize,
+    sizes: &[i32],
+    sep: &[u8],
+) -> Result<(), AllocError>
+    requires { count ≤ 255 }
+    ensures { OnOk result (out.new.items ≡ out.old.items ++ grouped (last_digits count magnitude) sizes.now sep.now) }
+{
+    let mut buffer = [0; DIGITS];
+    let digits = &mut buffer[..count];
+    write_digits(magnitude, digits);
+    let mut text = ByteText::from_vec(replace(out, Vec::new(alloc)));
+    let added = group(alloc, digits, sizes, sep, &mut text);
+    *out = text.into_vec();
+    added
+}
+
+/// Appends the digits of a number that is laid out.
+fn add_number(
+    alloc: Global,
+    out: &mut Vec<u8>,
+    n: &Numeric,
+    c: &Conversion,
+    laid: &Laid,
+) -> Result<(), AllocError>
+    requires { laid.now.digits ≤ 255 }
+    ensures { OnOk result (out.new.items ≡ out.old.items ++ grouped (last_digits laid.now.digits laid.now.magnitude) (sizes_of n.now c.now) n.now.thousands_sep) }
+{
+    add_digits(
+        alloc,
+        out,
+        laid.magnitude,
+        laid.digits,
+        sizes_of(n, c),
+        n.thousands_sep(),
+    )
+}
+
+/// Appends the text of a number that is laid out.
+fn add_text(
+    alloc: Global,
+    out: &mut Vec<u8>,
+    n: &Numeric,
+    c: &Conversion,
+    laid: &Laid,
+) -> Result<(), AllocError>
+    requires { laid.now.digits ≤ 255 }
+    ensures { OnOk result (out.new.items ≡ out.old.items ++ padded laid.now.fill laid.now.padding laid.now.sign.now (grouped (last_digits laid.now.digits laid.now.magnitude) (sizes_of n.now c.now) n.now.thousands_sep)) }
+{
+    match laid.fill {
+        Fill::Before => {
+            add_repeated(out, b' ', laid.padding)?;
+            out.extend_from_slice(laid.sign)?;
+            add_number(alloc, out, n, c, laid)
+        }
+        Fill::Between => {
+            out.extend_from_slice(laid.sign)?;
+            add_repeated(out, b'0', laid.padding)?;
+            add_number(alloc, out, n, c, laid)
+        }
+        Fill::Behind => {
+            out.extend_from_slice(laid.sign)?;
+            add_number(alloc, out, n, c, laid)?;
+            add_repeated(out, b' ', laid.padding)
+        }
+    }
+}
+
+/// Appends the text of a number, if it has at most `room` bytes.
+pub fn add_conversion(
+    alloc: Global,
+    out: &mut Vec<u8>,
+    n: &Numeric,
+    c: &Conversion,
+    value: i128,
+    room: usize,
+) -> Result<(), IntFault>
+    requires { is_number value ≡ true }
+    ensures ok { OnOk result (out.new.items ≡ out.old.items ++ conversion_text n.now c.now value) }
+    ensures fits { OnOk result (length (conversion_text n.now c.now value) ≤ room) }
+    ensures too_big { result ≡ Err TooBig → room < length (conversion_text n.now c.now value) }
+    ensures only { IfErr result (λ e. (e ≡ TooBig) ⊎ (e ≡ Memory)) }
+{
+    let laid = laid_out(n, c, value);
+    if laid.width > room as u128 {
+        return Err(IntFault::TooBig);
+    }
+    add_text(alloc, out, n, c, &laid)?;
+    Ok(())
+}
