@@ -10,6 +10,10 @@ pub mod Serial
 pub mod Prints
 pub mod Isolation
 pub mod Laws
+pub mod Board
+pub mod Kept
 pub mod Thread
+pub mod Seated
+pub mod Beside
 pub mod Session
 pub mod Seen

@@ -137,7 +137,7 @@ pub fn held_as(holds: &[OpenHold], named: Named) -> Option<&Object<Share>>
 }
 
 /// Whether a name is that of a handle.
-fn is_named(named: Named, handle: Handle) -> bool
+pub fn is_named(named: Named, handle: Handle) -> bool
     ensures { result ≡ names named handle }
 {
     match named {

@@ -7,7 +7,9 @@ ghost use Rattle.script_run.specs.Seen.{turn_seen, placed_seen};
 ghost use Rattle.script_run.specs.Thread.{ThreadData};
 ghost use Rattle.script_run.specs.Turns.{turn_of, in_round, thread_turns, turns_of_threads, command_turns, closing_turn, releases, closing};
 
+use crate::board::Side;
 use crate::holds::OpenHold;
+use crate::kept::Kept;
 use crate::thread::Thread;
 use handle_table::Handle;
 use script_commands::{Command, Placed};
@@ -111,7 +113,7 @@ fn turn_of(command: &Placed) -> Turn<'_>
 pub fn closing_turns(
     alloc: Global,
     round: u32,
-    threads: &[Thread],
+    threads: &[Thread<Kept>],
 ) -> Result<Vec<Turn<'static>>, AllocError>
     ensures { IfOk result (λ turns. map turn_seen turns.items ≡ flat_map (λ (t : ThreadData). closing round t.number t.holds) threads.now) }
 {
@@ -126,14 +128,14 @@ pub fn closing_turns(
 fn push_closing(
     turns: &mut Vec<Turn<'static>>,
     round: u32,
-    thread: &Thread,
+    thread: &Thread<Kept>,
 ) -> Result<(), AllocError>
     ensures { OnOk result (map turn_seen turns.new.items ≡ map turn_seen turns.old.items ++ closing round thread.now.number thread.now.holds) }
 {
-    push_releases(turns, round, thread.number(), thread.holds())?;
+    push_releases(turns, round, thread.side.number(), thread.side.holds())?;
     turns.push(Turn {
         round,
-        thread: thread.number(),
+        thread: thread.side.number(),
         task: Task::End,
     })?;
     Ok(())

@@ -6,8 +6,8 @@ ghost use Rattle.handle_table.specs.Entry as table;
 ghost use Rattle.script_run.specs.Seen.{asked, task_seen, wished};
 ghost use Rattle.script_run.specs.Wishes.{named, base_named, mask_of, categories_mask, named_numbers, new_op, set_op, setlocale_op, install_op, op_on, called, read_of, wish, wish_of};
 
-use crate::thread::Thread;
 use crate::turns::Task;
+use crate::variables::Variables;
 use category_store::{Library, Share};
 use handle_table::{Named, Op, Refusal};
 use lc_base::{ByteText, Mask};
@@ -31,11 +31,15 @@ pub enum Wish<'a> {
 }
 
 /// What a task of the thread asks for, or why it is refused without an entry.
-pub fn wish_of<'a>(library: &Library, thread: &Thread, task: Task<'a>) -> Result<Wish<'a>, Why>
-    ensures { wished result ≡ wish_of library.now thread.now.variables (task_seen task.entry) }
+pub fn wish_of<'a>(
+    library: &Library,
+    variables: &Variables,
+    task: Task<'a>,
+) -> Result<Wish<'a>, Why>
+    ensures { wished result ≡ wish_of library.now variables.now (task_seen task.entry) }
 {
     match task {
-        Task::Command(command) => wish_of_command(library, thread, command),
+        Task::Command(command) => wish_of_command(library, variables, command),
         Task::Release(handle) => Ok(Wish::Call(
             Categories::All,
             Op::Release {
@@ -49,10 +53,10 @@ pub fn wish_of<'a>(library: &Library, thread: &Thread, task: Task<'a>) -> Result
 /// What a command of the thread asks for, or why it is refused without an entry.
 fn wish_of_command<'a>(
     library: &Library,
-    thread: &Thread,
+    variables: &Variables,
     command: &'a Command,
 ) -> Result<Wish<'a>, Why>
-    ensures { wished result ≡ wish library.now thread.now.variables command.now }
+    ensures { wished result ≡ wish library.now variables.now command.now }
 {
     match command {
         Command::New {
@@ -62,14 +66,14 @@ fn wish_of_command<'a>(
             ..
         } => called(
             Categories::All,
-            new_op(library, thread, *mask, locale, base),
+            new_op(library, variables, *mask, locale, base),
         ),
-        Command::Dup { from, .. } => called(Categories::All, dup_op(thread, from)),
-        Command::Free(target) => called(Categories::All, free_op(thread, target)),
-        Command::Use(target) => called(Categories::All, use_op(thread, target)),
+        Command::Dup { from, .. } => called(Categories::All, dup_op(variables, from)),
+        Command::Free(target) => called(Categories::All, free_op(variables, target)),
+        Command::Use(target) => called(Categories::All, use_op(variables, target)),
         Command::Selected => Ok(Wish::Selection),
-        Command::Hold(target) => called(Categories::All, hold_op(thread, target)),
-        Command::Release(target) => called(Categories::All, release_op(thread, target)),
+        Command::Hold(target) => called(Categories::All, hold_op(variables, target)),
+        Command::Release(target) => called(Categories::All, release_op(variables, target)),
         Command::Setlocale { categories, locale } => {
             called(*categories, setlocale_op(library, *categories, locale))
         }
@@ -78,11 +82,11 @@ fn wish_of_command<'a>(
         Command::Post {
             cell,
             named: target,
-        } => called(Categories::All, post_op(thread, *cell, target)),
+        } => called(Categories::All, post_op(variables, *cell, target)),
         Command::Fetch { owner, cell, .. } => called(Categories::All, Ok(fetch_op(*owner, *cell))),
-        Command::Pins(target) => called(Categories::All, pins_op(thread, target)),
+        Command::Pins(target) => called(Categories::All, pins_op(variables, target)),
         Command::Read(read) => Ok(Wish::Read(read)),
-        Command::ReadOf { object, read } => read_of(thread, object, read),
+        Command::ReadOf { object, read } => read_of(variables, object, read),
     }
 }
 
@@ -94,57 +98,57 @@ fn called<'a>(categories: Categories, op: Result<Op<Share>, Why>) -> Result<Wish
 }
 
 /// The wish of a read of what is named.
-fn read_of<'a>(thread: &Thread, object: &Target, read: &'a Read) -> Result<Wish<'a>, Why>
-    ensures { wished result ≡ read_of thread.now.variables object.now read.now }
+fn read_of<'a>(variables: &Variables, object: &Target, read: &'a Read) -> Result<Wish<'a>, Why>
+    ensures { wished result ≡ read_of variables.now object.now read.now }
 {
-    Ok(Wish::ReadOf(named(thread, object)?, read))
+    Ok(Wish::ReadOf(named(variables, object)?, read))
 }
 
 /// The op of a duplocale.
-fn dup_op(thread: &Thread, target: &Target) -> Result<Op<Share>, Why>
-    ensures { asked result ≡ op_on table.Dup (named thread.now.variables target.now) }
+fn dup_op(variables: &Variables, target: &Target) -> Result<Op<Share>, Why>
+    ensures { asked result ≡ op_on table.Dup (named variables.now target.now) }
 {
-    let from = named(thread, target)?;
+    let from = named(variables, target)?;
     Ok(Op::Dup { from })
 }
 
 /// The op of a freelocale.
-fn free_op(thread: &Thread, target: &Target) -> Result<Op<Share>, Why>
-    ensures { asked result ≡ op_on table.Free (named thread.now.variables target.now) }
+fn free_op(variables: &Variables, target: &Target) -> Result<Op<Share>, Why>
+    ensures { asked result ≡ op_on table.Free (named variables.now target.now) }
 {
-    let h = named(thread, target)?;
+    let h = named(variables, target)?;
     Ok(Op::Free { h })
 }
 
 /// The op of a uselocale.
-fn use_op(thread: &Thread, target: &Target) -> Result<Op<Share>, Why>
-    ensures { asked result ≡ op_on table.Use (named thread.now.variables target.now) }
+fn use_op(variables: &Variables, target: &Target) -> Result<Op<Share>, Why>
+    ensures { asked result ≡ op_on table.Use (named variables.now target.now) }
 {
-    let to = named(thread, target)?;
+    let to = named(variables, target)?;
     Ok(Op::Use { to })
 }
 
 /// The op that takes a pin.
-fn hold_op(thread: &Thread, target: &Target) -> Result<Op<Share>, Why>
-    ensures { asked result ≡ op_on table.Hold (named thread.now.variables target.now) }
+fn hold_op(variables: &Variables, target: &Target) -> Result<Op<Share>, Why>
+    ensures { asked result ≡ op_on table.Hold (named variables.now target.now) }
 {
-    let h = named(thread, target)?;
+    let h = named(variables, target)?;
     Ok(Op::Hold { h })
 }
 
 /// The op that gives a pin back.
-fn release_op(thread: &Thread, target: &Target) -> Result<Op<Share>, Why>
-    ensures { asked result ≡ op_on table.Release (named thread.now.variables target.now) }
+fn release_op(variables: &Variables, target: &Target) -> Result<Op<Share>, Why>
+    ensures { asked result ≡ op_on table.Release (named variables.now target.now) }
 {
-    let h = named(thread, target)?;
+    let h = named(variables, target)?;
     Ok(Op::Release { h })
 }
 
 /// The op that puts a handle into a cell.
-fn post_op(thread: &Thread, cell: u32, target: &Target) -> Result<Op<Share>, Why>
-    ensures { asked result ≡ op_on (table.Post cell) (named thread.now.variables target.now) }
+fn post_op(variables: &Variables, cell: u32, target: &Target) -> Result<Op<Share>, Why>
+    ensures { asked result ≡ op_on (table.Post cell) (named variables.now target.now) }
 {
-    let h = named(thread, target)?;
+    let h = named(variables, target)?;
     Ok(Op::Post { cell, h })
 }
 
@@ -156,24 +160,24 @@ fn fetch_op(owner: u32, cell: u32) -> Op<Share>
 }
 
 /// The op that asks for the number of pins.
-fn pins_op(thread: &Thread, target: &Target) -> Result<Op<Share>, Why>
-    ensures { asked result ≡ op_on table.Pins (named thread.now.variables target.now) }
+fn pins_op(variables: &Variables, target: &Target) -> Result<Op<Share>, Why>
+    ensures { asked result ≡ op_on table.Pins (named variables.now target.now) }
 {
-    let h = named(thread, target)?;
+    let h = named(variables, target)?;
     Ok(Op::Pins { h })
 }
 
 /// The op of a newlocale: the base is looked for first, then the mask, and then the locale.
 fn new_op(
     library: &Library,
-    thread: &Thread,
+    variables: &Variables,
     bits: u32,
     locale: &ByteText,
     base: &Option<Target>,
 ) -> Result<Op<Share>, Why>
-    ensures { asked result ≡ new_op library.now thread.now.variables bits locale.now base.now }
+    ensures { asked result ≡ new_op library.now variables.now bits locale.now base.now }
 {
-    let base = base_named(thread, base)?;
+    let base = base_named(variables, base)?;
     let mask = mask_of(bits)?;
     let names = named_numbers(library, locale, mask)?;
     Ok(Op::New { mask, names, base })
@@ -209,13 +213,13 @@ fn install_op(library: &Library, key: &ByteText) -> Result<Op<Share>, Why>
 }
 
 /// What a command names; `Unset` where it is a variable that nothing bound.
-fn named(thread: &Thread, target: &Target) -> Result<Named, Why>
-    ensures { result ≡ named thread.now.variables target.now }
+fn named(variables: &Variables, target: &Target) -> Result<Named, Why>
+    ensures { result ≡ named variables.now target.now }
 {
     match target {
         Target::Global => Ok(Named::Global),
         Target::Handle(handle) => Ok(Named::Of(*handle)),
-        Target::Variable(variable) => match thread.variable(variable.as_bytes()) {
+        Target::Variable(variable) => match variables.get(variable.as_bytes()) {
             Some(handle) => Ok(Named::Of(handle)),
             None => Err(Why::Unset),
         },
@@ -223,11 +227,11 @@ fn named(thread: &Thread, target: &Target) -> Result<Named, Why>
 }
 
 /// The base of a newlocale, which may be left out.
-fn base_named(thread: &Thread, base: &Option<Target>) -> Result<Option<Named>, Why>
-    ensures { result ≡ base_named thread.now.variables base.now }
+fn base_named(variables: &Variables, base: &Option<Target>) -> Result<Option<Named>, Why>
+    ensures { result ≡ base_named variables.now base.now }
 {
     match base {
-        Some(target) => Ok(Some(named(thread, target)?)),
+        Some(target) => Ok(Some(named(variables, target)?)),
         None => Ok(None),
     }
 }

@@ -1,0 +1,251 @@
+//! A thread at a table that threads share.
+
+ghost use Rattle.std.specs.Prelude.{◌≡◌, [], find, option_map, IfOk};
+ghost use Rattle.std.specs.List.{list_get};
+ghost use Rattle.handle_table.specs.Entry.{names};
+ghost use Rattle.handle_table.specs.Seen.{op_of, reply_of, refusal_of};
+ghost use Rattle.handle_table.specs.Entry as table;
+ghost use Rattle.handle_table.specs.Table.{Fits};
+ghost use Rattle.script_run.specs.Seated.{HasCalls, IsPlain, IsChange, without_first, AnswersSeated};
+
+use crate::board::{Board, Side};
+use crate::holds::is_named;
+use category_store::Share;
+use handle_table::{Handle, Named, Op, Refusal, Reply};
+use mask_compose::Object;
+use std::alloc::{AllocError, Global};
+use std::sync::Wait;
+use thread_current::{Fault, Held, Mine, Shared};
+
+/// What a thread keeps at a shared table.
+#[derive(Drop)]
+pub struct Seated {
+    pub number: u32,
+    pub mine: Mine<Share>,
+    /// Its open Holds, in the order made.
+    pub holds: Vec<Held<Share>>,
+}
+
+impl Seated {
+    /// A thread before its first call.
+    pub fn new(alloc: Global, number: u32, mine: Mine<Share>) -> Seated
+        ensures { (result.number ≡ number) × (result.mine ≡ mine) × (result.holds.items ≡ []) }
+    {
+        Seated {
+            number,
+            mine,
+            holds: Vec::new(alloc),
+        }
+    }
+
+    /// The first of its open Holds.
+    pub fn first_hold(&self) -> Option<Handle>
+        ensures { result ≡ option_map (λ h. h.handle) (list_get self.now.holds.items 0) }
+    {
+        match self.holds.first() {
+            Some(held) => Some(held.handle()),
+            None => None,
+        }
+    }
+
+    // Takes the open Hold of what is named out.
+    fn take_hold(&mut self, named: Named) -> Option<Held<Share>>
+        ensures taken { result ≡ find (λ h. names named h.handle) self.old.holds.items }
+        ensures rest { self.new ≡ record self.old { holds = without_first (λ h. names named h.handle) self.old.holds } }
+    {
+        let place = self
+            .holds
+            .iter()
+            .position(|held| is_named(named, held.handle()))?;
+        Some(self.holds.remove(place))
+    }
+}
+
+impl Side for Seated {
+    ghost use Rattle.script_run.specs.Seated.{KnowsSeated};
+
+    ghost number_of = { λ s. s.number };
+
+    ghost knows = { KnowsSeated };
+
+    fn number(&self) -> u32 {
+        self.number
+    }
+
+    fn own(&self) -> Option<&Object<Share>> {
+        self.mine.own()
+    }
+
+    fn selected(&self) -> Named {
+        self.mine.named()
+    }
+
+    fn held_as(&self, named: Named) -> Option<&Object<Share>> {
+        let held = self
+            .holds
+            .iter()
+            .find(|held| is_named(named, held.handle()))?;
+        Some(held.object())
+    }
+}
+
+/// A table that threads share, with the runtime value by which its calls wait for their turn.
+#[derive(Drop)]
+pub struct Beside<'a, R> {
+    pub rt: &'a R,
+    pub shared: &'a Shared<Share>,
+}
+
+impl<'a, R: Wait> Board for Beside<'a, R> {
+    ghost use Rattle.script_run.specs.Seated.{IsSeatedAt, MayFollow, HasCalls, MayCall};
+
+    type Side = Seated;
+
+    ghost setting_of = { λ b. b.shared.now.terms.setting };
+
+    ghost at = { λ b s H. IsSeatedAt b.shared.now s H };
+
+    ghost later = { λ b G H. MayFollow b.shared.now G H };
+
+    ghost ready = { λ n b s. HasCalls n b.shared.now s };
+
+    ghost may = { λ b op. MayCall b.shared.now op };
+
+    fn call(
+        &mut self,
+        side: &mut Seated,
+        op: Op<Share>,
+    ) -> Result<(u64, Reply<Share>), AllocError> {
+        match op {
+            Op::Hold { h } => self.hold(side, h),
+            Op::Release { h } => Ok(self.release(side, h)),
+            Op::Use { to } => Ok(self.select(side, to)),
+            Op::SetGlobal { .. } | Op::Install { .. } => Ok(self.change(side, op)),
+            Op::New { .. }
+            | Op::Dup { .. }
+            | Op::Free { .. }
+            | Op::Post { .. }
+            | Op::Fetch { .. }
+            | Op::Pins { .. } => Ok(self.plain(side, op)),
+            Op::End => unreachable!(),
+        }
+    }
+
+    fn global(&mut self, side: &mut Seated) -> (u32, Object<Share>) {
+        self.shared.global_now(self.rt, &mut side.mine)
+    }
+}
+
+impl<'a, R: Wait> Beside<'a, R> {
+    // A call that neither selects, nor holds, nor changes what all threads see.
+    fn plain(&self, side: &mut Seated, op: Op<Share>) -> (u64, Reply<Share>)
+        requires calls { HasCalls 1 self.now.shared.now side.old }
+        requires op { Fits self.now.shared.now.terms.setting (op_of op) × IsPlain (op_of op) }
+        ensures answers { AnswersSeated self.now.shared.now side.old side.new (op_of op) result.0 (reply_of result.1) }
+    {
+        let (rt, shared, mine) = (self.rt, self.shared, &mut side.mine);
+        match op {
+            Op::New { mask, names, base } => match shared.newlocale(rt, mine, mask, names, base) {
+                Ok((place, handle)) => (place, Reply::Made(handle)),
+                Err(fault) => refused(fault),
+            },
+            Op::Dup { from } => match shared.duplocale(rt, mine, from) {
+                Ok((place, handle)) => (place, Reply::Made(handle)),
+                Err(fault) => refused(fault),
+            },
+            Op::Free { h } => match shared.freelocale(rt, mine, h) {
+                Ok(place) => (place, Reply::Freed),
+                Err(fault) => refused(fault),
+            },
+            Op::Post { cell, h } => match shared.post(rt, mine, cell, h) {
+                Ok(place) => (place, Reply::Posted),
+                Err(fault) => refused(fault),
+            },
+            Op::Fetch { owner, cell } => match shared.fetch(rt, mine, owner, cell) {
+                Ok((place, handle)) => (place, Reply::Got(handle)),
+                Err(fault) => refused(fault),
+            },
+            Op::Pins { h } => match shared.pins(rt, mine, h) {
+                Ok((place, count)) => (place, Reply::Pins(count)),
+                Err(fault) => refused(fault),
+            },
+            _ => unreachable!(),
+        }
+    }
+
+    // A call that changes the global locale, or what a locale name stands for.
+    fn change(&self, side: &mut Seated, op: Op<Share>) -> (u64, Reply<Share>)
+        requires calls { HasCalls 1 self.now.shared.now side.old }
+        requires op { Fits self.now.shared.now.terms.setting (op_of op) × IsChange (op_of op) }
+        ensures answers { AnswersSeated self.now.shared.now side.old side.new (op_of op) result.0 (reply_of result.1) }
+    {
+        let (rt, shared, mine) = (self.rt, self.shared, &mut side.mine);
+        match op {
+            Op::SetGlobal { mask, names } => match shared.setlocale(rt, mine, mask, names) {
+                Ok((place, version)) => {
+                    let object = mine.newest().share();
+                    (place, Reply::Set { version, object })
+                }
+                Err(fault) => refused(fault),
+            },
+            Op::Install { name, offer } => {
+                let (place, count) = shared.install(rt, mine, name, offer);
+                (place, Reply::Installed(count))
+            }
+            _ => unreachable!(),
+        }
+    }
+
+    // Selects what is named.
+    fn select(&self, side: &mut Seated, to: Named) -> (u64, Reply<Share>)
+        requires calls { HasCalls 1 self.now.shared.now side.old }
+        ensures answers { AnswersSeated self.now.shared.now side.old side.new (table.Use to) result.0 (reply_of result.1) }
+    {
+        match self.shared.uselocale(self.rt, &mut side.mine, to) {
+            Ok((place, former)) => {
+                let now = side.mine.own().map(|object| object.share());
+                (place, Reply::Was { former, now })
+            }
+            Err(fault) => refused(fault),
+        }
+    }
+
+    // Holds what is named.
+    fn hold(&self, side: &mut Seated, h: Named) -> Result<(u64, Reply<Share>), AllocError>
+        requires calls { HasCalls 1 self.now.shared.now side.old }
+        ensures answers { IfOk result (λ r. AnswersSeated self.now.shared.now side.old side.new (table.Hold h) r.0 (reply_of r.1)) }
+    {
+        match self.shared.hold(self.rt, &mut side.mine, h) {
+            Ok((place, held)) => {
+                let object = held.object().share();
+                side.holds.push(held)?;
+                Ok((place, Reply::Held(object)))
+            }
+            Err(fault) => Ok(refused(fault)),
+        }
+    }
+
+    // Gives up the open Hold of what is named, or makes the refused entry where there is none.
+    fn release(&self, side: &mut Seated, h: Named) -> (u64, Reply<Share>)
+        requires calls { HasCalls 1 self.now.shared.now side.old }
+        ensures answers { AnswersSeated self.now.shared.now side.old side.new (table.Release h) result.0 (reply_of result.1) }
+    {
+        match side.take_hold(h) {
+            Some(held) => {
+                let place = self.shared.release(self.rt, &mut side.mine, held);
+                (place, Reply::Released)
+            }
+            None => {
+                let (place, refusal) = self.shared.release_unheld(self.rt, &mut side.mine, h);
+                (place, Reply::Refused(refusal))
+            }
+        }
+    }
+}
+
+// The place and the reply of a refused call.
+fn refused(fault: Fault) -> (u64, Reply<Share>)
+    ensures { (result.0 ≡ fault.place) × (reply_of result.1 ≡ table.Refused (refusal_of fault.refusal)) }
+{
+    (fault.place, Reply::Refused(fault.refusal))
+}

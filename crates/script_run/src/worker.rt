@@ -1,0 +1,143 @@
+//! A thread of the script that runs beside the others.
+
+ghost use Rattle.std.specs.Prelude.{◌≡◌, [], map, IfOk, OnOk, List};
+ghost use Rattle.turn_gate.specs.Callers.{IsSeatOf};
+ghost use Rattle.script_run.specs.Seen.{turn_seen};
+ghost use Rattle.script_run.specs.Plan.{PlanData};
+ghost use Rattle.script_run.specs.Beside.{Timed, CanWork, IsWorker, Works, Closes, turns_of};
+
+use crate::granted::turn_line;
+use crate::lines::line;
+use crate::pause::Pause;
+use crate::seated::{Beside, Seated};
+use crate::thread::Thread;
+use crate::turns::{Task, Turn};
+use category_store::{Library, Share};
+use script_out::{OutLine, Places, Said};
+use std::alloc::{AllocError, Global};
+use std::sync::Wait;
+use thread_current::{Locales, Shared};
+use turn_gate::Seat;
+
+/// A thread with the lines that it has made in the round, or the want of memory that ended it.
+#[derive(Drop)]
+pub struct Worker {
+    pub thread: Thread<Seated>,
+    pub lines: Vec<OutLine>,
+    pub outcome: Result<(), AllocError>,
+}
+
+/// What all workers of a script share.
+#[derive(Drop)]
+pub struct Common<'a, R, P> {
+    pub rt: &'a R,
+    pub alloc: Global,
+    pub library: &'a Library,
+    pub shared: &'a Shared<Share>,
+    pub pause: &'a P,
+}
+
+impl Worker {
+    /// A worker before its first command.
+    pub fn new(alloc: Global, side: Seated) -> Worker
+        ensures { (result.thread.side ≡ side) × (result.thread.lines ≡ 0) × (result.lines.items ≡ []) × OnOk result.outcome (result.thread.variables ≡ []) }
+    {
+        Worker {
+            thread: Thread::new(alloc, side),
+            lines: Vec::new(alloc),
+            outcome: Ok(()),
+        }
+    }
+
+    /// Makes the lines of its turns among these of a round, in order. It ends where memory is wanting.
+    pub fn work<R: Wait, P: Pause>(&mut self, common: &Common<'_, R, P>, turns: &[Turn<'_>])
+        requires can { CanWork common.now.shared.now common.now.library.now self.old.thread (turns_of self.old.thread.side.number (map turn_seen turns.now)) }
+        ensures works { OnOk self.new.outcome ((plan : PlanData) (before : List Timed) → plan.library ≡ common.now.library.now → IsWorker common.now.shared.now plan self.old.thread before
+            → Works common.now.shared.now plan (turns_of self.old.thread.side.number (map turn_seen turns.now)) self.old.thread self.new.thread before (self.old.lines.items) (self.new.lines.items)) }
+        ensures number { self.new.thread.side.number ≡ self.old.thread.side.number }
+    {
+        self.outcome = self.lines_of(common, turns);
+    }
+
+    fn lines_of<R: Wait, P: Pause>(
+        &mut self,
+        common: &Common<'_, R, P>,
+        turns: &[Turn<'_>],
+    ) -> Result<(), AllocError> {
+        let number = self.thread.number();
+        for turn in turns {
+            if turn.thread == number {
+                common
+                    .pause
+                    .before(number, turn.round, self.thread.lines + 1);
+                self.add(common, *turn)?;
+            }
+        }
+        Ok(())
+    }
+
+    // Makes the line of a turn.
+    fn add<R: Wait, P>(
+        &mut self,
+        common: &Common<'_, R, P>,
+        turn: Turn<'_>,
+    ) -> Result<(), AllocError> {
+        let mut board = Beside {
+            rt: common.rt,
+            shared: common.shared,
+        };
+        let line = turn_line(
+            common.alloc,
+            common.library,
+            &mut board,
+            &mut self.thread,
+            turn,
+        )?;
+        self.lines.push(line)?;
+        Ok(())
+    }
+
+    /// Closes the thread in a round: a Release of each open Hold, in the order made, and its end. Gives
+    /// its lines and its seat.
+    pub fn close<R: Wait, P>(
+        mut self,
+        common: &Common<'_, R, P>,
+        round: u32,
+    ) -> Result<(Vec<OutLine>, Seat<Locales<Share>>), AllocError>
+        ensures closes { IfOk result (λ r. (plan : PlanData) (before : List Timed) → plan.library ≡ common.now.library.now → IsWorker common.now.shared.now plan self.thread before
+            → Closes common.now.shared.now plan round self.thread r.1 before r.0.items) }
+        ensures seat { IfOk result (λ r. IsSeatOf common.now.shared.now r.1 × (r.1.number ≡ self.thread.side.number)) }
+    {
+        self.release_all(common, round)?;
+        let at = self.thread.next_caller(round);
+        let Worker {
+            thread,
+            mut lines,
+            ..
+        } = self;
+        let (place, seat) = common.shared.end(common.rt, thread.side.mine);
+        lines.push(line(at, Places::One(place), None, Said::Ended))?;
+        Ok((lines, seat))
+    }
+
+    // Gives up each open Hold, in the order made.
+    fn release_all<R: Wait, P>(
+        &mut self,
+        common: &Common<'_, R, P>,
+        round: u32,
+    ) -> Result<(), AllocError> {
+        let thread = self.thread.number();
+        for _ in 0..self.thread.side.holds.len() {
+            if let Some(handle) = self.thread.side.first_hold() {
+                let task = Task::Release(handle);
+                let turn = Turn {
+                    round,
+                    thread,
+                    task,
+                };
+                self.add(common, turn)?;
+            }
+        }
+        Ok(())
+    }
+}
