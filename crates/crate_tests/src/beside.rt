@@ -2,7 +2,8 @@
 
 use lc_base::TextFault;
 use script_out::print;
-use script_run::{Pause, prepare, run};
+use script_run::{Pause, run};
+use script_serial::prepare;
 use std::alloc::Global;
 use std::sync::Wait;
 use std::sync::atomic::{AtomicU64, Ordering};

@@ -5,12 +5,12 @@ use Rattle.lc_base.specs.Reading.{Reads, Gives}
 use Rattle.lc_base.specs.declared.fault.TextFault.{TextFault}
 use Rattle.script_out.specs.Output.{newline, printed}
 use Rattle.script_out.specs.Refusal.{refusal_line}
-use Rattle.script_run.specs.declared.plan.Counts.{Counts}
-use Rattle.script_run.specs.Plan.{PlanData, counts, plan_of}
+use Rattle.script_serial.specs.declared.plan.Counts.{Counts}
+use Rattle.script_serial.specs.Plan.{PlanData, counts, plan_of}
 use Rattle.script_out.specs.declared.output.OutLine.{OutLine}
-use Rattle.script_run.specs.Serial.{serial_lines, setting}
-use Rattle.script_run.specs.Prints.{Prints}
-use Rattle.script_run.specs.Isolation.{IsIsolated}
+use Rattle.script_serial.specs.Serial.{serial_lines, setting}
+use Rattle.script_serial.specs.Prints.{Prints}
+use Rattle.script_serial.specs.Isolation.{IsIsolated}
 use Rattle.locale_cli.specs.declared.words.Mode.{Mode}
 use Rattle.locale_cli.specs.declared.words.Mode.TheVariants.{Check, Serial, Run}
 use Rattle.locale_cli.specs.declared.answer.Status.{Status}

@@ -12,18 +12,18 @@ use Rattle.handle_table.specs.Entry.{History, Setting}
 use Rattle.handle_table.specs.Answer.{IsLegal}
 use Rattle.thread_current.specs.Thread.{Thread, thread_of, calls_of}
 use Rattle.script_out.specs.declared.output.OutLine.{OutLine}
-use Rattle.script_run.specs.Plan.{PlanData}
-use Rattle.script_run.specs.Holds.{open_holds}
-use Rattle.script_run.specs.declared.thread.Thread.{Thread as ScriptThread}
+use Rattle.script_serial.specs.Plan.{PlanData}
+use Rattle.script_lines.specs.Holds.{open_holds}
+use Rattle.script_lines.specs.declared.thread.Thread.{Thread as ScriptThread}
 use Rattle.script_run.specs.declared.seated.Seated.{Seated}
-use Rattle.script_run.specs.Turns.{Task, Turn, closing}
-use Rattle.script_run.specs.Thread.{BindsAs}
+use Rattle.script_lines.specs.Turns.{Task, Turn, closing}
+use Rattle.script_lines.specs.Thread.{BindsAs}
 use Rattle.script_run.specs.Seated.{IsSeatedAt, HasCalls, MayCall}
-use Rattle.script_run.specs.Variables.{bindings_of}
-use Rattle.script_run.specs.Wishes.{wish_of}
-use Rattle.script_run.specs.Serial.{with_call}
-use Rattle.script_run.specs.Board.{Moments, TaskMay, granted_at}
-use Rattle.script_run.specs.Prints.{Told, PlacedCall, bound_by, caller_of, places_in, all_places, behind_last, next_place, calls_of as calls_of_line}
+use Rattle.script_lines.specs.Variables.{bindings_of}
+use Rattle.script_lines.specs.Wishes.{wish_of}
+use Rattle.script_lines.specs.Outcome.{with_call}
+use Rattle.script_lines.specs.Board.{Moments, TaskMay, granted_at}
+use Rattle.script_serial.specs.Prints.{Told, PlacedCall, bound_by, caller_of, places_in, all_places, behind_last, next_place, calls_of as calls_of_line}
 
 -- ---- what stands before a place
 

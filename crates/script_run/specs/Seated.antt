@@ -7,9 +7,9 @@ use Rattle.handle_table.specs.Table.{Fits}
 use Rattle.thread_current.specs.Mine.{HeldData}
 use Rattle.thread_current.specs.Thread.{IsThreadOf, IsInOrder, Extends, Answered}
 use Rattle.std.specs.declared.vec.Vec.{Vec}
-use Rattle.script_run.specs.declared.holds.OpenHold.{OpenHold}
+use Rattle.script_lines.specs.declared.holds.OpenHold.{OpenHold}
 use Rattle.script_run.specs.declared.seated.Seated.{Seated}
-use Rattle.script_run.specs.Holds.{open_holds}
+use Rattle.script_lines.specs.Holds.{open_holds}
 
 -- an open Hold as a shared table hands it out
 abbrev pub held_data : OpenHold → HeldData

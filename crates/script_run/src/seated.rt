@@ -8,11 +8,11 @@ ghost use Rattle.handle_table.specs.Entry as table;
 ghost use Rattle.handle_table.specs.Table.{Fits};
 ghost use Rattle.script_run.specs.Seated.{HasCalls, IsPlain, IsChange, without_first, AnswersSeated};
 
-use crate::board::{Board, Side};
-use crate::holds::is_named;
 use category_store::Share;
 use handle_table::{Handle, Named, Op, Refusal, Reply};
 use mask_compose::Object;
+use script_lines::board::{Board, Side};
+use script_lines::holds::is_named;
 use std::alloc::{AllocError, Global};
 use std::sync::Wait;
 use thread_current::{Fault, Held, Mine, Shared};

@@ -2,17 +2,17 @@
 
 ghost use Rattle.std.specs.Prelude.{◌≡◌, [], map, IfOk, OnOk, List};
 ghost use Rattle.turn_gate.specs.Callers.{IsSeatOf};
-ghost use Rattle.script_run.specs.Seen.{turn_seen};
-ghost use Rattle.script_run.specs.Plan.{PlanData};
+ghost use Rattle.script_lines.specs.Seen.{turn_seen};
+ghost use Rattle.script_serial.specs.Plan.{PlanData};
 ghost use Rattle.script_run.specs.Beside.{Timed, CanWork, IsWorker, Works, Closes, turns_of};
 
-use crate::granted::turn_line;
-use crate::lines::line;
 use crate::pause::Pause;
 use crate::seated::{Beside, Seated};
-use crate::thread::Thread;
-use crate::turns::{Task, Turn};
 use category_store::{Library, Share};
+use script_lines::granted::turn_line;
+use script_lines::lines::line;
+use script_lines::thread::Thread;
+use script_lines::turns::{Task, Turn};
 use script_out::{OutLine, Places, Said};
 use std::alloc::{AllocError, Global};
 use std::sync::Wait;

@@ -1,0 +1,5 @@
+pub mod HoldLaws
+pub mod Joined
+pub mod ReadExamples
+pub mod VariableLemmas
+pub mod WishLemmas
