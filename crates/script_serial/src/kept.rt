@@ -103,7 +103,30 @@ impl Side for Kept {
     }
 }
 
-impl Board for Table<Share> {
+/// A table that its runner has alone.
+#[derive(Drop)]
+pub struct Alone {
+    table: Table<Share>,
+}
+
+impl Model for Alone {
+    ghost use Rattle.handle_table.specs.Table.{TableData};
+
+    ghost Value = { TableData };
+
+    ghost view = { λ a. a.table };
+}
+
+impl Alone {
+    /// The table.
+    pub fn new(table: Table<Share>) -> Alone
+        ensures { result ≡ table }
+    {
+        Alone { table }
+    }
+}
+
+impl Board for Alone {
     ghost use Rattle.std.specs.Prelude.{◌≡◌};
     ghost use Rattle.handle_table.specs.Table.{Fits};
     ghost use Rattle.script_serial.specs.Session.{IsAt, IsReady};
@@ -123,14 +146,14 @@ impl Board for Table<Share> {
     fn call(&mut self, side: &mut Kept, op: Op<Share>) -> Result<(u64, Reply<Share>), AllocError> {
         let next = selection_after(&op, side.selected);
         let change = hold_change(&op);
-        let place = u64::from(self.steps());
-        let reply = self.step(side.number, op);
+        let place = u64::from(self.table.steps());
+        let reply = self.table.step(side.number, op);
         side.follow(next, change, &reply)?;
         Ok((place, reply))
     }
 
     fn global(&mut self, _side: &mut Kept) -> (u32, Object<Share>) {
-        let global = Table::global(self);
+        let global = self.table.global();
         (global.version(), global.peek().share())
     }
 }

@@ -21,9 +21,9 @@ ghost use Rattle.script_lines.specs.Thread.{Knows, BindsAs, Follows, KeepsNames}
 ghost use Rattle.script_lines.specs.Variables.{Bound, variable_of, variable_bound, bindings_after};
 
 use crate::closing::closing_turns;
-use crate::kept::Kept;
+use crate::kept::{Alone, Kept};
 use crate::plan::Plan;
-use category_store::{Library, Share};
+use category_store::Library;
 use handle_table::Table;
 use lc_base::List;
 use script_lang::Bundle;
@@ -57,7 +57,7 @@ pub fn serial(
     let count = bundle.threads.len() as u32;
     let library = plan.library();
     let shelf = library.opening(alloc)?;
-    let mut table = Table::new(alloc, count, rows, generations, shelf)?;
+    let mut table = Alone::new(Table::new(alloc, count, rows, generations, shelf)?);
     let mut threads = new_threads(alloc, count)?;
     let lines = all_lines(alloc, library, bundle, &mut table, threads.as_mut_slice())?;
     Ok(List::of(lines))
@@ -81,7 +81,7 @@ fn all_lines(
     alloc: Global,
     library: &Library,
     bundle: &Bundle,
-    table: &mut Table<Share>,
+    table: &mut Alone,
     threads: &mut [Thread<Kept>],
 ) -> Result<Vec<OutLine>, AllocError>
     requires sound { IsSound (record { bundle = bundle.now; library = library.now }) }
@@ -104,7 +104,7 @@ fn all_lines(
 fn play(
     alloc: Global,
     library: &Library,
-    table: &mut Table<Share>,
+    table: &mut Alone,
     threads: &mut [Thread<Kept>],
     turns: &[Turn<'_>],
     lines: &mut Vec<OutLine>,
