@@ -64,14 +64,15 @@ pub trait Board: Drop {
     /// one that the thread has seen.
     ghost at: { Self → Self.Side → History → Type 0 };
 
-    /// What the first history may be before the next call of a thread that was at the second one.
-    ghost later: { Self → History → History → Type 0 };
+    /// What the first history may be, at a table of this setting, before the next call of the thread
+    /// with this number that was at the second one.
+    ghost later: { Setting → ℕ → History → History → Type 0 };
 
     /// The thread may make so many calls more.
     ghost ready: { ℕ → Self → Self.Side → Type 0 };
 
-    /// The table answers this op.
-    ghost may: { Self → TableOp → Type 0 };
+    /// A table of this setting answers the op.
+    ghost may: { Setting → TableOp → Type 0 };
 
     /// Answers an op of the thread: the place of its entry, and the reply.
     fn call(
@@ -80,9 +81,9 @@ pub trait Board: Drop {
         op: Op<Share>,
     ) -> Result<(u64, Reply<Share>), AllocError>
         requires ready { ready 1 self.old side.old }
-        requires may { may self.old (op_of op) }
+        requires may { may (setting_of self.old) (op_of op) }
         ensures answers { IfOk result (λ r. (H : History) → at self.old side.old H
-            → Answers (setting_of self.old) (later self.old) (at self.new side.new) (Self.Side.number_of side.old) H (op_of op) r.0 (reply_of r.1)) }
+            → Answers (setting_of self.old) (later (setting_of self.old) (Self.Side.number_of side.old)) (at self.new side.new) (Self.Side.number_of side.old) H (op_of op) r.0 (reply_of r.1)) }
         ensures number { OnOk result (Self.Side.number_of side.new ≡ Self.Side.number_of side.old) }
         ensures setting { OnOk result (setting_of self.new ≡ setting_of self.old) }
         ensures ready { OnOk result ((n : ℕ) → ready (n + 1) self.old side.old → ready n self.new side.new) };
@@ -91,7 +92,7 @@ pub trait Board: Drop {
     fn global(&mut self, side: &mut Self::Side) -> (u32, Object<Share>)
         requires ready { ready 0 self.old side.old }
         ensures finds { (H : History) → at self.old side.old H
-            → Finds (setting_of self.old) (later self.old) (at self.new side.new) H result.0 result.1 }
+            → Finds (setting_of self.old) (later (setting_of self.old) (Self.Side.number_of side.old)) (at self.new side.new) H result.0 result.1 }
         ensures number { Self.Side.number_of side.new ≡ Self.Side.number_of side.old }
         ensures setting { setting_of self.new ≡ setting_of self.old }
         ensures ready { (n : ℕ) → ready n self.old side.old → ready n self.new side.new };

@@ -42,10 +42,10 @@ pub fn turn_line<B: Board>(
     requires ready { B.ready 2 board.old thread.old.side }
     requires opening { (B.setting_of board.old).opening ≡ opening library.now }
     requires thread { turn.thread ≡ B.Side.number_of thread.old.side }
-    requires fits { TaskMay library.now (B.may board.old) (task_seen turn.task) }
+    requires fits { TaskMay library.now (B.may (B.setting_of board.old)) (task_seen turn.task) }
     requires few { thread.old.lines + 1 < 2 ^ 32 }
     ensures leaves { IfOk result (λ l. (H : History) (bounds : List Bound) → B.at board.old thread.old.side H → BindsAs (B.Side.number_of thread.old.side) thread.old.variables bounds
-        → LeavesTurn (B.setting_of board.old) library.now (B.later board.old) (B.at board.new thread.new.side) H bounds thread.old.lines (turn_seen turn.entry) l) }
+        → LeavesTurn (B.setting_of board.old) library.now (B.later (B.setting_of board.old) (B.Side.number_of thread.old.side)) (B.at board.new thread.new.side) H bounds thread.old.lines (turn_seen turn.entry) l) }
     ensures variables { IfOk result (λ l. (bounds : List Bound) → BindsAs (B.Side.number_of thread.old.side) thread.old.variables bounds
         → BindsAs (B.Side.number_of thread.old.side) thread.new.variables (bindings_after (B.Side.number_of thread.old.side) bounds (task_seen turn.entry.task) l.reply)) }
     ensures number { OnOk result (B.Side.number_of thread.new.side ≡ B.Side.number_of thread.old.side) }
@@ -125,8 +125,8 @@ pub fn granted<B: Board>(
 ) -> Result<OutLine, AllocError>
     requires ready { B.ready 2 board.old side.old }
     requires caller { at.thread ≡ B.Side.number_of side.old }
-    requires fits { IfOk (wished wish) (Fitting (B.may board.old)) }
-    ensures leaves { IfOk result (λ l. (H : History) → B.at board.old side.old H → Leaves (B.setting_of board.old) library.now (B.later board.old) (B.at board.new side.new) H (caller at) (wished wish.entry) l) }
+    requires fits { IfOk (wished wish) (Fitting (B.may (B.setting_of board.old))) }
+    ensures leaves { IfOk result (λ l. (H : History) → B.at board.old side.old H → Leaves (B.setting_of board.old) library.now (B.later (B.setting_of board.old) (B.Side.number_of side.old)) (B.at board.new side.new) H (caller at) (wished wish.entry) l) }
     ensures number { OnOk result (B.Side.number_of side.new ≡ B.Side.number_of side.old) }
     ensures setting { OnOk result (B.setting_of board.new ≡ B.setting_of board.old) }
     ensures ready { OnOk result ((n : ℕ) → B.ready (n + 2) board.old side.old → B.ready n board.new side.new) }
@@ -155,8 +155,8 @@ fn call_line<B: Board>(
 ) -> Result<OutLine, AllocError>
     requires ready { B.ready 1 board.old side.old }
     requires caller { at.thread ≡ B.Side.number_of side.old }
-    requires fits { B.may board.old (op_of op) }
-    ensures leaves { IfOk result (λ l. (H : History) → B.at board.old side.old H → LeavesCall (B.setting_of board.old) library.now (B.later board.old) (B.at board.new side.new) H (caller at) categories (op_of op) l) }
+    requires fits { B.may (B.setting_of board.old) (op_of op) }
+    ensures leaves { IfOk result (λ l. (H : History) → B.at board.old side.old H → LeavesCall (B.setting_of board.old) library.now (B.later (B.setting_of board.old) (B.Side.number_of side.old)) (B.at board.new side.new) H (caller at) categories (op_of op) l) }
     ensures number { OnOk result (B.Side.number_of side.new ≡ B.Side.number_of side.old) }
     ensures setting { OnOk result (B.setting_of board.new ≡ B.setting_of board.old) }
     ensures ready { OnOk result ((n : ℕ) → B.ready (n + 1) board.old side.old → B.ready n board.new side.new) }
@@ -178,7 +178,7 @@ fn read_of_line<B: Board>(
 ) -> Result<OutLine, AllocError>
     requires ready { B.ready 2 board.old side.old }
     requires caller { at.thread ≡ B.Side.number_of side.old }
-    ensures leaves { IfOk result (λ l. (H : History) → B.at board.old side.old H → LeavesReadOf (B.setting_of board.old) library.now (B.later board.old) (B.at board.new side.new) H (caller at) named read.now l) }
+    ensures leaves { IfOk result (λ l. (H : History) → B.at board.old side.old H → LeavesReadOf (B.setting_of board.old) library.now (B.later (B.setting_of board.old) (B.Side.number_of side.old)) (B.at board.new side.new) H (caller at) named read.now l) }
     ensures number { OnOk result (B.Side.number_of side.new ≡ B.Side.number_of side.old) }
     ensures setting { OnOk result (B.setting_of board.new ≡ B.setting_of board.old) }
     ensures ready { OnOk result ((n : ℕ) → B.ready (n + 2) board.old side.old → B.ready n board.new side.new) }
@@ -201,7 +201,7 @@ fn read_between<B: Board>(
 ) -> Result<OutLine, AllocError>
     requires ready { B.ready 2 board.old side.old }
     requires caller { at.thread ≡ B.Side.number_of side.old }
-    ensures leaves { IfOk result (λ l. (H : History) → B.at board.old side.old H → LeavesReadBetween (B.setting_of board.old) library.now (B.later board.old) (B.at board.new side.new) H (caller at) named read.now l) }
+    ensures leaves { IfOk result (λ l. (H : History) → B.at board.old side.old H → LeavesReadBetween (B.setting_of board.old) library.now (B.later (B.setting_of board.old) (B.Side.number_of side.old)) (B.at board.new side.new) H (caller at) named read.now l) }
     ensures number { OnOk result (B.Side.number_of side.new ≡ B.Side.number_of side.old) }
     ensures setting { OnOk result (B.setting_of board.new ≡ B.setting_of board.old) }
     ensures ready { OnOk result ((n : ℕ) → B.ready (n + 2) board.old side.old → B.ready n board.new side.new) }
@@ -242,7 +242,7 @@ fn read_line<B: Board>(
 ) -> Result<OutLine, AllocError>
     requires ready { B.ready 0 board.old side.old }
     requires caller { at.thread ≡ B.Side.number_of side.old }
-    ensures leaves { IfOk result (λ l. (H : History) → B.at board.old side.old H → LeavesRead (B.setting_of board.old) library.now (B.later board.old) (B.at board.new side.new) H (caller at) read.now l) }
+    ensures leaves { IfOk result (λ l. (H : History) → B.at board.old side.old H → LeavesRead (B.setting_of board.old) library.now (B.later (B.setting_of board.old) (B.Side.number_of side.old)) (B.at board.new side.new) H (caller at) read.now l) }
     ensures number { OnOk result (B.Side.number_of side.new ≡ B.Side.number_of side.old) }
     ensures setting { OnOk result (B.setting_of board.new ≡ B.setting_of board.old) }
     ensures ready { OnOk result ((n : ℕ) → B.ready (n + 0) board.old side.old → B.ready n board.new side.new) }
@@ -268,7 +268,7 @@ fn name_line<B: Board>(
 ) -> Result<OutLine, AllocError>
     requires ready { B.ready 0 board.old side.old }
     requires caller { at.thread ≡ B.Side.number_of side.old }
-    ensures leaves { IfOk result (λ l. (H : History) → B.at board.old side.old H → LeavesName (B.setting_of board.old) library.now (B.later board.old) (B.at board.new side.new) H (caller at) categories l) }
+    ensures leaves { IfOk result (λ l. (H : History) → B.at board.old side.old H → LeavesName (B.setting_of board.old) library.now (B.later (B.setting_of board.old) (B.Side.number_of side.old)) (B.at board.new side.new) H (caller at) categories l) }
     ensures number { OnOk result (B.Side.number_of side.new ≡ B.Side.number_of side.old) }
     ensures setting { OnOk result (B.setting_of board.new ≡ B.setting_of board.old) }
     ensures ready { OnOk result ((n : ℕ) → B.ready (n + 0) board.old side.old → B.ready n board.new side.new) }

@@ -137,11 +137,11 @@ impl Board for Alone {
 
     ghost at = { IsAt };
 
-    ghost later = { λ _ G H. G ≡ H };
+    ghost later = { λ _ _ G H. G ≡ H };
 
     ghost ready = { IsReady };
 
-    ghost may = { λ t op. Fits t.setting op };
+    ghost may = { Fits };
 
     fn call(&mut self, side: &mut Kept, op: Op<Share>) -> Result<(u64, Reply<Share>), AllocError> {
         let next = selection_after(&op, side.selected);
