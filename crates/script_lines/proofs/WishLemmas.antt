@@ -1,6 +1,6 @@
--- What a wish needs of the table, and of which variables it depends.
+-- Of which variables a wish depends, and that it asks for nothing but what the table answers.
 use Rattle.std.proofs.Common.{◌≡◌, ℕ, ◌<◌, ◌≤◌, List, length, Option, Some, None, Result, Ok, Err, refl, sym, ap, subst}
-use Rattle.std.specs.Prelude.{IfOk, IfSome}
+use Rattle.std.specs.Prelude.{◌≢◌, IfOk, IfSome}
 use Rattle.lc_base.specs.declared.category.Category.{Category}
 use Rattle.mask_compose.specs.Offer.{Offered}
 use Rattle.category_store.specs.Catalog.{Catalog}
@@ -18,7 +18,8 @@ use Rattle.script_commands.specs.declared.command.Target.TheVariants as targets
 use Rattle.script_out.specs.declared.output.Why.{Why}
 use Rattle.script_commands.specs.InRange.{IsInRange}
 use Rattle.category_store.specs.Shelf.{AreOnShelf, IsNumbered, IsInstallable}
-use Rattle.script_lines.specs.Seen.{FitsTable, TaskFits}
+use Rattle.script_lines.specs.Board.{Fitting, TaskMay}
+use Rattle.script_lines.specs.Seen.{TaskFits}
 use Rattle.script_lines.specs.Turns.{Task, Runs, Releases, Ends}
 use Rattle.script_lines.specs.Variables.{Bindings, bound}
 use Rattle.script_lines.specs.Wishes.{Asks, ReadsOf, ◌>>=◌, handle_or_unset, named, base_named, mask_of, named_numbers, numbers_or_no_data, new_op, set_op, categories_mask, setlocale_op, install_of, install_op, op_on, called, wish, wish_of}
@@ -63,20 +64,24 @@ wish_same library b d (Runs command) same = command_same library b d command sam
 wish_same library b d (Releases h) same = refl
 wish_same library b d Ends same = refl
 
--- ---- a wish fits the table
+-- ---- what a wish asks for may be asked for
 
--- what comes of a step fits where it fits for each value of the step
+-- what holds of all ops that fit the table and do not end their thread
+abbrev pub Admits : Setting → (table.Op → Type 0) → Type 0
+Admits c may = (op : table.Op) → Fits c op → op ≢ table.End → may op
+
+-- what comes of a step may be asked for where it may for each value of the step
 after_step : {A B : Type 0} (P : B → Type 0) (r : Result A Why) (f : A → Result B Why) → ((x : A) → r ≡ Ok x → IfOk (f x) P) → IfOk (r >>= f) P
 after_step P (Ok x) f h = h x refl
 after_step P (Err why) f h = tt
 
-call_fits : (c : Setting) (chosen : Categories) (asks : Asks) → IfOk asks (Fits c) → IfOk (called chosen asks) (FitsTable c)
-call_fits c chosen (Ok op) fits = fits
-call_fits c chosen (Err why) fits = tt
+call_may : (may : table.Op → Type 0) (chosen : Categories) (asks : Asks) → IfOk asks may → IfOk (called chosen asks) (Fitting may)
+call_may may chosen (Ok op) fits = fits
+call_may may chosen (Err why) fits = tt
 
-on_fits : (c : Setting) (op : Named → table.Op) (r : Result Named Why) → ((n : Named) → Fits c (op n)) → IfOk (called categories.All (op_on op r)) (FitsTable c)
-on_fits c op (Ok n) fits = fits n
-on_fits c op (Err why) fits = tt
+on_may : (may : table.Op → Type 0) (op : Named → table.Op) (r : Result Named Why) → ((n : Named) → may (op n)) → IfOk (called categories.All (op_on op r)) (Fitting may)
+on_may may op (Ok n) fits = fits n
+on_may may op (Err why) fits = tt
 
 -- numbers on the library's shelf are on the table's
 shelf_is : (c : Setting) (library : Catalog) (ns : List ℕ) → c.opening ≡ opening library → AreOnShelf library ns → AreOnTheShelf c ns
@@ -90,38 +95,41 @@ numbers_fit : (c : Setting) (library : Catalog) (locale : List ℕ) (mask : ℕ)
 numbers_fit c library locale mask numbered own ns e =
     shelf_is c library ns own (subst (λ (r : Result (List ℕ) Why). IfOk r (AreOnShelf library)) e (given_fit library (numbers library locale mask) (numbered locale mask)))
 
-new_fits : (c : Setting) (library : Catalog) (b : Bindings) (bits : ℕ) (locale : List ℕ) (base : Option Target) → IsNumbered library → c.opening ≡ opening library → IfOk (new_op library b bits locale base) (Fits c)
-new_fits c library b bits locale base numbered own =
-    after_step (Fits c) (base_named b base) (λ n. mask_of bits >>= λ mask. named_numbers library locale mask >>= λ ns. Ok (table.New mask ns n)) (λ n e.
-    after_step (Fits c) (mask_of bits) (λ mask. named_numbers library locale mask >>= λ ns. Ok (table.New mask ns n)) (λ mask m.
-    after_step (Fits c) (named_numbers library locale mask) (λ ns. Ok (table.New mask ns n)) (λ ns k. numbers_fit c library locale mask numbered own ns k)))
+new_may : (c : Setting) (may : table.Op → Type 0) → Admits c may → (library : Catalog) (b : Bindings) (bits : ℕ) (locale : List ℕ) (base : Option Target) → IsNumbered library → c.opening ≡ opening library → IfOk (new_op library b bits locale base) may
+new_may c may admits library b bits locale base numbered own =
+    after_step may (base_named b base) (λ n. mask_of bits >>= λ mask. named_numbers library locale mask >>= λ ns. Ok (table.New mask ns n)) (λ n e.
+    after_step may (mask_of bits) (λ mask. named_numbers library locale mask >>= λ ns. Ok (table.New mask ns n)) (λ mask m.
+    after_step may (named_numbers library locale mask) (λ ns. Ok (table.New mask ns n)) (λ ns k. admits (table.New mask ns n) (numbers_fit c library locale mask numbered own ns k) (λ e. absurd (cc e)))))
 
-set_fits : (c : Setting) (library : Catalog) (mask : ℕ) (locale : List ℕ) → IsNumbered library → c.opening ≡ opening library → IfOk (set_op library mask locale) (Fits c)
-set_fits c library mask locale numbered own =
-    after_step (Fits c) (named_numbers library locale mask) (λ ns. Ok (table.SetGlobal mask ns)) (λ ns k. numbers_fit c library locale mask numbered own ns k)
+set_may : (c : Setting) (may : table.Op → Type 0) → Admits c may → (library : Catalog) (mask : ℕ) (locale : List ℕ) → IsNumbered library → c.opening ≡ opening library → IfOk (set_op library mask locale) may
+set_may c may admits library mask locale numbered own =
+    after_step may (named_numbers library locale mask) (λ ns. Ok (table.SetGlobal mask ns)) (λ ns k. admits (table.SetGlobal mask ns) (numbers_fit c library locale mask numbered own ns k) (λ e. absurd (cc e)))
 
-version_fits : (c : Setting) (library : Catalog) (version : Option (ℕ × Offered)) → c.opening ≡ opening library → IfSome version (λ v. (1 ≤ v.0) × (v.0 < length (opening library))) → IfOk (install_of version) (Fits c)
-version_fits c library None own within = tt
-version_fits c library (Some version) own within = (within.0, subst (λ (offers : List Offered). version.0 < length offers) (sym own) within.1)
+version_may : (c : Setting) (may : table.Op → Type 0) → Admits c may → (library : Catalog) (version : Option (ℕ × Offered)) → c.opening ≡ opening library → IfSome version (λ v. (1 ≤ v.0) × (v.0 < length (opening library))) → IfOk (install_of version) may
+version_may c may admits library None own within = tt
+version_may c may admits library (Some version) own within =
+    admits (table.Install version.0 version.1) (within.0, subst (λ (offers : List Offered). version.0 < length offers) (sym own) within.1) (λ e. absurd (cc e))
 
-command_fits : (c : Setting) (library : Catalog) (b : Bindings) (command : Command) → IsNumbered library → IsInstallable library → c.opening ≡ opening library → IsInRange c.threads command → IfOk (wish library b command) (FitsTable c)
-command_fits c library b (commands.New variable bits locale base) numbered installable own range = call_fits c categories.All (new_op library b bits locale base) (new_fits c library b bits locale base numbered own)
-command_fits c library b (commands.Dup variable from) numbered installable own range = on_fits c table.Dup (named b from) (λ n. tt)
-command_fits c library b (commands.Free target) numbered installable own range = on_fits c table.Free (named b target) (λ n. tt)
-command_fits c library b (commands.Use target) numbered installable own range = on_fits c table.Use (named b target) (λ n. tt)
-command_fits c library b commands.Selected numbered installable own range = tt
-command_fits c library b (commands.Hold target) numbered installable own range = on_fits c table.Hold (named b target) (λ n. tt)
-command_fits c library b (commands.Release target) numbered installable own range = on_fits c table.Release (named b target) (λ n. tt)
-command_fits c library b (commands.Setlocale chosen locale) numbered installable own range = call_fits c chosen (setlocale_op library chosen locale) (set_fits c library (categories_mask chosen) locale numbered own)
-command_fits c library b (commands.LocaleName chosen) numbered installable own range = tt
-command_fits c library b (commands.Install key) numbered installable own range = call_fits c categories.All (install_op library key) (version_fits c library (later library key) own (installable key))
-command_fits c library b (commands.Post cell target) numbered installable own range = on_fits c (table.Post cell) (named b target) (λ n. range.0)
-command_fits c library b (commands.Fetch variable owner cell) numbered installable own range = range
-command_fits c library b (commands.Pins target) numbered installable own range = on_fits c table.Pins (named b target) (λ n. tt)
-command_fits c library b (commands.Read read) numbered installable own range = tt
-command_fits c library b (commands.ReadOf target read) numbered installable own range = after_step (FitsTable c) (named b target) (λ n. Ok (ReadsOf n read)) (λ n e. tt)
+pub command_may : (c : Setting) (may : table.Op → Type 0) → Admits c may → (library : Catalog) (b : Bindings) (command : Command) → IsNumbered library → IsInstallable library → c.opening ≡ opening library → IsInRange c.threads command → IfOk (wish library b command) (Fitting may)
+command_may c may admits library b (commands.New variable bits locale base) numbered installable own range = call_may may categories.All (new_op library b bits locale base) (new_may c may admits library b bits locale base numbered own)
+command_may c may admits library b (commands.Dup variable from) numbered installable own range = on_may may table.Dup (named b from) (λ n. admits (table.Dup n) tt (λ e. absurd (cc e)))
+command_may c may admits library b (commands.Free target) numbered installable own range = on_may may table.Free (named b target) (λ n. admits (table.Free n) tt (λ e. absurd (cc e)))
+command_may c may admits library b (commands.Use target) numbered installable own range = on_may may table.Use (named b target) (λ n. admits (table.Use n) tt (λ e. absurd (cc e)))
+command_may c may admits library b commands.Selected numbered installable own range = tt
+command_may c may admits library b (commands.Hold target) numbered installable own range = on_may may table.Hold (named b target) (λ n. admits (table.Hold n) tt (λ e. absurd (cc e)))
+command_may c may admits library b (commands.Release target) numbered installable own range = on_may may table.Release (named b target) (λ n. admits (table.Release n) tt (λ e. absurd (cc e)))
+command_may c may admits library b (commands.Setlocale chosen locale) numbered installable own range = call_may may chosen (setlocale_op library chosen locale) (set_may c may admits library (categories_mask chosen) locale numbered own)
+command_may c may admits library b (commands.LocaleName chosen) numbered installable own range = tt
+command_may c may admits library b (commands.Install key) numbered installable own range = call_may may categories.All (install_op library key) (version_may c may admits library (later library key) own (installable key))
+command_may c may admits library b (commands.Post cell target) numbered installable own range = on_may may (table.Post cell) (named b target) (λ n. admits (table.Post cell n) range.0 (λ e. absurd (cc e)))
+command_may c may admits library b (commands.Fetch variable owner cell) numbered installable own range = admits (table.Fetch owner cell) range (λ e. absurd (cc e))
+command_may c may admits library b (commands.Pins target) numbered installable own range = on_may may table.Pins (named b target) (λ n. admits (table.Pins n) tt (λ e. absurd (cc e)))
+command_may c may admits library b (commands.Read read) numbered installable own range = tt
+command_may c may admits library b (commands.ReadOf target read) numbered installable own range =
+    after_step (Fitting may) (named b target) (λ n. Ok (ReadsOf n read)) (λ n e. (admits (table.Hold n) tt (λ h. absurd (cc h)), admits (table.Release n) tt (λ r. absurd (cc r))))
 
-pub wish_fits : (c : Setting) (library : Catalog) (b : Bindings) (task : Task) → IsNumbered library → IsInstallable library → c.opening ≡ opening library → TaskFits c.threads task → IfOk (wish_of library b task) (FitsTable c)
-wish_fits c library b (Runs command) numbered installable own fits = command_fits c library b command numbered installable own fits
-wish_fits c library b (Releases h) numbered installable own fits = tt
-wish_fits c library b Ends numbered installable own fits = tt
+-- a table that its runner has alone answers whatever fits
+pub task_fits : (c : Setting) (library : Catalog) (task : Task) → IsNumbered library → IsInstallable library → c.opening ≡ opening library → TaskFits c.threads task → TaskMay library (Fits c) task
+task_fits c library (Runs command) numbered installable own fits = λ b. command_may c (Fits c) (λ op f e. f) library b command numbered installable own fits
+task_fits c library (Releases h) numbered installable own fits = λ b. tt
+task_fits c library Ends numbered installable own fits = λ b. tt

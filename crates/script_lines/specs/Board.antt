@@ -1,12 +1,10 @@
 -- What a line of a thread is, where others may have called since the thread's last call (our own).
 -- The history that the thread has seen, and what the history may have become before its next call, are given. Where nobody else
 -- calls they are the same, and the lines are those of `serial`.
-use Rattle.std.specs.Prelude.{◌≡◌, ℕ, ◌+◌, List, ◌∷◌, length, Option, Some, None, Result, Ok, Err}
+use Rattle.std.specs.Prelude.{◌≡◌, ℕ, ◌+◌, List, length, Option, Some, None, Result, Ok, Err, IfOk}
 use Rattle.mask_compose.specs.Parts.{Parts}
 use Rattle.category_store.specs.Catalog.{Catalog}
-use Rattle.handle_table.specs.declared.handle.Handle.{Handle}
 use Rattle.handle_table.specs.declared.handle.Named.{Named}
-use Rattle.handle_table.specs.declared.handle.Named.TheVariants.{Of}
 use Rattle.handle_table.specs.Entry as table
 use Rattle.handle_table.specs.Entry.{History, Setting}
 use Rattle.handle_table.specs.History.{sets, global, selection}
@@ -18,10 +16,10 @@ use Rattle.script_out.specs.declared.output.OutLine.{OutLine}
 use Rattle.script_out.specs.declared.output.Why.{Why}
 use Rattle.script_out.specs.declared.output.Said.TheVariants as said
 use Rattle.script_lines.specs.Holds.{object_held, open_holds, held_as}
-use Rattle.script_lines.specs.Turns.{Task, Runs, Releases, Ends, Turn}
-use Rattle.script_lines.specs.Variables.{Bound, bindings_of}
+use Rattle.script_lines.specs.Turns.{Task, Turn}
+use Rattle.script_lines.specs.Variables.{Bindings, Bound, bindings_of}
 use Rattle.script_lines.specs.Wishes.{Wish, Calls, ReadsOf, Reads, AsksSelection, AsksName, wish_of}
-use Rattle.script_lines.specs.Lines.{Caller, told_line, entry_line, object_line, held_line}
+use Rattle.script_lines.specs.Lines.{Caller, told_line, object_line, held_line}
 use Rattle.script_lines.specs.Outcome.{Outcome, tells, with_call, calls, read_line, name_line}
 
 -- ---- the calls that are answered
@@ -101,10 +99,11 @@ pub record AreMoments (c : Setting) (later : History → History → Type 0) (th
   pub seen : m.seen ≡ H
   pub first : later m.first m.seen
 
--- the same of a read between: others may have called between the Hold and the Release
+-- the same of a read of what is named: where the thread has no open Hold of it, others may have called between the Hold and the
+-- Release
 pub record AreMomentsBetween (c : Setting) (later : History → History → Type 0) (thread : ℕ) (H : History) (n : Named) (m : Moments) : Type 0 where
   pub moments : AreMoments c later thread H m
-  pub second : later m.second (with_call c m.first thread (table.Hold n))
+  pub second : held_as (open_holds m.seen thread) n ≡ None → later m.second (with_call c m.first thread (table.Hold n))
 
 abbrev pub AreMomentsOf : Setting → (History → History → Type 0) → ℕ → History → Result Wish Why → Moments → Type 0
 AreMomentsOf c later thread H (Ok (ReadsOf n read)) m = AreMomentsBetween c later thread H n m
@@ -124,25 +123,10 @@ pub record Left (at : History → Type 0) (done : Outcome) (l : OutLine) : Type 
 abbrev pub Leaves : Setting → Catalog → (History → History → Type 0) → (History → Type 0) → History → Caller → Result Wish Why → OutLine → Type 0
 Leaves c library later at H caller wish l = (m : Moments) × AreMomentsOf c later caller.thread H wish m × Left at (granted_at c library m caller wish) l
 
-abbrev pub LeavesCall : Setting → Catalog → (History → History → Type 0) → (History → Type 0) → History → Caller → Categories → table.Op → OutLine → Type 0
-LeavesCall c library later at H caller categories op l =
-    (m : Moments) × AreMoments c later caller.thread H m × Left at (calls c library m.first caller categories op) l
-
-abbrev pub LeavesReadOf : Setting → Catalog → (History → History → Type 0) → (History → Type 0) → History → Caller → Named → Read → OutLine → Type 0
-LeavesReadOf c library later at H caller n read l =
-    (m : Moments) × AreMomentsBetween c later caller.thread H n m × Left at (reads_of c library m caller n read (held_as (open_holds H caller.thread) n)) l
-
+-- the same of a read of what is named, of which the thread has no open Hold
 abbrev pub LeavesReadBetween : Setting → Catalog → (History → History → Type 0) → (History → Type 0) → History → Caller → Named → Read → OutLine → Type 0
 LeavesReadBetween c library later at H caller n read l =
     (m : Moments) × AreMomentsBetween c later caller.thread H n m × Left at (held_or_refused c library m caller n read) l
-
-abbrev pub LeavesRead : Setting → Catalog → (History → History → Type 0) → (History → Type 0) → History → Caller → Read → OutLine → Type 0
-LeavesRead c library later at H caller read l =
-    (m : Moments) × AreMoments c later caller.thread H m × Left at (reads c library m caller read (own H caller.thread)) l
-
-abbrev pub LeavesName : Setting → Catalog → (History → History → Type 0) → (History → Type 0) → History → Caller → Categories → OutLine → Type 0
-LeavesName c library later at H caller categories l =
-    (m : Moments) × AreMoments c later caller.thread H m × Left at (asks_name c library m caller categories) l
 
 -- the same of a turn of a thread that has so many lines, where these bindings hold
 abbrev pub turn_caller : ℕ → Turn → Caller
@@ -163,9 +147,5 @@ Fitting may AsksSelection = Unit {0}
 Fitting may (AsksName categories) = Unit {0}
 
 -- what a task asks for, whatever its variables stand for, is such
-abbrev pub WishMay : (table.Op → Type 0) → Result Wish Why → Type 0
-WishMay may (Err why) = Unit {0}
-WishMay may (Ok wish) = Fitting may wish
-
 abbrev pub TaskMay : Catalog → (table.Op → Type 0) → Task → Type 0
-TaskMay library may task = (b : List (List ℕ × Handle)) → WishMay may (wish_of library b task)
+TaskMay library may task = (b : Bindings) → IfOk (wish_of library b task) (Fitting may)

@@ -2,9 +2,7 @@
 use Rattle.std.specs.Prelude.{ℕ, ◌<◌, Result, Ok, Err}
 use Rattle.std.specs.Borrow.{Bor}
 use Rattle.handle_table.specs.declared.op.Op.{Op}
-use Rattle.handle_table.specs.Entry as table
 use Rattle.handle_table.specs.Seen.{op_of}
-use Rattle.handle_table.specs.Table.{Fits}
 use Rattle.script_commands.specs.InRange.{IsInRange}
 use Rattle.script_commands.specs.declared.command.Placed.{Placed}
 use Rattle.script_out.specs.declared.output.Why.{Why}
@@ -47,14 +45,6 @@ wish_seen (wishes.Name categories) = AsksName categories
 abbrev pub wished : Result LentWish Why → Result Wish Why
 wished (Ok w) = Ok (wish_seen w)
 wished (Err why) = Err why
-
--- the op of a wish, if it has one, fits the table
-abbrev pub FitsTable : table.Setting → Wish → Type 0
-FitsTable c (Calls categories op) = Fits c op
-FitsTable c (ReadsOf named read) = Unit {0}
-FitsTable c (Reads read) = Unit {0}
-FitsTable c AsksSelection = Unit {0}
-FitsTable c (AsksName categories) = Unit {0}
 
 -- the handles and cells of a task are of one of so many threads
 abbrev pub TaskFits : ℕ → Task → Type 0

@@ -1,14 +1,5 @@
 //! Who answers the calls of the script's threads.
 
-ghost use Rattle.std.specs.Prelude.{◌≡◌, ◌+◌, ℕ, IfOk, OnOk};
-ghost use Rattle.std.specs.Option.{option_copied};
-ghost use Rattle.handle_table.specs.Entry.{History, Setting, Op as TableOp};
-ghost use Rattle.handle_table.specs.History.{selection};
-ghost use Rattle.handle_table.specs.Answer.{own};
-ghost use Rattle.handle_table.specs.Seen.{op_of, reply_of};
-ghost use Rattle.script_lines.specs.Holds.{open_holds, held_as};
-ghost use Rattle.script_lines.specs.Board.{Answers, Finds};
-
 use category_store::Share;
 use handle_table::{Named, Op, Reply};
 use mask_compose::Object;
@@ -96,4 +87,13 @@ pub trait Board: Drop {
         ensures number { Self.Side.number_of side.new ≡ Self.Side.number_of side.old }
         ensures setting { setting_of self.new ≡ setting_of self.old }
         ensures ready { (n : ℕ) → ready n self.old side.old → ready n self.new side.new };
+
+    /// A thread keeps what the history says of it that it is at.
+    ghost known: { (b : Self) (s : Self.Side) (H : History) → at b s H → Self.Side.knows s H };
+
+    /// It may make its next call there.
+    ghost stays: { (b : Self) (s : Self.Side) (H : History) → at b s H → later (setting_of b) (Self.Side.number_of s) H H };
+
+    /// One that may make so many calls more may make fewer.
+    ghost fewer: { (n : ℕ) (b : Self) (s : Self.Side) → ready (n + 1) b s → ready n b s };
 }

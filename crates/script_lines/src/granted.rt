@@ -1,16 +1,17 @@
 //! The line of a turn, whoever answers the calls.
 
-ghost use Rattle.std.specs.Prelude.{◌≡◌, ◌+◌, ◌<◌, ◌^◌, ℕ, List, IfOk, OnOk};
+ghost use Rattle.std.specs.Prelude.{◌≡◌, ◌+◌, ◌<◌, ◌^◌, ℕ, List, Ok, IfOk, OnOk};
 ghost use Rattle.std.specs.Option.{option_copied};
 ghost use Rattle.handle_table.specs.Entry.{History};
 ghost use Rattle.handle_table.specs.Seen.{op_of};
 ghost use Rattle.category_store.specs.Library.{opening};
 ghost use Rattle.category_store.specs.Shelf.{IsNumbered, IsInstallable};
-ghost use Rattle.script_lines.specs.Board.{Fitting, TaskMay, Leaves, LeavesCall, LeavesReadOf, LeavesReadBetween, LeavesRead, LeavesName, LeavesTurn};
+ghost use Rattle.script_lines.specs.Board.{Fitting, TaskMay, Leaves, LeavesReadBetween, LeavesTurn};
 ghost use Rattle.script_lines.specs.Lines.{object_line};
 ghost use Rattle.script_lines.specs.Seen.{caller, task_seen, turn_seen, wished};
 ghost use Rattle.script_lines.specs.Thread.{BindsAs};
 ghost use Rattle.script_lines.specs.Variables.{Bound, variable_of, variable_bound, bindings_after};
+ghost use Rattle.script_lines.specs.Wishes.{Calls, ReadsOf, Reads, AsksName};
 
 use crate::board::{Board, Side};
 use crate::holds::object_held;
@@ -156,7 +157,7 @@ fn call_line<B: Board>(
     requires ready { B.ready 1 board.old side.old }
     requires caller { at.thread ≡ B.Side.number_of side.old }
     requires fits { B.may (B.setting_of board.old) (op_of op) }
-    ensures leaves { IfOk result (λ l. (H : History) → B.at board.old side.old H → LeavesCall (B.setting_of board.old) library.now (B.later (B.setting_of board.old) (B.Side.number_of side.old)) (B.at board.new side.new) H (caller at) categories (op_of op) l) }
+    ensures leaves { IfOk result (λ l. (H : History) → B.at board.old side.old H → Leaves (B.setting_of board.old) library.now (B.later (B.setting_of board.old) (B.Side.number_of side.old)) (B.at board.new side.new) H (caller at) (Ok (Calls categories (op_of op))) l) }
     ensures number { OnOk result (B.Side.number_of side.new ≡ B.Side.number_of side.old) }
     ensures setting { OnOk result (B.setting_of board.new ≡ B.setting_of board.old) }
     ensures ready { OnOk result ((n : ℕ) → B.ready (n + 1) board.old side.old → B.ready n board.new side.new) }
@@ -178,7 +179,8 @@ fn read_of_line<B: Board>(
 ) -> Result<OutLine, AllocError>
     requires ready { B.ready 2 board.old side.old }
     requires caller { at.thread ≡ B.Side.number_of side.old }
-    ensures leaves { IfOk result (λ l. (H : History) → B.at board.old side.old H → LeavesReadOf (B.setting_of board.old) library.now (B.later (B.setting_of board.old) (B.Side.number_of side.old)) (B.at board.new side.new) H (caller at) named read.now l) }
+    requires fits { Fitting (B.may (B.setting_of board.old)) (ReadsOf named read.now) }
+    ensures leaves { IfOk result (λ l. (H : History) → B.at board.old side.old H → Leaves (B.setting_of board.old) library.now (B.later (B.setting_of board.old) (B.Side.number_of side.old)) (B.at board.new side.new) H (caller at) (Ok (ReadsOf named read.now)) l) }
     ensures number { OnOk result (B.Side.number_of side.new ≡ B.Side.number_of side.old) }
     ensures setting { OnOk result (B.setting_of board.new ≡ B.setting_of board.old) }
     ensures ready { OnOk result ((n : ℕ) → B.ready (n + 2) board.old side.old → B.ready n board.new side.new) }
@@ -201,6 +203,7 @@ fn read_between<B: Board>(
 ) -> Result<OutLine, AllocError>
     requires ready { B.ready 2 board.old side.old }
     requires caller { at.thread ≡ B.Side.number_of side.old }
+    requires fits { Fitting (B.may (B.setting_of board.old)) (ReadsOf named read.now) }
     ensures leaves { IfOk result (λ l. (H : History) → B.at board.old side.old H → LeavesReadBetween (B.setting_of board.old) library.now (B.later (B.setting_of board.old) (B.Side.number_of side.old)) (B.at board.new side.new) H (caller at) named read.now l) }
     ensures number { OnOk result (B.Side.number_of side.new ≡ B.Side.number_of side.old) }
     ensures setting { OnOk result (B.setting_of board.new ≡ B.setting_of board.old) }
@@ -242,10 +245,10 @@ fn read_line<B: Board>(
 ) -> Result<OutLine, AllocError>
     requires ready { B.ready 0 board.old side.old }
     requires caller { at.thread ≡ B.Side.number_of side.old }
-    ensures leaves { IfOk result (λ l. (H : History) → B.at board.old side.old H → LeavesRead (B.setting_of board.old) library.now (B.later (B.setting_of board.old) (B.Side.number_of side.old)) (B.at board.new side.new) H (caller at) read.now l) }
+    ensures leaves { IfOk result (λ l. (H : History) → B.at board.old side.old H → Leaves (B.setting_of board.old) library.now (B.later (B.setting_of board.old) (B.Side.number_of side.old)) (B.at board.new side.new) H (caller at) (Ok (Reads read.now)) l) }
     ensures number { OnOk result (B.Side.number_of side.new ≡ B.Side.number_of side.old) }
     ensures setting { OnOk result (B.setting_of board.new ≡ B.setting_of board.old) }
-    ensures ready { OnOk result ((n : ℕ) → B.ready (n + 0) board.old side.old → B.ready n board.new side.new) }
+    ensures ready { OnOk result ((n : ℕ) → B.ready n board.old side.old → B.ready n board.new side.new) }
 {
     match side.own() {
         Some(own) => object_line(alloc, library, at, read, own),
@@ -268,10 +271,10 @@ fn name_line<B: Board>(
 ) -> Result<OutLine, AllocError>
     requires ready { B.ready 0 board.old side.old }
     requires caller { at.thread ≡ B.Side.number_of side.old }
-    ensures leaves { IfOk result (λ l. (H : History) → B.at board.old side.old H → LeavesName (B.setting_of board.old) library.now (B.later (B.setting_of board.old) (B.Side.number_of side.old)) (B.at board.new side.new) H (caller at) categories l) }
+    ensures leaves { IfOk result (λ l. (H : History) → B.at board.old side.old H → Leaves (B.setting_of board.old) library.now (B.later (B.setting_of board.old) (B.Side.number_of side.old)) (B.at board.new side.new) H (caller at) (Ok (AsksName categories)) l) }
     ensures number { OnOk result (B.Side.number_of side.new ≡ B.Side.number_of side.old) }
     ensures setting { OnOk result (B.setting_of board.new ≡ B.setting_of board.old) }
-    ensures ready { OnOk result ((n : ℕ) → B.ready (n + 0) board.old side.old → B.ready n board.new side.new) }
+    ensures ready { OnOk result ((n : ℕ) → B.ready n board.old side.old → B.ready n board.new side.new) }
 {
     let (version, object) = board.global(side);
     let name = object_name(alloc, library, &object, categories)?;

@@ -3,7 +3,7 @@ use Rattle.std.specs.Prelude.{flat_map}
 use Rattle.script_commands.specs.declared.command.Placed.{Placed}
 use Rattle.script_lines.specs.Seen.{turn_seen, placed_seen}
 use Rattle.script_lines.specs.Turns.{Turn, in_round, round_turns, turns_of_threads}
-use Rattle.script_lines.proofs.TurnLemmas.{left, flat_more}
+use Rattle.script_lines.proofs.TurnLists.{left, flat_more}
 use Rattle.script_lines.proofs.turns.command_turns.Goals as goal
 
 pub loop-i-preserved : goal.loop-i-preserved

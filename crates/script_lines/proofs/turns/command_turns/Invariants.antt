@@ -2,7 +2,7 @@ use Rattle.std.proofs.Common.{◌≡◌, ◌++◌, map, length}
 use Rattle.std.specs.Prelude.{flat_map}
 use Rattle.script_lines.specs.Seen.{turn_seen}
 use Rattle.script_lines.specs.Turns.{round_turns, command_turns}
-use Rattle.script_lines.proofs.TurnLemmas.{left}
+use Rattle.script_lines.proofs.TurnLists.{left}
 use Rattle.script_lines.proofs.turns.command_turns.Given as goal
 
 -- the turns so far, and those of the rounds that are left

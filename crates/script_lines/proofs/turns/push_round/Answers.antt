@@ -2,7 +2,7 @@ use Rattle.std.proofs.Common.{◌++◌, List, map, ap, ◌∙◌, ◌+◌, arith
 use Rattle.std.specs.Prelude.{flat_map}
 use Rattle.script_lines.specs.Seen.{turn_seen, placed_seen}
 use Rattle.script_lines.specs.Turns.{Turn, thread_turns}
-use Rattle.script_lines.proofs.TurnLemmas.{left, flat_more}
+use Rattle.script_lines.proofs.TurnLists.{left, flat_more}
 use Rattle.script_lines.proofs.turns.push_round.Goals as goal
 
 pub loop-i-preserved : goal.loop-i-preserved

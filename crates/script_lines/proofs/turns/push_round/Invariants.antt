@@ -2,7 +2,7 @@ use Rattle.std.proofs.Common.{◌≡◌, ◌++◌, map}
 use Rattle.std.specs.Prelude.{flat_map}
 use Rattle.script_lines.specs.Seen.{turn_seen, placed_seen}
 use Rattle.script_lines.specs.Turns.{thread_turns, turns_of_threads}
-use Rattle.script_lines.proofs.TurnLemmas.{left}
+use Rattle.script_lines.proofs.TurnLists.{left}
 use Rattle.script_lines.proofs.turns.push_round.Given as goal
 
 -- the turns so far, and those of the threads that are left
