@@ -54,7 +54,7 @@ round_is threads ps round =
 abbrev AreWithin : ℕ → ℕ → List Turn → Type 0
 AreWithin from n turns = All (λ (t : Turn). (from ≤ t.round) × (t.round < from + n)) turns
 
-rounds_within : (threads : ℕ) (ps : List Placed) (from n : ℕ) → AreWithin from n (flat_map (round_turns threads ps) (range_with_len from n))
+pub rounds_within : (threads : ℕ) (ps : List Placed) (from n : ℕ) → AreWithin from n (flat_map (round_turns threads ps) (range_with_len from n))
 rounds_within threads ps from zero = All-nil (λ (t : Turn). (from ≤ t.round) × (t.round < from + 0))
 rounds_within threads ps from (suc n) =
     let Within : Turn → Type 0 = λ (t : Turn). (from ≤ t.round) × (t.round < from + suc n) in
@@ -78,7 +78,7 @@ closing_is_of round thread holds =
     (All-map (λ (t : Turn). t.round ≡ round) (λ (o : OpenHold). closing_turn round thread (Releases o.handle)) holds (λ k d l. refl))
     (All-cons (λ (t : Turn). t.round ≡ round) (closing_turn round thread Ends) [] refl (All-nil (λ (t : Turn). t.round ≡ round)))
 
-closing_round : (b : Bundle) (H : History) → AreOf (b.rounds + 1) (closing_turns b H)
+pub closing_round : (b : Bundle) (H : History) → AreOf (b.rounds + 1) (closing_turns b H)
 closing_round b H = flat_all (λ (t : Turn). t.round ≡ b.rounds + 1) (λ (t : ℕ). closing (b.rounds + 1) t (open_holds H t)) (first_numbers (length b.threads)) (λ t. closing_is_of (b.rounds + 1) t (open_holds H t))
 
 turns_by_round : (b : Bundle) (H : History) → AreByRound (command_turns b ++ closing_turns b H)

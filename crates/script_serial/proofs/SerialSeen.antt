@@ -157,10 +157,10 @@ past_up c calls a (suc b) le =
 abbrev pub UpTo : ℕ → Option ℕ → Type 0
 UpTo n o = All (λ (v : ℕ). v ≤ n) (option_to_list o)
 
-none_up : (n : ℕ) → UpTo n None
+pub none_up : (n : ℕ) → UpTo n None
 none_up n = All-nil (λ (v : ℕ). v ≤ n)
 
-some_up : (n v : ℕ) → v ≤ n → UpTo n (Some v)
+pub some_up : (n v : ℕ) → v ≤ n → UpTo n (Some v)
 some_up n v le = All-cons (λ (k : ℕ). k ≤ n) v [] le (All-nil (λ (k : ℕ). k ≤ n))
 
 no_version : (n : ℕ) (r : Option table.Refusal) (reply : table.Reply) → version_made reply ≡ None → UpTo n (version_made (unless r reply))
@@ -184,7 +184,7 @@ new_version : (r : Option table.Refusal) (H : History) (mask : ℕ) (numbers : L
 new_version None H mask numbers object = some_up (suc (sets H)) (sets H + 1) (omega arith)
 new_version (Some refusal) H mask numbers object = none_up (sets H)
 
-call_version : (c : Setting) (H : History) (t : ℕ) (op : table.Op) → UpTo (sets (with_call c H t op)) (version_made (answer c H t op))
+pub call_version : (c : Setting) (H : History) (t : ℕ) (op : table.Op) → UpTo (sets (with_call c H t op)) (version_made (answer c H t op))
 call_version c H t (table.New mask numbers None) =
     no_version (sets (with_call c H t (table.New mask numbers None))) (first_reason (reasons c H t (table.New mask numbers None))) (reply_to c H t (table.New mask numbers None)) (no_version_made H t (free_row c H t))
 call_version c H t (table.New mask numbers (Some n)) =
