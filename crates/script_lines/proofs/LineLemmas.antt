@@ -1,5 +1,5 @@
 -- The lines of a thread, by what its board has answered.
-use Rattle.std.proofs.Common.{◌≡◌, ℕ, ◌+◌, Option, Some, None, Result, Ok, Err, List, length, refl, sym, ap, subst, ◌∙◌}
+use Rattle.std.proofs.Common.{◌≡◌, ℕ, ◌+◌, Option, Some, None, Result, Ok, Err, List, length, refl, sym, ap, subst, ◌∙◌, arith}
 use Rattle.mask_compose.specs.Parts.{Parts}
 use Rattle.category_store.specs.Catalog.{Catalog}
 use Rattle.handle_table.specs.declared.handle.Named.{Named}
@@ -32,49 +32,45 @@ use Rattle.script_lines.proofs.WishLemmas.{wish_same}
 pub refusal_leaves : (c : Setting) (library : Catalog) (later : History → History → Type 0) (at : History → Type 0) (H : History) (caller : Caller) (why : Why) (l : OutLine)
     → at H → later H H → l ≡ told_line caller (said.Refused why) → Leaves c library later at H caller (Err why) l
 refusal_leaves c library later at H caller why l here stays printed =
-    (record { seen = H; first = H; second = H }, (record { seen = refl; first = stays }, record { line = printed; now_at = here }))
+    (record { seen = H; first = H; second = H }, record { seen = refl; first = stays }, record { line = printed; now_at = here })
 
 pub selection_leaves : (c : Setting) (library : Catalog) (later : History → History → Type 0) (at : History → Type 0) (H : History) (caller : Caller) (number : ℕ) (selected : Named) (l : OutLine)
     → caller.thread ≡ number → selected ≡ selection H number → at H → later H H → l ≡ told_line caller (said.Is selected) → Leaves c library later at H caller (Ok AsksSelection) l
 selection_leaves c library later at H caller number selected l own is here stays printed = (
   record { seen = H; first = H; second = H },
-  (
-    record { seen = refl; first = stays },
-    record {
-      line = printed ∙ ap (λ (n : Named). told_line caller (said.Is n)) (is ∙ ap (λ (t : ℕ). selection H t) (sym own));
-      now_at = here;
-    },
-  ),
+  record { seen = refl; first = stays },
+  record {
+    line = printed ∙ ap (λ (n : Named). told_line caller (said.Is n)) (is ∙ ap (λ (t : ℕ). selection H t) (sym own));
+    now_at = here;
+  },
 )
 
 -- ---- reads of the thread's own object and of the global locale
 
-pub own_leaves : (c : Setting) (library : Catalog) (later : History → History → Type 0) (at : History → Type 0) (H : History) (caller : Caller) (read : Read) (number : ℕ) (kept : Option Parts) (object : Parts) (l : OutLine)
-    → caller.thread ≡ number → kept ≡ own H number → kept ≡ Some object → at H → later H H → l ≡ object_line library caller read object
+pub own_leaves : (c : Setting) (library : Catalog) (later : History → History → Type 0) (at : History → Type 0) (H : History) (caller : Caller) (read : Read) (number : ℕ) (object : Parts) (l : OutLine)
+    → caller.thread ≡ number → Some object ≡ own H number → at H → later H H → l ≡ object_line library caller read object
     → Leaves c library later at H caller (Ok (Reads read)) l
-own_leaves c library later at H caller read number kept object l same known is here stays printed =
-    let gives : Some object ≡ own H caller.thread = sym is ∙ known ∙ ap (λ (t : ℕ). own H t) (sym same) in
+own_leaves c library later at H caller read number object l same is here stays printed =
+    let gives : Some object ≡ own H caller.thread = is ∙ ap (λ (t : ℕ). own H t) (sym same) in
     let m : Moments = record { seen = H; first = H; second = H } in
-    (m, (record { seen = refl; first = stays }, subst (λ (x : Option Parts). Left at (reads c library m caller read x) l) gives (record { line = printed; now_at = here })))
+    (m, record { seen = refl; first = stays }, subst (λ (x : Option Parts). Left at (reads c library m caller read x) l) gives (record { line = printed; now_at = here }))
 
-pub global_leaves : (c : Setting) (library : Catalog) (later : History → History → Type 0) (at : History → Type 0) (H : History) (caller : Caller) (read : Read) (number version : ℕ) (kept : Option Parts) (object : Parts) (told : Said) (l : OutLine)
-    → caller.thread ≡ number → kept ≡ own H number → kept ≡ None → Finds c later at H version object → told ≡ local library object read → l ≡ line caller places.None (Some version) told
+pub global_leaves : (c : Setting) (library : Catalog) (later : History → History → Type 0) (at : History → Type 0) (H : History) (caller : Caller) (read : Read) (number version : ℕ) (object : Parts) (told : Said) (l : OutLine)
+    → caller.thread ≡ number → None ≡ own H number → Finds c later at H version object → told ≡ local library object read → l ≡ line caller places.None (Some version) told
     → Leaves c library later at H caller (Ok (Reads read)) l
-global_leaves c library later at H caller read number version kept object told l same known is found tells printed =
-    let gives : None ≡ own H caller.thread = sym is ∙ known ∙ ap (λ (t : ℕ). own H t) (sym same) in
+global_leaves c library later at H caller read number version object told l same is found tells printed =
+    let gives : None ≡ own H caller.thread = is ∙ ap (λ (t : ℕ). own H t) (sym same) in
     let m : Moments = record { seen = H; first = found.before; second = found.before } in (
       m,
-      (
-        record { seen = refl; first = found.is_later },
-        subst (λ (x : Option Parts). Left at (reads c library m caller read x) l) gives (record {
-          line =
-              printed
-              ∙ ap (λ (s : Said). line caller places.None (Some version) s) tells
-              ∙ ap (λ (v : ℕ). line caller places.None (Some v) (local library object read)) found.version_is
-              ∙ ap (λ (p : Parts). line caller places.None (Some (sets found.before)) (local library p read)) found.object_is;
-          now_at = found.now_at;
-        }),
-      ),
+      record { seen = refl; first = found.is_later },
+      subst (λ (x : Option Parts). Left at (reads c library m caller read x) l) gives (record {
+        line =
+            printed
+            ∙ ap (λ (s : Said). line caller places.None (Some version) s) tells
+            ∙ ap (λ (v : ℕ). line caller places.None (Some v) (local library object read)) found.version_is
+            ∙ ap (λ (p : Parts). line caller places.None (Some (sets found.before)) (local library p read)) found.object_is;
+        now_at = found.now_at;
+      }),
     )
 
 pub name_leaves : (c : Setting) (library : Catalog) (later : History → History → Type 0) (at : History → Type 0) (H : History) (caller : Caller) (categories : Categories) (version : ℕ) (object : Parts) (name : List ℕ) (l : OutLine)
@@ -82,17 +78,15 @@ pub name_leaves : (c : Setting) (library : Catalog) (later : History → History
     → Leaves c library later at H caller (Ok (AsksName categories)) l
 name_leaves c library later at H caller categories version object name l found named printed = (
   record { seen = H; first = found.before; second = found.before },
-  (
-    record { seen = refl; first = found.is_later },
-    record {
-      line =
-          printed
-          ∙ ap (λ (n : List ℕ). line caller places.None (Some version) (said.Name n)) named
-          ∙ ap (λ (v : ℕ). line caller places.None (Some v) (said.Name (object_name library object categories))) found.version_is
-          ∙ ap (λ (p : Parts). line caller places.None (Some (sets found.before)) (said.Name (object_name library p categories))) found.object_is;
-      now_at = found.now_at;
-    },
-  ),
+  record { seen = refl; first = found.is_later },
+  record {
+    line =
+        printed
+        ∙ ap (λ (n : List ℕ). line caller places.None (Some version) (said.Name n)) named
+        ∙ ap (λ (v : ℕ). line caller places.None (Some v) (said.Name (object_name library object categories))) found.version_is
+        ∙ ap (λ (p : Parts). line caller places.None (Some (sets found.before)) (said.Name (object_name library p categories))) found.object_is;
+    now_at = found.now_at;
+  },
 )
 
 -- ---- calls
@@ -103,44 +97,40 @@ pub call_leaves : (c : Setting) (library : Catalog) (later : History → History
 call_leaves c library later at H caller categories op number place r l own answered printed =
     let a : Answers c later at caller.thread H op place r = subst (λ (t : ℕ). Answers c later at t H op place r) (sym own) answered in (
       record { seen = H; first = a.before; second = a.before },
-      (
-        record { seen = refl; first = a.is_later },
-        record {
-          line =
-              printed
-              ∙ ap (λ (p : ℕ). placed_line library p caller categories r) a.place_is
-              ∙ ap (λ (x : table.Reply). placed_line library (length a.before) caller categories x) a.reply_is;
-          now_at = a.now_at;
-        },
-      ),
+      record { seen = refl; first = a.is_later },
+      record {
+        line =
+            printed
+            ∙ ap (λ (p : ℕ). placed_line library p caller categories r) a.place_is
+            ∙ ap (λ (x : table.Reply). placed_line library (length a.before) caller categories x) a.reply_is;
+        now_at = a.now_at;
+      },
     )
 
 -- ---- reads of what is named
 
 -- of the object of the thread's open Hold
-pub held_leaves : (c : Setting) (library : Catalog) (later : History → History → Type 0) (at : History → Type 0) (H : History) (caller : Caller) (n : Named) (read : Read) (number : ℕ) (held : Option Parts) (object : Parts) (l : OutLine)
-    → caller.thread ≡ number → held ≡ held_as (open_holds H number) n → held ≡ Some object → at H → later H H → l ≡ object_line library caller read object
+pub held_leaves : (c : Setting) (library : Catalog) (later : History → History → Type 0) (at : History → Type 0) (H : History) (caller : Caller) (n : Named) (read : Read) (number : ℕ) (object : Parts) (l : OutLine)
+    → caller.thread ≡ number → Some object ≡ held_as (open_holds H number) n → at H → later H H → l ≡ object_line library caller read object
     → Leaves c library later at H caller (Ok (ReadsOf n read)) l
-held_leaves c library later at H caller n read number held object l own known is here stays printed =
-    let gives : Some object ≡ held_as (open_holds H caller.thread) n = sym is ∙ known ∙ ap (λ (t : ℕ). held_as (open_holds H t) n) (sym own) in
+held_leaves c library later at H caller n read number object l own is here stays printed =
+    let gives : Some object ≡ held_as (open_holds H caller.thread) n = is ∙ ap (λ (t : ℕ). held_as (open_holds H t) n) (sym own) in
     let m : Moments = record { seen = H; first = H; second = H } in (
       m,
-      (
-        record { moments = record { seen = refl; first = stays }; second = λ none. absurd (cc (gives ∙ none)) },
-        subst (λ (x : Option Parts). Left at (reads_of c library m caller n read x) l) gives (record { line = printed; now_at = here }),
-      ),
+      record { moments = record { seen = refl; first = stays }; second = λ none. absurd (cc (gives ∙ none)) },
+      subst (λ (x : Option Parts). Left at (reads_of c library m caller n read x) l) gives (record { line = printed; now_at = here }),
     )
 
 -- where there is none, between a Hold and a Release
-pub unheld_leaves : (c : Setting) (library : Catalog) (later : History → History → Type 0) (at : History → Type 0) (H : History) (caller : Caller) (n : Named) (read : Read) (number : ℕ) (held : Option Parts) (l : OutLine)
-    → caller.thread ≡ number → held ≡ held_as (open_holds H number) n → held ≡ None → LeavesReadBetween c library later at H caller n read l
+pub unheld_leaves : (c : Setting) (library : Catalog) (later : History → History → Type 0) (at : History → Type 0) (H : History) (caller : Caller) (n : Named) (read : Read) (number : ℕ) (l : OutLine)
+    → caller.thread ≡ number → None ≡ held_as (open_holds H number) n → LeavesReadBetween c library later at H caller n read l
     → Leaves c library later at H caller (Ok (ReadsOf n read)) l
-unheld_leaves c library later at H caller n read number held l own known is between =
+unheld_leaves c library later at H caller n read number l own is between =
     let m : Moments = between.0 in
     let gives : None ≡ held_as (open_holds m.seen caller.thread) n =
-    sym is ∙ known ∙ ap (λ (t : ℕ). held_as (open_holds H t) n) (sym own) ∙ ap (λ (G : History). held_as (open_holds G caller.thread) n) (sym between.1.0.moments.seen)
+    is ∙ ap (λ (t : ℕ). held_as (open_holds H t) n) (sym own) ∙ ap (λ (G : History). held_as (open_holds G caller.thread) n) (sym between.1.moments.seen)
     in
-    (m, (between.1.0, subst (λ (x : Option Parts). Left at (reads_of c library m caller n read x) l) gives between.1.1))
+    (m, between.1, subst (λ (x : Option Parts). Left at (reads_of c library m caller n read x) l) gives between.2)
 
 -- a Hold that gives an object, and a Release
 pub between_leaves : (c c' : Setting) (library : Catalog) (later : Setting → ℕ → History → History → Type 0) (at at' : History → Type 0) (H : History) (caller : Caller) (n : Named) (read : Read)
@@ -159,17 +149,15 @@ between_leaves c c' library later at at' H caller n read number number' place re
     let m : Moments = record { seen = H; first = a.before; second = b.before } in
     let gives : Some object ≡ object_held (answer c a.before caller.thread (table.Hold n)) = sym is ∙ ap object_held a.reply_is in (
       m,
-      (
-        record { moments = record { seen = refl; first = a.is_later }; second = λ none. b.is_later },
-        subst (λ (x : Option Parts). Left at' (reads_between c library m caller n read x) l) gives (record {
-          line =
-              printed
-              ∙ ap (λ (p : ℕ). line caller (places.Two p release) None told) a.place_is
-              ∙ ap (λ (p : ℕ). line caller (places.Two (length a.before) p) None told) b.place_is
-              ∙ ap (λ (s : Said). line caller (places.Two (length a.before) (length b.before)) None s) tells;
-          now_at = b.now_at;
-        }),
-      ),
+      record { moments = record { seen = refl; first = a.is_later }; second = λ none. b.is_later },
+      subst (λ (x : Option Parts). Left at' (reads_between c library m caller n read x) l) gives (record {
+        line =
+            printed
+            ∙ ap (λ (p : ℕ). line caller (places.Two p release) None told) a.place_is
+            ∙ ap (λ (p : ℕ). line caller (places.Two (length a.before) p) None told) b.place_is
+            ∙ ap (λ (s : Said). line caller (places.Two (length a.before) (length b.before)) None s) tells;
+        now_at = b.now_at;
+      }),
     )
 
 -- a Hold that gives none
@@ -185,27 +173,38 @@ unmade_leaves c c' library later at H caller n read number number' place r l own
     let m : Moments = record { seen = H; first = a.before; second = G } in
     let gives : None ≡ object_held (answer c a.before caller.thread (table.Hold n)) = sym is ∙ ap object_held a.reply_is in (
       m,
-      (
-        record { moments = record { seen = refl; first = a.is_later }; second = λ none. next },
-        subst (λ (x : Option Parts). Left at (reads_between c library m caller n read x) l) gives (record {
-          line =
-              printed
-              ∙ ap (λ (p : ℕ). placed_line library p caller All r) a.place_is
-              ∙ ap (λ (x : table.Reply). placed_line library (length a.before) caller All x) a.reply_is;
-          now_at = a.now_at;
-        }),
-      ),
+      record { moments = record { seen = refl; first = a.is_later }; second = λ none. next },
+      subst (λ (x : Option Parts). Left at (reads_between c library m caller n read x) l) gives (record {
+        line =
+            printed
+            ∙ ap (λ (p : ℕ). placed_line library p caller All r) a.place_is
+            ∙ ap (λ (x : table.Reply). placed_line library (length a.before) caller All x) a.reply_is;
+        now_at = a.now_at;
+      }),
     )
+
+-- ---- how many calls are left
+
+pub fewer_by_two : (ready : ℕ → Type 0) → ((n : ℕ) → ready (n + 1) → ready n) → (n : ℕ) → ready (n + 2) → ready n
+fewer_by_two ready fewer n r = let same : n + 2 ≡ n + 1 + 1 = omega arith in fewer n (fewer (n + 1) (subst ready same r))
 
 -- ---- turns
 
-pub turn_leaves : (c : Setting) (library : Catalog) (later : History → History → Type 0) (at : History → Type 0) (H : History) (bounds : List Bound) (lines number : ℕ) (turn : Turn) (caller : Caller) (variables : Bindings) (w : Result Wish Why) (l : OutLine)
-    → turn.thread ≡ number → caller ≡ record { round = turn.round; thread = number; index = lines + 1 } → w ≡ wish_of library variables turn.task → BindsAs number variables bounds
-    → Leaves c library later at H caller w l → LeavesTurn c library later at H bounds lines turn l
-turn_leaves c library later at H bounds lines number turn caller variables w l own called wished binds leaves =
+-- a line is counted, the wish is granted, and the variable is bound
+pub turn_leaves : {S : Type 0} (c : Setting) (library : Catalog) (number_of : S → ℕ) (later : ℕ → History → History → Type 0) (at at' : S → History → Type 0) (H : History) (bounds : List Bound) (lines : ℕ) (turn : Turn)
+    (before counting served after : S) (caller : Caller) (variables : Bindings) (w : Result Wish Why) (l : OutLine)
+    → turn.thread ≡ number_of before → counting ≡ before → after ≡ served → caller ≡ record { round = turn.round; thread = number_of before; index = lines + 1 }
+    → w ≡ wish_of library variables turn.task → BindsAs (number_of before) variables bounds → at before H
+    → (at counting H → Leaves c library (later (number_of counting)) (at' served) H caller w l)
+    → LeavesTurn c library (later (number_of before)) (at' after) H bounds lines turn l
+turn_leaves {S} c library number_of later at at' H bounds lines turn before counting served after caller variables w l own counted bound_after called wished binds here leaves =
+    let given : Leaves c library (later (number_of before)) (at' after) H caller w l =
+    subst (λ (s : S). Leaves c library (later (number_of before)) (at' s) H caller w l) (sym bound_after)
+    (subst (λ (s : S). Leaves c library (later (number_of s)) (at' served) H caller w l) counted (leaves (subst (λ (s : S). at s H) (sym counted) here)))
+    in
     let asks : w ≡ wish_of library (bindings_of turn.thread bounds) turn.task =
     wished ∙ wish_same library variables (bindings_of turn.thread bounds) turn.task (λ v. binds v ∙ ap (λ (t : ℕ). bound (bindings_of t bounds) v) (sym own))
     in
     let whose : caller ≡ turn_caller lines turn = called ∙ ap (λ (t : ℕ). record { round = turn.round; thread = t; index = lines + 1 }) (sym own) in
-    subst (λ (a : Caller). Leaves c library later at H a (wish_of library (bindings_of turn.thread bounds) turn.task) l) whose
-    (subst (λ (x : Result Wish Why). Leaves c library later at H caller x l) asks leaves)
+    subst (λ (a : Caller). Leaves c library (later (number_of before)) (at' after) H a (wish_of library (bindings_of turn.thread bounds) turn.task) l) whose
+    (subst (λ (x : Result Wish Why). Leaves c library (later (number_of before)) (at' after) H caller x l) asks given)
