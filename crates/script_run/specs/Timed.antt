@@ -1,6 +1,6 @@
 -- Lines of threads that call beside each other, judged by one history of which each thread has seen a part (our own).
 -- A history has its newest entry first, and so have the lists of lines here: what stands before stays when more is added.
-use Rattle.std.specs.Prelude.{◌≡◌, ℕ, ◌+◌, ◌<◌, ◌≤◌, nat_lt, nat_le, if◌then◌else◌, List, [], ◌∷◌, ◌==◌, length, map, filter, flat_map, reverse, All, unwrap_or}
+use Rattle.std.specs.Prelude.{◌≡◌, ℕ, zero, suc, ◌+◌, ◌<◌, ◌≤◌, nat_lt, nat_le, if◌then◌else◌, List, [], ◌∷◌, ◌++◌, ◌==◌, length, map, filter, flat_map, reverse, All, unwrap_or}
 use Rattle.handle_table.specs.Entry.{History, Setting}
 use Rattle.handle_table.specs.Kept.{AreThreads}
 use Rattle.handle_table.specs.Answer.{IsLegal}
@@ -62,6 +62,11 @@ turns_made ts = map turn_made ts
 -- the places of lines, the newest first
 abbrev pub placed_back : List Timed → List ℕ
 placed_back ts = flat_map (λ (t : Timed). reverse (places_in t.told.line.places)) ts
+
+-- the lines of the first n threads, the newest first, on top of earlier ones
+abbrev pub stacked : (ℕ → List Timed) → List Timed → ℕ → List Timed
+stacked more made zero = made
+stacked more made (suc n) = more n ++ stacked more made n
 
 -- the lines of a thread
 abbrev pub own_lines : ℕ → List Timed → List Timed

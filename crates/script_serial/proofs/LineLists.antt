@@ -102,7 +102,7 @@ pub up_below : (xs ys : List ℕ) → GoUp (xs ++ ys) → AreBelow xs ys
 up_below [] ys h = All-nil (λ (x : ℕ). All (λ (y : ℕ). x < y) ys)
 up_below (x ∷ xs) ys h = All-cons (λ (z : ℕ). All (λ (y : ℕ). z < y) ys) x xs (all_right (λ (y : ℕ). x < y) xs ys h.0) (up_below xs ys h.1)
 
-up_join : (xs ys : List ℕ) → GoUp xs → GoUp ys → AreBelow xs ys → GoUp (xs ++ ys)
+pub up_join : (xs ys : List ℕ) → GoUp xs → GoUp ys → AreBelow xs ys → GoUp (xs ++ ys)
 up_join [] ys up more below = more
 up_join (x ∷ xs) ys up more below =
     let Below : ℕ → Type 0 = λ (z : ℕ). All (λ (y : ℕ). z < y) ys in

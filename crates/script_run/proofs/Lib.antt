@@ -1,0 +1,5 @@
+pub mod Apart
+pub mod Counted
+pub mod Growth
+pub mod Placed
+pub mod Stacked
