@@ -27,7 +27,7 @@ use Rattle.handle_table.specs.Kept.{AreThreads}
 use Rattle.handle_table.specs.Answer.{answer, own_after, own, target_object, first_reason, reasons, unless, IsLegal}
 use Rattle.handle_table.proofs.Changes.{own_stays}
 use Rattle.thread_current.specs.Seen.{entry_of, entries_of}
-use Rattle.thread_current.specs.Thread.{Thread, thread_of, IsThreadOf, first_thread, IsPart, selected, own_object, holds, Extends, calls_of, without_newest, before, IsSameThread, Answered, SawMore, KeepsSelection, KeepsHolds, Keeps, After, IsInOrder, takes_up}
+use Rattle.thread_current.specs.Thread.{Thread, thread_of, IsThreadOf, first_thread, IsPart, selected, own_object, holds, GoesOnFrom, entries_by, without_newest, before, IsSameThread, Answered, SawMore, KeepsSelection, KeepsHolds, Keeps, After, IsInOrder, takes_up}
 use Rattle.thread_current.specs.Mine.{IsMine, IsUnused}
 use Rattle.thread_current.proofs.Longer.{length_entries, entries_append, sets_rise, version_object}
 
@@ -38,20 +38,20 @@ module _ {P : Type 0} where
   abbrev pub legal_calls : Setting → turns.History (OpOf P) (ReplyOf P) → Type 0
   legal_calls c H = IsLegal c (entries_of H)
 
-  pub extends_entries : (later earlier : turns.History (OpOf P) (ReplyOf P)) → turns.Extends later earlier → Extends (entries_of later) (entries_of earlier)
+  pub extends_entries : (later earlier : turns.History (OpOf P) (ReplyOf P)) → turns.Extends later earlier → GoesOnFrom (entries_of later) (entries_of earlier)
   extends_entries later earlier x = (entries_of x.0, ap entries_of x.1 ∙ entries_append x.0 earlier)
 
-  pub calls_entries : (t : ℕ) (H : turns.History (OpOf P) (ReplyOf P)) → calls_of t (entries_of H) ≡ entries_of (turns.calls_of t H)
+  pub calls_entries : (t : ℕ) (H : turns.History (OpOf P) (ReplyOf P)) → entries_by t (entries_of H) ≡ entries_of (turns.calls_of t H)
   calls_entries t [] = refl
   calls_entries t (e ∷ H) = dite (ℕ_discrete e.who t)
       (λ (is : e.who ≡ t).
       let here : (e.who == t) ≡ true = eq-eqb e.who t is in
-      ap (λ (b : Bool). if b then entry_of e ∷ calls_of t (entries_of H) else calls_of t (entries_of H)) here
+      ap (λ (b : Bool). if b then entry_of e ∷ entries_by t (entries_of H) else entries_by t (entries_of H)) here
       ∙ ap (λ (G : History). entry_of e ∷ G) (calls_entries t H)
       ∙ sym (ap (λ (b : Bool). entries_of (if b then e ∷ turns.calls_of t H else turns.calls_of t H)) here))
       (λ no.
       let apart : (e.who == t) ≡ false = ne_eqb e.who t no in
-      ap (λ (b : Bool). if b then entry_of e ∷ calls_of t (entries_of H) else calls_of t (entries_of H)) apart
+      ap (λ (b : Bool). if b then entry_of e ∷ entries_by t (entries_of H) else entries_by t (entries_of H)) apart
       ∙ calls_entries t H
       ∙ sym (ap (λ (b : Bool). entries_of (if b then e ∷ turns.calls_of t H else turns.calls_of t H)) apart))
 
@@ -92,7 +92,7 @@ module _ {P : Type 0} where
       let old : entries_of made.0 ≡ without_newest (entries_of d.seen) = sym (ap without_newest seen) in
       let good : IsLegal gate.terms.setting (e ∷ entries_of made.0) = subst (IsLegal gate.terms.setting) seen legal in record {
         same = same_thread v w c d same;
-        later = subst (λ (H : History). Extends H (entries_of c.seen)) old (extends_entries made.0 c.seen made.1);
+        later = subst (λ (H : History). GoesOnFrom H (entries_of c.seen)) old (extends_entries made.0 c.seen made.1);
         place_is = made.3 ∙ sym (length_entries made.0) ∙ ap length old;
         reply_is = subst (λ (H : History). reply_of reply ≡ answer gate.terms.setting H c.number (op_of op)) old good.0;
         seen = seen ∙ ap (λ (H : History). e ∷ H) old;
@@ -101,44 +101,44 @@ module _ {P : Type 0} where
 
 -- ---- what a thread's own calls say
 
-own_calls : (t : ℕ) (H : History) → own H t ≡ own (calls_of t H) t
+own_calls : (t : ℕ) (H : History) → own H t ≡ own (entries_by t H) t
 own_calls t [] = refl
 own_calls t (e ∷ H) = dite (ℕ_discrete e.who t)
     (λ (is : e.who ≡ t).
     let here : (e.who == t) ≡ true = eq-eqb e.who t is in
     ap (λ (o : Option Parts). if e.who == t then own_after e.reply o else o) (own_calls t H)
-    ∙ sym (ap (λ (b : Bool). own (if b then e ∷ calls_of t H else calls_of t H) t) here))
+    ∙ sym (ap (λ (b : Bool). own (if b then e ∷ entries_by t H else entries_by t H) t) here))
     (λ no.
     let apart : (e.who == t) ≡ false = ne_eqb e.who t no in
     ap (λ (b : Bool). if b then own_after e.reply (own H t) else own H t) apart
     ∙ own_calls t H
-    ∙ sym (ap (λ (b : Bool). own (if b then e ∷ calls_of t H else calls_of t H) t) apart))
+    ∙ sym (ap (λ (b : Bool). own (if b then e ∷ entries_by t H else entries_by t H) t) apart))
 
-selection_calls : (t : ℕ) (H : History) → selection H t ≡ selection (calls_of t H) t
+selection_calls : (t : ℕ) (H : History) → selection H t ≡ selection (entries_by t H) t
 selection_calls t [] = refl
 selection_calls t (e ∷ H) = dite (ℕ_discrete e.who t)
     (λ (is : e.who ≡ t).
     let here : (e.who == t) ≡ true = eq-eqb e.who t is in
     ap (λ (n : Named). if (e.who == t && is_accepted e.reply) then selection_after e.op n else n) (selection_calls t H)
-    ∙ sym (ap (λ (b : Bool). selection (if b then e ∷ calls_of t H else calls_of t H) t) here))
+    ∙ sym (ap (λ (b : Bool). selection (if b then e ∷ entries_by t H else entries_by t H) t) here))
     (λ no.
     let apart : (e.who == t) ≡ false = ne_eqb e.who t no in
     ap (λ (b : Bool). if (b && is_accepted e.reply) then selection_after e.op (selection H t) else selection H t) apart
     ∙ selection_calls t H
-    ∙ sym (ap (λ (b : Bool). selection (if b then e ∷ calls_of t H else calls_of t H) t) apart))
+    ∙ sym (ap (λ (b : Bool). selection (if b then e ∷ entries_by t H else entries_by t H) t) apart))
 
-holding_calls : (t : ℕ) (H : History) (h : Handle) → holding H t h ≡ holding (calls_of t H) t h
+holding_calls : (t : ℕ) (H : History) (h : Handle) → holding H t h ≡ holding (entries_by t H) t h
 holding_calls t [] h = refl
 holding_calls t (e ∷ H) h = dite (ℕ_discrete e.who t)
     (λ (is : e.who ≡ t).
     let here : (e.who == t) ≡ true = eq-eqb e.who t is in
     ap (λ (b : Bool). if (e.who == t && is_accepted e.reply) then holding_after e.op h b else b) (holding_calls t H h)
-    ∙ sym (ap (λ (b : Bool). holding (if b then e ∷ calls_of t H else calls_of t H) t h) here))
+    ∙ sym (ap (λ (b : Bool). holding (if b then e ∷ entries_by t H else entries_by t H) t h) here))
     (λ no.
     let apart : (e.who == t) ≡ false = ne_eqb e.who t no in
     ap (λ (b : Bool). if (b && is_accepted e.reply) then holding_after e.op h (holding H t h) else holding H t h) apart
     ∙ holding_calls t H h
-    ∙ sym (ap (λ (b : Bool). holding (if b then e ∷ calls_of t H else calls_of t H) t h) apart))
+    ∙ sym (ap (λ (b : Bool). holding (if b then e ∷ entries_by t H else entries_by t H) t h) apart))
 
 -- two histories with the same calls of a thread say the same of it
 pub record SaysTheSame (t : ℕ) (G H : History) : Type 0 where
@@ -146,7 +146,7 @@ pub record SaysTheSame (t : ℕ) (G H : History) : Type 0 where
   pub own : own G t ≡ own H t
   pub holding : (h : Handle) → holding G t h ≡ holding H t h
 
-same_calls : (t : ℕ) (G H : History) → calls_of t G ≡ calls_of t H → SaysTheSame t G H
+same_calls : (t : ℕ) (G H : History) → entries_by t G ≡ entries_by t H → SaysTheSame t G H
 same_calls t G H same = record {
   selection = selection_calls t G ∙ ap (λ (F : History). selection F t) same ∙ sym (selection_calls t H);
   own = own_calls t G ∙ ap (λ (F : History). own F t) same ∙ sym (own_calls t H);
@@ -157,19 +157,19 @@ same_calls t G H same = record {
 pub seen_says : (old new : Thread) (terms : Terms Setting) → SawMore old new → IsInOrder terms old → IsInOrder terms new → SaysTheSame old.number new.seen old.seen
 seen_says old new terms saw was is =
     same_calls old.number new.seen old.seen
-    (ap (λ n. calls_of n new.seen) (sym saw.same.number) ∙ (is.calls ∙ (saw.calls ∙ sym was.calls)))
+    (ap (λ n. entries_by n new.seen) (sym saw.same.number) ∙ (is.calls ∙ (saw.calls ∙ sym was.calls)))
 
-calls_of_caller : (t : ℕ) (e : Entry) (H : History) → e.who ≡ t → calls_of t (e ∷ H) ≡ e ∷ calls_of t H
-calls_of_caller t e H is = ap (λ (b : Bool). if b then e ∷ calls_of t H else calls_of t H) (eq-eqb e.who t is)
+entries_by_caller : (t : ℕ) (e : Entry) (H : History) → e.who ≡ t → entries_by t (e ∷ H) ≡ e ∷ entries_by t H
+entries_by_caller t e H is = ap (λ (b : Bool). if b then e ∷ entries_by t H else entries_by t H) (eq-eqb e.who t is)
 
 -- what stood before a call says the same of the thread as what the thread had seen
 pub before_says : (gate : Gate Setting) (old new : Thread) (op : Op) (place : ℕ) (reply : Reply) (terms : Terms Setting) → Answered gate old new op place reply
     → IsInOrder terms old → IsInOrder terms new → SaysTheSame old.number (before new) old.seen
 before_says gate old new op place reply terms a was is =
     let e : Entry = record { who = old.number; op = op; reply = reply } in
-    let all : calls_of old.number (e ∷ before new) ≡ e ∷ old.calls =
-    sym (ap (calls_of old.number) a.seen) ∙ (ap (λ n. calls_of n new.seen) (sym a.same.number) ∙ (is.calls ∙ a.calls)) in
-    let rest : e ∷ calls_of old.number (before new) ≡ e ∷ old.calls = sym (calls_of_caller old.number e (before new) refl) ∙ all in
+    let all : entries_by old.number (e ∷ before new) ≡ e ∷ old.calls =
+    sym (ap (entries_by old.number) a.seen) ∙ (ap (λ n. entries_by n new.seen) (sym a.same.number) ∙ (is.calls ∙ a.calls)) in
+    let rest : e ∷ entries_by old.number (before new) ≡ e ∷ old.calls = sym (entries_by_caller old.number e (before new) refl) ∙ all in
     same_calls old.number (before new) old.seen (ap without_newest rest ∙ sym was.calls)
 
 -- ---- what a call leaves
@@ -195,7 +195,7 @@ after_call gate old new op place reply terms a was is =
           ∙ ap (λ (b : Bool). if is_accepted reply then holding_after op h b else b) (s.holding h);
     }
 
-pub extends_all : (gate : Gate Setting) (old new : Thread) (op : Op) (place : ℕ) (reply : Reply) → Answered gate old new op place reply → Extends new.seen old.seen
+pub extends_all : (gate : Gate Setting) (old new : Thread) (op : Op) (place : ℕ) (reply : Reply) → Answered gate old new op place reply → GoesOnFrom new.seen old.seen
 extends_all gate old new op place reply a =
     let e : Entry = record { who = old.number; op = op; reply = reply } in
     (e ∷ a.later.0, a.seen ∙ ap (λ (H : History). e ∷ H) a.later.1)
@@ -246,7 +246,7 @@ look_keeps terms old new saw was is =
 
 -- what a thread keeps beside its seat is right for what it has seen now, with what it selects now
 pub mine_with : (gate : Gate Setting) (old new : Thread) (named to : Named) (taken now : Option Parts) (object : Parts) → IsMine old named taken object
-    → old.terms ≡ Some gate.terms → new.terms ≡ old.terms → Extends new.seen old.seen → new.cached ≡ old.cached → IsInOrder gate.terms new
+    → old.terms ≡ Some gate.terms → new.terms ≡ old.terms → GoesOnFrom new.seen old.seen → new.cached ≡ old.cached → IsInOrder gate.terms new
     → to ≡ selected new → now ≡ own_object new → (now ≡ None) ↔ (to ≡ Global) → IsMine new to now object
 mine_with gate old new named to taken now object m known terms later same is selects owns both =
     let known_new : new.terms ≡ Some gate.terms = terms ∙ known in
@@ -264,7 +264,7 @@ mine_with gate old new named to taken now object m known terms later same is sel
     }
 
 pub mine_later : (gate : Gate Setting) (old new : Thread) (named : Named) (taken : Option Parts) (object : Parts) → IsMine old named taken object
-    → old.terms ≡ Some gate.terms → new.terms ≡ old.terms → Extends new.seen old.seen → KeepsSelection old new → new.cached ≡ old.cached → IsInOrder gate.terms new
+    → old.terms ≡ Some gate.terms → new.terms ≡ old.terms → GoesOnFrom new.seen old.seen → KeepsSelection old new → new.cached ≡ old.cached → IsInOrder gate.terms new
     → IsMine new named taken object
 mine_later gate old new named taken object m known terms later keeps same is =
     mine_with gate old new named named taken taken object m known terms later same is (m.named_is ∙ sym keeps.selection) (m.own_is ∙ sym keeps.own) m.both
@@ -297,7 +297,7 @@ pub record Turned (gate : Gate Setting) (old new : Thread) (op : Op) (place : �
   pub was : IsInOrder gate.terms old
   pub is : IsInOrder gate.terms new
   pub after : After old new op reply
-  pub later : Extends new.seen old.seen
+  pub later : GoesOnFrom new.seen old.seen
 
 -- a look, by a thread of this table
 pub record Looked (gate : Gate Setting) (old new : Thread) : Type 0 where
@@ -421,7 +421,7 @@ set_done gate old mid new mask numbers place v x a is after keeps same =
       cached = refl;
     })
 
-extends_both : (third second first : History) → Extends third second → Extends second first → Extends third first
+extends_both : (third second first : History) → GoesOnFrom third second → GoesOnFrom second first → GoesOnFrom third first
 extends_both third second first x y = (x.0 ++ y.0, x.1 ∙ (ap (λ (H : History). x.0 ++ H) y.1 ∙ sym (append_assoc x.0 y.0 first)))
 
 pub saw_both : (old mid new : Thread) → SawMore old mid → SawMore mid new → SawMore old new

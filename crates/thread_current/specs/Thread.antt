@@ -56,13 +56,13 @@ abbrev pub holds : Thread → Handle → Bool
 holds t h = holding t.seen t.number h
 
 -- the later history goes on from the earlier one, or is the same
-abbrev pub Extends : History → History → Type 0
-Extends later earlier = (more : History) × (later ≡ more ++ earlier)
+abbrev pub GoesOnFrom : History → History → Type 0
+GoesOnFrom later earlier = (more : History) × (later ≡ more ++ earlier)
 
 -- the calls of one thread, in their order
-abbrev pub calls_of : ℕ → History → History
-calls_of who [] = []
-calls_of who (e ∷ H) = if e.who == who then e ∷ calls_of who H else calls_of who H
+abbrev pub entries_by : ℕ → History → History
+entries_by who [] = []
+entries_by who (e ∷ H) = if e.who == who then e ∷ entries_by who H else entries_by who H
 
 -- all entries but the newest
 abbrev pub without_newest : History → History
@@ -84,7 +84,7 @@ pub record IsSameThread (old new : Thread) : Type 0 where
 -- answer to it there
 pub record Answered (gate : Gate Setting) (old new : Thread) (op : Op) (place : ℕ) (reply : Reply) : Type 0 where
   pub same : IsSameThread old new
-  pub later : Extends (before new) old.seen
+  pub later : GoesOnFrom (before new) old.seen
   pub place_is : place ≡ length (before new)
   pub reply_is : reply ≡ answer gate.terms.setting (before new) old.number op
   pub seen : new.seen ≡ record { who = old.number; op = op; reply = reply } ∷ before new
@@ -99,7 +99,7 @@ pub record After (old new : Thread) (op : Op) (reply : Reply) : Type 0 where
 -- the thread has seen more, or as much, and made no call
 pub record SawMore (old new : Thread) : Type 0 where
   pub same : IsSameThread old new
-  pub later : Extends new.seen old.seen
+  pub later : GoesOnFrom new.seen old.seen
   pub calls : new.calls ≡ old.calls
 
 -- the thread selects what it did, and keeps its own object
@@ -121,7 +121,7 @@ pub record Keeps (old new : Thread) : Type 0 where
 pub record IsInOrder (terms : Terms Setting) (t : Thread) : Type 0 where
   pub legal : IsLegal terms.setting t.seen
   pub callers : AreThreads terms.seats t.seen
-  pub calls : calls_of t.number t.seen ≡ t.calls
+  pub calls : entries_by t.number t.seen ≡ t.calls
   pub in_reach : t.number < terms.seats
 
 -- whether the op changes what a thread selects, once it is accepted
@@ -132,4 +132,4 @@ takes_up _ = false
 
 -- the seat has seen a beginning of the history, and its calls are all that the history has of its number
 abbrev pub IsPart : {P : _} → History → Caller Setting (ops.Op P) (replies.Reply P) → Type 0
-IsPart H seat = Extends H (entries_of seat.seen) × (calls_of seat.number H ≡ entries_of seat.own)
+IsPart H seat = GoesOnFrom H (entries_of seat.seen) × (entries_by seat.number H ≡ entries_of seat.own)

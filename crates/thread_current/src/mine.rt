@@ -80,7 +80,7 @@ impl<P: Part> Mine<P> {
         self.named
     }
 
-    /// The global object that the thread read or set last.
+    /// The global object that the thread read last.
     pub fn newest(&self) -> &Object<P>
         ensures { (terms : Terms Setting) → self.now.terms ≡ Some terms → result.now ≡ global_at terms.setting self.now.seen self.now.cached }
     {

@@ -15,7 +15,7 @@ ghost use Rattle.handle_table.specs.Answer.{target_object};
 ghost use Rattle.handle_table.specs.Table.{IsOpening, AreOnShelf, Fits, StandsFor};
 ghost use Rattle.handle_table.specs.Seen.{op_of, reply_of, refusal_of};
 ghost use Rattle.thread_current.specs.Seen.{entries_of};
-ghost use Rattle.thread_current.specs.Thread.{IsThreadOf, IsInOrder, IsPart, After, takes_up, Answered, SawMore, Keeps, KeepsSelection, KeepsHolds, Extends, before, selected, own_object, holds, first_thread, thread_of};
+ghost use Rattle.thread_current.specs.Thread.{IsThreadOf, IsInOrder, IsPart, After, takes_up, Answered, SawMore, Keeps, KeepsSelection, KeepsHolds, GoesOnFrom, before, selected, own_object, holds, first_thread, thread_of};
 ghost use Rattle.thread_current.specs.Mine.{IsUnused};
 ghost use Rattle.thread_current.specs.Causes.{refusal_in, IsNeverMade, IsStale, IsThere, IsHeldAlready};
 
@@ -464,8 +464,8 @@ impl<P: Part> Shared<P> {
     pub fn meet(&self, a: &mut Mine<P>, b: &mut Mine<P>)
         requires a { IsThreadOf self.now a.old }
         requires b { IsThreadOf self.now b.old }
-        ensures saw_a { SawMore a.old a.new × Extends a.new.seen b.old.seen }
-        ensures saw_b { SawMore b.old b.new × Extends b.new.seen a.old.seen }
+        ensures saw_a { SawMore a.old a.new × GoesOnFrom a.new.seen b.old.seen }
+        ensures saw_b { SawMore b.old b.new × GoesOnFrom b.new.seen a.old.seen }
         ensures keeps_a { Keeps a.old a.new }
         ensures keeps_b { Keeps b.old b.new }
         ensures in_order_a { IsInOrder self.now.terms a.new }
@@ -478,8 +478,8 @@ impl<P: Part> Shared<P> {
     pub fn meet_ended(&self, ended: &mut Seat<Locales<P>>, mine: &mut Mine<P>)
         requires ended { IsSeatOf self.now ended.old }
         requires thread { IsThreadOf self.now mine.old }
-        ensures saw_ended { SawMore (thread_of 0 ended.old) (thread_of 0 ended.new) × Extends (entries_of ended.new.seen) mine.old.seen }
-        ensures saw { SawMore mine.old mine.new × Extends mine.new.seen (entries_of ended.old.seen) }
+        ensures saw_ended { SawMore (thread_of 0 ended.old) (thread_of 0 ended.new) × GoesOnFrom (entries_of ended.new.seen) mine.old.seen }
+        ensures saw { SawMore mine.old mine.new × GoesOnFrom mine.new.seen (entries_of ended.old.seen) }
         ensures keeps { Keeps mine.old mine.new }
         ensures in_order_ended { IsInOrder self.now.terms (thread_of 0 ended.new) }
         ensures in_order { IsInOrder self.now.terms mine.new }

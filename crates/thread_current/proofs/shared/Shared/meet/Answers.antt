@@ -1,6 +1,6 @@
 use Rattle.std.proofs.Common.{◌≡◌, refl, sym, ap, ◌∙◌, subst}
 use Rattle.thread_current.specs.Seen.{entries_of}
-use Rattle.thread_current.specs.Thread.{Thread, thread_of, Extends}
+use Rattle.thread_current.specs.Thread.{Thread, thread_of, GoesOnFrom}
 use Rattle.thread_current.proofs.Calls.{Looked, looked, looked_seen, mine_later, extends_entries}
 use Rattle.thread_current.proofs.shared.Shared.meet.Given as given
 use Rattle.thread_current.proofs.shared.Shared.meet.Goals as goal
@@ -31,10 +31,10 @@ pub invariant_of-b : goal.invariant_of-b
 invariant_of-b g c = let l = inner_b g c in mine_later c.self.inside.turns _ _ _ _ _ c.b.invariant l.known l.saw.same.terms l.saw.later l.selection refl l.is
 
 pub returns-clause-saw_a : goal.returns-clause-saw_a
-returns-clause-saw_a g c = ((outer_a g c).saw, subst (λ (t : Thread). Extends (entries_of c.meet.new.a.seen) t.seen) c.b.view_is (extends_entries _ _ c.meet.ensures.seen_a.1))
+returns-clause-saw_a g c = ((outer_a g c).saw, subst (λ (t : Thread). GoesOnFrom (entries_of c.meet.new.a.seen) t.seen) c.b.view_is (extends_entries _ _ c.meet.ensures.seen_a.1))
 
 pub returns-clause-saw_b : goal.returns-clause-saw_b
-returns-clause-saw_b g c = ((outer_b g c).saw, subst (λ (t : Thread). Extends (entries_of c.meet.new.b.seen) t.seen) c.a.view_is (extends_entries _ _ c.meet.ensures.seen_b.1))
+returns-clause-saw_b g c = ((outer_b g c).saw, subst (λ (t : Thread). GoesOnFrom (entries_of c.meet.new.b.seen) t.seen) c.a.view_is (extends_entries _ _ c.meet.ensures.seen_b.1))
 
 pub returns-clause-keeps_a : goal.returns-clause-keeps_a
 returns-clause-keeps_a g c = let l = outer_a g c in record { selection = l.selection; holds = l.holds; cached = ap (λ t. t.cached) c.a.view_is }

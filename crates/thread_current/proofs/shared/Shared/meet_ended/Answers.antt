@@ -2,7 +2,7 @@ use Rattle.std.proofs.Common.{◌≡◌, refl, sym, ap, ◌∙◌, subst}
 use Rattle.turn_gate.specs.Callers.{Gate}
 use Rattle.handle_table.specs.Entry.{Setting}
 use Rattle.thread_current.specs.Seen.{entries_of}
-use Rattle.thread_current.specs.Thread.{Thread, thread_of, Extends, IsInOrder}
+use Rattle.thread_current.specs.Thread.{Thread, thread_of, GoesOnFrom, IsInOrder}
 use Rattle.thread_current.proofs.Calls.{Looked, looked, looked_seen, mine_later, extends_entries, saw_more, in_order}
 use Rattle.thread_current.proofs.shared.Shared.meet_ended.Given as given
 use Rattle.thread_current.proofs.shared.Shared.meet_ended.Goals as goal
@@ -23,7 +23,7 @@ invariant_of-mine g c = let l = inner g c in mine_later c.self.inside.turns _ _ 
 pub returns-clause-saw_ended : goal.returns-clause-saw_ended
 returns-clause-saw_ended g c = (
   saw_more 0 0 c.args.ended.now c.meet.new.a c.meet.ensures.same_a c.meet.ensures.seen_a.0,
-  subst (λ (t : Thread). Extends (entries_of c.meet.new.a.seen) t.seen) c.mine.view_is (extends_entries _ _ c.meet.ensures.seen_a.1),
+  subst (λ (t : Thread). GoesOnFrom (entries_of c.meet.new.a.seen) t.seen) c.mine.view_is (extends_entries _ _ c.meet.ensures.seen_a.1),
 )
 
 pub returns-clause-saw : goal.returns-clause-saw
