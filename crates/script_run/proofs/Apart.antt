@@ -11,7 +11,7 @@ use Rattle.handle_table.specs.declared.handle.Named.{Named}
 use Rattle.handle_table.specs.Entry.{Entry, History, Setting, is_accepted}
 use Rattle.handle_table.specs.History.{selection_after, selection}
 use Rattle.handle_table.specs.Answer.{own_after, own}
-use Rattle.thread_current.specs.Thread.{calls_of as entries_by}
+use Rattle.thread_current.specs.Thread.{entries_by}
 use Rattle.script_out.specs.declared.output.OutLine.{OutLine}
 use Rattle.script_lines.specs.declared.holds.OpenHold.{OpenHold}
 use Rattle.script_lines.specs.Board.{Moments, granted_at}

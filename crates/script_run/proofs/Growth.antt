@@ -5,7 +5,7 @@ use Rattle.std.proofs.lemmas.Bool.{cases_lt, le-leb, lt-leb}
 use Rattle.std.proofs.lemmas.List.Elements.{All-weaker}
 use Rattle.handle_table.specs.Entry.{Entry, History, Setting}
 use Rattle.handle_table.specs.Answer.{IsLegal}
-use Rattle.thread_current.specs.Thread.{Extends as GoesOnFrom}
+use Rattle.thread_current.specs.Thread.{GoesOnFrom}
 use Rattle.script_lines.specs.Board.{Moments, granted_at}
 use Rattle.script_lines.specs.Outcome.{with_call}
 use Rattle.script_lines.specs.Variables.{bindings_of}

@@ -9,7 +9,7 @@ use Rattle.std.proofs.lemmas.List.Elements.{All-nil, All-cons, All-head, All-tai
 use Rattle.handle_table.specs.Entry.{History, Setting}
 use Rattle.handle_table.specs.Kept.{AreThreads}
 use Rattle.handle_table.specs.Answer.{IsLegal}
-use Rattle.thread_current.specs.Thread.{Extends as GoesOnFrom}
+use Rattle.thread_current.specs.Thread.{GoesOnFrom}
 use Rattle.script_lines.specs.Turns.{Turn}
 use Rattle.script_serial.specs.Plan.{PlanData}
 use Rattle.script_serial.proofs.LineLists.{filter_all, filter_none}
