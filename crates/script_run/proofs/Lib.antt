@@ -3,3 +3,4 @@ pub mod Counted
 pub mod Growth
 pub mod Placed
 pub mod Stacked
+pub mod TimedExamples
