@@ -1,25 +1,33 @@
 -- A thread at a table that threads share.
-use Rattle.std.specs.Prelude.{◌≡◌, ℕ, Bool, if◌then◌else◌, ◌+◌, ◌≤◌, List, [], ◌∷◌, map, length}
+use Rattle.std.specs.Prelude.{◌≡◌, ℕ, ◌+◌, ◌≤◌, Bool, true, false, List, [], ◌∷◌, map, length}
+use Rattle.std.specs.List.{list_any}
 use Rattle.turn_gate.specs.Callers.{Gate}
-use Rattle.handle_table.specs.Entry.{Op, New, Dup, Free, Use, Hold, Release, SetGlobal, Install, Post, Fetch, Pins, End, Reply, History, Setting}
+use Rattle.handle_table.specs.declared.handle.Handle.{Handle}
+use Rattle.handle_table.specs.declared.handle.Named.{Named}
+use Rattle.handle_table.specs.declared.handle.Named.TheVariants.{Of}
+use Rattle.handle_table.specs.Entry.{Op, New, Dup, Free, Use, Hold, Release, SetGlobal, Install, Post, Fetch, Pins, End, Reply, History, Setting, names}
 use Rattle.handle_table.specs.Answer.{IsLegal}
 use Rattle.handle_table.specs.Table.{Fits}
 use Rattle.thread_current.specs.Mine.{HeldData}
-use Rattle.thread_current.specs.Thread.{IsThreadOf, IsInOrder, Extends, Answered}
-use Rattle.std.specs.declared.vec.Vec.{Vec}
+use Rattle.thread_current.specs.Thread.{IsThreadOf, IsInOrder, GoesOnFrom, entries_by, Answered}
 use Rattle.script_lines.specs.declared.holds.OpenHold.{OpenHold}
 use Rattle.script_run.specs.declared.seated.Seated.{Seated}
-use Rattle.script_lines.specs.Holds.{open_holds}
+use Rattle.script_lines.specs.Holds.{open_holds, is_of, without}
+
+-- ---- what a thread keeps
 
 -- an open Hold as a shared table hands it out
 abbrev pub held_data : OpenHold → HeldData
 held_data o = record { handle = o.handle; object = o.object }
 
+abbrev pub handed_out : List OpenHold → List HeldData
+handed_out holds = map held_data holds
+
 -- the history is the one that the thread has seen, and its Holds are those that this history says are open
 pub record KnowsSeated (s : Seated) (H : History) : Type 0 where
   pub seen : s.mine.seen ≡ H
   pub number : s.mine.number ≡ s.number
-  pub holds : s.holds.items ≡ map held_data (open_holds H s.number)
+  pub holds : s.holds.items ≡ handed_out (open_holds H s.number)
 
 -- the thread is one of the table, what it has seen is this history, and what it knows is right
 pub record IsSeatedAt (gate : Gate Setting) (s : Seated) (H : History) : Type 0 where
@@ -27,14 +35,18 @@ pub record IsSeatedAt (gate : Gate Setting) (s : Seated) (H : History) : Type 0 
   pub in_order : IsInOrder gate.terms s.mine
   pub knows : KnowsSeated s H
 
--- the first history may be what stands before the thread's next call: it goes on from the one that the thread has seen, and it is legal
-pub record MayFollow (gate : Gate Setting) (G H : History) : Type 0 where
-  pub later : Extends G H
-  pub legal : IsLegal gate.terms.setting G
+-- ---- the thread's calls
 
--- the thread may make so many calls more
+-- the first history may be what stands before the next call of the thread that has seen the second one: it goes on from that one,
+-- by calls of other threads alone, and it is legal
+pub record MayFollow (c : Setting) (thread : ℕ) (G H : History) : Type 0 where
+  pub later : GoesOnFrom G H
+  pub legal : IsLegal c G
+  pub others : entries_by thread G ≡ entries_by thread H
+
+-- the thread knows what it has seen, and may make so many calls more
 pub record HasCalls (n : ℕ) (gate : Gate Setting) (s : Seated) : Type 0 where
-  pub thread : IsThreadOf gate s.mine
+  pub seated : IsSeatedAt gate s s.mine.seen
   pub quota : length s.mine.calls + n ≤ gate.terms.quota
 
 -- an op that does not end its thread
@@ -53,8 +65,8 @@ IsNoEnd (Fetch owner k) = Unit {0}
 IsNoEnd (Pins n) = Unit {0}
 
 -- the op is one of the table's, and does not end its thread: a thread ends by giving up its side
-abbrev pub MayCall : Gate Setting → Op → Type 0
-MayCall gate op = Fits gate.terms.setting op × IsNoEnd op
+abbrev pub MayCall : Setting → Op → Type 0
+MayCall c op = Fits c op × IsNoEnd op
 
 -- the calls that neither select, nor hold, nor change what all threads see; and those that do the last
 abbrev pub IsPlain : Op → Type 0
@@ -85,17 +97,34 @@ IsChange (Fetch owner k) = ⊥
 IsChange (Pins n) = ⊥
 IsChange End = ⊥
 
--- the Holds without the first one that fits
-abbrev pub without_first_in : (HeldData → Bool) → List HeldData → List HeldData
-without_first_in fits [] = []
-without_first_in fits (h ∷ hs) = if fits h then hs else h ∷ without_first_in fits hs
-
-abbrev pub without_first : {A : Type 0} → (HeldData → Bool) → Vec HeldData A → Vec HeldData A
-without_first fits holds = record holds { items = without_first_in fits holds.items }
-
--- What a call leaves of a thread: its one entry, as the shared table says, and what it knows is right if it was
+-- What a call leaves of a thread: its one entry, as the shared table says, and what it knows is right for what it has seen then
 pub record AnswersSeated (gate : Gate Setting) (old new : Seated) (op : Op) (place : ℕ) (reply : Reply) : Type 0 where
   pub answered : Answered gate old.mine new.mine op place reply
-  pub in_order : IsInOrder gate.terms new.mine
   pub number : new.number ≡ old.number
-  pub knows : (H : History) → KnowsSeated old H → KnowsSeated new new.mine.seen
+  pub seated : IsSeatedAt gate new new.mine.seen
+
+-- ---- the list of open Holds
+
+-- no two Holds are of one handle
+abbrev pub AreApart : List OpenHold → Type 0
+AreApart [] = Unit {0}
+AreApart (o ∷ os) = (list_any (is_of o.handle) os ≡ false) × AreApart os
+
+-- whether a Hold is of what is named
+abbrev pub is_held : Named → HeldData → Bool
+is_held n h = names n h.handle
+
+-- the first Hold is of this handle
+abbrev pub IsFirst : Handle → List HeldData → Type 0
+IsFirst h [] = ⊥
+IsFirst h (held ∷ holds) = h ≡ held.handle
+
+-- the open Hold of what is named was taken out of these
+pub record IsTaken (n : Named) (old new : List HeldData) (taken : HeldData) : Type 0 where
+  pub handle : n ≡ Of taken.handle
+  pub there : (holds : List OpenHold) → old ≡ handed_out holds → list_any (is_of taken.handle) holds ≡ true
+  pub rest : (holds : List OpenHold) → AreApart holds → old ≡ handed_out holds → new ≡ handed_out (without holds n)
+
+-- there is no open Hold of what is named
+abbrev pub IsUnheld : Named → List HeldData → Type 0
+IsUnheld n old = (holds : List OpenHold) (h : Handle) → old ≡ handed_out holds → n ≡ Of h → list_any (is_of h) holds ≡ false

@@ -1,12 +1,11 @@
 //! A thread at a table that threads share.
 
-ghost use Rattle.std.specs.Prelude.{◌≡◌, [], find, option_map, IfOk};
-ghost use Rattle.std.specs.List.{list_get};
-ghost use Rattle.handle_table.specs.Entry.{names};
-ghost use Rattle.handle_table.specs.Seen.{op_of, reply_of, refusal_of};
+ghost use Rattle.std.specs.Prelude.{◌≡◌, [], find, position, IfOk, MatchOption};
+ghost use Rattle.std.specs.Option.{option_copied};
 ghost use Rattle.handle_table.specs.Entry as table;
+ghost use Rattle.handle_table.specs.Seen.{op_of, reply_of, refusal_of};
 ghost use Rattle.handle_table.specs.Table.{Fits};
-ghost use Rattle.script_run.specs.Seated.{HasCalls, IsPlain, IsChange, without_first, AnswersSeated};
+ghost use Rattle.script_run.specs.Seated.{HasCalls, IsPlain, IsChange, AnswersSeated, is_held, IsFirst, IsTaken, IsUnheld};
 
 use category_store::Share;
 use handle_table::{Handle, Named, Op, Refusal, Reply};
@@ -38,26 +37,40 @@ impl Seated {
         }
     }
 
-    /// The first of its open Holds.
+    /// The handle of the first of its open Holds.
     pub fn first_hold(&self) -> Option<Handle>
-        ensures { result ≡ option_map (λ h. h.handle) (list_get self.now.holds.items 0) }
+        ensures { MatchOption result (self.now.holds.items ≡ []) (λ h. IsFirst h self.now.holds.items) }
     {
         match self.holds.first() {
             Some(held) => Some(held.handle()),
             None => None,
         }
     }
+}
 
-    // Takes the open Hold of what is named out.
-    fn take_hold(&mut self, named: Named) -> Option<Held<Share>>
-        ensures taken { result ≡ find (λ h. names named h.handle) self.old.holds.items }
-        ensures rest { self.new ≡ record self.old { holds = without_first (λ h. names named h.handle) self.old.holds } }
-    {
-        let place = self
-            .holds
-            .iter()
-            .position(|held| is_named(named, held.handle()))?;
-        Some(self.holds.remove(place))
+// Where the open Hold of what is named stands.
+fn hold_at(holds: &[Held<Share>], named: Named) -> Option<usize>
+    ensures { result ≡ position (is_held named) holds.now }
+{
+    holds
+        .iter()
+        .position(|held| is_named(named, held.handle()))
+}
+
+// The open Hold of what is named.
+fn hold_of(holds: &[Held<Share>], named: Named) -> Option<&Held<Share>>
+    ensures { option_copied result ≡ find (is_held named) holds.now }
+{
+    holds.iter().find(|held| is_named(named, held.handle()))
+}
+
+// Takes the open Hold of what is named out.
+fn take_hold(holds: &mut Vec<Held<Share>>, named: Named) -> Option<Held<Share>>
+    ensures { MatchOption result (IsUnheld named holds.old.items × (holds.new.items ≡ holds.old.items)) (λ h. IsTaken named holds.old.items holds.new.items h) }
+{
+    match hold_at(holds.as_slice(), named) {
+        Some(place) => Some(holds.remove(place)),
+        None => None,
     }
 }
 
@@ -81,11 +94,10 @@ impl Side for Seated {
     }
 
     fn held_as(&self, named: Named) -> Option<&Object<Share>> {
-        let held = self
-            .holds
-            .iter()
-            .find(|held| is_named(named, held.handle()))?;
-        Some(held.object())
+        match hold_of(self.holds.as_slice(), named) {
+            Some(held) => Some(held.object()),
+            None => None,
+        }
     }
 }
 
@@ -105,11 +117,11 @@ impl<'a, R: Wait> Board for Beside<'a, R> {
 
     ghost at = { λ b s H. IsSeatedAt b.shared.now s H };
 
-    ghost later = { λ b G H. MayFollow b.shared.now G H };
+    ghost later = { MayFollow };
 
     ghost ready = { λ n b s. HasCalls n b.shared.now s };
 
-    ghost may = { λ b op. MayCall b.shared.now op };
+    ghost may = { MayCall };
 
     fn call(
         &mut self,
@@ -230,7 +242,7 @@ impl<'a, R: Wait> Beside<'a, R> {
         requires calls { HasCalls 1 self.now.shared.now side.old }
         ensures answers { AnswersSeated self.now.shared.now side.old side.new (table.Release h) result.0 (reply_of result.1) }
     {
-        match side.take_hold(h) {
+        match take_hold(&mut side.holds, h) {
             Some(held) => {
                 let place = self.shared.release(self.rt, &mut side.mine, held);
                 (place, Reply::Released)

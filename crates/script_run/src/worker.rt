@@ -4,7 +4,8 @@ ghost use Rattle.std.specs.Prelude.{◌≡◌, [], map, IfOk, OnOk, List};
 ghost use Rattle.turn_gate.specs.Callers.{IsSeatOf};
 ghost use Rattle.script_lines.specs.Seen.{turn_seen};
 ghost use Rattle.script_serial.specs.Plan.{PlanData};
-ghost use Rattle.script_run.specs.Beside.{Timed, CanWork, IsWorker, Works, Closes, turns_of};
+ghost use Rattle.script_run.specs.Timed.{Timed};
+ghost use Rattle.script_run.specs.Beside.{CanAdd, Adds, CanWork, IsWorker, WorksOn, CanClose, GivesUp, Closes, turns_of};
 
 use crate::pause::Pause;
 use crate::seated::{Beside, Seated};
@@ -52,18 +53,22 @@ impl Worker {
     /// Makes the lines of its turns among these of a round, in order. It ends where memory is wanting.
     pub fn work<R: Wait, P: Pause>(&mut self, common: &Common<'_, R, P>, turns: &[Turn<'_>])
         requires can { CanWork common.now.shared.now common.now.library.now self.old.thread (turns_of self.old.thread.side.number (map turn_seen turns.now)) }
-        ensures works { OnOk self.new.outcome ((plan : PlanData) (before : List Timed) → plan.library ≡ common.now.library.now → IsWorker common.now.shared.now plan self.old.thread before
-            → Works common.now.shared.now plan (turns_of self.old.thread.side.number (map turn_seen turns.now)) self.old.thread self.new.thread before (self.old.lines.items) (self.new.lines.items)) }
-        ensures number { self.new.thread.side.number ≡ self.old.thread.side.number }
+        ensures works { OnOk self.new.outcome (WorksOn common.now.shared.now common.now.library.now (turns_of self.old.thread.side.number (map turn_seen turns.now)) self.old.thread self.new.thread self.old.lines.items self.new.lines.items) }
+        ensures number { OnOk self.new.outcome (self.new.thread.side.number ≡ self.old.thread.side.number) }
     {
         self.outcome = self.lines_of(common, turns);
     }
 
+    // The same, with the want of memory that ends it.
     fn lines_of<R: Wait, P: Pause>(
         &mut self,
         common: &Common<'_, R, P>,
         turns: &[Turn<'_>],
-    ) -> Result<(), AllocError> {
+    ) -> Result<(), AllocError>
+        requires can { CanWork common.now.shared.now common.now.library.now self.old.thread (turns_of self.old.thread.side.number (map turn_seen turns.now)) }
+        ensures works { OnOk result (WorksOn common.now.shared.now common.now.library.now (turns_of self.old.thread.side.number (map turn_seen turns.now)) self.old.thread self.new.thread self.old.lines.items self.new.lines.items) }
+        ensures number { OnOk result (self.new.thread.side.number ≡ self.old.thread.side.number) }
+    {
         let number = self.thread.number();
         for turn in turns {
             if turn.thread == number {
@@ -81,7 +86,10 @@ impl Worker {
         &mut self,
         common: &Common<'_, R, P>,
         turn: Turn<'_>,
-    ) -> Result<(), AllocError> {
+    ) -> Result<(), AllocError>
+        requires { CanAdd common.now.shared.now common.now.library.now self.old.thread (turn_seen turn) }
+        ensures { OnOk result (Adds common.now.shared.now common.now.library.now (turn_seen turn.entry) self.old.thread self.new.thread self.old.lines.items self.new.lines.items) }
+    {
         let mut board = Beside {
             rt: common.rt,
             shared: common.shared,
@@ -104,8 +112,9 @@ impl Worker {
         common: &Common<'_, R, P>,
         round: u32,
     ) -> Result<(Vec<OutLine>, Seat<Locales<Share>>), AllocError>
-        ensures closes { IfOk result (λ r. (plan : PlanData) (before : List Timed) → plan.library ≡ common.now.library.now → IsWorker common.now.shared.now plan self.thread before
-            → Closes common.now.shared.now plan round self.thread r.1 before r.0.items) }
+        requires can { CanClose common.now.shared.now common.now.library.now self.thread }
+        ensures closes { IfOk result (λ r. (plan : PlanData) (made : List Timed) → plan.library ≡ common.now.library.now → IsWorker common.now.shared.now plan self.thread made
+            → Closes common.now.shared.now plan round self.thread r.1 made self.lines.items r.0.items) }
         ensures seat { IfOk result (λ r. IsSeatOf common.now.shared.now r.1 × (r.1.number ≡ self.thread.side.number)) }
     {
         self.release_all(common, round)?;
@@ -125,18 +134,19 @@ impl Worker {
         &mut self,
         common: &Common<'_, R, P>,
         round: u32,
-    ) -> Result<(), AllocError> {
+    ) -> Result<(), AllocError>
+        requires { CanClose common.now.shared.now common.now.library.now self.old.thread }
+        ensures { OnOk result (GivesUp common.now.shared.now common.now.library.now round self.old.thread self.new.thread self.old.lines.items self.new.lines.items) }
+    {
         let thread = self.thread.number();
-        for _ in 0..self.thread.side.holds.len() {
-            if let Some(handle) = self.thread.side.first_hold() {
-                let task = Task::Release(handle);
-                let turn = Turn {
-                    round,
-                    thread,
-                    task,
-                };
-                self.add(common, turn)?;
-            }
+        while let Some(handle) = self.thread.side.first_hold() {
+            let task = Task::Release(handle);
+            let turn = Turn {
+                round,
+                thread,
+                task,
+            };
+            self.add(common, turn)?;
         }
         Ok(())
     }
