@@ -1,3 +1,3 @@
 pub mod Seated
+pub mod SeatLaws
 pub mod Timed
-pub mod Beside

@@ -110,6 +110,7 @@ pub struct Beside<'a, R> {
 
 impl<'a, R: Wait> Board for Beside<'a, R> {
     ghost use Rattle.script_run.specs.Seated.{IsSeatedAt, MayFollow, HasCalls, MayCall};
+    ghost use Rattle.script_run.specs.SeatLaws.{seated_known, seated_stays, calls_fewer};
 
     type Side = Seated;
 
@@ -146,6 +147,12 @@ impl<'a, R: Wait> Board for Beside<'a, R> {
     fn global(&mut self, side: &mut Seated) -> (u32, Object<Share>) {
         self.shared.global_now(self.rt, &mut side.mine)
     }
+
+    ghost known = { λ b s H. seated_known b.shared.now s H };
+
+    ghost stays = { λ b s H. seated_stays b.shared.now s H };
+
+    ghost fewer = { λ n b s. calls_fewer n b.shared.now s };
 }
 
 impl<'a, R: Wait> Beside<'a, R> {
