@@ -1,3 +1,4 @@
 pub mod Seated
 pub mod SeatLaws
 pub mod Timed
+pub mod Beside
