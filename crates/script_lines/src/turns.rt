@@ -4,7 +4,7 @@ ghost use Rattle.std.specs.Prelude.{◌≡◌, ◌≤◌, ◌++◌, length, map,
 ghost use Rattle.script_commands.specs.declared.known.TheConstants.{THREAD_LIMIT};
 ghost use Rattle.script_lang.specs.declared.bundle.TheConstants.{ROUND_LIMIT};
 ghost use Rattle.script_lines.specs.Seen.{turn_seen, placed_seen};
-ghost use Rattle.script_lines.specs.Turns.{turn_of, in_round, thread_turns, turns_of_threads, command_turns};
+ghost use Rattle.script_lines.specs.Turns.{turn_of, in_round, thread_turns, turns_of_threads, round_turns, command_turns};
 
 use handle_table::Handle;
 use script_commands::{Command, Placed};
@@ -43,6 +43,22 @@ pub fn command_turns<'a>(alloc: Global, bundle: &'a Bundle) -> Result<Vec<Turn<'
         let commands = in_round(alloc, bundle.commands.as_slice(), i + 1)?;
         push_round(&mut turns, threads, commands.as_slice())?;
     }
+    Ok(turns)
+}
+
+/// The turns of the commands of one round, thread by thread.
+pub fn round_turns<'a>(
+    alloc: Global,
+    bundle: &'a Bundle,
+    round: u32,
+) -> Result<Vec<Turn<'a>>, AllocError>
+    requires { length bundle.now.threads ≤ THREAD_LIMIT }
+    ensures { IfOk result (λ turns. map turn_seen turns.items ≡ round_turns (length bundle.now.threads) bundle.now.commands round) }
+{
+    let threads = bundle.threads.len() as u32;
+    let mut turns = Vec::new(alloc);
+    let commands = in_round(alloc, bundle.commands.as_slice(), round)?;
+    push_round(&mut turns, threads, commands.as_slice())?;
     Ok(turns)
 }
 

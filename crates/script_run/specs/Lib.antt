@@ -2,3 +2,4 @@ pub mod Seated
 pub mod SeatLaws
 pub mod Timed
 pub mod Beside
+pub mod Rounds
