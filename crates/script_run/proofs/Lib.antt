@@ -1,6 +1,11 @@
 pub mod Apart
+pub mod Before
 pub mod Counted
 pub mod Growth
+pub mod History
 pub mod Placed
 pub mod Stacked
 pub mod TimedExamples
+pub mod Told
+pub mod Versions
+pub mod Whole
