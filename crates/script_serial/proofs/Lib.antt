@@ -1,3 +1,4 @@
+pub mod Alone
 pub mod Examples
 pub mod Fronts
 pub mod IsolationExamples

@@ -14,8 +14,7 @@ use Rattle.script_lines.specs.Holds.{open_holds}
 use Rattle.script_serial.specs.Plan.{PlanData, IsSound}
 use Rattle.script_lines.specs.Seen.{turn_seen, TurnFits}
 use Rattle.script_serial.specs.Serial.{Run, setting, played, begun, commands_played, closed, serial_lines}
-use Rattle.script_serial.specs.Session.{AreAt, GoesOn, AreNumbered, CanPlay}
-use Rattle.script_lines.specs.Thread.{ThreadData}
+use Rattle.script_serial.specs.Session.{ThreadData, AreAt, GoesOn, AreNumbered, CanPlay}
 use Rattle.script_lines.specs.Turns.{Turn, first_numbers, command_turns, closing, closing_turns}
 use Rattle.script_serial.proofs.TurnLemmas.{AreFrom, few_turns, turns_fit, no_turns, few_closing, closing_is, closings_fit}
 
@@ -81,7 +80,7 @@ numbers_from printed threads numbered = λ i d lt. let own = (numbered i d lt).n
 
 -- the turns that close these threads
 abbrev pub closings_of : PlanData → List ThreadData → List Turn
-closings_of plan threads = flat_map (λ (t : ThreadData). closing (plan.bundle.rounds + 1) t.number t.holds) threads
+closings_of plan threads = flat_map (λ (t : ThreadData). closing (plan.bundle.rounds + 1) t.side.number t.side.holds) threads
 
 pub closings_are : (plan : PlanData) (c : Setting) (table : TableData) (threads : List ThreadData) (printed : ℕ) → AreDone plan c table threads printed
     → closings_of plan threads ≡ closing_turns plan.bundle (commands_played c plan).history

@@ -1,5 +1,5 @@
 -- A script after some of its turns.
-use Rattle.std.proofs.Common.{◌≡◌, ℕ, suc, ◌+◌, ◌*◌, ◌^◌, ◌<◌, ◌≤◌, Bool, cond, List, [], ◌∷◌, ◌++◌, length, map, drop, get_or, Option, Some, None, Result, refl, sym, ap, subst, ◌∙◌, add-one, arith, length-append, inl, inr}
+use Rattle.std.proofs.Common.{◌≡◌, ℕ, suc, ◌+◌, ◌*◌, ◌^◌, ◌<◌, ◌≤◌, ◌-◌, Bool, cond, List, [], ◌∷◌, ◌++◌, length, map, drop, get_or, Option, Some, None, Result, refl, sym, ap, subst, ◌∙◌, add-one, arith, length-append, inl, inr}
 use Rattle.std.specs.Prelude.{◌≢◌, ◌==◌, filter, All, slice_index_or, slice_set}
 use Rattle.std.proofs.Math.Seq.{drop-cons}
 use Rattle.std.proofs.lemmas.List.{get_or-map, get_or-set_same, get_or-set_other, length-map, length-set}
@@ -20,9 +20,11 @@ use Rattle.script_lines.specs.Wishes.{Wish, wish_of}
 use Rattle.script_lines.specs.Lines.{Caller}
 use Rattle.script_lines.specs.Outcome.{Outcome, granted}
 use Rattle.script_serial.specs.Serial.{Run, lines_of_thread, next_caller, outcome, with_outcome, played}
-use Rattle.script_lines.specs.Thread.{ThreadData, Knows, BindsAs, Follows, KeepsNames}
-use Rattle.script_serial.specs.Session.{IsAt, IsWith, AreAt, IsReady, GoesOn, IsNumberedThread, AreNumbered, CanPlay}
-use Rattle.script_lines.proofs.WishLemmas.{wish_same}
+use Rattle.script_lines.specs.Thread.{BindsAs}
+use Rattle.script_lines.specs.Board.{Left, LeavesTurn, turn_caller}
+use Rattle.script_serial.specs.Kept.{KeptData, Knows}
+use Rattle.script_serial.specs.Session.{ThreadData, Follows, IsAt, IsWith, AreAt, IsReady, GoesOn, IsNumberedThread, AreNumbered, CanPlay}
+use Rattle.script_serial.proofs.Alone.{alone}
 use Rattle.script_serial.proofs.OutcomeLemmas.{granted_thread, one_more_line, no_line_more, knows_granted}
 
 -- ---- what variables stand for
@@ -36,33 +38,34 @@ other_bound b bounds t other =
     ap (λ (q : Bool). map pair (cond q (b ∷ rest) rest)) (ne_eqb b.thread t other)
 
 -- what another thread's line binds is no concern
-with_other : (t : ThreadData) (bounds : List Bound) (who : ℕ) (v : Option (List ℕ)) (h : Option Handle) → who ≢ t.number → BindsAs t bounds → BindsAs t (with_binding who bounds v h)
+with_other : (t : ThreadData) (bounds : List Bound) (who : ℕ) (v : Option (List ℕ)) (h : Option Handle) → who ≢ t.side.number → BindsAs t.side.number t.variables bounds → BindsAs t.side.number t.variables (with_binding who bounds v h)
 with_other t bounds who None h other is = is
 with_other t bounds who (Some v) None other is = is
-with_other t bounds who (Some v) (Some h) other is = λ x. is x ∙ sym (ap (λ (bs : Bindings). bound bs x) (other_bound (record { thread = who; variable = v; handle = h }) bounds t.number other))
+with_other t bounds who (Some v) (Some h) other is = λ x. is x ∙ sym (ap (λ (bs : Bindings). bound bs x) (other_bound (record { thread = who; variable = v; handle = h }) bounds t.side.number other))
 
 -- ---- one turn
 
 -- whose line the next turn of a thread prints
-pub caller_is : (t : ThreadData) (run : Run) (turn : Turn) → Follows t run → turn.thread ≡ t.number → record { round = turn.round; thread = t.number; index = t.lines + 1 } ≡ next_caller run turn
-caller_is t run turn f own = rw (own, f.lines) refl
+caller_is : (t : ThreadData) (run : Run) (turn : Turn) → Follows t run → turn.thread ≡ t.side.number → turn_caller t.lines turn ≡ next_caller run turn
+caller_is t run turn f own =
+    ap (λ (n : ℕ). record { round = turn.round; thread = turn.thread; index = n + 1 }) (f.lines ∙ ap (λ (k : ℕ). lines_of_thread k run.lines) (sym own))
 
 -- a thread that has no turn
-pub follows_other : (c : Setting) (library : Catalog) (run : Run) (t : ThreadData) (turn : Turn) → turn.thread ≢ t.number → Follows t run → Follows t (with_outcome run turn (outcome c library run turn))
+pub follows_other : (c : Setting) (library : Catalog) (run : Run) (t : ThreadData) (turn : Turn) → turn.thread ≢ t.side.number → Follows t run → Follows t (with_outcome run turn (outcome c library run turn))
 follows_other c library run t turn other f =
     let at : Caller = next_caller run turn in
     let done : Outcome = outcome c library run turn in
     let whose : done.line.thread ≡ turn.thread = granted_thread c library run.history at (wish_of library (bindings_of turn.thread run.bindings) turn.task) in
     record {
-      knows = knows_granted c library run.history t at (wish_of library (bindings_of turn.thread run.bindings) turn.task) other f.knows;
+      knows = knows_granted c library run.history t.side at (wish_of library (bindings_of turn.thread run.bindings) turn.task) other f.knows;
       variables = with_other t run.bindings turn.thread (variable_bound turn.task) (handle_said done.line.reply) other f.variables;
-      lines = f.lines ∙ sym (no_line_more t.number run.lines done.line (λ same. other (sym whose ∙ same)));
+      lines = f.lines ∙ sym (no_line_more t.side.number run.lines done.line (λ same. other (sym whose ∙ same)));
     }
 
 -- the thread that has it, by what its line leaves
-pub follows_own : (c : Setting) (library : Catalog) (run : Run) (t u : ThreadData) (turn : Turn) → turn.thread ≡ t.number → u.number ≡ t.number → Follows t run
-    → Knows u (outcome c library run turn).history
-    → BindsAs u (bindings_after t.number run.bindings turn.task (outcome c library run turn).line.reply)
+pub follows_own : (c : Setting) (library : Catalog) (run : Run) (t u : ThreadData) (turn : Turn) → turn.thread ≡ t.side.number → u.side.number ≡ t.side.number → Follows t run
+    → Knows u.side (outcome c library run turn).history
+    → BindsAs u.side.number u.variables (bindings_after t.side.number run.bindings turn.task (outcome c library run turn).line.reply)
     → u.lines ≡ t.lines + 1
     → Follows u (with_outcome run turn (outcome c library run turn))
 follows_own c library run t u turn own number f knows binds lines =
@@ -70,11 +73,11 @@ follows_own c library run t u turn own number f knows binds lines =
     let whose : done.line.thread ≡ turn.thread = granted_thread c library run.history (next_caller run turn) (wish_of library (bindings_of turn.thread run.bindings) turn.task) in
     record {
       knows = knows;
-      variables = subst (λ (n : ℕ). BindsAs u (bindings_after n run.bindings turn.task done.line.reply)) (sym own) binds;
+      variables = subst (λ (n : ℕ). BindsAs u.side.number u.variables (bindings_after n run.bindings turn.task done.line.reply)) (sym own) binds;
       lines =
           lines
           ∙ ap (λ (n : ℕ). n + 1) (f.lines ∙ ap (λ (n : ℕ). lines_of_thread n run.lines) (sym number))
-          ∙ sym (one_more_line u.number run.lines done.line (whose ∙ own ∙ sym number));
+          ∙ sym (one_more_line u.side.number run.lines done.line (whose ∙ own ∙ sym number));
     }
 
 -- ---- all turns
@@ -103,17 +106,6 @@ plays_on c library turns start table table' threads threads' lines lines' i run 
       sym (ap (played c library run) cut) ∙ p.rest;
 }
 
--- ---- the line of a turn
-
--- what a wish leaves is the outcome of the turn, where the caller and the wish are the thread's own
-pub granted_is : (c : Setting) (library : Catalog) (run : Run) (t : ThreadData) (turn : Turn) (at : Caller) (w : Result Wish Why)
-    → at ≡ record { round = turn.round; thread = t.number; index = t.lines + 1 } → w ≡ wish_of library t.variables turn.task → turn.thread ≡ t.number → Follows t run
-    → granted c library run.history at w ≡ outcome c library run turn
-granted_is c library run t turn at w called wished own f =
-    ap (λ (a : Caller). granted c library run.history a w) (called ∙ caller_is t run turn f own)
-    ∙ ap (λ (x : Result Wish Why). granted c library run.history (next_caller run turn) x)
-    (wished ∙ wish_same library t.variables (bindings_of turn.thread run.bindings) turn.task (λ v. f.variables v ∙ ap (λ (n : ℕ). bound (bindings_of n run.bindings) v) (sym own)))
-
 -- ---- all threads after a turn of one
 
 -- what holds of a list where one element is another one now
@@ -134,65 +126,54 @@ all_follow c library run turn threads u lines lt numbered follow own =
     elsewhere (λ (k : ℕ) (t : ThreadData). Follows t (next c library run turn)) threads turn.thread u lt own (λ k d l apart.
     follows_other c library run (slice_index_or threads k d) turn (λ same. apart (sym (numbered k d l).number ∙ sym same)) (follow k d l))
 
-pub still_numbered : (threads : List ThreadData) (u : ThreadData) (i lines : ℕ) → i < length threads → AreNumbered lines threads → u.number ≡ i → u.lines ≤ lines + 1 → AreNumbered (lines + 1) (slice_set threads i u)
+pub still_numbered : (threads : List ThreadData) (u : ThreadData) (i lines : ℕ) → i < length threads → AreNumbered lines threads → u.side.number ≡ i → u.lines ≤ lines + 1 → AreNumbered (lines + 1) (slice_set threads i u)
 still_numbered threads u i lines lt numbered number few =
     elsewhere (IsNumberedThread (lines + 1)) threads i u lt (record { number = number; lines = few }) (λ k d l apart.
     let before = numbered k d l in record { number = before.number; lines = let le = before.lines in omega arith })
 
--- ---- what the calls of a turn leave
-
--- a line more changes nothing that the thread knows
-counting_knows : (t u : ThreadData) (H : History) → u ≡ record t { lines = t.lines + 1 } → Knows t H → Knows u H
-counting_knows t u H counted k = subst (λ (x : ThreadData). Knows x H) (sym counted) (record { own = k.own; selected = k.selected; holds = k.holds })
+-- ---- what a turn leaves
 
 -- a line is that of the turn's outcome, and the table and the thread are at the script after it
 pub record IsTurned (c : Setting) (library : Catalog) (run : Run) (table : TableData) (t : ThreadData) (turn : Turn) (l : OutLine) : Type 0 where
   pub line : l ≡ (outcome c library run turn).line
   pub there : IsWith table t (next c library run turn)
 
--- a line is counted, the wish is granted, and the variable is bound
-pub turned : (c : Setting) (library : Catalog) (run : Run) (old new : TableData) (t counting served u : ThreadData) (turn : Turn) (at : Caller) (w : Result Wish Why) (l : OutLine)
-    → at ≡ record { round = turn.round; thread = t.number; index = t.lines + 1 } → counting ≡ record t { lines = t.lines + 1 }
-    → w ≡ wish_of library counting.variables turn.task → turn.thread ≡ t.number
-    → ((H : History) → IsAt old counting H → l ≡ (granted c library H at w).line)
-    → ((H : History) → IsAt old counting H → IsAt new served (granted c library H at w).history)
-    → KeepsNames counting served
-    → ((H : History) → Knows served H → Knows u H)
-    → ((bounds : List Bound) → BindsAs served bounds → BindsAs u (bindings_after served.number bounds turn.task l.reply))
-    → u.number ≡ served.number → u.lines ≡ served.lines
+pub turned : (c : Setting) (library : Catalog) (run : Run) (old new : TableData) (t u : ThreadData) (turn : Turn) (l : OutLine)
+    → turn.thread ≡ t.side.number → u.side.number ≡ t.side.number → u.lines ≡ t.lines + 1
+    → ((H : History) (bounds : List Bound) → IsAt old t.side H → BindsAs t.side.number t.variables bounds → LeavesTurn c library (λ (G K : History). G ≡ K) (IsAt new u.side) H bounds t.lines turn l)
+    → ((bounds : List Bound) → BindsAs t.side.number t.variables bounds → BindsAs t.side.number u.variables (bindings_after t.side.number bounds turn.task l.reply))
     → IsWith old t run → IsTurned c library run new u turn l
-turned c library run old new t counting served u turn at w l called counted wished own line leaves kept knows binds number lines is =
+turned c library run old new t u turn l own number lines leaves binds is =
+    let w : Result Wish Why = wish_of library (bindings_of turn.thread run.bindings) turn.task in
     let done : Outcome = outcome c library run turn in
-    let here : IsAt old counting run.history = record { stands = is.stands; knows = counting_knows t counting run.history counted is.follows.knows } in
-    let same : granted c library run.history at w ≡ done = granted_is c library run t turn at w called (wished ∙ ap (λ (x : ThreadData). wish_of library x.variables turn.task) counted) own is.follows in
-    let after : IsAt new served done.history = subst (λ (o : Outcome). IsAt new served o.history) same (leaves run.history here) in
-    let said : l ≡ done.line = line run.history here ∙ ap (λ (o : Outcome). o.line) same in
-    let who : served.number ≡ t.number = kept.number ∙ ap (λ (x : ThreadData). x.number) counted in
-    let variables : served.variables ≡ t.variables = kept.variables ∙ ap (λ (x : ThreadData). x.variables) counted in
-    let before : BindsAs served run.bindings = λ v.
-    ap (λ (bs : Bindings). bound bs v) variables ∙ is.follows.variables v ∙ ap (λ (n : ℕ). bound (bindings_of n run.bindings) v) (sym who)
+    let here : IsAt old t.side run.history = record { stands = is.stands; knows = is.follows.knows } in
+    let left : Left (IsAt new u.side) (granted c library run.history (turn_caller t.lines turn) w) l =
+    alone c library (IsAt new u.side) run.history (turn_caller t.lines turn) w l (leaves run.history run.bindings here is.follows.variables)
     in
-    let told : BindsAs u (bindings_after served.number run.bindings turn.task done.line.reply) =
-    subst (λ (x : OutLine). BindsAs u (bindings_after served.number run.bindings turn.task x.reply)) said (binds run.bindings before)
+    let made : Left (IsAt new u.side) done l = subst (λ (a : Caller). Left (IsAt new u.side) (granted c library run.history a w) l) (caller_is t run turn is.follows own) left in
+    let told : BindsAs t.side.number u.variables (bindings_after t.side.number run.bindings turn.task done.line.reply) =
+    subst (λ (x : OutLine). BindsAs t.side.number u.variables (bindings_after t.side.number run.bindings turn.task x.reply)) made.line (binds run.bindings is.follows.variables)
     in
-    let named : BindsAs u (bindings_after t.number run.bindings turn.task done.line.reply) =
-    subst (λ (n : ℕ). BindsAs u (bindings_after n run.bindings turn.task done.line.reply)) who told
+    let named : BindsAs u.side.number u.variables (bindings_after t.side.number run.bindings turn.task done.line.reply) =
+    subst (λ (n : ℕ). BindsAs n u.variables (bindings_after t.side.number run.bindings turn.task done.line.reply)) (sym number) told
     in
-    record {
-      line = said;
-      there = record {
-        stands = after.stands;
-        follows = follows_own c library run t u turn own (number ∙ who) is.follows (knows done.history after.knows) named (lines ∙ kept.lines ∙ ap (λ (x : ThreadData). x.lines) counted);
-      };
-    }
+    record { line = made.line; there = record { stands = made.now_at.stands; follows = follows_own c library run t u turn own number is.follows made.now_at.knows named lines } }
+
+-- a turn takes two steps at most
+pub two_steps : (old new : TableData) (t u : KeptData) → new.setting ≡ old.setting → IsReady 2 old t → ((n : ℕ) → IsReady (n + 2) old t → IsReady n new u) → GoesOn 2 old new
+two_steps old new t u same ready leaves =
+    let few : steps old + 2 ≤ 2147483647 = ready.steps in
+    let rest : ℕ = 2147483647 - (steps old + 2) in
+    let after : steps new + rest ≤ 2147483647 = (leaves rest (record { number = ready.number; steps = omega arith })).steps in
+    record { setting = same; steps = omega arith }
 
 -- ---- what a turn needs
 
 -- what the turn of a thread asks for
 pub record CanTake (library : Catalog) (table : TableData) (t : ThreadData) (turn : Turn) : Type 0 where
-  pub ready : IsReady 2 table t
+  pub ready : IsReady 2 table t.side
   pub shelf : table.setting.opening ≡ opening library
-  pub own : turn.thread ≡ t.number
+  pub own : turn.thread ≡ t.side.number
   pub fits : TaskFits table.setting.threads turn.task
   pub few : t.lines + 1 < 2 ^ 32
 
@@ -213,7 +194,7 @@ can_take library start table before threads count lines i turn d can on same num
     let thread : turn.thread < length before = fits.thread in
     let within : turn.thread < length threads = omega arith in
     let own : IsNumberedThread (lines + i) turn.thread t = numbered turn.thread d within in
-    let number : t.number ≡ turn.thread = own.number in
+    let number : t.side.number ≡ turn.thread = own.number in
     let most : t.lines ≤ lines + i = own.lines in
     let many : table.setting.threads ≡ length before = ap (λ (s : Setting). s.threads) on.setting ∙ can.threads in
     let made : steps table ≤ steps start + 2 * i = on.steps in
@@ -242,7 +223,7 @@ more_lines lines lines' l n i pushed same =
     omega arith
 
 pub numbered_on : (threads : List ThreadData) (d u : ThreadData) (k : ℕ) (lines lines' : List OutLine) (l : OutLine) → lines' ≡ lines ++ l ∷ [] → k < length threads → AreNumbered (length lines) threads
-    → u.number ≡ (get_or threads k d).number → u.lines ≡ (get_or threads k d).lines + 1 → AreNumbered (length lines') (slice_set threads k u)
+    → u.side.number ≡ (get_or threads k d).side.number → u.lines ≡ (get_or threads k d).lines + 1 → AreNumbered (length lines') (slice_set threads k u)
 numbered_on threads d u k lines lines' l pushed lt numbered number more =
     let long : length (lines ++ l ∷ []) ≡ length lines + 1 = length-append lines (l ∷ []) in
     let all : length lines' ≡ length lines + 1 = ap (λ (ls : List OutLine). length ls) pushed ∙ long in
@@ -259,17 +240,16 @@ goes_on start table table' i before after =
 -- the script after one more turn, where the thread at its place has left this
 pub after_turn : (library : Catalog) (turns : List LentTurn) (start : Run) (c : Setting) (table table' : TableData) (threads : List ThreadData) (d u : ThreadData) (lines lines' : List OutLine) (l : OutLine) (i most : ℕ) (run : Run) (item : LentTurn)
     → table.setting ≡ c → i < length turns → item ≡ get_or turns i item → item.thread < length threads → AreNumbered most threads
-    → ((r : Run) → IsWith table (get_or threads item.thread d) r → l ≡ (outcome table.setting library r (turn_seen item)).line)
-    → ((r : Run) → IsWith table (get_or threads item.thread d) r → IsWith table' u (next table.setting library r (turn_seen item)))
+    → ((r : Run) → IsWith table (get_or threads item.thread d) r → IsTurned table.setting library r table' u (turn_seen item) l)
     → lines' ≡ lines ++ l ∷ []
     → PlaysOn c library (map turn_seen turns) start table threads lines i run
     → PlaysOn c library (map turn_seen turns) start table' (slice_set threads item.thread u) lines' (i + 1) (next c library run (turn_seen item))
-after_turn library turns start c table table' threads d u lines lines' l i most run item same lt is within numbered line leaves pushed p =
+after_turn library turns start c table table' threads d u lines lines' l i most run item same lt is within numbered leaves pushed p =
     let turn : Turn = turn_seen item in
     let long : length (map turn_seen turns) ≡ length turns = length-map turns turn_seen in
     let before : IsWith table (get_or threads item.thread d) run = record { stands = p.at.stands; follows = p.at.follow item.thread d within } in
-    let after : IsWith table' u (next c library run turn) = subst (λ (s : Setting). IsWith table' u (next s library run turn)) same (leaves run before) in
-    let said : l ≡ (outcome c library run turn).line = subst (λ (s : Setting). l ≡ (outcome s library run turn).line) same (line run before) in
+    let after : IsWith table' u (next c library run turn) = subst (λ (s : Setting). IsWith table' u (next s library run turn)) same (leaves run before).there in
+    let said : l ≡ (outcome c library run turn).line = subst (λ (s : Setting). l ≡ (outcome s library run turn).line) same (leaves run before).line in
     plays_on c library (map turn_seen turns) start table table' threads (slice_set threads item.thread u) lines lines' i run turn (omega (arith, lt, long)) (turn_at turns i item lt is) p
     (pushed ∙ ap (λ (x : OutLine). lines ++ x ∷ []) said)
     (record { stands = after.stands; follow = all_follow c library run turn threads u most within numbered p.at.follow after.follows })

@@ -20,7 +20,7 @@ use Rattle.script_lines.specs.declared.holds.HoldChange.TheVariants as changes
 use Rattle.script_lines.specs.Holds.{object_held, with_hold, hold_change, changed, holds_after, open_holds}
 use Rattle.script_lines.specs.Seen.{TurnFits}
 use Rattle.script_lines.specs.Turns.{Turn, first_numbers, in_round, in_thread, turn_of, thread_turns, round_turns, command_turns, closing_turn, releases, closing, closing_turns, Releases, Ends}
-use Rattle.script_lines.specs.Thread.{ThreadData}
+use Rattle.script_serial.specs.Session.{ThreadData}
 
 -- ---- lists of lists
 
@@ -145,34 +145,34 @@ releases_fit threads round thread holds lt =
 
 -- threads by their numbers, from one on
 abbrev pub AreFrom : ℕ → List ThreadData → Type 0
-AreFrom n threads = (i : ℕ) (d : ThreadData) → i < length threads → (slice_index_or threads i d).number ≡ n + i
+AreFrom n threads = (i : ℕ) (d : ThreadData) → i < length threads → (slice_index_or threads i d).side.number ≡ n + i
 
 -- the turns that close these threads are those that the history says
-closing_from : (round : ℕ) (H : History) (n : ℕ) (threads : List ThreadData) → AreFrom n threads → All (λ (t : ThreadData). t.holds ≡ open_holds H t.number) threads
-    → flat_map (λ (t : ThreadData). closing round t.number t.holds) threads ≡ flat_map (λ (t : ℕ). closing round t (open_holds H t)) (range_with_len n (length threads))
+closing_from : (round : ℕ) (H : History) (n : ℕ) (threads : List ThreadData) → AreFrom n threads → All (λ (t : ThreadData). t.side.holds ≡ open_holds H t.side.number) threads
+    → flat_map (λ (t : ThreadData). closing round t.side.number t.side.holds) threads ≡ flat_map (λ (t : ℕ). closing round t (open_holds H t)) (range_with_len n (length threads))
 closing_from round H n [] numbered holds = refl
 closing_from round H n (t ∷ ts) numbered holds =
-    let here : t.number ≡ n = let own = numbered 0 t (omega arith) in omega (arith, own) in
-    let held : t.holds ≡ open_holds H t.number = holds 0 t (omega arith) in
+    let here : t.side.number ≡ n = let own = numbered 0 t (omega arith) in omega (arith, own) in
+    let held : t.side.holds ≡ open_holds H t.side.number = holds 0 t (omega arith) in
     let later : AreFrom (n + 1) ts = λ i d lt. let own = numbered (suc i) d (omega (arith, lt)) in omega (arith, own) in
     let rest = closing_from round H (n + 1) ts later (λ i d lt. holds (suc i) d (omega (arith, lt))) in
-    ap (λ (hs : List OpenHold). closing round t.number hs ++ flat_map (λ (u : ThreadData). closing round u.number u.holds) ts) held
-    ∙ ap (λ (m : ℕ). closing round m (open_holds H m) ++ flat_map (λ (u : ThreadData). closing round u.number u.holds) ts) here
+    ap (λ (hs : List OpenHold). closing round t.side.number hs ++ flat_map (λ (u : ThreadData). closing round u.side.number u.side.holds) ts) held
+    ∙ ap (λ (m : ℕ). closing round m (open_holds H m) ++ flat_map (λ (u : ThreadData). closing round u.side.number u.side.holds) ts) here
     ∙ ap (λ (more : List Turn). closing round n (open_holds H n) ++ more) rest
 
 pub closing_is : (b : Bundle) (H : History) (round : ℕ) (threads : List ThreadData) → round ≡ b.rounds + 1 → length threads ≡ length b.threads
-    → AreFrom 0 threads → All (λ (t : ThreadData). t.holds ≡ open_holds H t.number) threads
-    → flat_map (λ (t : ThreadData). closing round t.number t.holds) threads ≡ closing_turns b H
+    → AreFrom 0 threads → All (λ (t : ThreadData). t.side.holds ≡ open_holds H t.side.number) threads
+    → flat_map (λ (t : ThreadData). closing round t.side.number t.side.holds) threads ≡ closing_turns b H
 closing_is b H round threads last same numbered holds =
     closing_from round H 0 threads numbered holds
     ∙ ap (λ (n : ℕ). flat_map (λ (t : ℕ). closing round t (open_holds H t)) (range_with_len 0 n)) same
     ∙ ap (λ (r : ℕ). flat_map (λ (t : ℕ). closing r t (open_holds H t)) (first_numbers (length b.threads))) last
 
-pub closings_fit : (n round m : ℕ) (threads : List ThreadData) → AreFrom m threads → m + length threads ≤ n → All (TurnFits n) (flat_map (λ (t : ThreadData). closing round t.number t.holds) threads)
+pub closings_fit : (n round m : ℕ) (threads : List ThreadData) → AreFrom m threads → m + length threads ≤ n → All (TurnFits n) (flat_map (λ (t : ThreadData). closing round t.side.number t.side.holds) threads)
 closings_fit n round m [] numbered le = All-nil (TurnFits n)
 closings_fit n round m (t ∷ ts) numbered le =
-    let here : t.number ≡ m = let own = numbered 0 t (omega arith) in omega (arith, own) in
+    let here : t.side.number ≡ m = let own = numbered 0 t (omega arith) in omega (arith, own) in
     let later : AreFrom (m + 1) ts = λ i d lt. let own = numbered (suc i) d (omega (arith, lt)) in omega (arith, own) in
-    All-append (TurnFits n) (closing round t.number t.holds) (flat_map (λ (u : ThreadData). closing round u.number u.holds) ts)
-    (releases_fit n round t.number t.holds (omega (arith, here, le)))
+    All-append (TurnFits n) (closing round t.side.number t.side.holds) (flat_map (λ (u : ThreadData). closing round u.side.number u.side.holds) ts)
+    (releases_fit n round t.side.number t.side.holds (omega (arith, here, le)))
     (closings_fit n round (m + 1) ts later (omega (arith, le)))

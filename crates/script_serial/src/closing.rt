@@ -3,8 +3,7 @@
 ghost use Rattle.std.specs.Prelude.{◌≡◌, ◌++◌, map, flat_map, IfOk, OnOk};
 ghost use Rattle.script_lines.specs.Seen.{turn_seen};
 ghost use Rattle.script_lines.specs.Turns.{releases, closing};
-ghost use Rattle.script_lines.specs.declared.thread.Thread.{Thread};
-ghost use Rattle.script_serial.specs.Kept.{KeptData};
+ghost use Rattle.script_serial.specs.Session.{ThreadData};
 
 use crate::kept::Kept;
 use script_lines::board::Side;
@@ -19,7 +18,7 @@ pub fn closing_turns(
     round: u32,
     threads: &[Thread<Kept>],
 ) -> Result<Vec<Turn<'static>>, AllocError>
-    ensures { IfOk result (λ turns. map turn_seen turns.items ≡ flat_map (λ (t : Thread KeptData). closing round t.side.number t.side.holds) threads.now) }
+    ensures { IfOk result (λ turns. map turn_seen turns.items ≡ flat_map (λ (t : ThreadData). closing round t.side.number t.side.holds) threads.now) }
 {
     let mut turns = Vec::new(alloc);
     for thread in threads {

@@ -128,6 +128,7 @@ impl Alone {
 
 impl Board for Alone {
     ghost use Rattle.std.specs.Prelude.{◌≡◌};
+    ghost use Rattle.std.proofs.Common.{refl, arith};
     ghost use Rattle.handle_table.specs.Table.{Fits};
     ghost use Rattle.script_serial.specs.Session.{IsAt, IsReady};
 
@@ -142,6 +143,12 @@ impl Board for Alone {
     ghost ready = { IsReady };
 
     ghost may = { Fits };
+
+    ghost known = { λ b s H here. here.knows };
+
+    ghost stays = { λ b s H here. refl };
+
+    ghost fewer = { λ n b s ready. let few = ready.steps in record { number = ready.number; steps = omega arith } };
 
     fn call(&mut self, side: &mut Kept, op: Op<Share>) -> Result<(u64, Reply<Share>), AllocError> {
         let next = selection_after(&op, side.selected);

@@ -1,24 +1,14 @@
 //! Runs a script on one thread.
 
-ghost use Rattle.std.specs.Prelude.{◌≡◌, ◌≤◌, ◌<◌, ◌+◌, ◌*◌, ◌^◌, List, length, map, All, IfOk, OnOk};
-ghost use Rattle.std.specs.Option.{option_copied};
-ghost use Rattle.handle_table.specs.Entry.{History};
-ghost use Rattle.handle_table.specs.Answer.{own};
-ghost use Rattle.handle_table.specs.Table.{StandsFor, Fits};
-ghost use Rattle.handle_table.specs.Seen.{op_of};
+ghost use Rattle.std.specs.Prelude.{◌≡◌, ◌≤◌, ◌<◌, ◌+◌, ◌*◌, ◌^◌, length, map, All, IfOk, OnOk};
 ghost use Rattle.category_store.specs.Library.{opening};
-ghost use Rattle.script_lines.specs.Holds.{open_holds, held_as};
-ghost use Rattle.script_serial.specs.Isolation.{IsIsolated};
-ghost use Rattle.script_lines.specs.Lines.{object_line};
 ghost use Rattle.category_store.specs.Shelf.{IsNumbered, IsInstallable};
+ghost use Rattle.script_lines.specs.Seen.{turn_seen, TurnFits};
+ghost use Rattle.script_serial.specs.Isolation.{IsIsolated};
 ghost use Rattle.script_serial.specs.Plan.{PlanData, IsSound};
 ghost use Rattle.script_serial.specs.Prints.{PrintsInOrder};
-ghost use Rattle.script_lines.specs.Seen.{caller, task_seen, turn_seen, wished, FitsTable, TaskFits, TurnFits};
-ghost use Rattle.script_lines.specs.Outcome.{calls, held_or_refused, reads_of, read_line, name_line, granted};
-ghost use Rattle.script_serial.specs.Serial.{Run, outcome, with_outcome, played, begun, closed, commands_played, serial_lines, setting};
-ghost use Rattle.script_serial.specs.Session.{IsAt, IsWith, AreAt, AreNumbered, IsReady, GoesOn, CanPlay};
-ghost use Rattle.script_lines.specs.Thread.{Knows, BindsAs, Follows, KeepsNames};
-ghost use Rattle.script_lines.specs.Variables.{Bound, variable_of, variable_bound, bindings_after};
+ghost use Rattle.script_serial.specs.Serial.{Run, played, begun, closed, commands_played, serial_lines, setting};
+ghost use Rattle.script_serial.specs.Session.{Follows, AreAt, AreNumbered, GoesOn, CanPlay};
 
 use crate::closing::closing_turns;
 use crate::kept::{Alone, Kept};

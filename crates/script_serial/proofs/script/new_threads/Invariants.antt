@@ -1,8 +1,7 @@
 use Rattle.std.proofs.Common.{◌≡◌, length}
 use Rattle.std.specs.Prelude.{All}
 use Rattle.script_serial.specs.Serial.{begun}
-use Rattle.script_serial.specs.Session.{AreNumbered}
-use Rattle.script_lines.specs.Thread.{ThreadData, Follows}
+use Rattle.script_serial.specs.Session.{ThreadData, Follows, AreNumbered}
 use Rattle.script_serial.proofs.script.new_threads.Given as goal
 
 -- the threads so far
