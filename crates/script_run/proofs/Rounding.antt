@@ -13,10 +13,13 @@ use Rattle.turn_gate.specs.Callers.{Gate}
 use Rattle.thread_current.specs.Thread.{Thread, IsThreadOf, IsInOrder, GoesOnFrom, entries_by}
 use Rattle.script_out.specs.declared.output.OutLine.{OutLine}
 use Rattle.script_commands.specs.declared.command.Placed.{Placed}
+use Rattle.category_store.specs.Catalog.{Catalog}
+use Rattle.script_lines.specs.declared.thread.Thread.{Thread as ScriptThread}
 use Rattle.script_lang.specs.Accepted.{IsAccepted, IsPlaced}
 use Rattle.script_lines.specs.Turns.{Turn, in_round, in_thread, turn_of, thread_turns, turns_of_threads, round_turns, first_numbers}
 use Rattle.script_serial.specs.Plan.{PlanData, IsSound}
 use Rattle.script_serial.proofs.LineLists.{all_left, filter_all, filter_none}
+use Rattle.script_run.specs.declared.seated.Seated.{Seated}
 use Rattle.script_run.specs.declared.worker.Worker.{Worker}
 use Rattle.script_run.specs.Timed.{Timed, AreTimed, AreRight, IsWhole, own_lines, lines_in, turns_made, turn_made, places_by, placed_back, stacked}
 use Rattle.script_run.specs.Beside.{HasMade, IsWorker, CanWork, Works, turns_of}
@@ -122,9 +125,14 @@ made_of P ts turns are all = back_in P ts (subst (All P) (sym are) (all_reversed
 
 -- ---- what the workers leave
 
-on_ok : {T E P : Type 0} (r : Result T E) → IsOk r → OnOk r P → P
-on_ok (Ok x) is h = h
-on_ok (Err e) is h = absurd (false≢true is)
+on_ok : {T E : Type 0} (P : Type 0) (r : Result T E) → IsOk r → OnOk r P → P
+on_ok P (Ok x) is h = h
+on_ok P (Err e) is h = absurd (false≢true is)
+
+-- what it leaves where memory was not wanting
+abbrev WorksFor : Gate Setting → Catalog → List Turn → Worker → Worker → Type 0
+WorksFor gate library turns old new = (plan : PlanData) (made : List Timed) → plan.library ≡ library → IsWorker gate plan old.thread made
+    → Works gate plan (turns_of old.thread.side.number turns) old.thread new.thread made old.lines.items new.lines.items
 
 -- what is known of a worker's lines of the round
 pub record Share (gate : Gate Setting) (plan : PlanData) (M W : History) (made : List Timed) (round : ℕ) (turns : List Turn) (worked met : List Worker) (d : Worker) (i : ℕ) (more : List Timed) : Type 0 where
@@ -150,14 +158,14 @@ left_by gate plan M W made round i turns ws worked given met d in_round ready wo
     let new : Worker = slice_index_or met i d in
     let number : old.thread.side.number ≡ i = ready.number in
     let works : Works gate plan (turns_of old.thread.side.number turns) old.thread done.thread (own_lines i made) old.lines.items done.lines.items =
-      on_ok done.outcome give.done work.works plan (own_lines i made) refl ready.worker
+      on_ok (WorksFor gate plan.library turns old done) done.outcome give.done work.works plan (own_lines i made) refl ready.worker
     in
-    let kept_number : done.thread.side.number ≡ old.thread.side.number = on_ok done.outcome give.done work.number in
-    let mine_is : mine_of gave ≡ mine_of done = ap (λ (t : _). t.side.mine) give.thread in
+    let kept_number : done.thread.side.number ≡ old.thread.side.number = on_ok (done.thread.side.number ≡ old.thread.side.number) done.outcome give.done work.number in
+    let mine_is : mine_of gave ≡ mine_of done = ap (λ (t : ScriptThread Seated). t.side.mine) give.thread in
     let from_done : GoesOnFrom W (mine_of done).seen = subst (λ (t : Thread). GoesOnFrom W t.seen) mine_is from in
     let order : IsInOrder gate.terms (mine_of new) = more.in_order (subst (IsInOrder gate.terms) (sym mine_is) works.worker.made.in_order) in
     let own_number : (mine_of done).number ≡ i = works.worker.seated.knows.number ∙ kept_number ∙ number in
-    let gave_worker : IsWorker gate plan gave.thread (works.more ++ own_lines i made) = subst (λ (t : _). IsWorker gate plan t (works.more ++ own_lines i made)) (sym give.thread) works.worker in
+    let gave_worker : IsWorker gate plan gave.thread (works.more ++ own_lines i made) = subst (λ (t : ScriptThread Seated). IsWorker gate plan t (works.more ++ own_lines i made)) (sym give.thread) works.worker in
     let new_worker : IsWorker gate plan new.thread (works.more ++ own_lines i made) =
       subst (λ (w : Worker). IsWorker gate plan w.thread (works.more ++ own_lines i made)) (sym more.same) (worker_kept gate plan gave.thread (mine_of new) (works.more ++ own_lines i made) gave_worker more.saw order)
     in
@@ -184,7 +192,7 @@ left_by gate plan M W made round i turns ws worked given met d in_round ready wo
       };
       turns_are = turns_are;
       lines_are = works.added ∙ ap (λ (ls : List OutLine). ls ++ reverse (lines_in works.more)) ready.given;
-      number = ap (λ (w : Worker). w.thread.side.number) more.same ∙ ap (λ (t : _). t.side.number) give.thread ∙ kept_number ∙ number;
+      number = ap (λ (w : Worker). w.thread.side.number) more.same ∙ ap (λ (t : ScriptThread Seated). t.side.number) give.thread ∙ kept_number ∙ number;
       worker = new_worker;
       later = on;
       on = goes_on (mine_of done).seen M W from_done (goes_on (mine_of old).seen M (mine_of done).seen works.later ready.later);
@@ -200,8 +208,8 @@ in_order_at gate plan rounds lines turns ws worked given was worked_long given_l
     let within : i < length ws = omega (arith, lt, given_long) in
     let w : HasWorked gate plan.library turns (slice_index_or ws i d) (slice_index_or worked i d) = work i d within in
     let g : HasGiven (slice_index_or worked i d) (slice_index_or given i d) = give i d (omega (arith, within, worked_long)) in
-    let worker = (on_ok (slice_index_or worked i d).outcome g.done w.works plan (own_lines i was.made) refl (was.ready i d within).worker).worker in
-    let same : mine_of (slice_index_or given i d) ≡ mine_of (slice_index_or worked i d) = ap (λ (t : _). t.side.mine) g.thread in
+    let worker = (on_ok (WorksFor gate plan.library turns (slice_index_or ws i d) (slice_index_or worked i d)) (slice_index_or worked i d).outcome g.done w.works plan (own_lines i was.made) refl (was.ready i d within).worker).worker in
+    let same : mine_of (slice_index_or given i d) ≡ mine_of (slice_index_or worked i d) = ap (λ (t : ScriptThread Seated). t.side.mine) g.thread in
     (subst (IsThreadOf gate) (sym same) worker.seated.thread, subst (IsInOrder gate.terms) (sym same) worker.made.in_order)
 
 -- what is made of each element, in order, is what is made of their numbers
