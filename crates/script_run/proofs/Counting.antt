@@ -73,6 +73,8 @@ few_turns_to bundle rounds =
 pub turns_next : (bundle : Bundle) (rounds : ℕ) → turns_to bundle (rounds + 1) ≡ turns_to bundle rounds ++ round_turns (length bundle.threads) bundle.commands (rounds + 1)
 turns_next bundle rounds =
     let f : ℕ → List Turn = round_turns (length bundle.threads) bundle.commands in
-    ap (λ (ms : List ℕ). flat_map f ms) (ap (range_with_len 1) (omega arith) ∙ range_more 1 rounds ∙ ap (λ (m : ℕ). range_with_len 1 rounds ++ m ∷ []) (omega arith))
+    let one_more : rounds + 1 ≡ suc rounds = omega arith in
+    let last : 1 + rounds ≡ rounds + 1 = omega arith in
+    ap (λ (ms : List ℕ). flat_map f ms) (ap (range_with_len 1) one_more ∙ range_more 1 rounds ∙ ap (λ (m : ℕ). range_with_len 1 rounds ++ m ∷ []) last)
     ∙ flat_map-append f (range_with_len 1 rounds) ((rounds + 1) ∷ [])
     ∙ ap (λ (ys : List Turn). flat_map f (range_with_len 1 rounds) ++ ys) (append-nil (f (rounds + 1)))

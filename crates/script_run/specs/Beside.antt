@@ -34,12 +34,12 @@ pub record HasMade (terms : Terms Setting) (plan : PlanData) (t : Thread) (made 
   pub places : places_by t.number t.seen ≡ placed_back made
 
 -- a thread of the script that has made these lines, with no more calls, and a Release for each open Hold, than two for each line
-pub record IsWorker (gate : Gate Setting) (plan : PlanData) (t : ScriptThread Seated) (made : List Timed) : Type 0 where
+pub record IsWorker (gate : Gate Setting) (plan : PlanData) (t : ScriptThread Seated) (ts : List Timed) : Type 0 where
   pub seated : IsSeatedAt gate t.side t.side.mine.seen
-  pub made : HasMade gate.terms plan t.side.mine made
-  pub few : length t.side.mine.calls + length (open_holds t.side.mine.seen t.side.number) ≤ 2 * length made
-  pub variables : BindsAs t.side.number t.variables (bound_by (tellings made))
-  pub lines : t.lines ≡ length made
+  pub made : HasMade gate.terms plan t.side.mine ts
+  pub few : length t.side.mine.calls + length (open_holds t.side.mine.seen t.side.number) ≤ 2 * length ts
+  pub variables : BindsAs t.side.number t.variables (bound_by (tellings ts))
+  pub lines : t.lines ≡ length ts
 
 -- ---- a turn
 
@@ -55,9 +55,9 @@ pub record CanAdd (gate : Gate Setting) (library : Catalog) (t : ScriptThread Se
   pub fits : TaskMay library (MayCall gate.terms.setting) turn.task
 
 -- what a turn leaves of its thread: one more line, and what the thread has seen and bound by it
-pub record Adds (gate : Gate Setting) (library : Catalog) (turn : Turn) (old new : ScriptThread Seated) (lines lines' : List OutLine) : Type 0 where
+pub record Adds (gate : Gate Setting) (library : Catalog) (turn : Turn) (old new : ScriptThread Seated) (given given' : List OutLine) : Type 0 where
   pub line : OutLine
-  pub added : lines' ≡ lines ++ line ∷ []
+  pub added : given' ≡ given ++ line ∷ []
   pub leaves : (bounds : List Bound) → BindsAs old.side.number old.variables bounds
       → LeavesTurn gate.terms.setting library (MayFollow gate.terms.setting old.side.number) (IsSeatedAt gate new.side) old.side.mine.seen bounds old.lines turn line
   pub variables : (bounds : List Bound) → BindsAs old.side.number old.variables bounds
@@ -82,10 +82,10 @@ pub record CanWork (gate : Gate Setting) (library : Catalog) (t : ScriptThread S
   pub fits : All (λ (turn : Turn). TaskMay library (MayCall gate.terms.setting) turn.task) turns
 
 -- what a thread leaves behind turns: a line for each, none of which was made before them
-pub record Works (gate : Gate Setting) (plan : PlanData) (turns : List Turn) (old new : ScriptThread Seated) (made : List Timed) (lines lines' : List OutLine) : Type 0 where
+pub record Works (gate : Gate Setting) (plan : PlanData) (those : List Turn) (old new : ScriptThread Seated) (made : List Timed) (lines lines' : List OutLine) : Type 0 where
   pub more : List Timed
   pub added : lines' ≡ lines ++ reverse (lines_in more)
-  pub turns : turns_made more ≡ reverse turns
+  pub turns : turns_made more ≡ reverse those
   pub since : All (λ (m : Timed). length old.side.mine.seen ≤ m.moment) more
   pub later : GoesOnFrom new.side.mine.seen old.side.mine.seen
   pub worker : IsWorker gate plan new (more ++ made)
@@ -113,11 +113,11 @@ pub record GivesUp (gate : Gate Setting) (library : Catalog) (round : ℕ) (old 
   pub works : WorksOn gate library (releases round old.side.number (open_holds old.side.mine.seen old.side.number)) old new lines lines'
 
 -- what closing a thread leaves: a Release of each open Hold in the order made, and its end
-pub record Closes (gate : Gate Setting) (plan : PlanData) (round : ℕ) (old : ScriptThread Seated) (seat : Caller Setting (ops.Op Share) (replies.Reply Share)) (made : List Timed) (lines lines' : List OutLine) : Type 0 where
+pub record Closes (gate : Gate Setting) (plan : PlanData) (round : ℕ) (old : ScriptThread Seated) (seat : Caller Setting (ops.Op Share) (replies.Reply Share)) (earlier : List Timed) (lines lines' : List OutLine) : Type 0 where
   pub more : List Timed
   pub added : lines' ≡ lines ++ reverse (lines_in more)
   pub turns : turns_made more ≡ reverse (closing round old.side.number (open_holds old.side.mine.seen old.side.number))
   pub timed : AreTimed more
   pub since : All (λ (m : Timed). length old.side.mine.seen ≤ m.moment) more
   pub later : GoesOnFrom (thread_of 0 seat).seen old.side.mine.seen
-  pub made : HasMade gate.terms plan (thread_of 0 seat) (more ++ made)
+  pub made : HasMade gate.terms plan (thread_of 0 seat) (more ++ earlier)
