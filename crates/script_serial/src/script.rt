@@ -47,7 +47,8 @@ pub fn serial(
     let count = bundle.threads.len() as u32;
     let library = plan.library();
     let shelf = library.opening(alloc)?;
-    let mut table = Alone::new(Table::new(alloc, count, rows, generations, shelf)?);
+    let table = Table::new(alloc, count, rows, generations, shelf)?;
+    let mut table = Alone::new(table);
     let mut threads = new_threads(alloc, count)?;
     let lines = all_lines(alloc, library, bundle, &mut table, threads.as_mut_slice())?;
     Ok(List::of(lines))

@@ -1,4 +1,5 @@
 use Rattle.std.proofs.Common.{◌≡◌, [], sym, ap, ◌∙◌}
+use Rattle.handle_table.specs.Table.{TableData}
 use Rattle.script_lang.specs.declared.bundle.Bundle.{Bundle}
 use Rattle.script_serial.proofs.PlayLemmas.{no_lines, sound_parts, serial_told}
 use Rattle.script_serial.proofs.SerialNewest.{printed_in_order}
@@ -16,8 +17,8 @@ all_lines-requires-clause-sound c = sound_parts c.args.plan.now c.bundle-bundle.
 pub returns-clause-lines : goal.returns-clause-lines
 returns-clause-lines c =
     c.of-2.ensures
-    ∙ serial_told c.args.plan.now c.args.rows c.args.generations c.len-count.result c.bundle-bundle.result.now c.library-library.result.now c.in_ok-shelf.shelf c.in_ok-table.table.setting c.in_ok-lines.lines.items
-    c.in_ok-table.ensures.setting c.len-count.ensures c.in_ok-shelf.ensures c.bundle-bundle.ensures.bundle c.library-library.ensures c.in_ok-lines.ensures
+    ∙ serial_told c.args.plan.now c.args.rows c.args.generations c.len-count.result c.bundle-bundle.result.now c.library-library.result.now c.in_ok-shelf.shelf c.new-table.result.setting c.in_ok-lines.lines.items
+    (ap (λ (t : TableData). t.setting) c.new-table.ensures ∙ c.in_ok-table.ensures.setting) c.len-count.ensures c.in_ok-shelf.ensures c.bundle-bundle.ensures.bundle c.library-library.ensures c.in_ok-lines.ensures
 
 pub returns-then-is_empty-clause-prints : goal.returns-then-is_empty-clause-prints
 returns-then-is_empty-clause-prints c = printed_in_order c.args.plan.now c.args.rows c.args.generations (returns-then-is_empty-clause-lines c)
