@@ -1,5 +1,5 @@
 -- A line of a table that nobody else calls meanwhile is the line of the history that its thread has seen.
-use Rattle.std.proofs.Common.{◌≡◌, ℕ, Option, Some, None, Result, Ok, Err, length, refl, ap, subst, ◌∙◌}
+use Rattle.std.proofs.Common.{◌≡◌, Option, Some, None, Result, Ok, Err, length, refl, subst, ◌∙◌}
 use Rattle.mask_compose.specs.Parts.{Parts}
 use Rattle.category_store.specs.Catalog.{Catalog}
 use Rattle.handle_table.specs.declared.handle.Named.{Named}
@@ -14,7 +14,7 @@ use Rattle.script_out.specs.declared.output.Why.{Why}
 use Rattle.script_lines.specs.Holds.{object_held, open_holds, held_as}
 use Rattle.script_lines.specs.Wishes.{Wish, Calls, ReadsOf, Reads, AsksSelection, AsksName}
 use Rattle.script_lines.specs.Lines.{Caller, told_line, object_line, held_line}
-use Rattle.script_lines.specs.Outcome.{Outcome, tells, with_call, calls, reads_between, reads_of, read_line, name_line, granted}
+use Rattle.script_lines.specs.Outcome.{tells, with_call, calls, reads_between, reads_of, read_line, name_line, granted}
 use Rattle.script_lines.specs.Board.{Moments, reads_between as reads_between_at, reads_of as reads_of_at, reads as reads_at, Left, Leaves}
 
 -- what a read between leaves, by the moments of its two calls

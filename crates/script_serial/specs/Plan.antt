@@ -1,6 +1,5 @@
 -- The accepted bundle with its compiled locales (our own).
-use Rattle.std.specs.Prelude.{ℕ, ◌<◌, ◌≤◌, List, length, Ok, IfOk, IfSome}
-use Rattle.std.specs.List.{All}
+use Rattle.std.specs.Prelude.{ℕ, List, length, Ok}
 use Rattle.lc_base.specs.Reading.{Reads, ◌>>=◌}
 use Rattle.category_store.specs.Catalog.{Catalog}
 use Rattle.category_store.specs.Library.{catalog}
