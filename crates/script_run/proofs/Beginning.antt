@@ -1,9 +1,11 @@
 -- The workers of a script before its first round.
-use Rattle.std.proofs.Common.{◌≡◌, ℕ, ◌+◌, ◌*◌, ◌<◌, ◌≤◌, List, [], length, map, Some, refl, sym, ap, subst, ◌∙◌, arith}
+use Rattle.std.proofs.Common.{◌≡◌, ℕ, suc, ◌+◌, ◌*◌, ◌<◌, ◌≤◌, List, [], ◌∷◌, ◌++◌, length, map, Some, refl, sym, ap, subst, ◌∙◌, arith, inl, inr, length-append}
 use Rattle.std.specs.Prelude.{All, slice_index_or}
 use Rattle.std.specs.List.{range_with_len}
 use Rattle.std.proofs.lemmas.List.Elements.{All-nil}
-use Rattle.std.proofs.lemmas.List.{append-nil, length-map}
+use Rattle.std.proofs.Math.Seq.{get_or-append_seam}
+use Rattle.std.proofs.lemmas.Bool.Decides.{eqb_tells}
+use Rattle.std.proofs.lemmas.List.{append-nil, length-map, get_or_append_left}
 use Rattle.std.proofs.lemmas.List.FromFn.{length-range_with_len, get_or-map-range_with_len}
 use Rattle.turn_gate.specs.Callers.{Gate}
 use Rattle.handle_table.specs.Entry.{History, Setting}
@@ -11,6 +13,7 @@ use Rattle.thread_current.specs.Thread.{Thread, IsInOrder, GoesOnFrom, first_thr
 use Rattle.script_lines.specs.Holds.{open_holds}
 use Rattle.script_lines.specs.Variables.{Bindings, bound, bindings_of}
 use Rattle.script_serial.specs.Plan.{PlanData}
+use Rattle.script_run.specs.declared.seated.Seated.{Seated}
 use Rattle.script_run.specs.declared.worker.Worker.{Worker}
 use Rattle.script_run.specs.Seated.{held_data}
 use Rattle.script_run.specs.Timed.{Timed, IsInRound, IsWhole, placed_back, places_by}
@@ -86,3 +89,50 @@ between_first gate plan mines ws for are long first =
           given = here.given;
         };
     }
+
+-- ---- made one after another
+
+-- so many of the workers are made, and these threads are left
+pub record FirstSoFar (mines : List Thread) (ws : List Worker) (rest : List Thread) : Type 0 where
+  pub first : Each ws (λ i w. IsFirst mines i w)
+  pub count : length ws + length rest ≡ length mines
+  pub rest_are : (i : ℕ) (d : Thread) → i < length rest → slice_index_or rest i d ≡ slice_index_or mines (length ws + i) d
+
+pub first_none : (mines : List Thread) → FirstSoFar mines [] mines
+first_none mines = record {
+  first = λ i d lt. absurd (omega (arith, lt));
+  count = omega arith;
+  rest_are = λ i d lt. ap (λ (j : ℕ). slice_index_or mines j d) (omega arith);
+}
+
+pub first_next : (mines : List Thread) (ws all : List Worker) (mine : Thread) (rest : List Thread) (w : Worker) (s : Seated) → FirstSoFar mines ws (mine ∷ rest) → all ≡ ws ++ w ∷ []
+    → w.thread.side ≡ s → s.number ≡ length ws → s.mine ≡ mine → s.holds.items ≡ [] → w.thread.variables ≡ [] → w.thread.lines ≡ 0 → w.lines.items ≡ [] → FirstSoFar mines all rest
+first_next mines ws all mine rest w s was all_is side number is holds variables counted given =
+    let k : ℕ = length ws in
+    let long : length all ≡ k + 1 = ap (λ (vs : List Worker). length vs) all_is ∙ length-append ws (w ∷ []) in
+    let mine_is : mine_of w ≡ mine = ap (λ (t : Seated). t.mine) side ∙ is in
+    let there : mine ≡ slice_index_or mines k (mine_of w) = was.rest_are 0 (mine_of w) (omega arith) ∙ ap (λ (j : ℕ). slice_index_or mines j (mine_of w)) (omega arith) in
+    let here : IsFirst mines k w = record {
+      number = ap (λ (t : Seated). t.number) side ∙ number;
+      mine = mine_is ∙ there;
+      holds = ap (λ (t : Seated). t.holds.items) side ∙ holds;
+      variables = variables;
+      no_lines = counted;
+      given = given;
+    } in
+    record {
+      first = λ i d lt. elim (eqb_tells i k) [
+        | inl same ↦
+            let at : slice_index_or all i d ≡ w = ap (λ (vs : List Worker). slice_index_or vs i d) all_is ∙ ap (λ (j : ℕ). slice_index_or (ws ++ w ∷ []) j d) same.1 ∙ get_or-append_seam ws w [] d in
+            subst (λ (v : Worker). IsFirst mines i v) (sym at) (subst (λ (j : ℕ). IsFirst mines j w) (sym same.1) here)
+        | inr apart ↦
+            let below : i < k = let differs = apart.1 in omega (arith, lt, long, differs) in
+            let at : slice_index_or all i d ≡ slice_index_or ws i d = ap (λ (vs : List Worker). slice_index_or vs i d) all_is ∙ get_or_append_left ws (w ∷ []) d i below in
+            subst (IsFirst mines i) (sym at) (was.first i d below)
+      ];
+      count = let count = was.count in omega (arith, count, long);
+      rest_are = λ i d lt. was.rest_are (suc i) d (omega (arith, lt)) ∙ ap (λ (j : ℕ). slice_index_or mines j d) (omega (arith, long));
+    }
+
+pub as_many_threads : (gate : Gate Setting) (mines : List Thread) (n : ℕ) → mines ≡ map (first_thread gate) (range_with_len 0 n) → length mines ≡ n
+as_many_threads gate mines n are = ap (λ (ts : List Thread). length ts) are ∙ length-map (range_with_len 0 n) (first_thread gate) ∙ length-range_with_len 0 n

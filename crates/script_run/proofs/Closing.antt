@@ -1,10 +1,10 @@
 -- The threads of a script close, one after another.
-use Rattle.std.proofs.Common.{◌≡◌, ℕ, zero, suc, ◌+◌, ◌<◌, ◌≤◌, Bool, true, false, cond, List, [], ◌∷◌, ◌++◌, length, map, reverse, refl, sym, ap, subst, ◌∙◌, arith, inl, inr, length-append}
+use Rattle.std.proofs.Common.{◌≡◌, ℕ, zero, suc, ◌+◌, ◌*◌, ◌<◌, ◌≤◌, ◌^◌, Bool, true, false, cond, List, [], ◌∷◌, ◌++◌, length, map, reverse, refl, sym, ap, subst, ◌∙◌, arith, inl, inr, length-append}
 use Rattle.std.specs.Prelude.{◌==◌, flat_map, All, slice_index_or}
 use Rattle.std.specs.List.{range_with_len}
 use Rattle.std.proofs.Math.Seq.{get_or-append_seam}
 use Rattle.std.proofs.lemmas.Bool.Decides.{eqb_tells}
-use Rattle.std.proofs.lemmas.List.{get_or_append_left, map-append, reverse-append, reverse-reverse}
+use Rattle.std.proofs.lemmas.List.{get_or_append_left, length-map, map-append, reverse-append, reverse-reverse}
 use Rattle.std.proofs.lemmas.List.Elements.{All-nil, All-cons, All-head, All-tail, All-append, All-weaker, All-map}
 use Rattle.handle_table.specs.Entry.{Entry, History, Setting}
 use Rattle.handle_table.specs.Answer.{IsLegal}
@@ -12,26 +12,31 @@ use Rattle.handle_table.specs.Kept.{AreThreads}
 use Rattle.handle_table.specs.Table.{TableData, StandsFor}
 use Rattle.turn_gate.specs.declared.entry.Terms.{Terms}
 use Rattle.turn_gate.specs.Callers.{Gate, IsSeatOf}
-use Rattle.thread_current.specs.Thread.{Thread, thread_of, IsInOrder, SawMore, GoesOnFrom, IsPart, entries_by}
+use Rattle.turn_gate.specs.Ends.{SomeCaller}
+use Rattle.thread_current.specs.Thread.{Thread, thread_of, IsThreadOf, IsInOrder, SawMore, GoesOnFrom, IsPart, entries_by}
+use Rattle.thread_current.specs.Mine.{HeldData}
 use Rattle.script_out.specs.declared.output.OutLine.{OutLine}
 use Rattle.script_lines.specs.declared.holds.OpenHold.{OpenHold}
 use Rattle.script_lines.specs.declared.thread.Thread.{Thread as ScriptThread}
 use Rattle.script_lines.specs.Holds.{open_holds}
 use Rattle.script_lines.specs.Turns.{Turn, Ends, Releases, closing_turn, releases, closing, closing_turns, command_turns}
-use Rattle.script_serial.specs.Plan.{PlanData}
+use Rattle.script_serial.specs.Plan.{PlanData, IsSound}
 use Rattle.script_serial.specs.Prints.{Prints}
 use Rattle.script_serial.proofs.LineLists.{all_left}
 use Rattle.script_run.specs.declared.seated.Seated.{Seated}
 use Rattle.script_run.specs.declared.worker.Worker.{Worker}
+use Rattle.script_run.specs.Seated.{held_data}
 use Rattle.script_run.specs.Timed.{Timed, AreTimed, AreRight, IsWhole, own_lines, lines_in, turns_made, turn_made, last_end, end_of, places_by, placed_back, stacked}
-use Rattle.script_run.specs.Beside.{HasMade, IsWorker, Closes}
-use Rattle.script_run.specs.Rounds.{Each, EachTwo, IsFor, mine_of, IsReady, AreBetween, SeatData, SeatSeesMore, IsCloser, AreClosers, AreClosing}
+use Rattle.script_run.specs.Beside.{HasMade, IsWorker, CanClose, Closes}
+use Rattle.script_run.specs.Rounds.{Each, EachTwo, IsFor, mine_of, turns_to, IsReady, AreBetween, SeatData, SeatSeesMore, IsCloser, AreClosers, AreClosing}
 use Rattle.script_run.proofs.Growth.{are_right_grow}
 use Rattle.script_run.proofs.Apart.{holds_says}
 use Rattle.script_run.proofs.Stacked.{HasAdded, stacked_onto, whole_stacked}
 use Rattle.script_run.proofs.Stacking.{IsOf, IsBefore, right_within, stacked_same, stacked_back, flat_same, and_at, at_here, at_other}
 use Rattle.script_run.proofs.Seeing.{goes_on, goes_same, as_long, entries_of_both, no_entry, same_places, made_kept, worker_kept, thread_with}
 use Rattle.script_run.proofs.Rounding.{made_of}
+use Rattle.script_run.proofs.Taking.{lines_few, filter_short}
+use Rattle.script_run.proofs.Counting.{few_turns_to}
 use Rattle.script_run.proofs.Whole.{prints}
 
 -- ---- before the first one closes
@@ -121,6 +126,41 @@ pub record ClosesNext (gate : Gate Setting) (plan : PlanData) (seats others : Li
   pub closes : (made : List Timed) → IsWorker gate plan (thread_with w.thread mine) made → Closes gate plan (plan.bundle.rounds + 1) (thread_with w.thread mine) seat made w.lines.items lines
   pub seat_of : IsSeatOf gate seat
   pub number : seat.number ≡ w.thread.side.number
+
+-- a worker that has met the seats before it can be closed
+pub can_close : (gate : Gate Setting) (plan : PlanData) (seats : List SeatData) (w : Worker) (ws : List Worker) (mine : Thread) (lines : List OutLine) → AreClosing gate plan seats (w ∷ ws) lines → IsSound plan → IsFor plan gate.terms
+    → SawMore (mine_of w) mine → (IsInOrder gate.terms (mine_of w) → IsInOrder gate.terms mine) → CanClose gate plan.library (thread_with w.thread mine)
+can_close gate plan seats w ws mine lines was sound for saw orders =
+    let k : ℕ = length seats in
+    let made : List Timed = was.made in
+    let ready : IsReady gate plan was.met made k w = subst (λ (j : ℕ). IsReady gate plan was.met made j w) (omega arith) (was.ready 0 w (omega arith)) in
+    let order : IsInOrder gate.terms mine = orders ready.worker.made.in_order in
+    let worker : IsWorker gate plan (thread_with w.thread mine) (own_lines k made) = worker_kept gate plan w.thread mine (own_lines k made) ready.worker saw order in
+    let made_long : length made ≡ length (turns_to plan.bundle plan.bundle.rounds) = lines_few plan plan.bundle.rounds made was.turns in
+    let own_few : length (own_lines k made) ≤ length made = filter_short (λ (t : Timed). t.told.line.thread == k) made in
+    let most : length (turns_to plan.bundle plan.bundle.rounds) ≤ length plan.bundle.commands = few_turns_to plan.bundle plan.bundle.rounds in
+    let commands : length plan.bundle.commands ≤ 20000 = sound.accepted.few_commands in
+    let holds : length w.thread.side.holds.items ≡ length (open_holds mine.seen w.thread.side.number) =
+      ap (λ (hs : List HeldData). length hs) worker.seated.knows.holds ∙ length-map (open_holds mine.seen w.thread.side.number) held_data
+    in
+    let few = worker.few in
+    let counted = worker.lines in
+    let quota = for.quota in
+    record {
+      numbered = sound.numbered;
+      installable = sound.installable;
+      opening = for.opening;
+      calls = record { seated = worker.seated; quota = omega (arith, few, holds, own_few, made_long, most, quota) };
+      few = omega (arith, counted, few, holds, own_few, made_long, most, commands);
+    }
+
+-- each seat so far is one of the table
+pub seats_of : (gate : Gate Setting) (plan : PlanData) (seats : List SeatData) (ws : List Worker) (lines : List OutLine) → AreClosing gate plan seats ws lines → Each seats (λ i seat. IsSeatOf gate seat)
+seats_of gate plan seats ws lines was = λ i d lt. (was.closers.closers i d lt).seat
+
+-- and a worker that is left is a thread of it
+pub next_thread : (gate : Gate Setting) (plan : PlanData) (seats : List SeatData) (w : Worker) (ws : List Worker) (lines : List OutLine) → AreClosing gate plan seats (w ∷ ws) lines → IsThreadOf gate (mine_of w)
+next_thread gate plan seats w ws lines was = (was.ready 0 w (omega arith)).worker.seated.thread
 
 pub closing_next : (gate : Gate Setting) (plan : PlanData) (seats others all : List SeatData) (w : Worker) (ws : List Worker) (mine : Thread) (lines closed lines' : List OutLine) (seat : SeatData)
     → AreClosing gate plan seats (w ∷ ws) lines → ClosesNext gate plan seats others w mine closed seat → all ≡ others ++ seat ∷ [] → lines' ≡ lines ++ closed → AreClosing gate plan all ws lines'
@@ -284,3 +324,18 @@ closed_prints gate plan seats lines table H was for stands same parts =
     (prints c plan M H (stacked more [] n) made was.whole was.turns (subst (IsWhole c plan H) upon whole)
     (sym (reverse-reverse (turns_made (stacked more [] n))) ∙ ap (λ (ts : List Turn). reverse ts) back)
     (subst (λ (k : ℕ). AreTimed (stacked more [] k)) all was.closers.timed))
+
+-- ---- the seats that go back
+
+some_at : (n : ℕ) (seats : List SeatData) (i : ℕ) (d : SeatData) → i < length seats → (slice_index_or seats i d).number ≡ n → SomeCaller n seats
+some_at n [] i d lt is = absurd (omega (arith, lt))
+some_at n (s ∷ ss) zero d lt is = inl is
+some_at n (s ∷ ss) (suc i) d lt is = inr (some_at n ss i d (omega (arith, lt)) is)
+
+pub numbers_of : (gate : Gate Setting) (plan : PlanData) (seats all : List SeatData) (lines : List OutLine) → AreClosing gate plan seats [] lines → IsFor plan gate.terms → all ≡ seats → (n : ℕ) → n < gate.terms.seats → SomeCaller n all
+numbers_of gate plan seats all lines was for same n lt =
+    let count = was.count in
+    let many = for.seats in
+    let below : n < length seats = omega (arith, lt, count, many) in
+    let d : SeatData = first_of seats (omega (arith, below)) in
+    subst (SomeCaller n) (sym same) (some_at n seats n d below (was.closers.closers n d below).number)

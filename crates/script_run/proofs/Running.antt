@@ -1,6 +1,8 @@
 -- A plan and the table that its script runs at.
-use Rattle.std.proofs.Common.{◌≡◌, ℕ, ◌+◌, ◌*◌, ◌<◌, ◌≤◌, List, [], length, refl, sym, ap, subst, ◌∙◌, arith}
+use Rattle.std.proofs.Common.{◌≡◌, ℕ, ◌+◌, ◌*◌, ◌<◌, ◌≤◌, Bool, true, false, List, [], ◌∷◌, length, map, refl, sym, ap, subst, ◌∙◌, arith}
 use Rattle.std.specs.Prelude.{All}
+use Rattle.std.specs.List.{range_with_len}
+use Rattle.std.proofs.lemmas.Bool.{false≢true}
 use Rattle.mask_compose.specs.Offer.{Offered}
 use Rattle.category_store.specs.Catalog.{Catalog}
 use Rattle.category_store.specs.Library.{opening}
@@ -68,3 +70,14 @@ none_prints plan rows generations none = (printed_in_order plan rows generations
 
 pub prints_isolated : (plan : PlanData) (rows generations : ℕ) (lines : List OutLine) → Prints (setting plan rows generations) plan lines → IsIsolated (setting plan rows generations) plan lines
 prints_isolated plan rows generations lines prints = isolated (setting plan rows generations) plan lines prints
+
+-- a list that is not empty
+pub some_of : {X : Type 0} (xs : List X) (b : Bool) → (xs ≡ [] → b ≡ true) → b ≡ false → 0 < length xs
+some_of [] b empty no = absurd (false≢true (sym no ∙ empty refl))
+some_of (x ∷ xs) b empty no = omega arith
+
+-- the threads of a table that has as many as the plan
+pub threads_are : (gate : Gate Setting) (mines : List Thread) (count rows generations quota : ℕ) (offers : List Offered) → gate.terms ≡ made_terms count rows generations offers quota
+    → mines ≡ map (first_thread gate) (range_with_len 0 count) → mines ≡ map (first_thread gate) (range_with_len 0 gate.terms.setting.threads)
+threads_are gate mines count rows generations quota offers are threads =
+    threads ∙ ap (λ (n : ℕ). map (first_thread gate) (range_with_len 0 n)) (sym (ap (λ (t : Terms Setting). t.setting.threads) are))

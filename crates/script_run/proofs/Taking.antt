@@ -59,11 +59,11 @@ thread_may c plan round thread sound own threads =
 
 -- ---- what the workers may take
 
-filter_short : {X : Type 0} (p : X → Bool) (xs : List X) → length (filter p xs) ≤ length xs
+pub filter_short : {X : Type 0} (p : X → Bool) (xs : List X) → length (filter p xs) ≤ length xs
 filter_short p xs = let same = length-filter p xs in let few = count_by-le-length p xs in omega (arith, same, few)
 
 -- there are no more lines than turns so far
-lines_few : (plan : PlanData) (rounds : ℕ) (made : List Timed) → turns_made made ≡ reverse (turns_to plan.bundle rounds) → length made ≡ length (turns_to plan.bundle rounds)
+pub lines_few : (plan : PlanData) (rounds : ℕ) (made : List Timed) → turns_made made ≡ reverse (turns_to plan.bundle rounds) → length made ≡ length (turns_to plan.bundle rounds)
 lines_few plan rounds made same =
     sym (length-map made turn_made) ∙ ap (λ (ts : List Turn). length ts) same ∙ length-reverse (turns_to plan.bundle rounds)
 

@@ -73,6 +73,7 @@ pub fn run<R: Threads + Wait + Sync, P: Pause + Sync>(
 
 /// Workers before their first command, by their numbers.
 fn new_workers(alloc: Global, all: List<Mine<Share>>) -> Result<Vec<Worker>, AllocError>
+    requires { length all ≤ 16 }
     ensures length { IfOk result (λ workers. length workers.items ≡ length all) }
     ensures first { IfOk result (λ workers. Each workers.items (λ i w. IsFirst all i w)) }
 {
@@ -100,7 +101,7 @@ fn all_rounds<R: Threads + Wait + Sync, P: Pause + Sync>(
         let turns = round_turns(common.alloc, bundle, i + 1)?;
         side_by_side(common, workers.as_mut_slice(), turns.as_slice());
         gather(&mut lines, workers.as_mut_slice())?;
-        meet_all(common.shared, workers.as_mut_slice());
+        meet_all(common.shared, &mut workers);
     }
     let seats = close_all(common, bundle, &mut lines, workers)?;
     Ok((lines, seats))
@@ -135,17 +136,19 @@ fn gather(lines: &mut Vec<OutLine>, workers: &mut [Worker]) -> Result<(), AllocE
     Ok(())
 }
 
-/// Afterwards each worker has seen what any has seen: the first one meets each other, and then each
+/// Afterwards each worker has seen what any has seen: the last one meets each other, and then each
 /// once more.
-fn meet_all(shared: &Shared<Share>, workers: &mut [Worker])
-    requires some { 0 < length workers.old }
-    requires threads { Each workers.old (λ i w. IsThreadOf shared.now (mine_of w)) }
-    requires in_order { Each workers.old (λ i w. IsInOrder shared.now.terms (mine_of w)) }
-    ensures { AllMet shared.now.terms workers.old workers.new }
+fn meet_all(shared: &Shared<Share>, workers: &mut Vec<Worker>)
+    requires threads { Each workers.old.items (λ i w. IsThreadOf shared.now (mine_of w)) }
+    requires some { 0 < length workers.old.items }
+    requires in_order { Each workers.old.items (λ i w. IsInOrder shared.now.terms (mine_of w)) }
+    ensures length { length workers.new.items ≡ length workers.old.items }
+    ensures met { AllMet shared.now.terms workers.old.items workers.new.items }
 {
-    if let [first, others @ ..] = workers {
-        meet_each(shared, first, others);
-        meet_each(shared, first, others);
+    if let Some(mut one) = workers.pop() {
+        meet_each(shared, &mut one, workers.as_mut_slice());
+        meet_each(shared, &mut one, workers.as_mut_slice());
+        workers.push_reserved(one);
     }
 }
 
