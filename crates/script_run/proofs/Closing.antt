@@ -339,3 +339,22 @@ numbers_of gate plan seats all lines was for same n lt =
     let below : n < length seats = omega (arith, lt, count, many) in
     let d : SeatData = first_of seats (omega (arith, below)) in
     subst (SomeCaller n) (sym same) (some_at n seats n d below (was.closers.closers n d below).number)
+
+-- the same, where the worker that closes is given as the thread that has met the seats
+pub closing_step : (gate : Gate Setting) (plan : PlanData) (seats others all : List SeatData) (w : Worker) (ws : List Worker) (t : ScriptThread Seated) (lines closed lines' : List OutLine) (seat : SeatData)
+    → AreClosing gate plan seats (w ∷ ws) lines → t ≡ thread_with w.thread t.side.mine → SawMore (mine_of w) t.side.mine → (IsInOrder gate.terms (mine_of w) → IsInOrder gate.terms t.side.mine)
+    → length others ≡ length seats → EachTwo seats others (λ i old new. SeatSeesMore gate old new) → Each seats (λ i s. i + 1 ≡ length seats → GoesOnFrom t.side.mine.seen (thread_of 0 s).seen)
+    → ((made : List Timed) → IsWorker gate plan t made → Closes gate plan (plan.bundle.rounds + 1) t seat made w.lines.items closed) → IsSeatOf gate seat → seat.number ≡ t.side.number
+    → all ≡ others ++ seat ∷ [] → lines' ≡ lines ++ closed → AreClosing gate plan all ws lines'
+closing_step gate plan seats others all w ws t lines closed lines' seat was same saw order long more last closes seat_of number all_is lines_is =
+    closing_next gate plan seats others all w ws t.side.mine lines closed lines' seat was
+    (record {
+      saw = saw;
+      in_order = order;
+      long = long;
+      more = more;
+      last = last;
+      closes = subst (λ (u : ScriptThread Seated). (made : List Timed) → IsWorker gate plan u made → Closes gate plan (plan.bundle.rounds + 1) u seat made w.lines.items closed) same closes;
+      seat_of = seat_of;
+      number = number ∙ ap (λ (u : ScriptThread Seated). u.side.number) same;
+    }) all_is lines_is
