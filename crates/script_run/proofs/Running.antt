@@ -73,8 +73,8 @@ prints_isolated plan rows generations lines prints = isolated (setting plan rows
 
 -- a list that is not empty
 pub some_of : {X : Type 0} (xs : List X) (b : Bool) → (xs ≡ [] → b ≡ true) → b ≡ false → 0 < length xs
-some_of [] b empty no = absurd (false≢true (sym no ∙ empty refl))
-some_of (x ∷ xs) b empty no = omega arith
+some_of [] b empty is = absurd (false≢true (sym is ∙ empty refl))
+some_of (x ∷ xs) b empty is = omega arith
 
 -- the threads of a table that has as many as the plan
 pub threads_are : (gate : Gate Setting) (mines : List Thread) (count rows generations quota : ℕ) (offers : List Offered) → gate.terms ≡ made_terms count rows generations offers quota

@@ -41,7 +41,7 @@ pub struct Common<'a, R, P> {
 impl Worker {
     /// A worker before its first command.
     pub fn new(alloc: Global, side: Seated) -> Worker
-        ensures { (result.thread.side ≡ side) × (result.thread.lines ≡ 0) × (result.lines.items ≡ []) × OnOk result.outcome (result.thread.variables ≡ []) }
+        ensures { (result.thread.side ≡ side) × (result.thread.lines ≡ 0) × (result.lines.items ≡ []) × (result.thread.variables ≡ []) }
     {
         Worker {
             thread: Thread::new(alloc, side),

@@ -9,7 +9,8 @@ overflow_cast-number c =
     let long = c.len-number.ensures in
     let count = c.loop-mine.invariant.so_far.count in
     let few = c.requires in
-    omega (arith, long, count, few)
+    let items = c.loop-mine.workers.ok.0 in
+    omega (arith, long, count, few, items)
 
 pub loop-mine-preserved : goal.loop-mine-preserved
 loop-mine-preserved c =
@@ -17,7 +18,7 @@ loop-mine-preserved c =
     record {
       so_far = first_next c.args.all c.loop-mine.workers.items c.push.new.self.items c.in-Some.mine (into_iter_items c.next.new.self) c.new-in-loop-mine.result c.new.result
         (subst (FirstSoFar c.args.all c.loop-mine.workers.items) steps c.loop-mine.invariant.so_far) c.in_ok-push.ensures.items
-        c.new-in-loop-mine.ensures.0 (c.new.ensures.0 ∙ c.len-number.ensures) c.new.ensures.1 c.new.ensures.2 c.new-in-loop-mine.ensures.3 c.new-in-loop-mine.ensures.1 c.new-in-loop-mine.ensures.2;
+        c.new-in-loop-mine.ensures.0 (c.new.ensures.0 ∙ c.len-number.ensures ∙ c.loop-mine.workers.ok.0) c.new.ensures.1 c.new.ensures.2 c.new-in-loop-mine.ensures.3 c.new-in-loop-mine.ensures.1 c.new-in-loop-mine.ensures.2;
       left =
         let was = c.loop-mine.invariant.left in
         let gone = c.in-Some.ensures.steps.1 in
