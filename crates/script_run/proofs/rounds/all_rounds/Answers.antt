@@ -15,7 +15,7 @@ use Rattle.script_run.proofs.Taking.{may_work}
 use Rattle.script_run.proofs.rounds.all_rounds.Goals as goal
 
 pub side_by_side-requires-after_bounds : goal.side_by_side-requires-after_bounds
-side_by_side-requires-after_bounds g c =
+side_by_side-requires-after_bounds g c κs within =
     let plan : PlanData = made_plan c.args.bundle.now c.args.common.now.library.now in
     let gate = c.args.common.now.shared.now in
     let turns : List Turn = map turn_seen c.as_slice.result.now in
