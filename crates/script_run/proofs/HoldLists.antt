@@ -1,7 +1,8 @@
 -- The list of a thread's open Holds: no two are of one handle, and the one that is named is taken out of it.
 use Rattle.std.proofs.Common.{◌≡◌, ◌⊎◌, inl, inr, ℕ, zero, suc, ◌+◌, ◌<◌, ◌≤◌, Bool, true, false, cond, not, List, [], ◌∷◌, ◌++◌, map, length, take, drop, get_or, Option, Some, None, refl, sym, ap, ◌∙◌, subst, arith, add-one}
-use Rattle.std.specs.Prelude.{◌==◌, ◌&&◌, ◌||◌, filter, position, position_or_len, nat_lt, find, option_map, if◌then◌else◌}
-use Rattle.std.specs.List.{list_any, remove}
+use Rattle.std.specs.Prelude.{◌==◌, ◌&&◌, ◌||◌, filter, position, nat_lt, find, option_map, if◌then◌else◌}
+use Rattle.std.specs.List.{list_any, remove, position_or_len}
+use Rattle.std.specs.Option.{is_some}
 use Rattle.std.proofs.lemmas.Bool.{false≢true, cases_Bool, false_from_ne_true, ltb-true, lt-ltb, eqb-true}
 use Rattle.std.proofs.lemmas.List.Folds.{list_any-append}
 use Rattle.std.proofs.lemmas.List.Sums.{passes_at_first}
@@ -16,7 +17,7 @@ use Rattle.thread_current.specs.Mine.{HeldData}
 use Rattle.mask_compose.specs.Parts.{Parts}
 use Rattle.script_lines.specs.declared.holds.OpenHold.{OpenHold}
 use Rattle.script_lines.specs.Holds.{object_held, with_hold, without, hold_change, changed, holds_after, open_holds, is_of, held_as}
-use Rattle.script_lines.proofs.HoldLaws.{holds_of}
+use Rattle.script_lines.proofs.HoldLaws.{held_where_holding}
 use Rattle.script_run.specs.Seated.{held_data, handed_out, AreApart, is_held, IsTaken, IsUnheld}
 
 -- ---- handles
@@ -26,7 +27,7 @@ pub same_swapped : (g h : Handle) → same_handle g h ≡ same_handle h g
 same_swapped g h =
     elim (cases_Bool (same_handle g h)) [
       | inl is ↦ is ∙ sym (ap (λ (x : Handle). same_handle h x) (same_handles g h is) ∙ same_itself h)
-      | inr no ↦ no ∙ sym (false_from_ne_true (same_handle h g) (λ is. false≢true (sym no ∙ ap (λ (x : Handle). same_handle g x) (same_handles h g is) ∙ same_itself g)))
+      | inr other ↦ other ∙ sym (false_from_ne_true (same_handle h g) (λ is. false≢true (sym other ∙ ap (λ (x : Handle). same_handle g x) (same_handles h g is) ∙ same_itself g)))
     ]
 
 -- what is named is a handle where a Hold is of it
@@ -34,11 +35,26 @@ pub named_is : (n : Named) (h : Handle) → names n h ≡ true → n ≡ Of h
 named_is Global h is = absurd (false≢true is)
 named_is (Of g) h is = ap (λ (x : Handle). Of x) (same_handles g h is)
 
+-- ---- what a thread holds
+
+is_found : (b : Bool) (o : OpenHold) (rest : Option OpenHold) (r : Bool) → is_some (option_map (λ (x : OpenHold). x.object) rest) ≡ r
+    → is_some (option_map (λ (x : OpenHold). x.object) (cond b (Some o) rest)) ≡ (b || r)
+is_found true o rest r is = refl
+is_found false o rest r is = is
+
+found : (h : Handle) (holds : List OpenHold) → is_some (held_as holds (Of h)) ≡ list_any (is_of h) holds
+found h [] = refl
+found h (o ∷ holds) = is_found (is_of h o) o (find (is_of h) holds) (list_any (is_of h) holds) (found h holds)
+
+-- a thread has an open Hold of a handle exactly where a legal history says that it holds it
+pub holds_of : (c : Setting) (H : History) → IsLegal c H → (t : ℕ) (h : Handle) → list_any (is_of h) (open_holds H t) ≡ holding H t h
+holds_of c H legal t h = sym (found h (open_holds H t)) ∙ held_where_holding c H legal t h
+
 -- ---- no two Holds are of one handle
 
-or_no : (a b : Bool) → (a || b) ≡ false → (a ≡ false) × (b ≡ false)
-or_no true b no = absurd (false≢true (sym no))
-or_no false b no = (refl, no)
+neither : (a b : Bool) → (a || b) ≡ false → (a ≡ false) × (b ≡ false)
+neither true b none = absurd (false≢true (sym none))
+neither false b none = (refl, none)
 
 or_first : (a b : Bool) → a ≡ true → (a || b) ≡ true
 or_first a b is = ap (λ (x : Bool). x || b) is
@@ -47,25 +63,25 @@ pub or_second : (a b : Bool) → b ≡ true → (a || b) ≡ true
 or_second true b is = refl
 or_second false b is = is
 
-no_or : (a b : Bool) → a ≡ false → b ≡ false → (a || b) ≡ false
-no_or a b p q = rw (p, q) refl
+both_false : (a b : Bool) → a ≡ false → b ≡ false → (a || b) ≡ false
+both_false a b p q = rw (p, q) refl
 
 -- one more, of a handle that none is of
 apart_more : (o : OpenHold) (os : List OpenHold) → AreApart os → list_any (is_of o.handle) os ≡ false → AreApart (os ++ o ∷ [])
 apart_more o [] apart none = (refl, tt)
 apart_more o (x ∷ os) apart none =
-    let parts = or_no (is_of o.handle x) (list_any (is_of o.handle) os) none in (
-      list_any-append (is_of x.handle) os (o ∷ []) ∙ no_or (list_any (is_of x.handle) os) (is_of x.handle o || false) apart.0 (no_or (is_of x.handle o) false (same_swapped o.handle x.handle ∙ parts.0) refl),
+    let parts = neither (is_of o.handle x) (list_any (is_of o.handle) os) none in (
+      list_any-append (is_of x.handle) os (o ∷ []) ∙ both_false (list_any (is_of x.handle) os) (is_of x.handle o || false) apart.0 (both_false (is_of x.handle o) false (same_swapped o.handle x.handle ∙ parts.0) refl),
       apart_more o os apart.1 parts.1,
     )
 
 fewer_any : (q p : OpenHold → Bool) (os : List OpenHold) → list_any q os ≡ false → list_any q (filter p os) ≡ false
 fewer_any q p [] none = refl
 fewer_any q p (o ∷ os) none =
-    let parts = or_no (q o) (list_any q os) none in
+    let parts = neither (q o) (list_any q os) none in
     let rest = fewer_any q p os parts.1 in
     elim (p o) as (λ (b : Bool). list_any q (cond b (o ∷ filter p os) (filter p os)) ≡ false) [
-      | true ↦ no_or (q o) (list_any q (filter p os)) parts.0 rest
+      | true ↦ both_false (q o) (list_any q (filter p os)) parts.0 rest
       | false ↦ rest
     ]
 
@@ -92,7 +108,7 @@ held_already c H t g held =
 apart_hold : (g : Handle) (os : List OpenHold) (o : Option Parts) → AreApart os → ((list_any (is_of g) os ≡ false) ⊎ (o ≡ None)) → AreApart (with_hold os (Of g) o)
 apart_hold g os None apart either = apart
 apart_hold g os (Some x) apart (inl none) = apart_more (record { handle = g; object = x }) os apart none
-apart_hold g os (Some x) apart (inr no) = absurd (cc no)
+apart_hold g os (Some x) apart (inr none) = absurd (cc none)
 
 apart_held : (c : Setting) (H : History) (t : ℕ) (n : Named) → IsLegal c H → AreApart (open_holds H t) → AreApart (with_hold (open_holds H t) n (object_held (answer c H t (Hold n))))
 apart_held c H t Global legal apart = apart
@@ -139,7 +155,7 @@ apart_holds c (e ∷ H) legal t =
 pub kept_all : (g : Handle) (os : List OpenHold) → list_any (is_of g) os ≡ false → without os (Of g) ≡ os
 kept_all g [] none = refl
 kept_all g (o ∷ os) none =
-    let parts = or_no (is_of g o) (list_any (is_of g) os) none in
+    let parts = neither (is_of g o) (list_any (is_of g) os) none in
     let apart : same_handle g o.handle ≡ false = same_swapped g o.handle ∙ parts.0 in
     ap (λ (b : Bool). cond (not b) (o ∷ without os (Of g)) (without os (Of g))) apart ∙ ap (λ (xs : List OpenHold). o ∷ xs) (kept_all g os parts.1)
 
@@ -186,11 +202,11 @@ named_as h [] = refl
 named_as h (o ∷ os) = ap (λ (b : Bool). b || list_any (is_held (Of h)) (handed_out os)) (same_swapped h o.handle) ∙ ap (λ (b : Bool). is_of h o || b) (named_as h os)
 
 pub position_none : (n : Named) (xs : List HeldData) → position (is_held n) xs ≡ None → IsUnheld n xs
-position_none n xs no holds h old named =
+position_none n xs nowhere holds h old named =
     false_from_ne_true (list_any (is_of h) holds) (λ any.
     let there : list_any (is_held n) xs ≡ true = ap (λ (m : Named). list_any (is_held m) xs) named ∙ ap (list_any (is_held (Of h))) old ∙ named_as h holds ∙ any in
     let within = lt-ltb (position_or_len (is_held n) xs) (length xs) (any_found (is_held n) xs there) in
-    let some : Some (position_or_len (is_held n) xs) ≡ None = sym (ap (λ (b : Bool). cond b (Some (position_or_len (is_held n) xs)) None) within) ∙ no in
+    let some : Some (position_or_len (is_held n) xs) ≡ None = sym (ap (λ (b : Bool). cond b (Some (position_or_len (is_held n) xs)) None) within) ∙ nowhere in
     cc)
 
 -- where one is found, it is the first
@@ -202,8 +218,8 @@ position_some n xs i is =
           let same : position_or_len (is_held n) xs ≡ i = cc in
           let below = ltb-true (position_or_len (is_held n) xs) (length xs) within in
           (same, omega arith)
-      | inr no ↦
-          let none : None ≡ Some i = sym (ap (λ (b : Bool). cond b (Some (position_or_len (is_held n) xs)) None) no) ∙ is in
+      | inr beyond ↦
+          let none : None ≡ Some i = sym (ap (λ (b : Bool). cond b (Some (position_or_len (is_held n) xs)) None) beyond) ∙ is in
           absurd (cc none)
     ]
 

@@ -6,10 +6,15 @@ pub mod Counted
 pub mod Counting
 pub mod Growth
 pub mod History
+pub mod HoldLists
+pub mod LineSteps
+pub mod MadeLines
 pub mod Meeting
 pub mod Placed
 pub mod Rounding
 pub mod Running
+pub mod SeatLemmas
+pub mod SeatLines
 pub mod Seeing
 pub mod Stacked
 pub mod Stacking

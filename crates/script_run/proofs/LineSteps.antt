@@ -36,11 +36,10 @@ use Rattle.script_lines.specs.Reads.{local}
 use Rattle.script_lines.specs.Outcome.{Outcome, tells, with_call, calls, read_line, name_line}
 use Rattle.script_lines.specs.Board.{Moments, reads_between, held_or_refused, reads_of, reads, asks_name, granted_at, AreMoments, AreMomentsBetween, AreMomentsOf}
 use Rattle.script_serial.specs.Prints.{PlacedCall, call_of, caller_of, places_in, behind_last}
-use Rattle.script_lines.proofs.HoldLaws.{holds_of}
 use Rattle.script_run.specs.Seated.{MayFollow}
 use Rattle.script_run.specs.Timed.{oldest, places_by, second_moment, IsEntryOf}
 use Rattle.script_run.proofs.Growth.{oldest_grows, oldest_all}
-use Rattle.script_run.proofs.HoldLists.{or_second}
+use Rattle.script_run.proofs.HoldLists.{holds_of, or_second}
 use Rattle.script_run.proofs.Apart.{own_says, selection_says, holds_says, places_stay}
 
 -- ---- a step

@@ -3,12 +3,13 @@ use Rattle.std.proofs.Common.{◌≡◌, ◌⊎◌, inl, inr, ℕ, ◌+◌, ◌<
 use Rattle.std.specs.Prelude.{◌==◌, if◌then◌else◌, find, option_map}
 use Rattle.std.specs.Option.{option_copied}
 use Rattle.std.specs.List.{list_any}
+use Rattle.turn_gate.specs.declared.entry.Terms.{Terms}
 use Rattle.turn_gate.specs.Callers.{Gate}
 use Rattle.mask_compose.specs.Parts.{Parts}
 use Rattle.handle_table.specs.declared.handle.Handle.{Handle}
 use Rattle.handle_table.specs.declared.handle.Named.{Named}
 use Rattle.handle_table.specs.declared.handle.Named.TheVariants.{Global, Of}
-use Rattle.handle_table.specs.Entry.{Op, New, Dup, Free, Use, Hold, Release, SetGlobal, Install, Post, Fetch, Pins, End, Reply, Held, Released, Refusal, Refused, Entry, History, Setting, is_accepted}
+use Rattle.handle_table.specs.Entry.{Op, New, Dup, Free, Use, Hold, Release, SetGlobal, Install, Post, Fetch, Pins, End, Reply, Was, Set, Held, Released, Refusal, Refused, Entry, History, Setting, is_accepted}
 use Rattle.handle_table.specs.History.{sets, global, global_at, selection, holding}
 use Rattle.handle_table.specs.Answer.{answer, own, IsLegal}
 use Rattle.thread_current.specs.Mine.{HeldData}
@@ -19,11 +20,10 @@ use Rattle.script_lines.specs.Holds.{object_held, with_hold, without, hold_chang
 use Rattle.script_lines.specs.Outcome.{with_call}
 use Rattle.script_lines.specs.Board.{Answers, Finds}
 use Rattle.handle_table.proofs.Unchanged.{newest_version}
-use Rattle.script_lines.proofs.HoldLaws.{holds_of}
 use Rattle.script_run.specs.declared.seated.Seated.{Seated}
 use Rattle.script_run.specs.Seated.{held_data, handed_out, KnowsSeated, IsSeatedAt, MayFollow, HasCalls, AnswersSeated, AreApart, is_held, IsTaken, IsUnheld}
 use Rattle.script_run.proofs.Apart.{own_says, selection_says, holds_says}
-use Rattle.script_run.proofs.HoldLists.{apart_holds, found_as}
+use Rattle.script_run.proofs.HoldLists.{holds_of, apart_holds, found_as}
 
 -- ---- entries of a thread
 
@@ -103,15 +103,44 @@ handed_more : (os : List OpenHold) (h : Handle) (x : Parts) → handed_out (os +
 handed_more [] h x = refl
 handed_more (o ∷ os) h x = ap (λ (hs : List HeldData). held_data o ∷ hs) (handed_more os h x)
 
+-- the same of a fault
+pub answers_fault : (gate : Gate Setting) (old new : Seated) (op : Op) (place : ℕ) (refusal : Refusal) (at : ℕ) (reply : Reply) → HasCalls 1 gate old
+    → Answered gate old.mine new.mine op place (Refused refusal) → IsInOrder gate.terms new.mine → new.number ≡ old.number → new.holds.items ≡ old.holds.items
+    → (at ≡ place) × (reply ≡ Refused refusal) → AnswersSeated gate old new op at reply
+answers_fault gate old new op place refusal at reply may a is number same told =
+    subst (λ (r : Reply). AnswersSeated gate old new op at r) (sym told.1)
+    (subst (λ (p : ℕ). AnswersSeated gate old new op p (Refused refusal)) (sym told.0) (answers_refused gate old new op place refusal may a is number same))
+
+-- a change of the global locale gives the object that it made
+pub answers_set : (gate : Gate Setting) (old new : Seated) (mask : ℕ) (numbers : List ℕ) (place version : ℕ) (object : Parts) → HasCalls 1 gate old
+    → Answered gate old.mine new.mine (SetGlobal mask numbers) place (Set version (global_at gate.terms.setting new.mine.seen version)) → IsInOrder gate.terms new.mine
+    → new.number ≡ old.number → new.holds.items ≡ old.holds.items
+    → ((terms : Terms Setting) → new.mine.terms ≡ Some terms → object ≡ global_at terms.setting new.mine.seen new.mine.cached) → new.mine.cached ≡ version
+    → AnswersSeated gate old new (SetGlobal mask numbers) place (Set version object)
+answers_set gate old new mask numbers place version object may a is number same newest cached =
+    let here : object ≡ global_at gate.terms.setting new.mine.seen version =
+    newest gate.terms (a.same.terms ∙ may.seated.thread.1) ∙ ap (global_at gate.terms.setting new.mine.seen) cached in
+    subst (λ (o : Parts). AnswersSeated gate old new (SetGlobal mask numbers) place (Set version o)) (sym here)
+    (answers_plain gate old new (SetGlobal mask numbers) place (Set version (global_at gate.terms.setting new.mine.seen version)) may a is number same refl)
+
+-- a selection gives the object that is taken up
+pub answers_use : (gate : Gate Setting) (old new : Seated) (n : Named) (place : ℕ) (former : Named) (target now : Option Parts) → HasCalls 1 gate old
+    → Answered gate old.mine new.mine (Use n) place (Was former target) → IsInOrder gate.terms new.mine → new.number ≡ old.number → new.holds.items ≡ old.holds.items
+    → now ≡ target → AnswersSeated gate old new (Use n) place (Was former now)
+answers_use gate old new n place former target now may a is number same taken =
+    subst (λ (o : Option Parts). AnswersSeated gate old new (Use n) place (Was former o)) (sym taken)
+    (answers_plain gate old new (Use n) place (Was former target) may a is number same refl)
+
 -- an accepted Hold adds it
-pub answers_hold : (gate : Gate Setting) (old new : Seated) (n : Named) (place : ℕ) (held : HeldData) → HasCalls 1 gate old
+pub answers_hold : (gate : Gate Setting) (old new : Seated) (n : Named) (place : ℕ) (held : HeldData) (object : Parts) → HasCalls 1 gate old
     → Answered gate old.mine new.mine (Hold n) place (Held held.object) → IsInOrder gate.terms new.mine → n ≡ Of held.handle → new.number ≡ old.number
-    → new.holds.items ≡ old.holds.items ++ held ∷ [] → AnswersSeated gate old new (Hold n) place (Held held.object)
-answers_hold gate old new n place held may a is named number more =
+    → new.holds.items ≡ old.holds.items ++ held ∷ [] → object ≡ held.object → AnswersSeated gate old new (Hold n) place (Held object)
+answers_hold gate old new n place held object may a is named number more same =
     let os = open_holds old.mine.seen old.number in
-    answers_seated gate old new (Hold n) place (Held held.object) may.seated a is number
+    subst (λ (o : Parts). AnswersSeated gate old new (Hold n) place (Held o)) (sym same)
+    (answers_seated gate old new (Hold n) place (Held held.object) may.seated a is number
     (more ∙ ap (λ (hs : List HeldData). hs ++ held ∷ []) may.seated.knows.holds ∙ sym (handed_more os held.handle held.object)
-    ∙ ap (λ (m : Named). handed_out (with_hold os m (Some held.object))) (sym named))
+    ∙ ap (λ (m : Named). handed_out (with_hold os m (Some held.object))) (sym named)))
 
 -- a Release takes it out
 pub answers_release : (gate : Gate Setting) (old new : Seated) (n : Named) (place : ℕ) (held : HeldData) → HasCalls 1 gate old

@@ -28,12 +28,11 @@ use Rattle.script_lines.specs.Wishes.{Wish, Calls, ReadsOf, Reads, AsksSelection
 use Rattle.script_lines.specs.Board.{Moments, granted_at, AreMomentsOf, LeavesTurn, turn_caller}
 use Rattle.script_serial.specs.Plan.{PlanData}
 use Rattle.script_serial.specs.Prints.{bound_by, caller_of}
-use Rattle.script_lines.proofs.HoldLaws.{holds_of}
 use Rattle.script_run.specs.declared.seated.Seated.{Seated}
 use Rattle.script_run.specs.Seated.{IsSeatedAt, MayFollow, HasCalls, AreApart}
 use Rattle.script_run.specs.Timed.{Timed, tellings, lines_in, turn_made, turns_made}
 use Rattle.script_run.specs.Beside.{HasMade, IsWorker, Adds, Works, WorksOn}
-use Rattle.script_run.proofs.HoldLists.{apart_holds, kept_all}
+use Rattle.script_run.proofs.HoldLists.{holds_of, apart_holds, kept_all}
 use Rattle.script_run.proofs.SeatLemmas.{seated_as}
 use Rattle.script_run.proofs.LineSteps.{IsStep, moment_of, granted_step, longer, goes_further, follow_holds, own_entry, own_holds}
 use Rattle.script_run.proofs.MadeLines.{HasLines, made_line, more_lines}

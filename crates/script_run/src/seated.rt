@@ -5,6 +5,7 @@ ghost use Rattle.std.specs.Option.{option_copied};
 ghost use Rattle.handle_table.specs.Entry as table;
 ghost use Rattle.handle_table.specs.Seen.{op_of, reply_of, refusal_of};
 ghost use Rattle.handle_table.specs.Table.{Fits};
+ghost use Rattle.thread_current.specs.Thread.{own_object};
 ghost use Rattle.script_run.specs.Seated.{HasCalls, IsPlain, IsChange, AnswersSeated, is_held, IsFirst, IsTaken, IsUnheld};
 
 use category_store::Share;
@@ -222,7 +223,7 @@ impl<'a, R: Wait> Beside<'a, R> {
     {
         match self.shared.uselocale(self.rt, &mut side.mine, to) {
             Ok((place, former)) => {
-                let now = side.mine.own().map(|object| object.share());
+                let now = taken_up(&side.mine);
                 (place, Reply::Was { former, now })
             }
             Err(fault) => refused(fault),
@@ -259,6 +260,16 @@ impl<'a, R: Wait> Beside<'a, R> {
                 (place, Reply::Refused(refusal))
             }
         }
+    }
+}
+
+// The object that a thread took up when it selected it.
+fn taken_up(mine: &Mine<Share>) -> Option<Object<Share>>
+    ensures { result ≡ own_object mine.now }
+{
+    match mine.own() {
+        Some(object) => Some(object.share()),
+        None => None,
     }
 }
 
