@@ -23,3 +23,4 @@ pub mod TimedExamples
 pub mod Told
 pub mod Versions
 pub mod Whole
+pub mod WorkLemmas

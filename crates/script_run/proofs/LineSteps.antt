@@ -323,7 +323,7 @@ moment_of m at (Ok (Reads read)) = read_moment m (own m.seen at.thread)
 moment_of m at (Ok AsksSelection) = length m.seen
 moment_of m at (Ok (AsksName chosen)) = length m.first
 
-call_step : (c : Setting) (library : Catalog) (at : Caller) (m : Moments) (chosen : Categories) (op : Op) → MayFollow c at.thread m.first m.seen
+pub call_step : (c : Setting) (library : Catalog) (at : Caller) (m : Moments) (chosen : Categories) (op : Op) → MayFollow c at.thread m.first m.seen
     → IsStep c library at (Ok (Calls chosen op)) m.seen (calls c library m.first at chosen op) (length m.first)
 call_step c library at m chosen op f =
     let r : Reply = answer c m.first at.thread op in

@@ -40,7 +40,7 @@ others_between gate old new op place reply was is a =
     let rest : e ∷ entries_by old.number (before new) ≡ e ∷ old.calls = sym (own_newest old.number e (before new) refl) ∙ all in
     ap without_newest rest ∙ sym was.calls
 
-legal_before : (gate : Gate Setting) (old new : Thread) (op : Op) (place : ℕ) (reply : Reply) → IsInOrder gate.terms new
+pub legal_before : (gate : Gate Setting) (old new : Thread) (op : Op) (place : ℕ) (reply : Reply) → IsInOrder gate.terms new
     → Answered gate old new op place reply → IsLegal gate.terms.setting (before new)
 legal_before gate old new op place reply is a = (subst (IsLegal gate.terms.setting) a.seen is.legal).1
 

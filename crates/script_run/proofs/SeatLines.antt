@@ -47,7 +47,7 @@ moments_seen c later t H (Ok (Reads read)) m of = of.seen
 moments_seen c later t H (Ok AsksSelection) m of = of.seen
 moments_seen c later t H (Ok (AsksName chosen)) m of = of.seen
 
-lines_made : (terms : Terms Setting) (plan : PlanData) (t : ℕ) (S : History) (made : List Timed) (thread : Thread) → HasLines terms.setting plan t S made
+pub lines_made : (terms : Terms Setting) (plan : PlanData) (t : ℕ) (S : History) (made : List Timed) (thread : Thread) → HasLines terms.setting plan t S made
     → t ≡ thread.number → S ≡ thread.seen → IsInOrder terms thread → HasMade terms plan thread made
 lines_made terms plan t S made thread has number seen is =
     let now = subst (λ (H : History). HasLines terms.setting plan thread.number H made) seen (subst (λ (k : ℕ). HasLines terms.setting plan k S made) number has) in
