@@ -121,7 +121,7 @@ own_entry c H t op = ap (λ (b : Bool). cond b (record { who = t; op = op; reply
 pub own_holds : (c : Setting) (H : History) (t : ℕ) (op : Op) → open_holds (with_call c H t op) t ≡ holds_after (open_holds H t) op (answer c H t op)
 own_holds c H t op = ap (λ (b : Bool). cond b (holds_after (open_holds H t) op (answer c H t op)) (open_holds H t)) (eq-eqb t t refl)
 
--- ---- how many Holds are open
+-- ---- how many Holds are standing
 
 fewer_left : (p : OpenHold → Bool) (os : List OpenHold) → length (filter p os) ≤ length os
 fewer_left p [] = omega arith
@@ -242,8 +242,8 @@ last_of h os o =
 -- so its Release is accepted
 pub released_between : (c : Setting) (t : ℕ) (h : Handle) (second : History) (os : List OpenHold) (o : Parts) → IsLegal c second
     → open_holds second t ≡ os ++ record { handle = h; object = o } ∷ [] → answer c second t (Release (Of h)) ≡ Released
-released_between c t h second os o legal open =
-    let held : holding second t h ≡ true = sym (holds_of c second legal t h) ∙ ap (list_any (is_of h)) open ∙ last_of h os o in
+released_between c t h second os o legal standing =
+    let held : holding second t h ≡ true = sym (holds_of c second legal t h) ∙ ap (list_any (is_of h)) standing ∙ last_of h os o in
     ap (λ (b : Bool). unless (first_reason ((if b then None else Some NotHeld) ∷ [])) Released) held
 
 without_last : (h : Handle) (os : List OpenHold) (o : Parts) → length (without (os ++ record { handle = h; object = o } ∷ []) (Of h)) ≤ length os
@@ -263,11 +263,11 @@ between_holds c t Global first second o is g = absurd (cc is)
 between_holds c t (Of h) first second o is g =
     let os : List OpenHold = open_holds first t in
     let last : OpenHold = record { handle = h; object = o } in
-    let open : open_holds second t ≡ os ++ last ∷ [] = holding_between c t h first second o is g in
+    let standing : open_holds second t ≡ os ++ last ∷ [] = holding_between c t h first second o is g in
     let left : open_holds (with_call c second t (Release (Of h))) t ≡ without (os ++ last ∷ []) (Of h) =
     own_holds c second t (Release (Of h))
-    ∙ ap (λ (xs : List OpenHold). holds_after xs (Release (Of h)) (answer c second t (Release (Of h)))) open
-    ∙ ap (λ (r : Reply). holds_after (os ++ last ∷ []) (Release (Of h)) r) (released_between c t h second os o g.legal open) in
+    ∙ ap (λ (xs : List OpenHold). holds_after xs (Release (Of h)) (answer c second t (Release (Of h)))) standing
+    ∙ ap (λ (r : Reply). holds_after (os ++ last ∷ []) (Release (Of h)) r) (released_between c t h second os o g.legal standing) in
     subst (λ (xs : List OpenHold). length xs ≤ length os) (sym left) (without_last h os o)
 
 between : (c : Setting) (library : Catalog) (at : Caller) (S first second : History) (n : Named) (read : Read) (o : Parts)
@@ -289,7 +289,7 @@ between c library at S first second n read o f g is same =
     let firsts : length (entries_by t H) ≡ length (entries_by t first) + 1 = ap (λ (F : History). length F) (own_entry c first t (Hold n)) ∙ (omega arith) in
     let others : length (entries_by t second) ≡ length (entries_by t H) = ap (λ (F : History). length F) g.others in
     let before : length (entries_by t first) ≡ length (entries_by t S) = ap (λ (F : History). length F) f.others in
-    let open : length (open_holds first t) ≡ length (open_holds S t) = ap (λ (os : List OpenHold). length os) (follow_holds c t first S f) in
+    let standing : length (open_holds first t) ≡ length (open_holds S t) = ap (λ (os : List OpenHold). length os) (follow_holds c t first S f) in
     let left : length (open_holds W t) ≤ length (open_holds first t) = between_holds c t n first second o is g in
     let hold : PlacedCall = record { place = length first; thread = t; op = Hold n } in
     let release : PlacedCall = record { place = length second; thread = t; op = Release n } in

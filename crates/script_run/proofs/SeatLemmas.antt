@@ -243,6 +243,17 @@ saw_finds gate old new version object may saw is number same newest here =
       object_is = here ∙ ap (global_at gate.terms.setting S) newest ∙ newest_version gate.terms.setting S;
     }
 
+-- the same at a table that is this one
+pub finds_at : (gate here : Gate Setting) (old new : Seated) (version : ℕ) (object : Parts) → here ≡ gate → HasCalls 0 gate old → SawMore old.mine new.mine → IsInOrder here.terms new.mine
+    → new.number ≡ old.number → new.holds.items ≡ old.holds.items → version ≡ sets new.mine.seen → object ≡ global_at here.terms.setting new.mine.seen version
+    → Found gate old new version object
+finds_at gate here old new version object one may saw is number same newest found =
+    saw_finds gate old new version object may saw (subst (λ (x : Gate Setting). IsInOrder x.terms new.mine) one is) number same newest
+    (subst (λ (x : Gate Setting). object ≡ global_at x.terms.setting new.mine.seen version) one found)
+
+pub answers_at : (gate here : Gate Setting) (old new : Seated) (op : Op) (place : ℕ) (reply : Reply) → here ≡ gate → AnswersSeated here old new op place reply → AnswersSeated gate old new op place reply
+answers_at gate here old new op place reply one a = subst (λ (x : Gate Setting). AnswersSeated x old new op place reply) one a
+
 pub finds : (gate : Gate Setting) (old new : Seated) (version : ℕ) (object : Parts) → Found gate old new version object → (H : History) → IsSeatedAt gate old H
     → Finds gate.terms.setting (MayFollow gate.terms.setting old.number) (IsSeatedAt gate new) H version object
 finds gate old new version object found H at = record {

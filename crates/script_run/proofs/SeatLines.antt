@@ -104,21 +104,21 @@ step_right gate plan turn old new lines lines' made own worker a s =
     let has : HasLines c plan turn.thread S made = subst (λ (k : ℕ). HasLines c plan k S made) number (record { own = was.own; right = was.right; timed = was.timed; places = was.places }) in
     let now : HasLines c plan turn.thread W (m ∷ made) = more_lines c plan at S s.done s.moment made turn.task has (ap (λ (n : ℕ). n + 1) worker.lines) s.step in
     let seen : W ≡ new.side.mine.seen = sym s.now_at.knows.seen in
-    let mine : turn.thread ≡ new.side.mine.number = own ∙ sym a.number ∙ sym s.now_at.knows.number in
+    let mine : turn.thread ≡ new.side.mine.number = own ∙ sym a.adds.number ∙ sym s.now_at.knows.number in
     let thread : l.thread ≡ old.side.number = ap (λ (x : Caller). x.thread) s.step.caller ∙ own in
     let calls_new : length new.side.mine.calls ≡ length (entries_by turn.thread W) =
     ap (λ (H : History). length H) (sym s.now_at.in_order.calls ∙ ap (λ (k : ℕ). entries_by k new.side.mine.seen) (sym mine) ∙ ap (entries_by turn.thread) (sym seen)) in
     let holds_new : length (open_holds new.side.mine.seen new.side.number) ≡ length (open_holds W turn.thread) =
-    ap (λ (H : History). length (open_holds H new.side.number)) (sym seen) ∙ ap (λ (k : ℕ). length (open_holds W k)) (a.number ∙ sym own) in
+    ap (λ (H : History). length (open_holds H new.side.number)) (sym seen) ∙ ap (λ (k : ℕ). length (open_holds W k)) (a.adds.number ∙ sym own) in
     let calls_old : length old.side.mine.calls ≡ length (entries_by turn.thread S) =
     ap (λ (H : History). length H) (sym worker.seated.in_order.calls ∙ ap (λ (k : ℕ). entries_by k S) number) in
     let holds_old : length (open_holds S old.side.number) ≡ length (open_holds S turn.thread) = ap (λ (k : ℕ). length (open_holds S k)) (sym own) in
     let few_old = worker.few in
     let few_step = s.step.few in
-    let more : new.lines ≡ old.lines + 1 = a.lines in
+    let more : new.lines ≡ old.lines + 1 = a.adds.lines in
     let count : old.lines ≡ length made = worker.lines in
     let bounds = bound_by (tellings made) in
-    let bound = a.variables bounds worker.variables in
+    let bound = a.adds.variables bounds worker.variables in
     record {
       newest = m;
       added = a.added ∙ ap (λ (x : OutLine). lines ++ x ∷ []) s.line;
@@ -129,7 +129,7 @@ step_right gate plan turn old new lines lines' made own worker a s =
         seated = seated_as gate new.side W new.side.mine.seen seen s.now_at;
         made = lines_made gate.terms plan turn.thread W (m ∷ made) new.side.mine now mine seen s.now_at.in_order;
         few = omega arith;
-        variables = subst (λ (k : ℕ). BindsAs k new.variables (bindings_after l.thread bounds turn.task l.reply)) (sym a.number)
+        variables = subst (λ (k : ℕ). BindsAs k new.variables (bindings_after l.thread bounds turn.task l.reply)) (sym a.adds.number)
             (subst (λ (k : ℕ). BindsAs old.side.number new.variables (bindings_after k bounds turn.task l.reply)) (sym thread)
             (subst (λ (x : OutLine). BindsAs old.side.number new.variables (bindings_after old.side.number bounds turn.task x.reply)) s.line bound));
         lines = omega arith;
@@ -140,7 +140,7 @@ pub line_right : (gate : Gate Setting) (library : Catalog) (plan : PlanData) (tu
     → plan.library ≡ library → turn.thread ≡ old.side.number → IsWorker gate plan old made → Adds gate library turn old new lines lines' → AddsRight gate plan turn old new made lines lines'
 line_right gate library plan turn old new lines lines' made same own worker adds =
     let a : Adds gate plan.library turn old new lines lines' = subst (λ (x : Catalog). Adds gate x turn old new lines lines') (sym same) adds in
-    step_right gate plan turn old new lines lines' made own worker a (stepped gate plan turn old new made a.line own (a.leaves (bound_by (tellings made)) worker.variables))
+    step_right gate plan turn old new lines lines' made own worker a (stepped gate plan turn old new made a.line own (a.adds.leaves (bound_by (tellings made)) worker.variables))
 
 -- ---- several turns
 
@@ -176,7 +176,7 @@ works_one_more gate library turns turn old mid new lines lines' lines'' works ow
     let w = works plan made same worker in
     works_more gate plan turns turn old mid new made lines lines' lines'' w (line_right gate library plan turn mid new lines' lines'' (w.more ++ made) same own w.worker adds)
 
--- ---- a Release of the first open Hold
+-- ---- a Release of the first standing Hold
 
 bounds_back : (t : ℕ) (bindings : Bindings) → bindings_of t (map (λ (b : List ℕ × Handle). record { thread = t; variable = b.0; handle = b.1 }) bindings) ≡ bindings
 bounds_back t [] = refl
@@ -186,7 +186,7 @@ bounds_back t (b ∷ bindings) =
     ap (λ (x : Bool). map (λ (y : Bound). (y.variable, y.handle)) (cond x (first ∷ filter (λ (y : Bound). y.thread == t) rest) (filter (λ (y : Bound). y.thread == t) rest))) (eq-eqb t t refl)
     ∙ ap (λ (bs : Bindings). (b.0, b.1) ∷ bs) (bounds_back t bindings)
 
--- what giving up the first open Hold leaves
+-- what giving up the first standing Hold leaves
 pub record LeftBy (gate : Gate Setting) (old new : ScriptThread Seated) (left : List OpenHold) : Type 0 where
   pub holds : open_holds new.side.mine.seen new.side.number ≡ left
   pub calls : length new.side.mine.calls ≡ length old.side.mine.calls + 1
@@ -194,9 +194,9 @@ pub record LeftBy (gate : Gate Setting) (old new : ScriptThread Seated) (left : 
 
 release_holds : (c : Setting) (t : ℕ) (first : History) (o : OpenHold) (os : List OpenHold) (S : History) → MayFollow c t first S → open_holds S t ≡ o ∷ os → AreApart (o ∷ os)
     → open_holds (with_call c first t (Release (Of o.handle))) t ≡ os
-release_holds c t first o os S f open apart =
+release_holds c t first o os S f standing apart =
     let op : Op = Release (Of o.handle) in
-    let before : open_holds first t ≡ o ∷ os = follow_holds c t first S f ∙ open in
+    let before : open_holds first t ≡ o ∷ os = follow_holds c t first S f ∙ standing in
     let there : list_any (is_of o.handle) (o ∷ os) ≡ true = ap (λ (b : Bool). b || list_any (is_of o.handle) os) (same_itself o.handle) in
     let held : holding first t o.handle ≡ true = sym (holds_of c first f.legal t o.handle) ∙ ap (list_any (is_of o.handle)) before ∙ there in
     let accepted : answer c first t op ≡ Released = ap (λ (b : Bool). unless (first_reason ((if b then None else Some NotHeld) ∷ [])) Released) held in
@@ -213,26 +213,26 @@ release_calls c t first S op f =
 pub released : (gate : Gate Setting) (library : Catalog) (round : ℕ) (old new : ScriptThread Seated) (lines lines' : List OutLine) (o : OpenHold) (os : List OpenHold)
     → IsSeatedAt gate old.side old.side.mine.seen → open_holds old.side.mine.seen old.side.number ≡ o ∷ os
     → Adds gate library (closing_turn round old.side.number (Releases o.handle)) old new lines lines' → LeftBy gate old new os
-released gate library round old new lines lines' o os at open a =
+released gate library round old new lines lines' o os at standing a =
     let c : Setting = gate.terms.setting in
     let t : ℕ = old.side.number in
     let S : History = old.side.mine.seen in
     let turn : Turn = closing_turn round t (Releases o.handle) in
     let back : bindings_of t (map (λ (b : List ℕ × Handle). record { thread = t; variable = b.0; handle = b.1 }) old.variables) ≡ old.variables = bounds_back t old.variables in
-    let leaves = a.leaves (map (λ (b : List ℕ × Handle). record { thread = t; variable = b.0; handle = b.1 }) old.variables) (λ v. ap (λ (bs : Bindings). bound bs v) (sym back)) in
+    let leaves = a.adds.leaves (map (λ (b : List ℕ × Handle). record { thread = t; variable = b.0; handle = b.1 }) old.variables) (λ v. ap (λ (bs : Bindings). bound bs v) (sym back)) in
     let m : Moments = leaves.0 in
     let f : MayFollow c t m.first S = subst (MayFollow c t m.first) leaves.1.seen leaves.1.first in
     let now = leaves.2.now_at in
     let op : Op = Release (Of o.handle) in
     let W : History = with_call c m.first t op in
-    let apart : AreApart (o ∷ os) = subst AreApart open (apart_holds c S at.in_order.legal t) in
-    let mine : new.side.mine.number ≡ t = now.knows.number ∙ a.number in
+    let apart : AreApart (o ∷ os) = subst AreApart standing (apart_holds c S at.in_order.legal t) in
+    let mine : new.side.mine.number ≡ t = now.knows.number ∙ a.adds.number in
     let calls_new : length new.side.mine.calls ≡ length (entries_by t W) =
     ap (λ (H : History). length H) (sym now.in_order.calls ∙ ap (λ (k : ℕ). entries_by k new.side.mine.seen) mine ∙ ap (entries_by t) now.knows.seen) in
     let calls_old : length old.side.mine.calls ≡ length (entries_by t S) =
     ap (λ (H : History). length H) (sym at.in_order.calls ∙ ap (λ (k : ℕ). entries_by k S) at.knows.number) in
     record {
-      holds = ap (λ (H : History). open_holds H new.side.number) now.knows.seen ∙ ap (open_holds W) a.number ∙ release_holds c t m.first o os S f open apart;
+      holds = ap (λ (H : History). open_holds H new.side.number) now.knows.seen ∙ ap (open_holds W) a.adds.number ∙ release_holds c t m.first o os S f standing apart;
       calls = calls_new ∙ release_calls c t m.first S op f ∙ ap (λ (n : ℕ). n + 1) (sym calls_old);
       seated = seated_as gate new.side W new.side.mine.seen (sym now.knows.seen) now;
     }

@@ -34,7 +34,7 @@ use Rattle.script_serial.specs.Plan.{PlanData}
 use Rattle.script_run.specs.declared.seated.Seated.{Seated}
 use Rattle.script_run.specs.Seated.{held_data, handed_out, IsSeatedAt, MayFollow, HasCalls, MayCall, IsFirst}
 use Rattle.script_run.specs.Timed.{Timed, tellings, lines_in, turns_made, AreTimed}
-use Rattle.script_run.specs.Beside.{HasMade, IsWorker, CanAdd, Adds, turns_of, CanWork, WorksOn, Works, CanClose, GivesUp, Closes}
+use Rattle.script_run.specs.Beside.{HasMade, IsWorker, CanAdd, Adds, turns_of, CanWork, WorksOn, Works, CanClose, GivesUp, EndsSeat, Closes}
 use Rattle.script_run.proofs.HoldLists.{holds_of}
 use Rattle.script_run.proofs.SeatLemmas.{legal_before, others_between}
 use Rattle.script_run.proofs.LineSteps.{longer, goes_further, goes_one_more, call_step}
@@ -108,12 +108,12 @@ can_after : (gate : Gate Setting) (library : Catalog) (old new : ScriptThread Se
 can_after gate library old new turn turns lines lines' can a =
     let quota = can.calls.quota in
     let few = can.few in
-    let more = a.lines in
+    let more = a.adds.lines in
     record {
       numbered = can.numbered;
       installable = can.installable;
       opening = can.opening;
-      calls = a.calls (2 * length turns) (record { seated = can.calls.seated; quota = omega arith });
+      calls = a.adds.calls (2 * length turns) (record { seated = can.calls.seated; quota = omega arith });
       few = omega arith;
       fits = All-tail (λ (x : Turn). TaskMay library (MayCall gate.terms.setting) x.task) turn turns can.fits;
     }
@@ -138,7 +138,7 @@ going_on gate library turns old mid new lines lines' lines'' i turn below is own
     ap (turns_of n) (taken turns i turn below is) ∙ filter-append (λ (t : Turn). t.thread == n) (take i turns) (turn ∷ [])
     ∙ ap (λ (ts : List Turn). turns_of n (take i turns) ++ ts) (its_own n turn [] here) in
     record {
-      number = a.number ∙ g.number;
+      number = a.adds.number ∙ g.number;
       can = can_after gate library mid new turn (turns_of n (drop (i + 1) turns)) lines' lines'' (subst (CanWork gate library mid) rest g.can) a;
       works = subst (λ (ts : List Turn). WorksOn gate library ts old new lines lines'') (sym so_far)
           (works_one_more gate library (turns_of n (take i turns)) turn old mid new lines lines' lines'' g.works (own ∙ sym g.number) a);
@@ -155,14 +155,14 @@ pub gone : (gate : Gate Setting) (library : Catalog) (turns : List Turn) (old ne
 gone gate library turns old new lines lines' i all g =
     subst (λ (ts : List Turn). WorksOn gate library (turns_of old.side.number ts) old new lines lines') (take_all turns i all) g.works
 
--- ---- the open Holds
+-- ---- the standing Holds
 
 -- what the Releases so far have left of a thread
 pub record Releasing (gate : Gate Setting) (library : Catalog) (round : ℕ) (old new : ScriptThread Seated) (lines lines' : List OutLine) : Type 0 where
   pub done : List OpenHold
   pub left : List OpenHold
   pub whole : open_holds old.side.mine.seen old.side.number ≡ done ++ left
-  pub open : open_holds new.side.mine.seen new.side.number ≡ left
+  pub standing : open_holds new.side.mine.seen new.side.number ≡ left
   pub number : new.side.number ≡ old.side.number
   pub can : CanClose gate library new
   pub works : WorksOn gate library (releases round old.side.number done) old new lines lines'
@@ -172,7 +172,7 @@ releasing_none gate library round t lines can = record {
   done = [];
   left = open_holds t.side.mine.seen t.side.number;
   whole = refl;
-  open = refl;
+  standing = refl;
   number = refl;
   can = can;
   works = works_none gate library t lines;
@@ -182,7 +182,7 @@ first_there : (h : Handle) (held : List HeldData) → IsFirst h held → 1 ≤ l
 first_there h [] first = absurd first
 first_there h (x ∷ held) first = omega arith
 
--- the first open Hold can be given up
+-- the first standing Hold can be given up
 pub can_release : (gate : Gate Setting) (library : Catalog) (round : ℕ) (t : ScriptThread Seated) (h : Handle) → CanClose gate library t → IsFirst h t.side.holds.items
     → CanAdd gate library t (closing_turn round t.side.number (Releases h))
 can_release gate library round t h can first =
@@ -199,7 +199,7 @@ can_release gate library round t h can first =
       fits = λ b. (tt, tt);
     }
 
--- the first of the open Holds
+-- the first of the standing Holds
 pub record FirstOf (h : Handle) (left : List OpenHold) : Type 0 where
   pub hold : OpenHold
   pub others : List OpenHold
@@ -211,28 +211,28 @@ first_of h [] first = absurd first
 first_of h (o ∷ os) first = record { hold = o; others = os; whole = refl; handle = first }
 
 first_open : (gate : Gate Setting) (s : Seated) (h : Handle) (left : List OpenHold) → IsSeatedAt gate s s.mine.seen → open_holds s.mine.seen s.number ≡ left → IsFirst h s.holds.items → FirstOf h left
-first_open gate s h left at open first = first_of h left (subst (IsFirst h) (at.knows.holds ∙ ap handed_out open) first)
+first_open gate s h left at standing first = first_of h left (subst (IsFirst h) (at.knows.holds ∙ ap handed_out standing) first)
 
 abbrev pub release_turn : ℕ → ScriptThread Seated → Handle → Turn
 release_turn round t h = closing_turn round t.side.number (Releases h)
 
 left_by : (gate : Gate Setting) (library : Catalog) (round : ℕ) (mid new : ScriptThread Seated) (lines lines' : List OutLine) (h : Handle) (left : List OpenHold) (f : FirstOf h left)
     → IsSeatedAt gate mid.side mid.side.mine.seen → open_holds mid.side.mine.seen mid.side.number ≡ left → Adds gate library (release_turn round mid h) mid new lines lines' → LeftBy gate mid new f.others
-left_by gate library round mid new lines lines' h left f at open a =
-    released gate library round mid new lines lines' f.hold f.others at (open ∙ f.whole)
+left_by gate library round mid new lines lines' h left f at standing a =
+    released gate library round mid new lines lines' f.hold f.others at (standing ∙ f.whole)
     (subst (λ (g : Handle). Adds gate library (release_turn round mid g) mid new lines lines') f.handle a)
 
 count_holds : (gate : Gate Setting) (s : Seated) (left : List OpenHold) → IsSeatedAt gate s s.mine.seen → open_holds s.mine.seen s.number ≡ left → length s.holds.items ≡ length left
-count_holds gate s left at open = ap (λ (hs : List HeldData). length hs) (at.knows.holds ∙ ap handed_out open) ∙ length-map left held_data
+count_holds gate s left at standing = ap (λ (hs : List HeldData). length hs) (at.knows.holds ∙ ap handed_out standing) ∙ length-map left held_data
 
--- one Hold less is open
+-- one Hold less is standing
 pub one_less : (gate : Gate Setting) (library : Catalog) (round : ℕ) (old mid new : ScriptThread Seated) (lines lines' lines'' : List OutLine) (h : Handle) → IsFirst h mid.side.holds.items
     → Releasing gate library round old mid lines lines' → Adds gate library (release_turn round mid h) mid new lines' lines'' → length new.side.holds.items + 1 ≡ length mid.side.holds.items
 one_less gate library round old mid new lines lines' lines'' h first r a =
     let at = r.can.calls.seated in
-    let f = first_open gate mid.side h r.left at r.open first in
-    let l = left_by gate library round mid new lines' lines'' h r.left f at r.open a in
-    let before : length mid.side.holds.items ≡ length (f.hold ∷ f.others) = count_holds gate mid.side (f.hold ∷ f.others) at (r.open ∙ f.whole) in
+    let f = first_open gate mid.side h r.left at r.standing first in
+    let l = left_by gate library round mid new lines' lines'' h r.left f at r.standing a in
+    let before : length mid.side.holds.items ≡ length (f.hold ∷ f.others) = count_holds gate mid.side (f.hold ∷ f.others) at (r.standing ∙ f.whole) in
     let after : length new.side.holds.items ≡ length f.others = count_holds gate new.side f.others l.seated l.holds in
     omega arith
 
@@ -240,12 +240,12 @@ pub releasing_on : (gate : Gate Setting) (library : Catalog) (round : ℕ) (old 
     → Releasing gate library round old mid lines lines' → Adds gate library (release_turn round mid h) mid new lines' lines'' → Releasing gate library round old new lines lines''
 releasing_on gate library round old mid new lines lines' lines'' h first r a =
     let at = r.can.calls.seated in
-    let f = first_open gate mid.side h r.left at r.open first in
-    let l = left_by gate library round mid new lines' lines'' h r.left f at r.open a in
+    let f = first_open gate mid.side h r.left at r.standing first in
+    let l = left_by gate library round mid new lines' lines'' h r.left f at r.standing a in
     let less : length new.side.holds.items + 1 ≡ length mid.side.holds.items = one_less gate library round old mid new lines lines' lines'' h first r a in
     let quota = r.can.calls.quota in
     let few = r.can.few in
-    let more = a.lines in
+    let more = a.adds.lines in
     let calls = l.calls in
     let n : ℕ = old.side.number in
     let own : release_turn round mid h ≡ closing_turn round n (Releases f.hold.handle) =
@@ -257,8 +257,8 @@ releasing_on gate library round old mid new lines lines' lines'' h first r a =
       done = r.done ++ f.hold ∷ [];
       left = f.others;
       whole = r.whole ∙ ap (λ (os : List OpenHold). r.done ++ os) f.whole ∙ sym (append_assoc r.done (f.hold ∷ []) f.others);
-      open = l.holds;
-      number = a.number ∙ r.number;
+      standing = l.holds;
+      number = a.adds.number ∙ r.number;
       can = record {
         numbered = r.can.numbered;
         installable = r.can.installable;
@@ -280,7 +280,7 @@ open_none gate s at empty = none_left (open_holds s.mine.seen s.number) (sym emp
 pub gives_up : (gate : Gate Setting) (library : Catalog) (round : ℕ) (old new : ScriptThread Seated) (lines lines' : List OutLine) → new.side.holds.items ≡ []
     → Releasing gate library round old new lines lines' → GivesUp gate library round old new lines lines'
 gives_up gate library round old new lines lines' empty r =
-    let none : r.left ≡ [] = sym r.open ∙ open_none gate new.side r.can.calls.seated empty in
+    let none : r.left ≡ [] = sym r.standing ∙ open_none gate new.side r.can.calls.seated empty in
     let all : open_holds old.side.mine.seen old.side.number ≡ r.done = r.whole ∙ ap (λ (os : List OpenHold). r.done ++ os) none ∙ append-nil r.done in
     record {
       can = r.can;
@@ -291,7 +291,7 @@ gives_up gate library round old new lines lines' empty r =
 
 -- ---- the end of a thread
 
--- a thread without an open Hold holds nothing, and may make its last call
+-- a thread without an standing Hold holds nothing, and may make its last call
 pub holds_nothing : (gate : Gate Setting) (library : Catalog) (t : ScriptThread Seated) → CanClose gate library t → t.side.holds.items ≡ [] → (h : Handle) → holds t.side.mine h ≡ false
 holds_nothing gate library t can empty h =
     let at = can.calls.seated in
@@ -338,22 +338,22 @@ module _ (gate : Gate Setting) (plan : PlanData) (round : ℕ) (mid : ScriptThre
       (sym (a.same.number ∙ number)) (sym (a.seen ∙ ap (λ (k : ℕ). record { who = k; op = End; reply = Ended } ∷ first) number))
       (record { legal = is.legal; callers = is.callers; calls = is.calls; in_reach = is.in_reach })
 
-pub closes : (gate : Gate Setting) (library : Catalog) (plan : PlanData) (round : ℕ) (old mid : ScriptThread Seated) (seat : Caller Setting (ops.Op Share) (replies.Reply Share)) (cached place : ℕ)
-    (made : List Timed) (lines lines' lines'' : List OutLine) (l : OutLine) → plan.library ≡ library → IsWorker gate plan old made → GivesUp gate library round old mid lines lines'
-    → Answered gate mid.side.mine (thread_of cached seat) End place Ended → IsInOrder gate.terms (thread_of cached seat) → l ≡ end_line round mid place → lines'' ≡ lines' ++ l ∷ []
-    → Closes gate plan round old seat made lines lines''
-closes gate library plan round old mid seat cached place made lines lines' lines'' l same worker g a is told added =
+pub closes : (gate : Gate Setting) (library : Catalog) (plan : PlanData) (round : ℕ) (old mid : ScriptThread Seated) (seat : Caller Setting (ops.Op Share) (replies.Reply Share))
+    (made : List Timed) (lines lines' lines'' : List OutLine) → plan.library ≡ library → IsWorker gate plan old made → GivesUp gate library round old mid lines lines'
+    → EndsSeat gate round mid seat lines' lines'' → Closes gate plan round old seat made lines lines''
+closes gate library plan round old mid seat made lines lines' lines'' same worker g e =
     let n : ℕ = old.side.number in
-    let first : History = before (thread_of cached seat) in
+    let a = e.answered in
+    let first : History = before (thread_of e.cached seat) in
     let w = g.works plan made same worker in
     let m : Timed = made_line Ends (end_line round mid (length first)) (length first) in
-    let all = ended_lines gate plan round mid seat cached place (w.more ++ made) w.worker a is in
-    let line_is : l ≡ m.told.line = told ∙ ap (end_line round mid) a.place_is in
+    let all = ended_lines gate plan round mid seat e.cached e.place (w.more ++ made) w.worker a e.in_order in
+    let line_is : end_line round mid e.place ≡ m.told.line = ap (end_line round mid) a.place_is in
     let behind = longer first mid.side.mine.seen a.later in
     let since = longer mid.side.mine.seen old.side.mine.seen w.later in
     record {
       more = m ∷ w.more;
-      added = added ∙ ap (λ (x : OutLine). lines' ++ x ∷ []) line_is ∙ ap (λ (ls : List OutLine). ls ++ m.told.line ∷ []) w.added
+      added = e.added ∙ ap (λ (x : OutLine). lines' ++ x ∷ []) line_is ∙ ap (λ (ls : List OutLine). ls ++ m.told.line ∷ []) w.added
           ∙ append_assoc lines (reverse (lines_in w.more)) (m.told.line ∷ []) ∙ ap (λ (ls : List OutLine). lines ++ ls) (sym (reverse-append (m.told.line ∷ []) (lines_in w.more)));
       turns = ap (λ (k : ℕ). closing_turn round k Ends ∷ turns_made w.more) g.number
           ∙ ap (λ (ts : List Turn). closing_turn round n Ends ∷ ts) w.turns

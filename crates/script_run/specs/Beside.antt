@@ -1,5 +1,5 @@
 -- Threads of a script that run beside each other, and at which point of it they are.
-use Rattle.std.specs.Prelude.{◌≡◌, ℕ, ◌+◌, ◌*◌, ◌^◌, ◌<◌, ◌≤◌, List, [], ◌∷◌, ◌++◌, ◌==◌, length, filter, reverse, All}
+use Rattle.std.specs.Prelude.{◌≡◌, ℕ, ◌+◌, ◌*◌, ◌^◌, ◌<◌, ◌≤◌, List, [], ◌∷◌, ◌++◌, ◌==◌, length, filter, reverse, All, None}
 use Rattle.category_store.specs.Catalog.{Catalog}
 use Rattle.category_store.specs.Library.{opening}
 use Rattle.category_store.specs.Shelf.{IsNumbered, IsInstallable}
@@ -8,9 +8,12 @@ use Rattle.turn_gate.specs.declared.entry.Terms.{Terms}
 use Rattle.turn_gate.specs.Callers.{Gate, Caller}
 use Rattle.handle_table.specs.declared.op.Op as ops
 use Rattle.handle_table.specs.declared.op.Reply as replies
-use Rattle.handle_table.specs.Entry.{Setting}
-use Rattle.thread_current.specs.Thread.{Thread, thread_of, IsInOrder, GoesOnFrom}
+use Rattle.handle_table.specs.Entry.{Setting, End, Ended}
+use Rattle.thread_current.specs.Thread.{Thread, thread_of, IsInOrder, GoesOnFrom, Answered}
 use Rattle.script_out.specs.declared.output.OutLine.{OutLine}
+use Rattle.script_out.specs.declared.output.Places.TheVariants as places
+use Rattle.script_out.specs.declared.output.Said.TheVariants as said
+use Rattle.script_lines.specs.Lines.{line}
 use Rattle.script_lines.specs.declared.thread.Thread.{Thread as ScriptThread}
 use Rattle.script_lines.specs.Board.{TaskMay, LeavesTurn}
 use Rattle.script_lines.specs.Holds.{open_holds}
@@ -54,17 +57,21 @@ pub record CanAdd (gate : Gate Setting) (library : Catalog) (t : ScriptThread Se
   pub own : turn.thread ≡ t.side.number
   pub fits : TaskMay library (MayCall gate.terms.setting) turn.task
 
--- what a turn leaves of its thread: one more line, and what the thread has seen and bound by it
-pub record Adds (gate : Gate Setting) (library : Catalog) (turn : Turn) (old new : ScriptThread Seated) (given given' : List OutLine) : Type 0 where
-  pub line : OutLine
-  pub added : given' ≡ given ++ line ∷ []
+-- what a turn leaves of its thread, which prints this line: what the thread has seen and bound by it
+pub record AddsLine (gate : Gate Setting) (library : Catalog) (turn : Turn) (old new : ScriptThread Seated) (l : OutLine) : Type 0 where
   pub leaves : (bounds : List Bound) → BindsAs old.side.number old.variables bounds
-      → LeavesTurn gate.terms.setting library (MayFollow gate.terms.setting old.side.number) (IsSeatedAt gate new.side) old.side.mine.seen bounds old.lines turn line
+      → LeavesTurn gate.terms.setting library (MayFollow gate.terms.setting old.side.number) (IsSeatedAt gate new.side) old.side.mine.seen bounds old.lines turn l
   pub variables : (bounds : List Bound) → BindsAs old.side.number old.variables bounds
-      → BindsAs old.side.number new.variables (bindings_after old.side.number bounds turn.task line.reply)
+      → BindsAs old.side.number new.variables (bindings_after old.side.number bounds turn.task l.reply)
   pub number : new.side.number ≡ old.side.number
   pub lines : new.lines ≡ old.lines + 1
   pub calls : (n : ℕ) → HasCalls (n + 2) gate old.side → HasCalls n gate new.side
+
+-- the same, with the line behind those given before
+pub record Adds (gate : Gate Setting) (library : Catalog) (turn : Turn) (old new : ScriptThread Seated) (given given' : List OutLine) : Type 0 where
+  pub line : OutLine
+  pub added : given' ≡ given ++ line ∷ []
+  pub adds : AddsLine gate library turn old new line
 
 -- ---- a round
 
@@ -111,6 +118,14 @@ pub record GivesUp (gate : Gate Setting) (library : Catalog) (round : ℕ) (old 
   pub empty : new.side.holds.items ≡ []
   pub number : new.side.number ≡ old.side.number
   pub works : WorksOn gate library (releases round old.side.number (open_holds old.side.mine.seen old.side.number)) old new lines lines'
+
+-- what the end of a thread leaves: its seat, and the line of its last call
+pub record EndsSeat (gate : Gate Setting) (round : ℕ) (t : ScriptThread Seated) (seat : Caller Setting (ops.Op Share) (replies.Reply Share)) (given given' : List OutLine) : Type 0 where
+  pub cached : ℕ
+  pub place : ℕ
+  pub answered : Answered gate t.side.mine (thread_of cached seat) End place Ended
+  pub in_order : IsInOrder gate.terms (thread_of cached seat)
+  pub added : given' ≡ given ++ line (record { round = round; thread = t.side.number; index = t.lines + 1 }) (places.One place) None said.Ended ∷ []
 
 -- what closing a thread leaves: a Release of each open Hold in the order made, and its end
 pub record Closes (gate : Gate Setting) (plan : PlanData) (round : ℕ) (old : ScriptThread Seated) (seat : Caller Setting (ops.Op Share) (replies.Reply Share)) (earlier : List Timed) (lines lines' : List OutLine) : Type 0 where

@@ -35,6 +35,13 @@ pub record IsSeatedAt (gate : Gate Setting) (s : Seated) (H : History) : Type 0 
   pub in_order : IsInOrder gate.terms s.mine
   pub knows : KnowsSeated s H
 
+-- a table that nobody shares, where none is chosen
+abbrev pub some_gate : Gate Setting
+some_gate = record {
+  table = record { words = 0; slots = 0; views_name = 0; atom = 0; block = 0; offset = 0; slot_names = [] };
+  terms = record { setting = record { threads = 0; rows = 0; generations = 0; opening = [] }; seats = 0; quota = 0 };
+}
+
 -- ---- the thread's calls
 
 -- the first history may be what stands before the next call of the thread that has seen the second one: it goes on from that one,

@@ -6,7 +6,7 @@ ghost use Rattle.handle_table.specs.Entry as table;
 ghost use Rattle.handle_table.specs.Seen.{op_of, reply_of, refusal_of};
 ghost use Rattle.handle_table.specs.Table.{Fits};
 ghost use Rattle.thread_current.specs.Thread.{own_object};
-ghost use Rattle.script_run.specs.Seated.{HasCalls, IsPlain, IsChange, AnswersSeated, is_held, IsFirst, IsTaken, IsUnheld};
+ghost use Rattle.script_run.specs.Seated.{HasCalls, MayCall, IsPlain, IsChange, AnswersSeated, is_held, IsFirst, IsTaken, IsUnheld};
 
 use category_store::Share;
 use handle_table::{Handle, Named, Op, Refusal, Reply};
@@ -14,6 +14,7 @@ use mask_compose::Object;
 use script_lines::board::{Board, Side};
 use script_lines::holds::is_named;
 use std::alloc::{AllocError, Global};
+use std::marker::{Brand, PhantomData};
 use std::sync::Wait;
 use thread_current::{Fault, Held, Mine, Shared};
 
@@ -102,26 +103,42 @@ impl Side for Seated {
     }
 }
 
-/// A table that threads share, with the runtime value by which its calls wait for their turn.
-#[derive(Drop)]
-pub struct Beside<'a, R> {
-    pub rt: &'a R,
-    pub shared: &'a Shared<Share>,
+/// Which shared table it is.
+pub trait OneTable {
+    ghost use Rattle.turn_gate.specs.Callers.{Gate};
+    ghost use Rattle.handle_table.specs.Entry.{Setting};
+
+    ghost gate: { Gate Setting };
 }
 
-impl<'a, R: Wait> Board for Beside<'a, R> {
+impl OneTable for Brand {
+    ghost use Rattle.script_run.specs.Seated.{some_gate};
+
+    ghost gate = { some_gate };
+}
+
+/// A table that threads share, with the runtime value by which its calls wait for their turn.
+#[derive(Drop)]
+pub struct Beside<'a, R, G: OneTable> {
+    rt: &'a R,
+    shared: &'a Shared<Share>,
+    of: PhantomData<G>,
+    ghost table_is: { shared.now ≡ G.gate },
+}
+
+impl<'a, R: Wait, G: OneTable> Board for Beside<'a, R, G> {
     ghost use Rattle.script_run.specs.Seated.{IsSeatedAt, MayFollow, HasCalls, MayCall};
     ghost use Rattle.script_run.specs.SeatLaws.{seated_known, seated_stays, calls_fewer};
 
     type Side = Seated;
 
-    ghost setting_of = { λ b. b.shared.now.terms.setting };
+    ghost setting_of = { λ _. G.gate.terms.setting };
 
-    ghost at = { λ b s H. IsSeatedAt b.shared.now s H };
+    ghost at = { λ _ s H. IsSeatedAt G.gate s H };
 
     ghost later = { MayFollow };
 
-    ghost ready = { λ n b s. HasCalls n b.shared.now s };
+    ghost ready = { λ n _ s. HasCalls n G.gate s };
 
     ghost may = { MayCall };
 
@@ -130,6 +147,42 @@ impl<'a, R: Wait> Board for Beside<'a, R> {
         side: &mut Seated,
         op: Op<Share>,
     ) -> Result<(u64, Reply<Share>), AllocError> {
+        self.answer(side, op)
+    }
+
+    fn global(&mut self, side: &mut Seated) -> (u32, Object<Share>) {
+        self.shared.global_now(self.rt, &mut side.mine)
+    }
+
+    ghost known = { λ _ s H. seated_known G.gate s H };
+
+    ghost stays = { λ _ s H. seated_stays G.gate s H };
+
+    ghost fewer = { λ n _ s. calls_fewer n G.gate s };
+}
+
+impl<'a, R: Wait, G: OneTable> Beside<'a, R, G> {
+    /// The table, for a while.
+    pub fn new(rt: &'a R, shared: &'a Shared<Share>) -> Beside<'a, R, G>
+        requires { shared.now ≡ G.gate }
+    {
+        Beside {
+            rt,
+            shared,
+            of: PhantomData,
+        }
+    }
+
+    // Answers a call that does not end its thread.
+    fn answer(
+        &self,
+        side: &mut Seated,
+        op: Op<Share>,
+    ) -> Result<(u64, Reply<Share>), AllocError>
+        requires calls { HasCalls 1 self.now.shared.now side.old }
+        requires op { MayCall self.now.shared.now.terms.setting (op_of op) }
+        ensures answers { IfOk result (λ r. AnswersSeated self.now.shared.now side.old side.new (op_of op) r.0 (reply_of r.1)) }
+    {
         match op {
             Op::Hold { h } => self.hold(side, h),
             Op::Release { h } => Ok(self.release(side, h)),
@@ -145,18 +198,6 @@ impl<'a, R: Wait> Board for Beside<'a, R> {
         }
     }
 
-    fn global(&mut self, side: &mut Seated) -> (u32, Object<Share>) {
-        self.shared.global_now(self.rt, &mut side.mine)
-    }
-
-    ghost known = { λ b s H. seated_known b.shared.now s H };
-
-    ghost stays = { λ b s H. seated_stays b.shared.now s H };
-
-    ghost fewer = { λ n b s. calls_fewer n b.shared.now s };
-}
-
-impl<'a, R: Wait> Beside<'a, R> {
     // A call that neither selects, nor holds, nor changes what all threads see.
     fn plain(&self, side: &mut Seated, op: Op<Share>) -> (u64, Reply<Share>)
         requires calls { HasCalls 1 self.now.shared.now side.old }

@@ -5,10 +5,10 @@ ghost use Rattle.turn_gate.specs.Callers.{IsSeatOf};
 ghost use Rattle.script_lines.specs.Seen.{turn_seen};
 ghost use Rattle.script_serial.specs.Plan.{PlanData};
 ghost use Rattle.script_run.specs.Timed.{Timed};
-ghost use Rattle.script_run.specs.Beside.{CanAdd, Adds, CanWork, IsWorker, WorksOn, CanClose, GivesUp, Closes, turns_of};
+ghost use Rattle.script_run.specs.Beside.{CanAdd, AddsLine, Adds, CanWork, IsWorker, WorksOn, CanClose, GivesUp, EndsSeat, Closes, turns_of};
 
 use crate::pause::Pause;
-use crate::seated::{Beside, Seated};
+use crate::seated::{Beside, OneTable, Seated};
 use category_store::{Library, Share};
 use script_lines::granted::turn_line;
 use script_lines::lines::line;
@@ -16,6 +16,7 @@ use script_lines::thread::Thread;
 use script_lines::turns::{Task, Turn};
 use script_out::{OutLine, Places, Said};
 use std::alloc::{AllocError, Global};
+use std::marker::Brand;
 use std::sync::Wait;
 use thread_current::{Locales, Shared};
 use turn_gate::Seat;
@@ -36,6 +37,23 @@ pub struct Common<'a, R, P> {
     pub library: &'a Library,
     pub shared: &'a Shared<Share>,
     pub pause: &'a P,
+}
+
+// The line of a turn of a thread at a shared table.
+fn seat_line<R: Wait, G: OneTable>(
+    rt: &R,
+    alloc: Global,
+    library: &Library,
+    shared: &Shared<Share>,
+    thread: &mut Thread<Seated>,
+    turn: Turn<'_>,
+) -> Result<OutLine, AllocError>
+    requires table { shared.now ≡ G.gate }
+    requires can { CanAdd shared.now library.now thread.old (turn_seen turn) }
+    ensures { IfOk result (λ l. AddsLine shared.now library.now (turn_seen turn.entry) thread.old thread.new l) }
+{
+    let mut board = Beside::<R, G>::new(rt, shared);
+    turn_line(alloc, library, &mut board, thread, turn)
 }
 
 impl Worker {
@@ -90,14 +108,11 @@ impl Worker {
         requires { CanAdd common.now.shared.now common.now.library.now self.old.thread (turn_seen turn) }
         ensures { OnOk result (Adds common.now.shared.now common.now.library.now (turn_seen turn.entry) self.old.thread self.new.thread self.old.lines.items self.new.lines.items) }
     {
-        let mut board = Beside {
-            rt: common.rt,
-            shared: common.shared,
-        };
-        let line = turn_line(
+        let line = seat_line::<R, Brand>(
+            common.rt,
             common.alloc,
             common.library,
-            &mut board,
+            common.shared,
             &mut self.thread,
             turn,
         )?;
@@ -118,13 +133,26 @@ impl Worker {
         ensures seat { IfOk result (λ r. IsSeatOf common.now.shared.now r.1 × (r.1.number ≡ self.thread.side.number)) }
     {
         self.release_all(common, round)?;
+        self.end(common, round)
+    }
+
+    // Ends the thread, which holds nothing.
+    fn end<R: Wait, P>(
+        mut self,
+        common: &Common<'_, R, P>,
+        round: u32,
+    ) -> Result<(Vec<OutLine>, Seat<Locales<Share>>), AllocError>
+        requires can { CanClose common.now.shared.now common.now.library.now self.thread }
+        requires empty { self.thread.side.holds.items ≡ [] }
+        ensures ends { IfOk result (λ r. EndsSeat common.now.shared.now round self.thread r.1 self.lines.items r.0.items) }
+        ensures seat { IfOk result (λ r. IsSeatOf common.now.shared.now r.1 × (r.1.number ≡ self.thread.side.number)) }
+    {
         let at = self.thread.next_caller(round);
         let Worker {
-            thread,
-            mut lines,
-            ..
+            thread, mut lines, ..
         } = self;
-        let (place, seat) = common.shared.end(common.rt, thread.side.mine);
+        let side = thread.side;
+        let (place, seat) = common.shared.end(common.rt, side.mine);
         lines.push(line(at, Places::One(place), None, Said::Ended))?;
         Ok((lines, seat))
     }

@@ -5,4 +5,4 @@ use Rattle.script_run.proofs.worker.Worker.lines_of.Given as goal
 
 -- what the turns so far have left, and that the others can be taken
 abbrev pub invariant-loop-turn : goal.invariant-loop-turn
-invariant-loop-turn l = Going l.common.shared.now l.common.library.now (map turn_seen l.turns) l.initial.self.thread l.self.thread l.initial.self.lines.items l.self.lines.items l.turn-index
+invariant-loop-turn g l = Going l.common.shared.now l.common.library.now (map turn_seen l.turns) l.initial.self.thread l.self.thread l.initial.self.lines.items l.self.lines.items l.turn-index
