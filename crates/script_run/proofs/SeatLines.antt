@@ -54,10 +54,10 @@ lines_made terms plan t S made thread has number seen is =
     record { in_order = is; own = now.own; right = now.right; timed = now.timed; places = now.places }
 
 -- one more line of a thread of the script
-pub record AddsRight (gate : Gate Setting) (plan : PlanData) (turn : Turn) (old new : ScriptThread Seated) (made : List Timed) (lines lines' : List OutLine) : Type 0 where
+pub record AddsRight (gate : Gate Setting) (plan : PlanData) (asked : Turn) (old new : ScriptThread Seated) (made : List Timed) (lines lines' : List OutLine) : Type 0 where
   pub newest : Timed
   pub added : lines' ≡ lines ++ newest.told.line ∷ []
-  pub turn : turn_made newest ≡ turn
+  pub turn : turn_made newest ≡ asked
   pub since : length old.side.mine.seen ≤ newest.moment
   pub later : GoesOnFrom new.side.mine.seen old.side.mine.seen
   pub worker : IsWorker gate plan new (newest ∷ made)

@@ -43,8 +43,11 @@ use Rattle.script_run.proofs.SeatLines.{lines_made, works_none, works_one_more, 
 
 -- ---- the turns of a round
 
-turn_at : (turns : List LentTurn) (i : ℕ) (item : LentTurn) → i < length turns → item ≡ get_or turns i item → turn_seen item ≡ get_or (map turn_seen turns) i (turn_seen item)
+pub turn_at : (turns : List LentTurn) (i : ℕ) (item : LentTurn) → i < length turns → item ≡ get_or turns i item → turn_seen item ≡ get_or (map turn_seen turns) i (turn_seen item)
 turn_at turns i item below is = ap turn_seen is ∙ sym (get_or-map turn_seen turns i item (turn_seen item) below)
+
+pub turn_below : (turns : List LentTurn) (i : ℕ) → i < length turns → i < length (map turn_seen turns)
+turn_below turns i below = let same = length-map turns turn_seen in omega arith
 
 -- what the turns so far have left of a thread, and that it can take those to come
 pub record Going (gate : Gate Setting) (library : Catalog) (turns : List Turn) (old new : ScriptThread Seated) (lines lines' : List OutLine) (i : ℕ) : Type 0 where

@@ -53,7 +53,8 @@ fn seat_line<R: Wait, G: OneTable>(
     ensures { IfOk result (λ l. AddsLine shared.now library.now (turn_seen turn.entry) thread.old thread.new l) }
 {
     let mut board = Beside::<R, G>::new(rt, shared);
-    turn_line(alloc, library, &mut board, thread, turn)
+    let line = turn_line(alloc, library, &mut board, thread, turn)?;
+    Ok(line)
 }
 
 impl Worker {
