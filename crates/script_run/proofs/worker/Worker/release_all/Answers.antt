@@ -26,4 +26,4 @@ loop-handle-preserved g c =
     releasing_on c.args.common.now.shared.now c.args.common.now.library.now c.args.round c.args.self.now.thread c.loop-handle.self.thread c.add.new.self.thread c.args.self.now.lines.items c.loop-handle.self.lines.items c.add.new.self.lines.items c.in-Some.handle c.in-Some.ensures c.loop-handle.invariant adds
 
 pub returns : goal.returns
-returns g c = gives_up c.args.common.now.shared.now c.args.common.now.library.now c.args.round c.args.self.now.thread c.loop-handle.self.thread c.args.self.now.lines.items c.loop-handle.self.lines.items c.first_hold.ensures c.loop-handle.invariant
+returns g c = gives_up c.args.common.now.shared.now c.args.common.now.library.now c.args.round c.args.self.now.thread c.loop-handle.self.thread c.args.self.now.lines.items c.loop-handle.self.lines.items c.in_default.ensures c.loop-handle.invariant
