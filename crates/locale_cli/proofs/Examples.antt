@@ -12,7 +12,7 @@ use Rattle.locale_cli.specs.Status.{status_of, due_status}
 use Rattle.locale_cli.specs.Words.{mode_of, with_option, number_up_to}
 use Rattle.script_lang.specs.Accepted.{bundle_of, bundle_with}
 use Rattle.script_words.specs.Words.{decimal_number, behind_front}
-use Rattle.script_run.specs.Plan.{plan_of}
+use Rattle.script_serial.specs.Plan.{plan_of}
 
 digit0 : decimal 0 ≡ codes "0"
 digit0 = decimal_digit 0 (lit< tt)

@@ -16,7 +16,7 @@ use Rattle.locale_cli.specs.declared.answer.Status.TheVariants.{Done, Usage, Ref
 use Rattle.locale_cli.specs.declared.words.Mode.{Mode}
 use Rattle.locale_cli.specs.declared.words.Mode.TheVariants.{Check}
 use Rattle.locale_cli.specs.Answer.{output, status_for, text_for, answer_of}
-use Rattle.script_run.specs.Plan.{PlanData, counts, plan_of}
+use Rattle.script_serial.specs.Plan.{PlanData, counts, plan_of}
 use Rattle.script_out.specs.Refusal.{refusal_line}
 use Rattle.locale_cli.specs.Run.{SourceStep, SinkStep, Told, Ran}
 use Rattle.locale_cli.specs.Status.{too_large_line, WholeInput, IsDone, IsChecked, IsRefused, IsCutShort, status_of, due_status, IsDue, StayedSound}

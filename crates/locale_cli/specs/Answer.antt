@@ -1,14 +1,18 @@
 -- The answer to an input (our own).
-use Rattle.std.specs.Prelude.{ℕ, List, ◌++◌, codes, Ok, Err}
+use Rattle.std.specs.Prelude.{◌≡◌, ℕ, List, ◌++◌, codes, Result, Ok, Err}
 use Rattle.std.specs.Fmt.{decimal}
-use Rattle.lc_base.specs.Reading.{Reads, ◌>>=◌}
+use Rattle.lc_base.specs.Reading.{Reads, Gives}
+use Rattle.lc_base.specs.declared.fault.TextFault.{TextFault}
 use Rattle.script_out.specs.Output.{newline, printed}
 use Rattle.script_out.specs.Refusal.{refusal_line}
-use Rattle.script_run.specs.declared.plan.Counts.{Counts}
-use Rattle.script_run.specs.Plan.{PlanData, counts, plan_of}
-use Rattle.script_run.specs.Serial.{serial_lines}
+use Rattle.script_serial.specs.declared.plan.Counts.{Counts}
+use Rattle.script_serial.specs.Plan.{PlanData, counts, plan_of}
+use Rattle.script_out.specs.declared.output.OutLine.{OutLine}
+use Rattle.script_serial.specs.Serial.{serial_lines, setting}
+use Rattle.script_serial.specs.Prints.{Prints}
+use Rattle.script_serial.specs.Isolation.{IsIsolated}
 use Rattle.locale_cli.specs.declared.words.Mode.{Mode}
-use Rattle.locale_cli.specs.declared.words.Mode.TheVariants.{Check, Serial}
+use Rattle.locale_cli.specs.declared.words.Mode.TheVariants.{Check, Serial, Run}
 use Rattle.locale_cli.specs.declared.answer.Status.{Status}
 use Rattle.locale_cli.specs.declared.answer.Status.TheVariants.{Done, Refused}
 use Rattle.locale_cli.specs.declared.answer.Answer.{Answer}
@@ -22,18 +26,28 @@ counts_line c =
     codes " rounds " ++ decimal c.rounds ++
     codes " commands " ++ decimal c.commands ++ newline
 
+-- lines that `run` may print: those of one history of the threads' calls, in which threads that share handles with nobody read
+-- what they would read without the others
+pub record MayBePrinted (rows generations : ℕ) (plan : PlanData) (lines : List OutLine) : Type 0 where
+  pub prints : Prints (setting plan rows generations) plan lines
+  pub isolated : IsIsolated (setting plan rows generations) plan lines
+
 -- the lines of a script, whose threads have so many rows, and each row so many generations
 abbrev pub serial_text : ℕ → ℕ → PlanData → List ℕ
 serial_text rows generations plan = printed (serial_lines rows generations plan) plan.bundle.threads
 
--- what an accepted bundle prints
-abbrev pub output : Mode → PlanData → List ℕ
-output Check plan = counts_line (counts plan.bundle)
-output (Serial rows generations) plan = serial_text rows generations plan
+-- what an accepted bundle may print. `run` prints the lines of one history of its threads' calls: which one it is no clause says
+abbrev pub Outputs : Mode → PlanData → List ℕ → Type 0
+Outputs Check plan text = text ≡ counts_line (counts plan.bundle)
+Outputs (Serial rows generations) plan text = text ≡ serial_text rows generations plan
+Outputs (Run rows generations) plan text = (lines : List OutLine) × MayBePrinted rows generations plan lines × (text ≡ printed lines plan.bundle.threads)
 
--- what an input prints, or its first fault
-abbrev pub output_of : Mode → List ℕ → Reads (List ℕ)
-output_of mode input = plan_of input >>= λ plan. Ok (output mode plan)
+-- what an input may print, or its first fault
+abbrev pub OutputsOf : Mode → Reads PlanData → Reads (List ℕ) → Type 0
+OutputsOf mode (Ok plan) (Ok text) = Outputs mode plan text
+OutputsOf mode (Ok plan) (Err fault) = ⊥
+OutputsOf mode (Err fault) (Ok text) = ⊥
+OutputsOf mode (Err fault) (Err other) = other ≡ fault
 
 -- the status for an output or a fault
 abbrev pub status_for : Reads (List ℕ) → Status
@@ -45,6 +59,14 @@ abbrev pub text_for : Reads (List ℕ) → List ℕ
 text_for (Ok text) = text
 text_for (Err (place, reason)) = refusal_line place reason
 
--- the status and the text for an input that was read whole
-abbrev pub answer_of : Mode → List ℕ → Answer
-answer_of mode input = let out = output_of mode input in record { status = status_for out; text = text_for out }
+-- the status and the text for an output or a fault
+abbrev pub answer_for : Reads (List ℕ) → Answer
+answer_for out = record { status = status_for out; text = text_for out }
+
+-- a status and a text that may answer an input that was read whole
+abbrev pub IsAnswer : Mode → List ℕ → Answer → Type 0
+IsAnswer mode input a = (out : Reads (List ℕ)) × OutputsOf mode (plan_of input) out × (a ≡ answer_for out)
+
+-- what a function that prints an input gives: an output that may be, or the first fault; want of memory says nothing
+abbrev pub MayPrint : Mode → List ℕ → Result (List ℕ) TextFault → Type 0
+MayPrint mode input result = (out : Reads (List ℕ)) × OutputsOf mode (plan_of input) out × Gives (λ text. text) result out

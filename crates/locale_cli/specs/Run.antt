@@ -7,7 +7,8 @@ use Rattle.locale_cli.specs.declared.top.TheConstants.{INPUT_LIMIT}
 use Rattle.locale_cli.specs.declared.answer.Status.{Status}
 use Rattle.locale_cli.specs.declared.answer.Status.TheVariants.{ReadFault, WriteFault, Memory, TooLarge}
 use Rattle.locale_cli.specs.declared.words.Mode.{Mode}
-use Rattle.locale_cli.specs.Answer.{answer_of}
+use Rattle.locale_cli.specs.declared.answer.Answer.{Answer}
+use Rattle.locale_cli.specs.Answer.{IsAnswer}
 use Rattle.locale_cli.specs.Status.{too_large_line, WholeInput}
 
 -- a sink from before a call to after it: what it holds, and its count of faults
@@ -32,7 +33,7 @@ pub record SourceStep : Type 0 where
 
 -- the whole input came without a fault and was answered
 abbrev pub AnsweredWhole : Mode → SourceStep → SinkStep → Status → Type 0
-AnsweredWhole mode s k result = (input : List ℕ) × WholeInput s.left s.left' input × (s.faults' ≡ s.faults) × Told (answer_of mode input).status (answer_of mode input).text result k
+AnsweredWhole mode s k result = (input : List ℕ) × (a : Answer) × WholeInput s.left s.left' input × (s.faults' ≡ s.faults) × IsAnswer mode input a × Told a.status a.text result k
 
 -- more bytes came than the limit allows, without a fault
 abbrev pub AnsweredLarge : SourceStep → SinkStep → Status → Type 0

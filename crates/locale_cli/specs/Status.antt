@@ -5,14 +5,15 @@ use Rattle.lc_base.specs.declared.place.Place.{Place}
 use Rattle.lc_base.specs.declared.reason.Reason.{Reason}
 use Rattle.lc_base.specs.Bytes.{CameExactly, AddsPrefix}
 use Rattle.lc_base.specs.Reading.{Reads}
-use Rattle.script_run.specs.declared.plan.Counts.{Counts}
+use Rattle.script_serial.specs.declared.plan.Counts.{Counts}
 use Rattle.locale_cli.specs.declared.top.TheConstants.{INPUT_LIMIT}
 use Rattle.locale_cli.specs.declared.answer.Status.{Status}
 use Rattle.locale_cli.specs.declared.answer.Status.TheVariants.{Done, Usage, Refused, ReadFault, WriteFault, Memory, TooLarge}
 use Rattle.locale_cli.specs.declared.words.Mode.{Mode}
-use Rattle.locale_cli.specs.Answer.{answer_of, output, counts_line}
+use Rattle.locale_cli.specs.declared.answer.Answer.{Answer}
+use Rattle.locale_cli.specs.Answer.{IsAnswer, Outputs, counts_line}
 use Rattle.script_out.specs.Output.{newline}
-use Rattle.script_run.specs.Plan.{PlanData, plan_of, counts_of}
+use Rattle.script_serial.specs.Plan.{PlanData, plan_of, counts_of}
 use Rattle.script_out.specs.Refusal.{refusal_line}
 
 -- what is written for wrong words
@@ -29,9 +30,9 @@ pub record WholeInput (old new : Option (List ℕ)) (input : List ℕ) : Type 0 
   pub ended : IsAtEnd new
   pub within : length input ≤ INPUT_LIMIT
 
--- status 0: the whole input is an accepted bundle, and what the mode prints of it was written
+-- status 0: the whole input is an accepted bundle, and what the mode may print of it was written
 abbrev pub IsDone : Mode → Option (List ℕ) → Option (List ℕ) → Option (List ℕ) → Option (List ℕ) → Type 0
-IsDone mode left left' written written' = (input : List ℕ) × (plan : PlanData) × WholeInput left left' input × (plan_of input ≡ Ok plan) × Appends written written' (output mode plan)
+IsDone mode left left' written written' = (input : List ℕ) × (plan : PlanData) × (text : List ℕ) × WholeInput left left' input × (plan_of input ≡ Ok plan) × Outputs mode plan text × Appends written written' text
 
 -- status 0 of `check`: the whole input is an accepted bundle, and its counts were written
 abbrev pub IsChecked : Option (List ℕ) → Option (List ℕ) → Option (List ℕ) → Option (List ℕ) → Type 0
@@ -48,7 +49,7 @@ IsTooLarge left left' written written' = CameExactly left left' (INPUT_LIMIT + 1
 -- status 5, for right words: the front of what was to be written was written
 abbrev pub IsCutShort : Mode → Option (List ℕ) → Option (List ℕ) → Option (List ℕ) → Option (List ℕ) → Type 0
 IsCutShort mode left left' written written' =
-    ((input : List ℕ) × WholeInput left left' input × AddsPrefix written written' (answer_of mode input).text)
+    ((input : List ℕ) × (a : Answer) × WholeInput left left' input × IsAnswer mode input a × AddsPrefix written written' a.text)
     ⊎ (CameExactly left left' (INPUT_LIMIT + 1) × AddsPrefix written written' too_large_line)
 
 -- the status for a plan or a fault

@@ -5,9 +5,9 @@ use Rattle.script_words.specs.Words.{decimal_number, behind_front}
 use Rattle.locale_cli.specs.declared.words.TheConstants.{DEFAULT_ROWS, MOST_ROWS, DEFAULT_GENERATIONS, MOST_GENERATIONS}
 use Rattle.locale_cli.specs.declared.words.Options.{Options}
 use Rattle.locale_cli.specs.declared.words.Mode.{Mode}
-use Rattle.locale_cli.specs.declared.words.Mode.TheVariants.{Check, Serial}
+use Rattle.locale_cli.specs.declared.words.Mode.TheVariants.{Check, Serial, Run}
 
--- ---- options of `serial`
+-- ---- options of `serial` and of `run`
 
 -- whether digits have no zero in front, unless it stands alone
 abbrev pub is_unpadded : List ℕ → Bool
@@ -48,9 +48,16 @@ with_options given (word ∷ words) = option_and_then (λ more. with_options mor
 
 -- ---- modes
 
--- `serial` with options; one that is not given has its default
+-- the rows and the generations of options; one that is not given has its default
+abbrev pub sizes : Options → ℕ × ℕ
+sizes given = (unwrap_or given.rows DEFAULT_ROWS, unwrap_or given.generations DEFAULT_GENERATIONS)
+
+-- `serial` and `run` with options
 abbrev pub serial_mode : Options → Mode
-serial_mode given = Serial (unwrap_or given.rows DEFAULT_ROWS) (unwrap_or given.generations DEFAULT_GENERATIONS)
+serial_mode given = Serial (sizes given).0 (sizes given).1
+
+abbrev pub run_mode : Options → Mode
+run_mode given = Run (sizes given).0 (sizes given).1
 
 -- `check`, which has no options
 abbrev pub check_mode : List (List ℕ) → Option Mode
@@ -62,6 +69,7 @@ abbrev pub mode_named : List ℕ → List (List ℕ) → Option Mode
 mode_named name options =
     if bytes_eq name (codes "check") then check_mode options else
     if bytes_eq name (codes "serial") then option_map serial_mode (with_options none_given options) else
+    if bytes_eq name (codes "run") then option_map run_mode (with_options none_given options) else
     None
 
 -- the mode that the words name, if they are in the grammar: first the name of a mode, and then its options
@@ -83,3 +91,4 @@ pub record AreWithin (given : Options) : Type 0 where
 abbrev pub IsSized : Mode → Type 0
 IsSized Check = Unit {0}
 IsSized (Serial rows generations) = IsFromOneTo MOST_ROWS rows × IsFromOneTo MOST_GENERATIONS generations
+IsSized (Run rows generations) = IsFromOneTo MOST_ROWS rows × IsFromOneTo MOST_GENERATIONS generations

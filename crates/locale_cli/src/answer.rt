@@ -2,9 +2,8 @@
 
 ghost use Rattle.std.specs.Prelude.{◌≡◌, ◌<◌, ◌^◌, ◌++◌, length, IfOk, OnOk};
 ghost use Rattle.std.specs.Fmt.{decimal};
-ghost use Rattle.lc_base.specs.Reading.{Gives};
-ghost use Rattle.locale_cli.specs.Answer.{answer_of, counts_line, serial_text, output_of};
-ghost use Rattle.locale_cli.specs.declared.words.Mode.TheVariants.{Check, Serial};
+ghost use Rattle.locale_cli.specs.Answer.{IsAnswer, MayPrint, Outputs, counts_line, serial_text};
+ghost use Rattle.locale_cli.specs.declared.words.Mode.TheVariants.{Check, Serial, Run};
 ghost use Rattle.locale_cli.specs.StatusCode.{status_code};
 ghost use Rattle.locale_cli.specs.Words.{IsSized};
 ghost use Rattle.script_out.specs.Refusal.{refusal_line};
@@ -13,8 +12,11 @@ use crate::words::Mode;
 use itoa::Buffer;
 use lc_base::{ByteText, Place, Reason, TextFault};
 use script_out::{print, push_refusal};
-use script_run::{Counts, Plan, check, prepare, serial};
+use script_run::{Pause, run};
+use script_serial::{Counts, Plan, check, prepare, serial};
 use std::alloc::{AllocError, Global};
+use std::sync::Wait;
+use std::thread::Threads;
 
 /// How the program ended.
 #[derive(Clone, Copy, Debug, PartialEq, Eq)]
@@ -60,14 +62,21 @@ pub struct Answer {
 }
 
 /// The answer to an input.
-pub fn answer_to(alloc: Global, mode: Mode, input: &[u8]) -> Result<Answer, AllocError>
+pub fn answer_to<R: Threads + Wait + Sync, P: Pause + Sync>(
+    rt: &R,
+    alloc: Global,
+    mode: Mode,
+    input: &[u8],
+    pause: &P,
+) -> Result<Answer, AllocError>
     requires length { length input.now < 2 ^ 31 }
     requires sized { IsSized mode }
-    ensures { IfOk result (λ a. a ≡ answer_of mode input.now) }
+    ensures { IfOk result (IsAnswer mode input.now) }
 {
     let output = match mode {
         Mode::Check => checked(alloc, input),
-        Mode::Serial { rows, generations } => run(alloc, input, rows, generations),
+        Mode::Serial { rows, generations } => alone(alloc, input, rows, generations),
+        Mode::Run { rows, generations } => beside(rt, alloc, input, rows, generations, pause),
     };
     match output {
         Ok(text) => Ok(Answer {
@@ -85,20 +94,39 @@ pub fn answer_to(alloc: Global, mode: Mode, input: &[u8]) -> Result<Answer, Allo
 /// The line of counts of a bundle.
 fn checked(alloc: Global, input: &[u8]) -> Result<ByteText, TextFault>
     requires { length input.now < 2 ^ 31 }
-    ensures { Gives (λ text. text) result (output_of Check input.now) }
+    ensures { MayPrint Check input.now result }
 {
     let counts = check(alloc, input)?;
     Ok(counts_line(alloc, &counts)?)
 }
 
-/// The lines of a bundle's script.
-fn run(alloc: Global, input: &[u8], rows: u32, generations: u32) -> Result<ByteText, TextFault>
+/// The lines of a bundle's script, run on one thread.
+fn alone(alloc: Global, input: &[u8], rows: u32, generations: u32) -> Result<ByteText, TextFault>
     requires length { length input.now < 2 ^ 31 }
     requires sized { IsSized (Serial rows generations) }
-    ensures { Gives (λ text. text) result (output_of (Serial rows generations) input.now) }
+    ensures { MayPrint (Serial rows generations) input.now result }
 {
     let plan = prepare(alloc, input)?;
     let text = serial_text(alloc, &plan, rows, generations);
+    drop(plan);
+    Ok(text?)
+}
+
+/// The lines of a bundle's script, run with the threads of each round beside each other.
+fn beside<R: Threads + Wait + Sync, P: Pause + Sync>(
+    rt: &R,
+    alloc: Global,
+    input: &[u8],
+    rows: u32,
+    generations: u32,
+    pause: &P,
+) -> Result<ByteText, TextFault>
+    requires length { length input.now < 2 ^ 31 }
+    requires sized { IsSized (Run rows generations) }
+    ensures { MayPrint (Run rows generations) input.now result }
+{
+    let plan = prepare(alloc, input)?;
+    let text = run_text(rt, alloc, &plan, rows, generations, pause);
     drop(plan);
     Ok(text?)
 }
@@ -137,6 +165,22 @@ fn serial_text(
     ensures { IfOk result (λ text. text ≡ serial_text rows generations plan.now) }
 {
     let lines = serial(alloc, plan, rows, generations)?;
+    print(alloc, &lines, plan.threads())
+}
+
+/// The lines of an accepted bundle's script, run with the threads of each round beside each other.
+fn run_text<R: Threads + Wait + Sync, P: Pause + Sync>(
+    rt: &R,
+    alloc: Global,
+    plan: &Plan,
+    rows: u32,
+    generations: u32,
+    pause: &P,
+) -> Result<ByteText, AllocError>
+    requires { IsSized (Run rows generations) }
+    ensures { IfOk result (Outputs (Run rows generations) plan.now) }
+{
+    let lines = run(rt, alloc, plan, rows, generations, pause)?;
     print(alloc, &lines, plan.threads())
 }
 

@@ -8,9 +8,12 @@ mod words;
 use crate::answer::Status;
 use crate::top::top;
 use lc_base::{ByteText, StdSink, StdSource};
+use script_run::NoPause;
 use std::alloc::Global;
 use std::process::ExitCode;
 use std::rt::Env;
+use std::sync::Wait;
+use std::thread::Threads;
 use std::{env, io};
 
 fn main(rt: HostRuntime) -> ExitCode {
@@ -32,8 +35,11 @@ fn command_words(rt: &(impl Env + AllocGlobal)) -> io::Result<Vec<ByteText>> {
 }
 
 /// Runs the program over the standard streams.
-fn over_streams(rt: &(impl Input + Print + AllocGlobal), words: &[ByteText]) -> Status {
+fn over_streams(
+    rt: &(impl Input + Print + AllocGlobal + Threads + Wait + Sync),
+    words: &[ByteText],
+) -> Status {
     let mut source = StdSource::new(rt.reader());
     let mut sink = StdSink::new(io::writer(rt));
-    top(rt.alloc(), words, &mut source, &mut sink)
+    top(rt, rt.alloc(), words, &mut source, &mut sink, &NoPause)
 }

@@ -13,17 +13,23 @@ ghost use Rattle.locale_cli.specs.Status.{usage_line, IsDone, IsChecked, IsRefus
 use crate::answer::{Status, answer_to};
 use crate::words::{Mode, mode_of};
 use lc_base::{ByteText, ReadRefusal, Sink, Source, read_all, write_all};
+use script_run::Pause;
 use std::alloc::Global;
+use std::sync::Wait;
+use std::thread::Threads;
 
 /// The most bytes of an input.
 pub const INPUT_LIMIT: usize = 16_777_216;
 
-/// Reads the whole source, runs it as the words say, and writes the whole answer to the sink.
-pub fn top<S: Source, K: Sink>(
+/// Reads the whole source, runs it as the words say, and writes the whole answer to the sink. Where it runs
+/// threads, the pause is called before each of their commands.
+pub fn top<R: Threads + Wait + Sync, S: Source, K: Sink, P: Pause + Sync>(
+    rt: &R,
     alloc: Global,
     words: &[ByteText],
     source: &mut S,
     sink: &mut K,
+    pause: &P,
 ) -> Status
     // Wrong words are refused, or that could not be written, and the source is as it was.
     ensures usage { mode_of words.now ≡ None → (result ≡ Status.Usage) ⊎ (result ≡ Status.WriteFault) }
@@ -54,12 +60,19 @@ pub fn top<S: Source, K: Sink>(
 {
     match mode_of(words) {
         None => tell(sink, Status::Usage, b"refused: usage\n"),
-        Some(mode) => run(alloc, mode, source, sink),
+        Some(mode) => run(rt, alloc, mode, source, sink, pause),
     }
 }
 
 /// Reads the whole source, and writes the answer to it.
-fn run<S: Source, K: Sink>(alloc: Global, mode: Mode, source: &mut S, sink: &mut K) -> Status
+fn run<R: Threads + Wait + Sync, S: Source, K: Sink, P: Pause + Sync>(
+    rt: &R,
+    alloc: Global,
+    mode: Mode,
+    source: &mut S,
+    sink: &mut K,
+    pause: &P,
+) -> Status
     requires { IsSized mode }
     ensures at_most { CameAtMost (S.left source.old) (S.left source.new) (INPUT_LIMIT + 1) }
     ensures ran { Ran mode
@@ -75,7 +88,7 @@ fn run<S: Source, K: Sink>(alloc: Global, mode: Mode, source: &mut S, sink: &mut
         Err(ReadRefusal::ReadFault) => return Status::ReadFault,
         Err(ReadRefusal::Memory) => return Status::Memory,
     };
-    match answer_to(alloc, mode, text.as_bytes()) {
+    match answer_to(rt, alloc, mode, text.as_bytes(), pause) {
         Ok(answer) => tell(sink, answer.status, answer.text.as_bytes()),
         Err(_) => Status::Memory,
     }

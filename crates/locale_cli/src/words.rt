@@ -1,7 +1,8 @@
 //! The words of the command line.
 
 ghost use Rattle.std.specs.Prelude.{◌≡◌, IfSome, option_map};
-ghost use Rattle.locale_cli.specs.Words.{is_unpadded, from_one_to, number_up_to, once, none_given, with_option, with_options, serial_mode, check_mode, mode_named, mode_of, IsFromOneTo, AreWithin, IsSized};
+ghost use Rattle.locale_cli.specs.declared.words.TheConstants.{MOST_ROWS, MOST_GENERATIONS};
+ghost use Rattle.locale_cli.specs.Words.{is_unpadded, from_one_to, number_up_to, once, none_given, with_option, with_options, sizes, serial_mode, run_mode, check_mode, mode_named, mode_of, IsFromOneTo, AreWithin, IsSized};
 
 use lc_base::ByteText;
 use script_words::{behind_front, decimal_number};
@@ -30,9 +31,16 @@ pub enum Mode {
         /// How many objects a row has in all its time.
         generations: u32,
     },
+    /// Run the script with the threads of each round beside each other.
+    Run {
+        /// The rows of each thread.
+        rows: u32,
+        /// How many objects a row has in all its time.
+        generations: u32,
+    },
 }
 
-/// The options of `serial` that are given.
+/// The options of `serial` or of `run` that are given.
 #[derive(Clone, Copy)]
 struct Options {
     rows: Option<u32>,
@@ -59,6 +67,8 @@ fn mode_named(name: &[u8], options: &[ByteText]) -> Option<Mode>
         check_mode(options)
     } else if name == b"serial".as_slice() {
         serial_mode(options)
+    } else if name == b"run".as_slice() {
+        run_mode(options)
     } else {
         None
     }
@@ -80,11 +90,28 @@ fn serial_mode(options: &[ByteText]) -> Option<Mode>
     ensures is { result ≡ option_map serial_mode (with_options none_given options.now) }
     ensures sized { IfSome result IsSized }
 {
+    let (rows, generations) = sizes(options)?;
+    Some(Mode::Serial { rows, generations })
+}
+
+/// `run`, with the defaults of what is not given.
+fn run_mode(options: &[ByteText]) -> Option<Mode>
+    ensures is { result ≡ option_map run_mode (with_options none_given options.now) }
+    ensures sized { IfSome result IsSized }
+{
+    let (rows, generations) = sizes(options)?;
+    Some(Mode::Run { rows, generations })
+}
+
+/// The rows of each thread and the generations of each row that options give.
+fn sizes(options: &[ByteText]) -> Option<(u32, u32)>
+    ensures is { result ≡ option_map sizes (with_options none_given options.now) }
+    ensures sized { IfSome result (λ s. IsFromOneTo MOST_ROWS s.0 × IsFromOneTo MOST_GENERATIONS s.1) }
+{
     let given = options_of(options)?;
-    Some(Mode::Serial {
-        rows: given.rows.unwrap_or(DEFAULT_ROWS),
-        generations: given.generations.unwrap_or(DEFAULT_GENERATIONS),
-    })
+    let rows = given.rows.unwrap_or(DEFAULT_ROWS);
+    let generations = given.generations.unwrap_or(DEFAULT_GENERATIONS);
+    Some((rows, generations))
 }
 
 /// The options that words give, each at most once and in any order.

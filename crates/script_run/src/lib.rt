@@ -1,18 +1,10 @@
-//! The script of a bundle, run on a table of locale objects.
+//! The script of a bundle, run with the threads of each round beside each other.
 #![tactic(auto)]
 
-mod holds;
-pub mod laws;
-mod lines;
-mod names;
-mod plan;
-mod reads;
-mod script;
-mod session;
-mod thread;
-mod turns;
-mod variables;
-mod wishes;
+mod pause;
+mod rounds;
+mod seated;
+mod worker;
 
-pub use plan::{Counts, Plan, check, prepare};
-pub use script::serial;
+pub use pause::{NoPause, Pause};
+pub use rounds::run;

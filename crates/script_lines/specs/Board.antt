@@ -1,0 +1,151 @@
+-- What a line of a thread is, where others may have called since the thread's last call (our own).
+-- The history that the thread has seen, and what the history may have become before its next call, are given. Where nobody else
+-- calls they are the same, and the lines are those of `serial`.
+use Rattle.std.specs.Prelude.{◌≡◌, ℕ, ◌+◌, List, length, Option, Some, None, Result, Ok, Err, IfOk}
+use Rattle.mask_compose.specs.Parts.{Parts}
+use Rattle.category_store.specs.Catalog.{Catalog}
+use Rattle.handle_table.specs.declared.handle.Named.{Named}
+use Rattle.handle_table.specs.Entry as table
+use Rattle.handle_table.specs.Entry.{History, Setting}
+use Rattle.handle_table.specs.History.{sets, global, selection}
+use Rattle.handle_table.specs.Answer.{answer, own}
+use Rattle.script_commands.specs.declared.command.Read.{Read}
+use Rattle.script_words.specs.declared.categories.Categories.{Categories}
+use Rattle.script_words.specs.declared.categories.Categories.TheVariants.{All}
+use Rattle.script_out.specs.declared.output.OutLine.{OutLine}
+use Rattle.script_out.specs.declared.output.Why.{Why}
+use Rattle.script_out.specs.declared.output.Said.TheVariants as said
+use Rattle.script_lines.specs.Holds.{object_held, open_holds, held_as}
+use Rattle.script_lines.specs.Turns.{Task, Turn}
+use Rattle.script_lines.specs.Variables.{Bindings, Bound, bindings_of}
+use Rattle.script_lines.specs.Wishes.{Wish, Calls, ReadsOf, Reads, AsksSelection, AsksName, wish_of}
+use Rattle.script_lines.specs.Lines.{Caller, told_line, object_line, held_line}
+use Rattle.script_lines.specs.Outcome.{Outcome, tells, with_call, calls, read_line, name_line}
+
+-- ---- the calls that are answered
+
+-- What a call leaves of a thread that had seen the history H. The history before it is one that may have come of H; the place is
+-- the number of its entries, and the reply is its answer; and the thread is then at that history with the call
+pub record Answers (c : Setting) (later : History → History → Type 0) (at : History → Type 0) (thread : ℕ) (H : History) (op : table.Op) (place : ℕ) (reply : table.Reply) : Type 0 where
+  pub before : History
+  pub is_later : later before H
+  pub place_is : place ≡ length before
+  pub reply_is : reply ≡ answer c before thread op
+  pub now_at : at (with_call c before thread op)
+
+-- The version of the global locale, and its object, at a history that may have come of H; and the thread is then at that history
+pub record Finds (c : Setting) (later : History → History → Type 0) (at : History → Type 0) (H : History) (version : ℕ) (object : Parts) : Type 0 where
+  pub before : History
+  pub is_later : later before H
+  pub version_is : version ≡ sets before
+  pub object_is : object ≡ global c before
+  pub now_at : at before
+
+-- ---- the histories that a line goes by
+
+-- what its thread had seen, what stood before its first call or at its read of the global locale, and what stood before the
+-- Release of a read between
+pub record Moments : Type 0 where
+  pub seen : History
+  pub first : History
+  pub second : History
+
+-- the moments of a line where nobody else calls
+abbrev pub moments_alone : Setting → ℕ → History → Wish → Moments
+moments_alone c thread H (ReadsOf n read) = record { seen = H; first = H; second = with_call c H thread (table.Hold n) }
+moments_alone c thread H (Calls categories op) = record { seen = H; first = H; second = H }
+moments_alone c thread H (Reads read) = record { seen = H; first = H; second = H }
+moments_alone c thread H AsksSelection = record { seen = H; first = H; second = H }
+moments_alone c thread H (AsksName categories) = record { seen = H; first = H; second = H }
+
+-- ---- what a wish leaves
+
+-- a Hold that gives this object, a read of it, and a Release; the Hold alone where it gives none
+abbrev pub reads_between : Setting → Catalog → Moments → Caller → Named → Read → Option Parts → Outcome
+reads_between c library m at n read None = calls c library m.first at All (table.Hold n)
+reads_between c library m at n read (Some object) = record {
+  history = with_call c m.second at.thread (table.Release n);
+  line = held_line library (length m.first) (length m.second) at read object;
+}
+
+abbrev pub held_or_refused : Setting → Catalog → Moments → Caller → Named → Read → Outcome
+held_or_refused c library m at n read = reads_between c library m at n read (object_held (answer c m.first at.thread (table.Hold n)))
+
+-- a read of what is named: of the object that the thread's open Hold of it gave, or of the one that a Hold gives
+abbrev pub reads_of : Setting → Catalog → Moments → Caller → Named → Read → Option Parts → Outcome
+reads_of c library m at n read (Some object) = tells m.seen (object_line library at read object)
+reads_of c library m at n read None = held_or_refused c library m at n read
+
+-- a read of the thread's own object, or of the global locale with its version
+abbrev pub reads : Setting → Catalog → Moments → Caller → Read → Option Parts → Outcome
+reads c library m at read (Some object) = tells m.seen (object_line library at read object)
+reads c library m at read None = tells m.first (read_line c library m.first at read None)
+
+-- the name of the global locale with its version
+abbrev pub asks_name : Setting → Catalog → Moments → Caller → Categories → Outcome
+asks_name c library m at categories = tells m.first (name_line c library m.first at categories)
+
+-- what a wish leaves: a thread's selection, its own object and its Holds are those that it had seen
+abbrev pub granted_at : Setting → Catalog → Moments → Caller → Result Wish Why → Outcome
+granted_at c library m at (Err why) = tells m.seen (told_line at (said.Refused why))
+granted_at c library m at (Ok (Calls categories op)) = calls c library m.first at categories op
+granted_at c library m at (Ok (ReadsOf n read)) = reads_of c library m at n read (held_as (open_holds m.seen at.thread) n)
+granted_at c library m at (Ok (Reads read)) = reads c library m at read (own m.seen at.thread)
+granted_at c library m at (Ok AsksSelection) = tells m.seen (told_line at (said.Is (selection m.seen at.thread)))
+granted_at c library m at (Ok (AsksName categories)) = asks_name c library m at categories
+
+-- the moments of a line of a thread that had seen H: each history may have come of the one that the thread was at before
+pub record AreMoments (c : Setting) (later : History → History → Type 0) (thread : ℕ) (H : History) (m : Moments) : Type 0 where
+  pub seen : m.seen ≡ H
+  pub first : later m.first m.seen
+
+-- the same of a read of what is named: where the thread has no open Hold of it, others may have called between the Hold and the
+-- Release
+pub record AreMomentsBetween (c : Setting) (later : History → History → Type 0) (thread : ℕ) (H : History) (n : Named) (m : Moments) : Type 0 where
+  pub moments : AreMoments c later thread H m
+  pub second : held_as (open_holds m.seen thread) n ≡ None → later m.second (with_call c m.first thread (table.Hold n))
+
+abbrev pub AreMomentsOf : Setting → (History → History → Type 0) → ℕ → History → Result Wish Why → Moments → Type 0
+AreMomentsOf c later thread H (Ok (ReadsOf n read)) m = AreMomentsBetween c later thread H n m
+AreMomentsOf c later thread H (Ok (Calls categories op)) m = AreMoments c later thread H m
+AreMomentsOf c later thread H (Ok (Reads read)) m = AreMoments c later thread H m
+AreMomentsOf c later thread H (Ok AsksSelection) m = AreMoments c later thread H m
+AreMomentsOf c later thread H (Ok (AsksName categories)) m = AreMoments c later thread H m
+AreMomentsOf c later thread H (Err why) m = AreMoments c later thread H m
+
+-- ---- what a function of one line leaves
+
+-- the line is that of an outcome, and the thread is at the history that the outcome leaves
+pub record Left (at : History → Type 0) (done : Outcome) (l : OutLine) : Type 0 where
+  pub line : l ≡ done.line
+  pub now_at : at done.history
+
+abbrev pub Leaves : Setting → Catalog → (History → History → Type 0) → (History → Type 0) → History → Caller → Result Wish Why → OutLine → Type 0
+Leaves c library later at H caller wish l = (m : Moments) × AreMomentsOf c later caller.thread H wish m × Left at (granted_at c library m caller wish) l
+
+-- the same of a read of what is named, of which the thread has no open Hold
+abbrev pub LeavesReadBetween : Setting → Catalog → (History → History → Type 0) → (History → Type 0) → History → Caller → Named → Read → OutLine → Type 0
+LeavesReadBetween c library later at H caller n read l =
+    (m : Moments) × AreMomentsBetween c later caller.thread H n m × Left at (held_or_refused c library m caller n read) l
+
+-- the same of a turn of a thread that has so many lines, where these bindings hold
+abbrev pub turn_caller : ℕ → Turn → Caller
+turn_caller lines turn = record { round = turn.round; thread = turn.thread; index = lines + 1 }
+
+abbrev pub LeavesTurn : Setting → Catalog → (History → History → Type 0) → (History → Type 0) → History → List Bound → ℕ → Turn → OutLine → Type 0
+LeavesTurn c library later at H bounds lines turn l =
+    Leaves c library later at H (turn_caller lines turn) (wish_of library (bindings_of turn.thread bounds) turn.task) l
+
+-- ---- ops that may be asked for
+
+-- the op of a wish, if it has one, is one that may be asked for
+abbrev pub Fitting : (table.Op → Type 0) → Wish → Type 0
+Fitting may (Calls categories op) = may op
+Fitting may (ReadsOf n read) = may (table.Hold n) × may (table.Release n)
+Fitting may (Reads read) = Unit {0}
+Fitting may AsksSelection = Unit {0}
+Fitting may (AsksName categories) = Unit {0}
+
+-- what a task asks for, whatever its variables stand for, is such
+abbrev pub TaskMay : Catalog → (table.Op → Type 0) → Task → Type 0
+TaskMay library may task = (b : Bindings) → IfOk (wish_of library b task) (Fitting may)

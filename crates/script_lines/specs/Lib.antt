@@ -1,0 +1,11 @@
+pub mod Names
+pub mod Reads
+pub mod Holds
+pub mod Turns
+pub mod Variables
+pub mod Wishes
+pub mod Lines
+pub mod Outcome
+pub mod Thread
+pub mod Board
+pub mod Seen

@@ -1,0 +1,71 @@
+-- What a line of a thread is, by the history of the calls of a table that nobody else calls meanwhile (our own).
+use Rattle.std.specs.Prelude.{ℕ, ◌∷◌, length, Option, Some, None, Result, Ok, Err}
+use Rattle.mask_compose.specs.Parts.{Parts}
+use Rattle.category_store.specs.Catalog.{Catalog}
+use Rattle.handle_table.specs.declared.handle.Named.{Named}
+use Rattle.handle_table.specs.Entry as table
+use Rattle.handle_table.specs.Entry.{History, Setting}
+use Rattle.handle_table.specs.History.{sets, global, selection}
+use Rattle.handle_table.specs.Answer.{answer, entry, own}
+use Rattle.script_commands.specs.declared.command.Read.{Read}
+use Rattle.script_words.specs.declared.categories.Categories.{Categories}
+use Rattle.script_words.specs.declared.categories.Categories.TheVariants.{All}
+use Rattle.script_out.specs.declared.output.OutLine.{OutLine}
+use Rattle.script_out.specs.declared.output.Why.{Why}
+use Rattle.script_out.specs.declared.output.Said.TheVariants as said
+use Rattle.script_lines.specs.Holds.{object_held, open_holds, held_as}
+use Rattle.script_lines.specs.Wishes.{Wish, Calls, ReadsOf, Reads, AsksSelection, AsksName}
+use Rattle.script_lines.specs.Lines.{Caller, told_line, entry_line, object_line, held_line, global_read_line, global_name_line}
+
+-- what a task leaves: the history, and its line
+pub record Outcome : Type 0 where
+  pub history : History
+  pub line : OutLine
+
+-- a line without an entry
+abbrev pub tells : History → OutLine → Outcome
+tells H l = record { history = H; line = l }
+
+-- the history with a call of a thread
+abbrev pub with_call : Setting → History → ℕ → table.Op → History
+with_call c H thread op = entry c H thread op ∷ H
+
+-- a call, whose line prints its answer
+abbrev pub calls : Setting → Catalog → History → Caller → Categories → table.Op → Outcome
+calls c library H at categories op = record {
+  history = with_call c H at.thread op;
+  line = entry_line library H at categories (answer c H at.thread op);
+}
+
+-- a Hold that gives this object, a read of it, and a Release; the Hold alone where it gives none
+abbrev pub reads_between : Setting → Catalog → History → Caller → Named → Read → Option Parts → Outcome
+reads_between c library H at n read None = calls c library H at All (table.Hold n)
+reads_between c library H at n read (Some object) =
+    let held = with_call c H at.thread (table.Hold n) in
+    record { history = with_call c held at.thread (table.Release n); line = held_line library (length H) (length held) at read object }
+
+abbrev pub held_or_refused : Setting → Catalog → History → Caller → Named → Read → Outcome
+held_or_refused c library H at n read = reads_between c library H at n read (object_held (answer c H at.thread (table.Hold n)))
+
+-- a read of what is named: of the object that the thread's open Hold of it gave, or of the one that a Hold gives
+abbrev pub reads_of : Setting → Catalog → History → Caller → Named → Read → Option Parts → Outcome
+reads_of c library H at n read (Some object) = tells H (object_line library at read object)
+reads_of c library H at n read None = held_or_refused c library H at n read
+
+-- a read of the thread's own object, or of the global locale with its version
+abbrev pub read_line : Setting → Catalog → History → Caller → Read → Option Parts → OutLine
+read_line c library H at read (Some object) = object_line library at read object
+read_line c library H at read None = global_read_line library at read (sets H) (global c H)
+
+-- the name of the global locale with its version, whatever the thread has selected
+abbrev pub name_line : Setting → Catalog → History → Caller → Categories → OutLine
+name_line c library H at categories = global_name_line library at categories (sets H) (global c H)
+
+-- what a wish leaves after a history; a refusal without an entry is printed alone
+abbrev pub granted : Setting → Catalog → History → Caller → Result Wish Why → Outcome
+granted c library H at (Err why) = tells H (told_line at (said.Refused why))
+granted c library H at (Ok (Calls categories op)) = calls c library H at categories op
+granted c library H at (Ok (ReadsOf n read)) = reads_of c library H at n read (held_as (open_holds H at.thread) n)
+granted c library H at (Ok (Reads read)) = tells H (read_line c library H at read (own H at.thread))
+granted c library H at (Ok AsksSelection) = tells H (told_line at (said.Is (selection H at.thread)))
+granted c library H at (Ok (AsksName categories)) = tells H (name_line c library H at categories)

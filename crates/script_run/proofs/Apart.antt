@@ -1,0 +1,247 @@
+-- What a thread's own calls and lines say is the same with those of others between them.
+use Rattle.std.proofs.Common.{◌≡◌, ℕ, suc, ◌+◌, ◌<◌, ◌≤◌, Bool, true, false, ◌&&◌, List, [], ◌∷◌, ◌++◌, length, map, Option, Some, None, refl, sym, ap, subst, ◌∙◌, arith, inl, inr}
+use Rattle.std.specs.Prelude.{◌==◌, if◌then◌else◌, filter, zip, All}
+use Rattle.std.proofs.lemmas.Bool.{eq-eqb}
+use Rattle.std.proofs.lemmas.Bool.Decides.{eqb_tells}
+use Rattle.std.proofs.lemmas.List.{map-append}
+use Rattle.std.proofs.lemmas.List.Elements.{All-head, All-tail, filter-append}
+use Rattle.mask_compose.specs.Parts.{Parts}
+use Rattle.handle_table.specs.declared.handle.Handle.{Handle}
+use Rattle.handle_table.specs.declared.handle.Named.{Named}
+use Rattle.handle_table.specs.Entry.{Entry, History, Setting, is_accepted}
+use Rattle.handle_table.specs.History.{selection_after, selection}
+use Rattle.handle_table.specs.Answer.{own_after, own}
+use Rattle.thread_current.specs.Thread.{entries_by}
+use Rattle.script_out.specs.declared.output.OutLine.{OutLine}
+use Rattle.script_lines.specs.declared.holds.OpenHold.{OpenHold}
+use Rattle.script_lines.specs.Board.{Moments, granted_at}
+use Rattle.script_lines.specs.Holds.{holds_after, open_holds}
+use Rattle.script_lines.specs.Turns.{Task}
+use Rattle.script_lines.specs.Variables.{Bindings, Bound, bindings_of, bindings_after, with_binding, variable_bound, handle_said}
+use Rattle.script_lines.specs.Wishes.{wish_of, ops_of}
+use Rattle.script_serial.specs.Plan.{PlanData}
+use Rattle.script_serial.specs.Prints.{Told, PlacedCall, call_of, bound_by, caller_of, places_in, behind_last, or_earlier, next_place, calls_of}
+use Rattle.script_run.specs.Timed.{oldest, places_by, Timed, tellings, own_lines, second_moment, moments_in, IsEntryOf, IsRight, AreRight}
+
+-- ---- what a thread selects, has taken up and holds is said by its own calls
+
+own_by : (t : ℕ) (H : History) → own H t ≡ own (entries_by t H) t
+own_by t [] = refl
+own_by t (e ∷ H) =
+    let ours : History = entries_by t H in
+    elim (eqb_tells e.who t) [
+      | inl here ↦
+          ap (λ (b : Bool). if b then own_after e.reply (own H t) else own H t) here.0
+          ∙ ap (λ (o : Option Parts). own_after e.reply o) (own_by t H)
+          ∙ sym (ap (λ (b : Bool). if b then own_after e.reply (own ours t) else own ours t) here.0)
+          ∙ sym (ap (λ (b : Bool). own (if b then e ∷ ours else ours) t) here.0)
+      | inr apart ↦
+          ap (λ (b : Bool). if b then own_after e.reply (own H t) else own H t) apart.0
+          ∙ own_by t H
+          ∙ sym (ap (λ (b : Bool). own (if b then e ∷ ours else ours) t) apart.0)
+    ]
+
+selection_by : (t : ℕ) (H : History) → selection H t ≡ selection (entries_by t H) t
+selection_by t [] = refl
+selection_by t (e ∷ H) =
+    let ours : History = entries_by t H in
+    let accepted : Bool = is_accepted e.reply in
+    elim (eqb_tells e.who t) [
+      | inl here ↦
+          ap (λ (n : Named). if (e.who == t && accepted) then selection_after e.op n else n) (selection_by t H)
+          ∙ sym (ap (λ (b : Bool). selection (if b then e ∷ ours else ours) t) here.0)
+      | inr apart ↦
+          ap (λ (b : Bool). if (b && accepted) then selection_after e.op (selection H t) else selection H t) apart.0
+          ∙ selection_by t H
+          ∙ sym (ap (λ (b : Bool). selection (if b then e ∷ ours else ours) t) apart.0)
+    ]
+
+holds_by : (t : ℕ) (H : History) → open_holds H t ≡ open_holds (entries_by t H) t
+holds_by t [] = refl
+holds_by t (e ∷ H) =
+    let ours : History = entries_by t H in
+    elim (eqb_tells e.who t) [
+      | inl here ↦
+          ap (λ (b : Bool). if b then holds_after (open_holds H t) e.op e.reply else open_holds H t) here.0
+          ∙ ap (λ (os : List OpenHold). holds_after os e.op e.reply) (holds_by t H)
+          ∙ sym (ap (λ (b : Bool). if b then holds_after (open_holds ours t) e.op e.reply else open_holds ours t) here.0)
+          ∙ sym (ap (λ (b : Bool). open_holds (if b then e ∷ ours else ours) t) here.0)
+      | inr apart ↦
+          ap (λ (b : Bool). if b then holds_after (open_holds H t) e.op e.reply else open_holds H t) apart.0
+          ∙ holds_by t H
+          ∙ sym (ap (λ (b : Bool). open_holds (if b then e ∷ ours else ours) t) apart.0)
+    ]
+
+pub own_says : (t : ℕ) (G H : History) → entries_by t G ≡ entries_by t H → own G t ≡ own H t
+own_says t G H same = own_by t G ∙ ap (λ (K : History). own K t) same ∙ sym (own_by t H)
+
+pub selection_says : (t : ℕ) (G H : History) → entries_by t G ≡ entries_by t H → selection G t ≡ selection H t
+selection_says t G H same = selection_by t G ∙ ap (λ (K : History). selection K t) same ∙ sym (selection_by t H)
+
+pub holds_says : (t : ℕ) (G H : History) → entries_by t G ≡ entries_by t H → open_holds G t ≡ open_holds H t
+holds_says t G H same = holds_by t G ∙ ap (λ (K : History). open_holds K t) same ∙ sym (holds_by t H)
+
+-- ---- where others alone have called, a thread's places are the same
+
+either_long : (b : Bool) (e : Entry) (K : History) (n : ℕ) → n ≤ length K → n ≤ length (if b then e ∷ K else K)
+either_long true e K n le = omega arith
+either_long false e K n le = le
+
+entries_grow : (t : ℕ) (more H : History) → length (entries_by t H) ≤ length (entries_by t (more ++ H))
+entries_grow t [] H = omega arith
+entries_grow t (e ∷ more) H = either_long (e.who == t) e (entries_by t (more ++ H)) (length (entries_by t H)) (entries_grow t more H)
+
+pub places_stay : (t : ℕ) (more H : History) → entries_by t (more ++ H) ≡ entries_by t H → places_by t (more ++ H) ≡ places_by t H
+places_stay t [] H same = refl
+places_stay t (e ∷ more) H same =
+    let all : History = entries_by t (more ++ H) in
+    elim (eqb_tells e.who t) [
+      | inl here ↦
+          let one : entries_by t (e ∷ more ++ H) ≡ e ∷ all = ap (λ (b : Bool). if b then e ∷ all else all) here.0 in
+          let long : suc (length all) ≡ length (entries_by t H) = ap length (sym one ∙ same) in
+          let grown : length (entries_by t H) ≤ length all = entries_grow t more H in
+          absurd (omega (arith, long, grown))
+      | inr apart ↦
+          let none : entries_by t (e ∷ more ++ H) ≡ all = ap (λ (b : Bool). if b then e ∷ all else all) apart.0 in
+          ap (λ (b : Bool). if b then length (more ++ H) ∷ places_by t (more ++ H) else places_by t (more ++ H)) apart.0
+          ∙ places_stay t more H (sym none ∙ same)
+    ]
+
+-- ---- a line is judged by the earlier lines of its own thread
+
+abbrev pub own_told : ℕ → List Told → List Told
+own_told thread ds = filter (λ (d : Told). d.line.thread == thread) ds
+
+abbrev next_if : Bool → Told → ℕ → ℕ
+next_if b d earlier = if b then or_earlier (behind_last (places_in d.line.places)) earlier else earlier
+
+next_of_own : (thread : ℕ) (ds : List Told) → next_place thread ds ≡ next_place thread (own_told thread ds)
+next_of_own thread [] = refl
+next_of_own thread (d ∷ ds) =
+    let ours : List Told = own_told thread ds in
+    elim (eqb_tells d.line.thread thread) [
+      | inl here ↦
+          ap (next_if (d.line.thread == thread) d) (next_of_own thread ds)
+          ∙ sym (ap (λ (b : Bool). next_place thread (if b then d ∷ ours else ours)) here.0)
+      | inr apart ↦
+          ap (λ (b : Bool). next_if b d (next_place thread ds)) apart.0
+          ∙ next_of_own thread ds
+          ∙ sym (ap (λ (b : Bool). next_place thread (if b then d ∷ ours else ours)) apart.0)
+    ]
+
+abbrev bindings_if : Bool → ℕ → Bound → List Bound → Bindings
+bindings_if b thread one bs =
+    let others : List Bound = filter (λ (x : Bound). x.thread == thread) bs in
+    map (λ (x : Bound). (x.variable, x.handle)) (if b then one ∷ others else others)
+
+-- a binding of the thread goes on from what its variables stood for, and one of another thread changes nothing
+bound_here : (thread who : ℕ) (bs cs : List Bound) (v : Option (List ℕ)) (h : Option Handle) → bindings_of thread bs ≡ bindings_of thread cs
+    → bindings_of thread (with_binding who bs v h) ≡ bindings_of thread (with_binding who cs v h)
+bound_here thread who bs cs None h same = same
+bound_here thread who bs cs (Some variable) None same = same
+bound_here thread who bs cs (Some variable) (Some h) same =
+    elim (eqb_tells who thread) [
+      | inl here ↦
+          ap (λ (b : Bool). bindings_if b thread (record { thread = who; variable = variable; handle = h }) bs) here.0
+          ∙ ap (λ (rest : Bindings). (variable, h) ∷ rest) same
+          ∙ sym (ap (λ (b : Bool). bindings_if b thread (record { thread = who; variable = variable; handle = h }) cs) here.0)
+      | inr apart ↦
+          ap (λ (b : Bool). bindings_if b thread (record { thread = who; variable = variable; handle = h }) bs) apart.0
+          ∙ same
+          ∙ sym (ap (λ (b : Bool). bindings_if b thread (record { thread = who; variable = variable; handle = h }) cs) apart.0)
+    ]
+
+bound_elsewhere : (thread who : ℕ) (bs : List Bound) (v : Option (List ℕ)) (h : Option Handle) → (who == thread) ≡ false → bindings_of thread (with_binding who bs v h) ≡ bindings_of thread bs
+bound_elsewhere thread who bs None h apart = refl
+bound_elsewhere thread who bs (Some variable) None apart = refl
+bound_elsewhere thread who bs (Some variable) (Some h) apart =
+    ap (λ (b : Bool). bindings_if b thread (record { thread = who; variable = variable; handle = h }) bs) apart
+
+bound_of_own : (thread : ℕ) (ds : List Told) → bindings_of thread (bound_by ds) ≡ bindings_of thread (bound_by (own_told thread ds))
+bound_of_own thread [] = refl
+bound_of_own thread (d ∷ ds) =
+    let ours : List Told = own_told thread ds in
+    let v : Option (List ℕ) = variable_bound d.task in
+    let h : Option Handle = handle_said d.line.reply in
+    elim (eqb_tells d.line.thread thread) [
+      | inl here ↦
+          bound_here thread d.line.thread (bound_by ds) (bound_by ours) v h (bound_of_own thread ds)
+          ∙ sym (ap (λ (b : Bool). bindings_of thread (bound_by (if b then d ∷ ours else ours))) here.0)
+      | inr apart ↦
+          bound_elsewhere thread d.line.thread (bound_by ds) v h apart.0
+          ∙ bound_of_own thread ds
+          ∙ sym (ap (λ (b : Bool). bindings_of thread (bound_by (if b then d ∷ ours else ours))) apart.0)
+    ]
+
+pub next_apart : (thread : ℕ) (ds es : List Told) → own_told thread ds ≡ own_told thread es → next_place thread ds ≡ next_place thread es
+next_apart thread ds es same = next_of_own thread ds ∙ ap (next_place thread) same ∙ sym (next_of_own thread es)
+
+pub bound_apart : (thread : ℕ) (ds es : List Told) → own_told thread ds ≡ own_told thread es → bindings_of thread (bound_by ds) ≡ bindings_of thread (bound_by es)
+bound_apart thread ds es same = bound_of_own thread ds ∙ ap (λ (ks : List Told). bindings_of thread (bound_by ks)) same ∙ sym (bound_of_own thread es)
+
+abbrev line_for : Setting → PlanData → Timed → Moments → Bindings → OutLine
+line_for c plan t m bs = (granted_at c plan.library m (caller_of t.told.line) (wish_of plan.library bs t.told.task)).line
+
+abbrev calls_for : PlanData → Timed → Bindings → List PlacedCall
+calls_for plan t bs = map (call_of t.told.line.thread) (zip (places_in t.told.line.places) (ops_of (wish_of plan.library bs t.told.task)))
+
+abbrev moments_from : History → ℕ → Timed → Moments
+moments_from W next t = record {
+  seen = oldest next W;
+  first = oldest t.moment W;
+  second = oldest (second_moment (places_in t.told.line.places) t.moment) W;
+}
+
+pub right_apart : (c : Setting) (plan : PlanData) (W : History) (before before' : List Told) (t : Timed) → own_told t.told.line.thread before ≡ own_told t.told.line.thread before'
+    → IsRight c plan W before t → IsRight c plan W before' t
+right_apart c plan W before before' t same r =
+    let next : next_place t.told.line.thread before ≡ next_place t.told.line.thread before' = next_apart t.told.line.thread before before' same in
+    let bound : bindings_of t.told.line.thread (bound_by before) ≡ bindings_of t.told.line.thread (bound_by before') = bound_apart t.told.line.thread before before' same in
+    record {
+      within = r.within;
+      since = r.since;
+      index = r.index ∙ ap (λ (ds : List Told). length ds + 1) same;
+      line =
+          r.line
+          ∙ ap (λ (n : ℕ). line_for c plan t (moments_from W n t) (bindings_of t.told.line.thread (bound_by before))) next
+          ∙ ap (line_for c plan t (moments_from W (next_place t.told.line.thread before') t)) bound;
+      entries = subst (λ (bs : Bindings). All (IsEntryOf c W) (calls_for plan t bs)) bound r.entries;
+    }
+
+-- ---- lines of one thread behind those of all
+
+tellings_apart : (thread : ℕ) (ts : List Timed) → own_told thread (tellings (own_lines thread ts)) ≡ own_told thread (tellings ts)
+tellings_apart thread [] = refl
+tellings_apart thread (t ∷ ts) =
+    let ours : List Timed = own_lines thread ts in
+    let rest : List Told = own_told thread (tellings ts) in
+    elim (eqb_tells t.told.line.thread thread) [
+      | inl here ↦
+          ap (λ (b : Bool). own_told thread (tellings (if b then t ∷ ours else ours))) here.0
+          ∙ ap (λ (b : Bool). if b then t.told ∷ own_told thread (tellings ours) else own_told thread (tellings ours)) here.0
+          ∙ ap (λ (ds : List Told). t.told ∷ ds) (tellings_apart thread ts)
+          ∙ sym (ap (λ (b : Bool). if b then t.told ∷ rest else rest) here.0)
+      | inr apart ↦
+          ap (λ (b : Bool). own_told thread (tellings (if b then t ∷ ours else ours))) apart.0
+          ∙ tellings_apart thread ts
+          ∙ sym (ap (λ (b : Bool). if b then t.told ∷ rest else rest) apart.0)
+    ]
+
+more_apart : (thread : ℕ) (more all : List Timed) → own_told thread (tellings (more ++ own_lines thread all)) ≡ own_told thread (tellings (more ++ all))
+more_apart thread [] all = tellings_apart thread all
+more_apart thread (t ∷ more) all =
+    ap (λ (ds : List Told). if (t.told.line.thread == thread) then t.told ∷ ds else ds) (more_apart thread more all)
+
+-- lines of a thread that are right behind its own earlier lines are right behind all lines
+pub right_onto : (c : Setting) (plan : PlanData) (W : History) (thread : ℕ) (more all : List Timed) → All (λ (t : Timed). t.told.line.thread ≡ thread) more
+    → AreRight c plan W (more ++ own_lines thread all) → AreRight c plan W all → AreRight c plan W (more ++ all)
+right_onto c plan W thread [] all own ours right = right
+right_onto c plan W thread (t ∷ more) all own ours right =
+    let Own : Timed → Type 0 = λ (x : Timed). x.told.line.thread ≡ thread in
+    let is : t.told.line.thread ≡ thread = All-head Own t more own in
+    let same : own_told t.told.line.thread (tellings (more ++ own_lines thread all)) ≡ own_told t.told.line.thread (tellings (more ++ all)) =
+    subst (λ (n : ℕ). own_told n (tellings (more ++ own_lines thread all)) ≡ own_told n (tellings (more ++ all))) (sym is) (more_apart thread more all)
+    in (
+      right_apart c plan W (tellings (more ++ own_lines thread all)) (tellings (more ++ all)) t same ours.0,
+      right_onto c plan W thread more all (All-tail Own t more own) ours.1 right,
+    )

@@ -1,0 +1,170 @@
+-- What stands before a place stays when a history grows, and so does what is right for it.
+use Rattle.std.proofs.Common.{◌≡◌, ℕ, suc, ◌+◌, ◌<◌, ◌≤◌, Bool, true, false, List, [], ◌∷◌, ◌++◌, length, refl, sym, ap, subst, ◌∙◌, arith, inl, inr, length-append}
+use Rattle.std.specs.Prelude.{nat_lt, ◌==◌, if◌then◌else◌, All, unwrap_or}
+use Rattle.std.proofs.lemmas.Bool.{cases_lt, le-leb, lt-leb}
+use Rattle.std.proofs.lemmas.List.Elements.{All-weaker}
+use Rattle.handle_table.specs.Entry.{Entry, History, Setting}
+use Rattle.handle_table.specs.Answer.{IsLegal}
+use Rattle.thread_current.specs.Thread.{GoesOnFrom}
+use Rattle.script_lines.specs.Board.{Moments, granted_at}
+use Rattle.script_lines.specs.Outcome.{with_call}
+use Rattle.script_lines.specs.Variables.{bindings_of}
+use Rattle.script_lines.specs.Wishes.{wish_of}
+use Rattle.script_serial.specs.Plan.{PlanData}
+use Rattle.script_serial.specs.Prints.{Told, PlacedCall, bound_by, caller_of, places_in, behind_last, or_earlier, next_place, calls_of}
+use Rattle.script_run.specs.Timed.{oldest, Timed, end_of, tellings, second_moment, moments_in, IsEntryOf, IsRight, AreRight}
+
+-- ---- what stands before a place
+
+pub oldest_here : (p : ℕ) (e : Entry) (W : History) → length W < p → oldest p (e ∷ W) ≡ e ∷ W
+oldest_here p e W lt = ap (λ (b : Bool). if b then e ∷ W else oldest p W) (le-leb (suc (length W)) p (omega arith))
+
+pub oldest_below : (p : ℕ) (e : Entry) (W : History) → p ≤ length W → oldest p (e ∷ W) ≡ oldest p W
+oldest_below p e W le = ap (λ (b : Bool). if b then e ∷ W else oldest p W) (lt-leb (suc (length W)) p (omega arith))
+
+-- what stood before a place stands before it in what goes on from there
+pub oldest_grows : (p : ℕ) (more W : History) → p ≤ length W → oldest p (more ++ W) ≡ oldest p W
+oldest_grows p [] W le = refl
+oldest_grows p (e ∷ more) W le =
+    let long : length (more ++ W) ≡ length more + length W = length-append more W in
+    oldest_below p e (more ++ W) (omega arith) ∙ oldest_grows p more W le
+
+pub oldest_whole : (p : ℕ) (W : History) → length W ≤ p → oldest p W ≡ W
+oldest_whole p [] le = refl
+oldest_whole p (e ∷ W) le = oldest_here p e W (omega arith)
+
+pub oldest_all : (W : History) → oldest (length W) W ≡ W
+oldest_all W = oldest_whole (length W) W (omega arith)
+
+pub oldest_length : (p : ℕ) (W : History) → p ≤ length W → length (oldest p W) ≡ p
+oldest_length p [] le = omega arith
+oldest_length p (e ∷ W) le =
+    elim (cases_lt (length W) p) [
+      | inl lt ↦
+          let same : length (oldest p (e ∷ W)) ≡ suc (length W) = ap length (oldest_here p e W lt) in
+          omega (arith, same, lt, le)
+      | inr ge ↦ ap length (oldest_below p e W ge) ∙ oldest_length p W ge
+    ]
+
+pub oldest_oldest : (p q : ℕ) (W : History) → p ≤ q → oldest p (oldest q W) ≡ oldest p W
+oldest_oldest p q [] le = refl
+oldest_oldest p q (e ∷ W) le =
+    elim (cases_lt (length W) q) [
+      | inl lt ↦ ap (oldest p) (oldest_here q e W lt)
+      | inr ge ↦
+          let within : p ≤ length W = omega (arith, le, ge) in
+          ap (oldest p) (oldest_below q e W ge) ∙ oldest_oldest p q W le ∙ sym (oldest_below p e W within)
+    ]
+
+pub oldest_legal : (c : Setting) (p : ℕ) (W : History) → IsLegal c W → IsLegal c (oldest p W)
+oldest_legal c p [] legal = tt
+oldest_legal c p (e ∷ W) legal =
+    elim (cases_lt (length W) p) [
+      | inl lt ↦ subst (IsLegal c) (sym (oldest_here p e W lt)) legal
+      | inr ge ↦ subst (IsLegal c) (sym (oldest_below p e W ge)) (oldest_legal c p W legal.1)
+    ]
+
+-- a history goes on from what stood before a place
+pub oldest_rest : (p : ℕ) (W : History) → GoesOnFrom W (oldest p W)
+oldest_rest p [] = ([], refl)
+oldest_rest p (e ∷ W) =
+    elim (cases_lt (length W) p) [
+      | inl lt ↦ ([], sym (oldest_here p e W lt))
+      | inr ge ↦
+          let rest = oldest_rest p W in
+          (e ∷ rest.0, ap (λ (H : History). e ∷ H) rest.1 ∙ ap (λ (H : History). e ∷ rest.0 ++ H) (sym (oldest_below p e W ge)))
+    ]
+
+-- the entry of a place
+pub oldest_next : (p : ℕ) (W : History) → p < length W → (e : Entry) × (oldest (p + 1) W ≡ e ∷ oldest p W)
+oldest_next p [] lt = absurd (omega arith)
+oldest_next p (e ∷ W) lt =
+    elim (cases_lt p (length W)) [
+      | inl within ↦
+          let rest = oldest_next p W within in
+          (rest.0, oldest_below (p + 1) e W (omega (arith, within)) ∙ rest.1 ∙ ap (λ (H : History). rest.0 ∷ H) (sym (oldest_below p e W (omega (arith, within)))))
+      | inr past ↦
+          let all : oldest p W ≡ W = oldest_whole p W past in
+          (e, oldest_here (p + 1) e W (omega (arith, past)) ∙ ap (λ (H : History). e ∷ H) (sym (oldest_below p e W (omega (arith, lt)) ∙ all)))
+    ]
+
+-- ---- what a line is judged by
+
+-- the Release of a read between stands before the end of its line
+pub second_within : (ps : List ℕ) (moment : ℕ) → second_moment ps moment ≤ unwrap_or (behind_last ps) moment
+second_within [] moment = omega arith
+second_within (place ∷ []) moment = omega arith
+second_within (hold ∷ release ∷ more) moment = omega arith
+
+end_within : (ps : List ℕ) (moment earlier n : ℕ) → unwrap_or (behind_last ps) moment ≤ n → earlier ≤ n → or_earlier (behind_last ps) earlier ≤ n
+end_within [] moment earlier n here before = before
+end_within (place ∷ []) moment earlier n here before = here
+end_within (hold ∷ release ∷ more) moment earlier n here before = here
+
+either_within : (b : Bool) (x y n : ℕ) → x ≤ n → y ≤ n → (if b then x else y) ≤ n
+either_within true x y n here there = here
+either_within false x y n here there = there
+
+-- the next place of a thread is within the history that its lines are right for
+pub next_within : (c : Setting) (plan : PlanData) (W : History) (thread : ℕ) (ts : List Timed) → AreRight c plan W ts → next_place thread (tellings ts) ≤ length W
+next_within c plan W thread [] right = omega arith
+next_within c plan W thread (t ∷ ts) right =
+    let before : next_place thread (tellings ts) ≤ length W = next_within c plan W thread ts right.1 in
+    let ps : List ℕ = places_in t.told.line.places in
+    either_within (t.told.line.thread == thread) (or_earlier (behind_last ps) (next_place thread (tellings ts))) (next_place thread (tellings ts)) (length W)
+    (end_within ps t.moment (next_place thread (tellings ts)) (length W) right.0.within before)
+    before
+
+abbrev moments_of : History → History → History → Moments
+moments_of seen first second = record { seen = seen; first = first; second = second }
+
+moments_grow : (more W : History) (before : List Told) (t : Timed) → next_place t.told.line.thread before ≤ length W → t.moment ≤ length W
+    → second_moment (places_in t.told.line.places) t.moment ≤ length W → moments_in (more ++ W) before t ≡ moments_in W before t
+moments_grow more W before t seen first second =
+    let next : ℕ = next_place t.told.line.thread before in
+    let last : ℕ = second_moment (places_in t.told.line.places) t.moment in
+    ap (λ (H : History). moments_of H (oldest t.moment (more ++ W)) (oldest last (more ++ W))) (oldest_grows next more W seen)
+    ∙ ap (λ (H : History). moments_of (oldest next W) H (oldest last (more ++ W))) (oldest_grows t.moment more W first)
+    ∙ ap (λ (H : History). moments_of (oldest next W) (oldest t.moment W) H) (oldest_grows last more W second)
+
+entry_grows : (c : Setting) (more W : History) (call : PlacedCall) → IsEntryOf c W call → IsEntryOf c (more ++ W) call
+entry_grows c more W call is =
+    let within : call.place < length W = is.within in
+    let long : length (more ++ W) ≡ length more + length W = length-append more W in
+    record {
+      within = omega (arith, within, long);
+      entry =
+          oldest_grows (call.place + 1) more W (omega (arith, within)) ∙ is.entry
+          ∙ ap (λ (H : History). with_call c H call.thread call.op) (sym (oldest_grows call.place more W (omega (arith, within))));
+    }
+
+right_more : (c : Setting) (plan : PlanData) (more W : History) (before : List Told) (t : Timed) → next_place t.told.line.thread before ≤ length W → IsRight c plan W before t → IsRight c plan (more ++ W) before t
+right_more c plan more W before t seen r =
+    let long : length (more ++ W) ≡ length more + length W = length-append more W in
+    let within : end_of t ≤ length W = r.within in
+    let since : t.moment ≤ end_of t = r.since in
+    let second : second_moment (places_in t.told.line.places) t.moment ≤ end_of t = second_within (places_in t.told.line.places) t.moment in
+    let first_le : t.moment ≤ length W = omega (arith, since, within) in
+    let second_le : second_moment (places_in t.told.line.places) t.moment ≤ length W = omega (arith, second, within) in
+    let same : moments_in (more ++ W) before t ≡ moments_in W before t = moments_grow more W before t seen first_le second_le in
+    record {
+      within = omega (arith, within, long);
+      since = since;
+      index = r.index;
+      line =
+          r.line
+          ∙ ap (λ (m : Moments). (granted_at c plan.library m (caller_of t.told.line) (wish_of plan.library (bindings_of t.told.line.thread (bound_by before)) t.told.task)).line) (sym same);
+      entries = All-weaker (IsEntryOf c W) (IsEntryOf c (more ++ W)) (entry_grows c more W) (calls_of plan.library (bound_by before) t.told) r.entries;
+    }
+
+-- a line that is right for a history is right for what goes on from it
+pub right_grows : (c : Setting) (plan : PlanData) (W' W : History) (before : List Told) (t : Timed) → GoesOnFrom W' W → next_place t.told.line.thread before ≤ length W → IsRight c plan W before t → IsRight c plan W' before t
+right_grows c plan W' W before t on seen r =
+    subst (λ (H : History). IsRight c plan H before t) (sym on.1) (right_more c plan on.0 W before t seen r)
+
+pub are_right_grow : (c : Setting) (plan : PlanData) (W' W : History) (ts : List Timed) → GoesOnFrom W' W → AreRight c plan W ts → AreRight c plan W' ts
+are_right_grow c plan W' W [] on right = tt
+are_right_grow c plan W' W (t ∷ ts) on right = (
+  right_grows c plan W' W (tellings ts) t on (next_within c plan W t.told.line.thread ts right.1) right.0,
+  are_right_grow c plan W' W ts on right.1,
+)

@@ -1,0 +1,147 @@
+-- One more line of a thread is right behind its earlier lines.
+use Rattle.std.proofs.Common.{◌≡◌, ◌⊎◌, inl, inr, ℕ, suc, ◌+◌, ◌*◌, ◌<◌, ◌≤◌, Bool, true, false, cond, List, [], ◌∷◌, ◌++◌, length, map, Option, Some, None, Result, Ok, Err, refl, sym, ap, ◌∙◌, subst, arith, eq-eqb, add-one}
+use Rattle.std.specs.Prelude.{◌==◌, if◌then◌else◌, nat_lt, filter, reverse, zip, All, unwrap_or}
+use Rattle.std.proofs.lemmas.Bool.{lt-ltb, le-ltb, ltb-true, cases_Bool, false≢true, eqb-true}
+use Rattle.std.proofs.lemmas.List.Elements.{All-nil, All-cons, All-head, All-tail, All-weaker}
+use Rattle.turn_gate.specs.declared.entry.Terms.{Terms}
+use Rattle.category_store.specs.Catalog.{Catalog}
+use Rattle.handle_table.specs.Entry.{Op, Entry, History, Setting}
+use Rattle.thread_current.specs.Thread.{GoesOnFrom, entries_by}
+use Rattle.script_out.specs.declared.output.OutLine.{OutLine}
+use Rattle.script_out.specs.declared.output.Places.{Places}
+use Rattle.script_out.specs.declared.output.Places.TheVariants as places
+use Rattle.script_out.specs.declared.output.Why.{Why}
+use Rattle.script_lines.specs.Turns.{Task}
+use Rattle.script_lines.specs.Lines.{Caller}
+use Rattle.script_lines.specs.Outcome.{Outcome}
+use Rattle.script_lines.specs.Variables.{Bindings, bindings_of}
+use Rattle.script_lines.specs.Wishes.{Wish, wish_of, ops_of}
+use Rattle.script_lines.specs.Board.{granted_at}
+use Rattle.script_serial.specs.Plan.{PlanData}
+use Rattle.script_serial.specs.Prints.{Told, PlacedCall, bound_by, caller_of, call_of, calls_of, places_in, behind_last, or_earlier, next_place}
+use Rattle.script_run.specs.Timed.{oldest, places_by, Timed, last_end, AreTimed, tellings, placed_back, second_moment, moments_in, IsEntryOf, IsRight, AreRight}
+use Rattle.script_run.proofs.Growth.{oldest_grows, are_right_grow}
+use Rattle.script_run.proofs.LineSteps.{IsStep, moments_by, longer}
+
+-- ---- behind the newest place of a thread
+
+-- one more than the first of places, or 0
+abbrev pub behind : List ℕ → ℕ
+behind [] = 0
+behind (place ∷ places) = place + 1
+
+within_history : (t : ℕ) (H : History) → behind (places_by t H) ≤ length H
+within_history t [] = omega arith
+within_history t (e ∷ H) =
+    let rest = within_history t H in
+    elim (e.who == t) as (λ (b : Bool). behind (cond b (length H ∷ places_by t H) (places_by t H)) ≤ length (e ∷ H)) [
+      | true ↦ omega arith
+      | false ↦ omega arith
+    ]
+
+-- all entries of the thread stand before the place behind its newest one
+all_before : (t : ℕ) (n : ℕ) (H : History) → behind (places_by t H) ≤ n → entries_by t (oldest n H) ≡ entries_by t H
+all_before t n [] within = refl
+all_before t n (e ∷ H) within =
+    elim (cases_Bool (nat_lt (length H) n)) [
+      | inl below ↦ ap (λ (b : Bool). entries_by t (cond b (e ∷ H) (oldest n H))) below
+      | inr above ↦
+          ap (λ (b : Bool). entries_by t (cond b (e ∷ H) (oldest n H))) above
+          ∙ (elim (e.who == t) as (λ (b : Bool). behind (cond b (length H ∷ places_by t H) (places_by t H)) ≤ n → entries_by t (oldest n H) ≡ cond b (e ∷ entries_by t H) (entries_by t H)) [
+            | true ↦ λ (low : length H + 1 ≤ n). (
+                let there : nat_lt (length H) n ≡ true = lt-ltb (length H) n (omega arith) in
+                absurd (false≢true (sym above ∙ there)))
+            | false ↦ λ low. all_before t n H low
+          ] within)
+    ]
+
+next_step : (p : Places) (ms : List ℕ) (n : ℕ) → n ≡ behind ms → or_earlier (behind_last (places_in p)) n ≡ behind (reverse (places_in p) ++ ms)
+next_step places.None ms n is = is
+next_step (places.One place) ms n is = refl
+next_step (places.Two hold release) ms n is = refl
+
+-- the next place of a thread that has made these lines
+next_is : (t : ℕ) (made : List Timed) → All (λ (m : Timed). m.told.line.thread ≡ t) made → next_place t (tellings made) ≡ behind (placed_back made)
+next_is t [] own = refl
+next_is t (m ∷ made) own =
+    let here = All-head (λ (x : Timed). x.told.line.thread ≡ t) m made own in
+    let rest = next_is t made (All-tail (λ (x : Timed). x.told.line.thread ≡ t) m made own) in
+    ap (λ (b : Bool). cond b (or_earlier (behind_last (places_in m.told.line.places)) (next_place t (tellings made))) (next_place t (tellings made))) (eq-eqb m.told.line.thread t here)
+    ∙ next_step m.told.line.places (placed_back made) (next_place t (tellings made)) rest
+
+-- a thread's own lines are all its lines
+all_own : (t : ℕ) (made : List Timed) → All (λ (m : Timed). m.told.line.thread ≡ t) made → length (filter (λ (d : Told). d.line.thread == t) (tellings made)) ≡ length made
+all_own t [] own = refl
+all_own t (m ∷ made) own =
+    let here = All-head (λ (x : Timed). x.told.line.thread ≡ t) m made own in
+    let rest = all_own t made (All-tail (λ (x : Timed). x.told.line.thread ≡ t) m made own) in
+    ap (λ (b : Bool). length (cond b (m.told ∷ filter (λ (d : Told). d.line.thread == t) (tellings made)) (filter (λ (d : Told). d.line.thread == t) (tellings made)))) (eq-eqb m.told.line.thread t here)
+    ∙ ap suc rest
+
+last_within : (c : Setting) (plan : PlanData) (S : History) (made : List Timed) → AreRight c plan S made → last_end made ≤ length S
+last_within c plan S [] right = omega arith
+last_within c plan S (m ∷ made) right = right.0.within
+
+-- ---- one more line
+
+-- what a thread has made, and seen
+pub record HasLines (c : Setting) (plan : PlanData) (t : ℕ) (S : History) (made : List Timed) : Type 0 where
+  pub own : All (λ (m : Timed). m.told.line.thread ≡ t) made
+  pub right : AreRight c plan S made
+  pub timed : AreTimed made
+  pub places : places_by t S ≡ placed_back made
+
+abbrev pub made_line : Task → OutLine → ℕ → Timed
+made_line task l moment = record { told = record { task = task; line = l }; moment = moment }
+
+-- the histories that the line goes by
+seen_same : (c : Setting) (plan : PlanData) (library : Catalog) (at : Caller) (wish : Result Wish Why) (S : History) (done : Outcome) (moment : ℕ) (made : List Timed)
+    → HasLines c plan at.thread S made → IsStep c library at wish S done moment
+    → entries_by at.thread (oldest (next_place at.thread (tellings made)) done.history) ≡ entries_by at.thread S
+seen_same c plan library at wish S done moment made has step =
+    let t : ℕ = at.thread in
+    let p : ℕ = next_place t (tellings made) in
+    let here : p ≡ behind (places_by t S) = next_is t made has.own ∙ ap behind (sym has.places) in
+    let within = within_history t S in
+    let low : p ≤ length S = omega arith in
+    let high : behind (places_by t S) ≤ p = omega arith in
+    ap (λ (W : History). entries_by t (oldest p W)) step.later.1
+    ∙ ap (entries_by t) (oldest_grows p step.later.0 S low)
+    ∙ all_before t p S high
+
+right_line : (c : Setting) (plan : PlanData) (at : Caller) (S : History) (done : Outcome) (moment : ℕ) (made : List Timed) (task : Task)
+    → HasLines c plan at.thread S made → at.index ≡ length made + 1
+    → IsStep c plan.library at (wish_of plan.library (bindings_of at.thread (bound_by (tellings made))) task) S done moment → caller_of done.line ≡ at
+    → IsRight c plan done.history (tellings made) (made_line task done.line moment)
+right_line c plan at S done moment made task has index step caller =
+    let t : ℕ = at.thread in
+    let bounds = bound_by (tellings made) in
+    let W : History = done.history in
+    let l : OutLine = done.line in
+    let thread : t ≡ l.thread = sym (ap (λ (x : Caller). x.thread) caller) in
+    let seen = seen_same c plan plan.library at (wish_of plan.library (bindings_of t bounds) task) S done moment made has step in
+    record {
+      within = step.within;
+      since = step.until;
+      index = ap (λ (x : Caller). x.index) caller ∙ index ∙ ap (λ (n : ℕ). n + 1) (sym (all_own t made has.own))
+          ∙ ap (λ (k : ℕ). length (filter (λ (d : Told). d.line.thread == k) (tellings made)) + 1) thread;
+      line = step.line (oldest (next_place t (tellings made)) W) seen
+          ∙ ap (λ (k : ℕ). (granted_at c plan.library (moments_by W (oldest (next_place k (tellings made)) W) l moment) at (wish_of plan.library (bindings_of k bounds) task)).line) thread
+          ∙ ap (λ (x : Caller). (granted_at c plan.library (moments_by W (oldest (next_place l.thread (tellings made)) W) l moment) x (wish_of plan.library (bindings_of l.thread bounds) task)).line) (sym caller);
+      entries = subst (λ (k : ℕ). All (IsEntryOf c W) (map (call_of k) (zip (places_in l.places) (ops_of (wish_of plan.library (bindings_of k bounds) task))))) thread step.entries;
+    }
+
+pub more_lines : (c : Setting) (plan : PlanData) (at : Caller) (S : History) (done : Outcome) (moment : ℕ) (made : List Timed) (task : Task)
+    → HasLines c plan at.thread S made → at.index ≡ length made + 1
+    → IsStep c plan.library at (wish_of plan.library (bindings_of at.thread (bound_by (tellings made))) task) S done moment
+    → HasLines c plan at.thread done.history (made_line task done.line moment ∷ made)
+more_lines c plan at S done moment made task has index step =
+    let m : Timed = made_line task done.line moment in
+    let last = last_within c plan S made has.right in
+    let since = step.since in
+    record {
+      own = All-cons (λ (x : Timed). x.told.line.thread ≡ at.thread) m made (ap (λ (x : Caller). x.thread) step.caller) has.own;
+      right = (right_line c plan at S done moment made task has index step step.caller, are_right_grow c plan done.history S made step.later has.right);
+      timed = (omega arith, has.timed);
+      places = step.places ∙ ap (λ (ps : List ℕ). reverse (places_in done.line.places) ++ ps) has.places;
+    }

@@ -1,0 +1,138 @@
+-- A line that is right for a history prints what its task asks for, judged by what stands before its places.
+use Rattle.std.proofs.Common.{◌≡◌, ℕ, ◌<◌, List, [], ◌∷◌, length, Option, Some, None, Result, Ok, Err, refl, sym, ap, subst, ◌∙◌, arith, inl, inr}
+use Rattle.std.specs.Prelude.{All}
+use Rattle.std.proofs.lemmas.List.Elements.{All-head, All-tail}
+use Rattle.mask_compose.specs.Parts.{Parts}
+use Rattle.handle_table.specs.declared.handle.Named.{Named}
+use Rattle.handle_table.specs.Entry as table
+use Rattle.handle_table.specs.Entry.{History, Setting}
+use Rattle.handle_table.specs.History.{sets, global, global_at, selection}
+use Rattle.handle_table.specs.Answer.{answer, own}
+use Rattle.script_commands.specs.declared.command.Read.{Read}
+use Rattle.script_words.specs.declared.categories.Categories.{Categories}
+use Rattle.script_words.specs.declared.categories.Categories.TheVariants.{All as AllCategories}
+use Rattle.script_out.specs.declared.output.OutLine.{OutLine}
+use Rattle.script_out.specs.declared.output.Said.TheVariants as said
+use Rattle.script_out.specs.declared.output.Why.{Why}
+use Rattle.script_lines.specs.Board.{granted_at, reads_between, reads_of, reads}
+use Rattle.script_lines.specs.Holds.{object_held, open_holds, held_as}
+use Rattle.script_lines.specs.Lines.{told_line, placed_line, entry_line, global_read_line, global_name_line}
+use Rattle.script_lines.specs.Variables.{bindings_of}
+use Rattle.script_lines.specs.Wishes.{Wish, Calls, ReadsOf, Reads, AsksSelection, AsksName, wish_of}
+use Rattle.script_serial.specs.Prints.{bound_by, places_in, call_of, Around, past, next_place, IsVersion, global_of, IsCall, IsReadOf, IsRead, IsGranted, IsTold, caller_of}
+use Rattle.script_serial.proofs.SerialCalls.{wished_calls}
+use Rattle.script_run.specs.Timed.{oldest, Timed, second_moment, moments_in, IsEntryOf, IsRight}
+use Rattle.script_run.proofs.Before.{oldest_again, version_at, IsBetween, released_between}
+
+-- what lines are judged by, where the history is W
+pub record Judges (x : Around) (W : History) (t : Timed) : Type 0 where
+  pub pasts : (n : ℕ) → past x n ≡ oldest n W
+  pub whole : x.whole ≡ W
+  pub version : IsVersion x (caller_of t.told.line) (sets (oldest t.moment W))
+  pub between : (hold release : ℕ) → places_in t.told.line.places ≡ hold ∷ release ∷ [] → IsBetween t.told.line.thread W hold release
+
+-- the calls that a line makes, by what it wishes, are entries
+abbrev pub MakesEntries : Setting → History → Timed → Result Wish Why → Type 0
+MakesEntries c W t w = All (IsEntryOf c W) (wished_calls t.told.line.thread (places_in t.told.line.places) w)
+
+past_at : (x : Around) (W : History) (t : Timed) (n : ℕ) → Judges x W t → past x (length (oldest n W)) ≡ oldest n W
+past_at x W t n j = j.pasts (length (oldest n W)) ∙ oldest_again n W
+
+global_is : (x : Around) (W : History) (t : Timed) → Judges x W t → global_of x (sets (oldest t.moment W)) ≡ global x.setting (oldest t.moment W)
+global_is x W t j = ap (λ (G : History). global_at x.setting G (sets (oldest t.moment W))) j.whole ∙ version_at x.setting t.moment W
+
+call_told : (x : Around) (W : History) (t : Timed) (categories : Categories) (op : table.Op) → Judges x W t
+    → t.told.line ≡ entry_line x.plan.library (oldest t.moment W) (caller_of t.told.line) categories (answer x.setting (oldest t.moment W) t.told.line.thread op)
+    → IsCall x (caller_of t.told.line) t.told.line categories op
+call_told x W t categories op j is = record {
+  place = length (oldest t.moment W);
+  is = is ∙ ap (λ (G : History). placed_line x.plan.library (length (oldest t.moment W)) (caller_of t.told.line) categories (answer x.setting G t.told.line.thread op)) (sym (past_at x W t t.moment j));
+}
+
+read_told : (x : Around) (W : History) (t : Timed) (read : Read) (object : Option Parts) → Judges x W t
+    → t.told.line ≡ (reads x.setting x.plan.library (moments_in W x.before t) (caller_of t.told.line) read object).line
+    → IsRead x (caller_of t.told.line) t.told.line read object
+read_told x W t read (Some object) j is = is
+read_told x W t read None j is = record {
+  version = sets (oldest t.moment W);
+  bounds = j.version;
+  is = is ∙ ap (global_read_line x.plan.library (caller_of t.told.line) read (sets (oldest t.moment W))) (sym (global_is x W t j));
+}
+
+between_told : (x : Around) (W : History) (t : Timed) (n : Named) (read : Read) (object : Option Parts) → Judges x W t → MakesEntries x.setting W t (Ok (ReadsOf n read))
+    → object_held (answer x.setting (oldest t.moment W) t.told.line.thread (table.Hold n)) ≡ object
+    → t.told.line ≡ (reads_between x.setting x.plan.library (moments_in W x.before t) (caller_of t.told.line) n read object).line
+    → IsReadOf x (caller_of t.told.line) t.told.line n read None
+between_told x W t n read None j entries held is =
+    let first : History = oldest t.moment W in
+    let before : past x (length first) ≡ first = past_at x W t t.moment j in
+    inr (record {
+      place = length first;
+      held = ap (λ (G : History). object_held (answer x.setting G t.told.line.thread (table.Hold n))) before ∙ held;
+      is = is ∙ ap (λ (G : History). placed_line x.plan.library (length first) (caller_of t.told.line) AllCategories (answer x.setting G t.told.line.thread (table.Hold n))) (sym before);
+    })
+between_told x W t n read (Some object) j entries held is =
+    let c : Setting = x.setting in
+    let thread : ℕ = t.told.line.thread in
+    let first : History = oldest t.moment W in
+    let second : History = oldest (second_moment (places_in t.told.line.places) t.moment) W in
+    let at : places_in t.told.line.places ≡ length first ∷ length second ∷ [] = ap (λ (l : OutLine). places_in l.places) is in
+    let made : All (IsEntryOf c W) (call_of thread (length first, table.Hold n) ∷ call_of thread (length second, table.Release n) ∷ []) =
+    subst (λ (ps : List ℕ). All (IsEntryOf c W) (wished_calls thread ps (Ok (ReadsOf n read)))) at entries
+    in
+    let here : IsEntryOf c W (call_of thread (length first, table.Hold n)) =
+    All-head (IsEntryOf c W) (call_of thread (length first, table.Hold n)) (call_of thread (length second, table.Release n) ∷ []) made
+    in
+    let there : IsEntryOf c W (call_of thread (length second, table.Release n)) =
+    All-head (IsEntryOf c W) (call_of thread (length second, table.Release n)) []
+    (All-tail (IsEntryOf c W) (call_of thread (length first, table.Hold n)) (call_of thread (length second, table.Release n) ∷ []) made)
+    in
+    let within : length second < length W = there.within in
+    let accepted : answer c (oldest (length second) W) thread (table.Release n) ≡ table.Released =
+    released_between c W thread n object (length first) (length second) (omega (arith, within)) (j.between (length first) (length second) at) here.entry
+    (ap (λ (G : History). object_held (answer c G thread (table.Hold n))) (oldest_again t.moment W) ∙ held)
+    in
+    inl (record {
+      hold = length first;
+      release = length second;
+      object = object;
+      held = ap (λ (G : History). object_held (answer c G thread (table.Hold n))) (past_at x W t t.moment j) ∙ held;
+      released = ap (λ (G : History). answer c G thread (table.Release n)) (j.pasts (length second)) ∙ accepted;
+      is = is;
+    })
+
+of_told : (x : Around) (W : History) (t : Timed) (n : Named) (read : Read) (object : Option Parts) → Judges x W t → MakesEntries x.setting W t (Ok (ReadsOf n read))
+    → t.told.line ≡ (reads_of x.setting x.plan.library (moments_in W x.before t) (caller_of t.told.line) n read object).line
+    → IsReadOf x (caller_of t.told.line) t.told.line n read object
+of_told x W t n read (Some object) j entries is = is
+of_told x W t n read None j entries is = between_told x W t n read (object_held (answer x.setting (oldest t.moment W) t.told.line.thread (table.Hold n))) j entries refl is
+
+-- the line of a wish is as the relation says
+granted_told : (x : Around) (W : History) (t : Timed) (w : Result Wish Why) → Judges x W t → MakesEntries x.setting W t w
+    → t.told.line ≡ (granted_at x.setting x.plan.library (moments_in W x.before t) (caller_of t.told.line) w).line
+    → IsGranted x (caller_of t.told.line) t.told.line w
+granted_told x W t (Err why) j entries is = is
+granted_told x W t (Ok (Calls categories op)) j entries is = call_told x W t categories op j is
+granted_told x W t (Ok (ReadsOf n read)) j entries is =
+    let thread : ℕ = t.told.line.thread in
+    let place : ℕ = next_place thread x.before in
+    subst (λ (G : History). IsReadOf x (caller_of t.told.line) t.told.line n read (held_as (open_holds G thread) n)) (sym (j.pasts place))
+    (of_told x W t n read (held_as (open_holds (oldest place W) thread) n) j entries is)
+granted_told x W t (Ok (Reads read)) j entries is =
+    let thread : ℕ = t.told.line.thread in
+    let place : ℕ = next_place thread x.before in
+    subst (λ (G : History). IsRead x (caller_of t.told.line) t.told.line read (own G thread)) (sym (j.pasts place))
+    (read_told x W t read (own (oldest place W) thread) j is)
+granted_told x W t (Ok AsksSelection) j entries is =
+    let thread : ℕ = t.told.line.thread in
+    is ∙ ap (λ (G : History). told_line (caller_of t.told.line) (said.Is (selection G thread))) (sym (j.pasts (next_place thread x.before)))
+granted_told x W t (Ok (AsksName categories)) j entries is = record {
+  version = sets (oldest t.moment W);
+  bounds = j.version;
+  is = is ∙ ap (global_name_line x.plan.library (caller_of t.told.line) categories (sets (oldest t.moment W))) (sym (global_is x W t j));
+}
+
+-- a line that is right for a history tells what its task asks for
+pub line_told : (x : Around) (W : History) (t : Timed) → Judges x W t → IsRight x.setting x.plan W x.before t → IsTold x t.told
+line_told x W t j right =
+    granted_told x W t (wish_of x.plan.library (bindings_of t.told.line.thread (bound_by x.before)) t.told.task) j right.entries right.line

@@ -1,5 +1,0 @@
-use Rattle.script_run.proofs.HoldLaws.{held_where_holding}
-use Rattle.script_run.proofs.laws.held_where_holding.Goals as goal
-
-pub returns : goal.returns
-returns c = record { held_where_holding = held_where_holding }

@@ -1,5 +1,0 @@
-use Rattle.script_run.proofs.OnlySerial.{only_serial}
-use Rattle.script_run.proofs.laws.only_serial.Goals as goal
-
-pub returns : goal.returns
-returns c = record { only_serial = only_serial }

@@ -1,8 +1,0 @@
-use Rattle.script_run.proofs.plan.prepare.Goals as goal
-
-pub invariant_of-result : goal.invariant_of-result
-invariant_of-result c = record {
-  accepted = c.in_ok-bundle.ensures.accepted;
-  numbered = c.in_ok-library.ensures.numbered;
-  installable = c.in_ok-library.ensures.installable;
-}

@@ -1,0 +1,110 @@
+use Rattle.std.proofs.Common.{◌≡◌, ◌+◌, ◌++◌, List, length, map, take, drop, sym, ap, subst, ◌∙◌, arith}
+use Rattle.std.specs.Prelude.{flat_map}
+use Rattle.thread_current.specs.Thread.{IsThreadOf, IsInOrder}
+use Rattle.script_out.specs.declared.output.OutLine.{OutLine}
+use Rattle.script_lines.specs.Seen.{turn_seen}
+use Rattle.script_lines.specs.Turns.{Turn, round_turns}
+use Rattle.script_lines.specs.declared.turns.Turn.{Turn as LentTurn}
+use Rattle.script_serial.specs.Plan.{PlanData}
+use Rattle.script_run.specs.declared.worker.Worker.{Worker}
+use Rattle.script_run.specs.Rounds.{Each, EachTwo, mine_of, MayWork, HasWorked, HasGiven, AllMet}
+use Rattle.script_run.proofs.Rounding.{between_next, in_order_at}
+use Rattle.script_run.proofs.Running.{made_plan}
+use Rattle.script_run.proofs.Stacking.{written}
+use Rattle.script_run.proofs.Taking.{may_work}
+use Rattle.script_run.proofs.rounds.all_rounds.Goals as goal
+
+pub side_by_side-requires-after_bounds : goal.side_by_side-requires-after_bounds
+side_by_side-requires-after_bounds g c κs within =
+    let plan : PlanData = made_plan c.args.bundle.now c.args.common.now.library.now in
+    let gate = c.args.common.now.shared.now in
+    let turns : List Turn = map turn_seen c.as_slice.result.now in
+    let turns_are : turns ≡ round_turns (length plan.bundle.threads) plan.bundle.commands (c.loop-i.i + 1) = ap (λ (ts : List LentTurn). map turn_seen ts) c.as_slice.ensures.value ∙ c.in_ok-turns.ensures in
+    subst (λ (ws : List Worker). Each ws (λ i w. MayWork gate plan.library turns w)) (sym c.as_mut_slice.ensures.value)
+    (may_work gate plan c.loop-i.i c.loop-i.lines.items c.loop-i.workers.items turns c.loop-i.invariant c.requires.sound c.requires.terms turns_are)
+
+pub meet_all-requires-clause-threads : goal.meet_all-requires-clause-threads
+meet_all-requires-clause-threads g c =
+    let plan : PlanData = made_plan c.args.bundle.now c.args.common.now.library.now in
+    let gate = c.args.common.now.shared.now in
+    let turns : List Turn = map turn_seen c.as_slice.result.now in
+    let turns_are : turns ≡ round_turns (length plan.bundle.threads) plan.bundle.commands (c.loop-i.i + 1) = ap (λ (ts : List LentTurn). map turn_seen ts) c.as_slice.ensures.value ∙ c.in_ok-turns.ensures in
+    let n = c.loop-i.workers.len in
+    let items0 : List Worker = c.loop-i.workers.items in
+    let worked : List Worker = c.side_by_side.new.workers in
+    let given : List Worker = c.gather.new.workers in
+    let items0_long : n ≡ length items0 = c.loop-i.workers.ok.0 in
+    let slice0 : c.as_mut_slice.result.now ≡ items0 = c.as_mut_slice.ensures.value in
+    let slice0_long = ap (λ (ws : List Worker). length ws) slice0 in
+    let long1 : length worked ≡ n = omega (arith, c.side_by_side.auto.workers, slice0_long, items0_long) in
+    let items1 : take n (worked ++ drop (length worked) items0) ≡ worked = written n worked (drop (length worked) items0) long1 in
+    let slice1 : c.as_mut_slice-in-loop-i.result.now ≡ worked = c.as_mut_slice-in-loop-i.ensures.value ∙ items1 in
+    let slice1_long = ap (λ (ws : List Worker). length ws) slice1 in
+    let long2 : length given ≡ n = omega (arith, c.gather.auto.workers, slice1_long, long1) in
+    let items2 : take n (given ++ drop (length given) (take n (worked ++ drop (length worked) items0))) ≡ given = written n given (drop (length given) (take n (worked ++ drop (length worked) items0))) long2 in
+    let work : EachTwo items0 worked (λ i old new. HasWorked gate plan.library turns old new) = subst (λ (ws : List Worker). EachTwo ws worked (λ i old new. HasWorked gate plan.library turns old new)) slice0 c.side_by_side.ensures in
+    let give : EachTwo worked given (λ i old new. HasGiven old new) = subst (λ (ws : List Worker). EachTwo ws given (λ i old new. HasGiven old new)) slice1 c.in_ok-gather.ensures.given in
+    let ordered : Each given (λ i w. IsThreadOf gate (mine_of w) × IsInOrder gate.terms (mine_of w)) =
+      in_order_at gate plan c.loop-i.i c.loop-i.lines.items turns items0 worked given c.loop-i.invariant (omega (arith, long1, items0_long)) (omega (arith, long2, items0_long)) work give
+    in
+    subst (λ (ws : List Worker). Each ws (λ i w. IsThreadOf gate (mine_of w))) (sym items2) (λ i d lt. (ordered i d lt).0)
+
+pub meet_all-requires-clause-in_order : goal.meet_all-requires-clause-in_order
+meet_all-requires-clause-in_order g c =
+    let plan : PlanData = made_plan c.args.bundle.now c.args.common.now.library.now in
+    let gate = c.args.common.now.shared.now in
+    let turns : List Turn = map turn_seen c.as_slice.result.now in
+    let turns_are : turns ≡ round_turns (length plan.bundle.threads) plan.bundle.commands (c.loop-i.i + 1) = ap (λ (ts : List LentTurn). map turn_seen ts) c.as_slice.ensures.value ∙ c.in_ok-turns.ensures in
+    let n = c.loop-i.workers.len in
+    let items0 : List Worker = c.loop-i.workers.items in
+    let worked : List Worker = c.side_by_side.new.workers in
+    let given : List Worker = c.gather.new.workers in
+    let items0_long : n ≡ length items0 = c.loop-i.workers.ok.0 in
+    let slice0 : c.as_mut_slice.result.now ≡ items0 = c.as_mut_slice.ensures.value in
+    let slice0_long = ap (λ (ws : List Worker). length ws) slice0 in
+    let long1 : length worked ≡ n = omega (arith, c.side_by_side.auto.workers, slice0_long, items0_long) in
+    let items1 : take n (worked ++ drop (length worked) items0) ≡ worked = written n worked (drop (length worked) items0) long1 in
+    let slice1 : c.as_mut_slice-in-loop-i.result.now ≡ worked = c.as_mut_slice-in-loop-i.ensures.value ∙ items1 in
+    let slice1_long = ap (λ (ws : List Worker). length ws) slice1 in
+    let long2 : length given ≡ n = omega (arith, c.gather.auto.workers, slice1_long, long1) in
+    let items2 : take n (given ++ drop (length given) (take n (worked ++ drop (length worked) items0))) ≡ given = written n given (drop (length given) (take n (worked ++ drop (length worked) items0))) long2 in
+    let work : EachTwo items0 worked (λ i old new. HasWorked gate plan.library turns old new) = subst (λ (ws : List Worker). EachTwo ws worked (λ i old new. HasWorked gate plan.library turns old new)) slice0 c.side_by_side.ensures in
+    let give : EachTwo worked given (λ i old new. HasGiven old new) = subst (λ (ws : List Worker). EachTwo ws given (λ i old new. HasGiven old new)) slice1 c.in_ok-gather.ensures.given in
+    let ordered : Each given (λ i w. IsThreadOf gate (mine_of w) × IsInOrder gate.terms (mine_of w)) =
+      in_order_at gate plan c.loop-i.i c.loop-i.lines.items turns items0 worked given c.loop-i.invariant (omega (arith, long1, items0_long)) (omega (arith, long2, items0_long)) work give
+    in
+    subst (λ (ws : List Worker). Each ws (λ i w. IsInOrder gate.terms (mine_of w))) (sym items2) (λ i d lt. (ordered i d lt).1)
+
+pub loop-i-preserved : goal.loop-i-preserved
+loop-i-preserved g c =
+    let plan : PlanData = made_plan c.args.bundle.now c.args.common.now.library.now in
+    let gate = c.args.common.now.shared.now in
+    let turns : List Turn = map turn_seen c.as_slice.result.now in
+    let turns_are : turns ≡ round_turns (length plan.bundle.threads) plan.bundle.commands (c.loop-i.i + 1) = ap (λ (ts : List LentTurn). map turn_seen ts) c.as_slice.ensures.value ∙ c.in_ok-turns.ensures in
+    let n = c.loop-i.workers.len in
+    let items0 : List Worker = c.loop-i.workers.items in
+    let worked : List Worker = c.side_by_side.new.workers in
+    let given : List Worker = c.gather.new.workers in
+    let items0_long : n ≡ length items0 = c.loop-i.workers.ok.0 in
+    let slice0 : c.as_mut_slice.result.now ≡ items0 = c.as_mut_slice.ensures.value in
+    let slice0_long = ap (λ (ws : List Worker). length ws) slice0 in
+    let long1 : length worked ≡ n = omega (arith, c.side_by_side.auto.workers, slice0_long, items0_long) in
+    let items1 : take n (worked ++ drop (length worked) items0) ≡ worked = written n worked (drop (length worked) items0) long1 in
+    let slice1 : c.as_mut_slice-in-loop-i.result.now ≡ worked = c.as_mut_slice-in-loop-i.ensures.value ∙ items1 in
+    let slice1_long = ap (λ (ws : List Worker). length ws) slice1 in
+    let long2 : length given ≡ n = omega (arith, c.gather.auto.workers, slice1_long, long1) in
+    let items2 : take n (given ++ drop (length given) (take n (worked ++ drop (length worked) items0))) ≡ given = written n given (drop (length given) (take n (worked ++ drop (length worked) items0))) long2 in
+    let work : EachTwo items0 worked (λ i old new. HasWorked gate plan.library turns old new) = subst (λ (ws : List Worker). EachTwo ws worked (λ i old new. HasWorked gate plan.library turns old new)) slice0 c.side_by_side.ensures in
+    let give : EachTwo worked given (λ i old new. HasGiven old new) = subst (λ (ws : List Worker). EachTwo ws given (λ i old new. HasGiven old new)) slice1 c.in_ok-gather.ensures.given in
+    let ordered : Each given (λ i w. IsThreadOf gate (mine_of w) × IsInOrder gate.terms (mine_of w)) =
+      in_order_at gate plan c.loop-i.i c.loop-i.lines.items turns items0 worked given c.loop-i.invariant (omega (arith, long1, items0_long)) (omega (arith, long2, items0_long)) work give
+    in
+    let met : List Worker = c.meet_all.new.workers.items in
+    let items2_long = ap (λ (ws : List Worker). length ws) items2 in
+    let met_long : length met ≡ length items0 = omega (arith, c.meet_all.ensures.length, items2_long, long2, items0_long) in
+    let printed : c.gather.new.lines.items ≡ c.loop-i.lines.items ++ flat_map (λ (w : Worker). w.lines.items) worked =
+      c.in_ok-gather.ensures.lines ∙ ap (λ (ws : List Worker). c.loop-i.lines.items ++ flat_map (λ (w : Worker). w.lines.items) ws) slice1
+    in
+    between_next gate plan c.loop-i.i c.loop-i.lines.items c.gather.new.lines.items turns items0 worked given met c.loop-i.invariant c.requires.terms turns_are
+    (omega (arith, long1, items0_long)) (omega (arith, long2, items0_long)) met_long work printed give
+    (subst (λ (ws : List Worker). AllMet gate.terms ws met) items2 c.meet_all.ensures.met)

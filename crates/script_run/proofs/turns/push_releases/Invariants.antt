@@ -1,9 +1,0 @@
-use Rattle.std.proofs.Common.{◌≡◌, ◌++◌, map, drop}
-use Rattle.script_run.specs.Seen.{turn_seen}
-use Rattle.script_run.specs.Turns.{releases}
-use Rattle.script_run.proofs.turns.push_releases.Given as goal
-
--- the turns so far, and those of the Holds that are left
-abbrev pub invariant-loop-hold : goal.invariant-loop-hold
-invariant-loop-hold l =
-    map turn_seen l.turns.items ++ releases l.round l.thread (drop l.hold-index l.holds) ≡ map turn_seen l.initial.turns.items ++ releases l.round l.thread l.holds

@@ -1,0 +1,138 @@
+-- Threads of a script that run beside each other, and at which point of it they are.
+use Rattle.std.specs.Prelude.{◌≡◌, ℕ, ◌+◌, ◌*◌, ◌^◌, ◌<◌, ◌≤◌, List, [], ◌∷◌, ◌++◌, ◌==◌, length, filter, reverse, All, None}
+use Rattle.category_store.specs.Catalog.{Catalog}
+use Rattle.category_store.specs.Library.{opening}
+use Rattle.category_store.specs.Shelf.{IsNumbered, IsInstallable}
+use Rattle.category_store.specs.declared.share.Share.{Share}
+use Rattle.turn_gate.specs.declared.entry.Terms.{Terms}
+use Rattle.turn_gate.specs.Callers.{Gate, Caller}
+use Rattle.handle_table.specs.declared.op.Op as ops
+use Rattle.handle_table.specs.declared.op.Reply as replies
+use Rattle.handle_table.specs.Entry.{Setting, End, Ended}
+use Rattle.thread_current.specs.Thread.{Thread, thread_of, IsInOrder, GoesOnFrom, Answered}
+use Rattle.script_out.specs.declared.output.OutLine.{OutLine}
+use Rattle.script_out.specs.declared.output.Places.TheVariants as places
+use Rattle.script_out.specs.declared.output.Said.TheVariants as said
+use Rattle.script_lines.specs.Lines.{line}
+use Rattle.script_lines.specs.declared.thread.Thread.{Thread as ScriptThread}
+use Rattle.script_lines.specs.Board.{TaskMay, LeavesTurn}
+use Rattle.script_lines.specs.Holds.{open_holds}
+use Rattle.script_lines.specs.Thread.{BindsAs}
+use Rattle.script_lines.specs.Turns.{Turn, releases, closing}
+use Rattle.script_lines.specs.Variables.{Bound, bindings_after}
+use Rattle.script_serial.specs.Plan.{PlanData}
+use Rattle.script_serial.specs.Prints.{bound_by}
+use Rattle.script_run.specs.declared.seated.Seated.{Seated}
+use Rattle.script_run.specs.Seated.{IsSeatedAt, HasCalls, MayCall, MayFollow}
+use Rattle.script_run.specs.Timed.{Timed, AreTimed, AreRight, lines_in, tellings, turns_made, places_by, placed_back}
+
+-- ---- what a thread has made
+
+-- what a thread has made, the newest line first: its lines are right for what it has seen, and its entries there are their calls
+pub record HasMade (terms : Terms Setting) (plan : PlanData) (t : Thread) (made : List Timed) : Type 0 where
+  pub in_order : IsInOrder terms t
+  pub own : All (λ (m : Timed). m.told.line.thread ≡ t.number) made
+  pub right : AreRight terms.setting plan t.seen made
+  pub timed : AreTimed made
+  pub places : places_by t.number t.seen ≡ placed_back made
+
+-- a thread of the script that has made these lines, with no more calls, and a Release for each open Hold, than two for each line
+pub record IsWorker (gate : Gate Setting) (plan : PlanData) (t : ScriptThread Seated) (ts : List Timed) : Type 0 where
+  pub seated : IsSeatedAt gate t.side t.side.mine.seen
+  pub made : HasMade gate.terms plan t.side.mine ts
+  pub few : length t.side.mine.calls + length (open_holds t.side.mine.seen t.side.number) ≤ 2 * length ts
+  pub variables : BindsAs t.side.number t.variables (bound_by (tellings ts))
+  pub lines : t.lines ≡ length ts
+
+-- ---- a turn
+
+-- a thread can make the line of a turn: the table is of the library's names, its quota lets the thread make two calls, and the task
+-- is one that may be asked for
+pub record CanAdd (gate : Gate Setting) (library : Catalog) (t : ScriptThread Seated) (turn : Turn) : Type 0 where
+  pub numbered : IsNumbered library
+  pub installable : IsInstallable library
+  pub opening : gate.terms.setting.opening ≡ opening library
+  pub calls : HasCalls 2 gate t.side
+  pub few : t.lines + 1 < 2 ^ 32
+  pub own : turn.thread ≡ t.side.number
+  pub fits : TaskMay library (MayCall gate.terms.setting) turn.task
+
+-- what a turn leaves of its thread, which prints this line: what the thread has seen and bound by it
+pub record AddsLine (gate : Gate Setting) (library : Catalog) (turn : Turn) (old new : ScriptThread Seated) (l : OutLine) : Type 0 where
+  pub leaves : (bounds : List Bound) → BindsAs old.side.number old.variables bounds
+      → LeavesTurn gate.terms.setting library (MayFollow gate.terms.setting old.side.number) (IsSeatedAt gate new.side) old.side.mine.seen bounds old.lines turn l
+  pub variables : (bounds : List Bound) → BindsAs old.side.number old.variables bounds
+      → BindsAs old.side.number new.variables (bindings_after old.side.number bounds turn.task l.reply)
+  pub number : new.side.number ≡ old.side.number
+  pub lines : new.lines ≡ old.lines + 1
+  pub calls : (n : ℕ) → HasCalls (n + 2) gate old.side → HasCalls n gate new.side
+
+-- the same, with the line behind those given before
+pub record Adds (gate : Gate Setting) (library : Catalog) (turn : Turn) (old new : ScriptThread Seated) (given given' : List OutLine) : Type 0 where
+  pub line : OutLine
+  pub added : given' ≡ given ++ line ∷ []
+  pub adds : AddsLine gate library turn old new line
+
+-- ---- a round
+
+-- the turns of one thread among those of a round
+abbrev pub turns_of : ℕ → List Turn → List Turn
+turns_of thread turns = filter (λ (t : Turn). t.thread == thread) turns
+
+-- the same of several turns, of which each may make two calls
+pub record CanWork (gate : Gate Setting) (library : Catalog) (t : ScriptThread Seated) (turns : List Turn) : Type 0 where
+  pub numbered : IsNumbered library
+  pub installable : IsInstallable library
+  pub opening : gate.terms.setting.opening ≡ opening library
+  pub calls : HasCalls (2 * length turns) gate t.side
+  pub few : t.lines + length turns < 2 ^ 32
+  pub fits : All (λ (turn : Turn). TaskMay library (MayCall gate.terms.setting) turn.task) turns
+
+-- what a thread leaves behind turns: a line for each, none of which was made before them
+pub record Works (gate : Gate Setting) (plan : PlanData) (those : List Turn) (old new : ScriptThread Seated) (made : List Timed) (lines lines' : List OutLine) : Type 0 where
+  pub more : List Timed
+  pub added : lines' ≡ lines ++ reverse (lines_in more)
+  pub turns : turns_made more ≡ reverse those
+  pub since : All (λ (m : Timed). length old.side.mine.seen ≤ m.moment) more
+  pub later : GoesOnFrom new.side.mine.seen old.side.mine.seen
+  pub worker : IsWorker gate plan new (more ++ made)
+
+-- the same, whatever the thread has made before
+abbrev pub WorksOn : Gate Setting → Catalog → List Turn → ScriptThread Seated → ScriptThread Seated → List OutLine → List OutLine → Type 0
+WorksOn gate library turns old new lines lines' =
+    (plan : PlanData) (made : List Timed) → plan.library ≡ library → IsWorker gate plan old made → Works gate plan turns old new made lines lines'
+
+-- ---- the end of a thread
+
+-- a thread can be closed: its quota lets it make a Release for each open Hold, and its end
+pub record CanClose (gate : Gate Setting) (library : Catalog) (t : ScriptThread Seated) : Type 0 where
+  pub numbered : IsNumbered library
+  pub installable : IsInstallable library
+  pub opening : gate.terms.setting.opening ≡ opening library
+  pub calls : HasCalls (length t.side.holds.items + 1) gate t.side
+  pub few : t.lines + length t.side.holds.items + 1 < 2 ^ 32
+
+-- what giving up the open Holds leaves: a Release of each in the order made, and a thread that can end
+pub record GivesUp (gate : Gate Setting) (library : Catalog) (round : ℕ) (old new : ScriptThread Seated) (lines lines' : List OutLine) : Type 0 where
+  pub can : CanClose gate library new
+  pub empty : new.side.holds.items ≡ []
+  pub number : new.side.number ≡ old.side.number
+  pub works : WorksOn gate library (releases round old.side.number (open_holds old.side.mine.seen old.side.number)) old new lines lines'
+
+-- what the end of a thread leaves: its seat, and the line of its last call
+pub record EndsSeat (gate : Gate Setting) (round : ℕ) (t : ScriptThread Seated) (seat : Caller Setting (ops.Op Share) (replies.Reply Share)) (given given' : List OutLine) : Type 0 where
+  pub cached : ℕ
+  pub place : ℕ
+  pub answered : Answered gate t.side.mine (thread_of cached seat) End place Ended
+  pub in_order : IsInOrder gate.terms (thread_of cached seat)
+  pub added : given' ≡ given ++ line (record { round = round; thread = t.side.number; index = t.lines + 1 }) (places.One place) None said.Ended ∷ []
+
+-- what closing a thread leaves: a Release of each open Hold in the order made, and its end
+pub record Closes (gate : Gate Setting) (plan : PlanData) (round : ℕ) (old : ScriptThread Seated) (seat : Caller Setting (ops.Op Share) (replies.Reply Share)) (earlier : List Timed) (lines lines' : List OutLine) : Type 0 where
+  pub more : List Timed
+  pub added : lines' ≡ lines ++ reverse (lines_in more)
+  pub turns : turns_made more ≡ reverse (closing round old.side.number (open_holds old.side.mine.seen old.side.number))
+  pub timed : AreTimed more
+  pub since : All (λ (m : Timed). length old.side.mine.seen ≤ m.moment) more
+  pub later : GoesOnFrom (thread_of 0 seat).seen old.side.mine.seen
+  pub made : HasMade gate.terms plan (thread_of 0 seat) (more ++ earlier)

@@ -1,0 +1,133 @@
+-- Lines of threads that call beside each other, judged by one history of which each thread has seen a part (our own).
+-- A history has its newest entry first, and so have the lists of lines here: what stands before stays when more is added.
+use Rattle.std.specs.Prelude.{◌≡◌, ℕ, zero, suc, ◌+◌, ◌<◌, ◌≤◌, nat_lt, nat_le, if◌then◌else◌, List, [], ◌∷◌, ◌++◌, ◌==◌, length, map, filter, flat_map, reverse, All, unwrap_or}
+use Rattle.handle_table.specs.Entry.{History, Setting}
+use Rattle.handle_table.specs.Kept.{AreThreads}
+use Rattle.handle_table.specs.Answer.{IsLegal}
+use Rattle.script_out.specs.declared.output.OutLine.{OutLine}
+use Rattle.script_lines.specs.Turns.{Turn}
+use Rattle.script_lines.specs.Variables.{bindings_of}
+use Rattle.script_lines.specs.Wishes.{wish_of}
+use Rattle.script_lines.specs.Outcome.{with_call}
+use Rattle.script_lines.specs.Board.{Moments, granted_at}
+use Rattle.script_serial.specs.Plan.{PlanData}
+use Rattle.script_serial.specs.Prints.{Told, PlacedCall, bound_by, caller_of, places_in, behind_last, next_place, calls_of}
+
+-- ---- what stands before a place
+
+-- the oldest entries of a history, so many of them: what stands before the place with this number
+abbrev pub oldest : ℕ → History → History
+oldest place [] = []
+oldest place (e ∷ H) = if nat_lt (length H) place then e ∷ H else oldest place H
+
+-- the places of a thread's entries, the newest first
+abbrev pub places_by : ℕ → History → List ℕ
+places_by thread [] = []
+places_by thread (e ∷ H) = if e.who == thread then length H ∷ places_by thread H else places_by thread H
+
+-- ---- lines with their moments
+
+-- a line with its task, and how many entries stood when it was made: before its first call, or when it read the global locale
+pub record Timed : Type 0 where
+  pub told : Told
+  pub moment : ℕ
+
+-- how many entries stood behind the line's last call, or at its moment
+abbrev pub end_of : Timed → ℕ
+end_of t = unwrap_or (behind_last (places_in t.told.line.places)) t.moment
+
+-- the same of the newest line
+abbrev pub last_end : List Timed → ℕ
+last_end [] = 0
+last_end (t ∷ ts) = end_of t
+
+-- moments do not go back: each line begins where the one before it has ended, or later
+abbrev pub AreTimed : List Timed → Type 0
+AreTimed [] = Unit {0}
+AreTimed (t ∷ ts) = (last_end ts ≤ t.moment) × AreTimed ts
+
+-- the lines, what they tell, and the turns that made them
+abbrev pub lines_in : List Timed → List OutLine
+lines_in ts = map (λ (t : Timed). t.told.line) ts
+
+abbrev pub tellings : List Timed → List Told
+tellings ts = map (λ (t : Timed). t.told) ts
+
+abbrev pub turn_made : Timed → Turn
+turn_made t = record { round = t.told.line.round; thread = t.told.line.thread; task = t.told.task }
+
+abbrev pub turns_made : List Timed → List Turn
+turns_made ts = map turn_made ts
+
+-- the places of lines, the newest first
+abbrev pub placed_back : List Timed → List ℕ
+placed_back ts = flat_map (λ (t : Timed). reverse (places_in t.told.line.places)) ts
+
+-- the lines of the first n threads, the newest first, on top of earlier ones
+abbrev pub stacked : (ℕ → List Timed) → List Timed → ℕ → List Timed
+stacked more made zero = made
+stacked more made (suc n) = more n ++ stacked more made n
+
+-- the lines of a thread
+abbrev pub own_lines : ℕ → List Timed → List Timed
+own_lines thread ts = filter (λ (t : Timed). t.told.line.thread == thread) ts
+
+-- ---- what a line is judged by
+
+-- the place of the Release of a read between; of any other line its place, or its moment
+abbrev pub second_moment : List ℕ → ℕ → ℕ
+second_moment [] moment = moment
+second_moment (place ∷ []) moment = place
+second_moment (hold ∷ release ∷ more) moment = release
+
+-- the histories that a line goes by: what stood behind the thread's last call, at the line's moment, and before its Release
+abbrev pub moments_in : History → List Told → Timed → Moments
+moments_in W before t = record {
+  seen = oldest (next_place t.told.line.thread before) W;
+  first = oldest t.moment W;
+  second = oldest (second_moment (places_in t.told.line.places) t.moment) W;
+}
+
+-- the entry of a history at the place of a call is that call, with its answer to what stands before it
+pub record IsEntryOf (c : Setting) (W : History) (call : PlacedCall) : Type 0 where
+  pub within : call.place < length W
+  pub entry : oldest (call.place + 1) W ≡ with_call c (oldest call.place W) call.thread call.op
+
+-- A line, behind earlier lines of which the newest stands first: it prints what its task asks for at its moment, its number is
+-- the next one of its thread, and its calls are entries of the history
+pub record IsRight (c : Setting) (plan : PlanData) (W : History) (before : List Told) (t : Timed) : Type 0 where
+  pub within : end_of t ≤ length W
+  pub since : t.moment ≤ end_of t
+  pub index : t.told.line.index ≡ length (filter (λ (d : Told). d.line.thread == t.told.line.thread) before) + 1
+  pub line : t.told.line
+      ≡ (granted_at c plan.library (moments_in W before t) (caller_of t.told.line) (wish_of plan.library (bindings_of t.told.line.thread (bound_by before)) t.told.task)).line
+  pub entries : All (IsEntryOf c W) (calls_of plan.library (bound_by before) t.told)
+
+-- lines of which each is right behind those before it
+abbrev pub AreRight : Setting → PlanData → History → List Timed → Type 0
+AreRight c plan W [] = Unit {0}
+AreRight c plan W (t ∷ ts) = IsRight c plan W (tellings ts) t × AreRight c plan W ts
+
+-- ---- all lines
+
+-- the lines of the rounds before one, and of a round and those before it
+abbrev pub in_rounds_before : ℕ → List Timed → List Timed
+in_rounds_before round ts = filter (λ (t : Timed). nat_lt t.told.line.round round) ts
+
+abbrev pub in_rounds_to : ℕ → List Timed → List Timed
+in_rounds_to round ts = filter (λ (t : Timed). nat_le t.told.line.round round) ts
+
+-- a line was made while its round ran: behind the calls of earlier rounds, and before those of later ones
+pub record IsInRound (ts : List Timed) (t : Timed) : Type 0 where
+  pub since : length (placed_back (in_rounds_before t.told.line.round ts)) ≤ t.moment
+  pub until : end_of t ≤ length (placed_back (in_rounds_to t.told.line.round ts))
+
+-- the lines of all threads, the newest first, are right for the history, and its entries are their calls
+pub record IsWhole (c : Setting) (plan : PlanData) (W : History) (ts : List Timed) : Type 0 where
+  pub legal : IsLegal c W
+  pub callers : AreThreads c.threads W
+  pub threads : All (λ (t : Timed). t.told.line.thread < c.threads) ts
+  pub right : AreRight c plan W ts
+  pub timed : (thread : ℕ) → AreTimed (own_lines thread ts)
+  pub places : (thread : ℕ) → thread < c.threads → places_by thread W ≡ placed_back (own_lines thread ts)
+  pub rounds : All (IsInRound ts) ts

@@ -1,0 +1,161 @@
+-- The two plays of a script: its commands, and what closes its threads.
+use Rattle.std.proofs.Common.{◌≡◌, ℕ, ◌+◌, ◌*◌, ◌≤◌, List, [], length, map, refl, sym, ap, subst, ◌∙◌, arith}
+use Rattle.std.specs.Prelude.{flat_map, All}
+use Rattle.std.proofs.lemmas.List.{length-map}
+use Rattle.mask_compose.specs.Offer.{Offered}
+use Rattle.category_store.specs.Catalog.{Catalog}
+use Rattle.category_store.specs.Library.{opening}
+use Rattle.handle_table.specs.Entry.{History, Setting}
+use Rattle.handle_table.specs.Table.{TableData, steps}
+use Rattle.script_lang.specs.declared.bundle.Bundle.{Bundle}
+use Rattle.script_out.specs.declared.output.OutLine.{OutLine}
+use Rattle.script_lines.specs.declared.turns.Turn.{Turn as LentTurn}
+use Rattle.script_lines.specs.Holds.{open_holds}
+use Rattle.script_serial.specs.Plan.{PlanData, IsSound}
+use Rattle.script_lines.specs.Seen.{turn_seen, TurnFits}
+use Rattle.script_serial.specs.Serial.{Run, setting, played, begun, commands_played, closed, serial_lines}
+use Rattle.script_serial.specs.Session.{ThreadData, AreAt, GoesOn, AreNumbered, CanPlay}
+use Rattle.script_lines.specs.Turns.{Turn, first_numbers, command_turns, closing, closing_turns}
+use Rattle.script_serial.proofs.TurnLemmas.{AreFrom, few_turns, turns_fit, no_turns, few_closing, closing_is, closings_fit}
+
+-- ---- the commands
+
+pub few_commands : (plan : PlanData) (turns : List LentTurn) → IsSound plan → map turn_seen turns ≡ command_turns plan.bundle → length turns ≤ 20480000
+few_commands plan turns sound same =
+    let long : length (map turn_seen turns) ≡ length turns = length-map turns turn_seen in
+    let all : length (map turn_seen turns) ≡ length (command_turns plan.bundle) = ap (λ (ts : List Turn). length ts) same in
+    let few : length (command_turns plan.bundle) ≤ 20480000 = few_turns plan.bundle sound.accepted in
+    omega arith
+
+pub can_play_commands : (plan : PlanData) (table : TableData) (threads : List ThreadData) (turns : List LentTurn) → IsSound plan → AreAt table threads begun
+    → table.setting.opening ≡ opening plan.library → table.setting.threads ≡ length plan.bundle.threads → length threads ≡ length plan.bundle.threads
+    → map turn_seen turns ≡ command_turns plan.bundle → CanPlay plan.library table threads (length turns)
+can_play_commands plan table threads turns sound at shelf many long same =
+    let few : length turns ≤ 20480000 = few_commands plan turns sound same in
+    let none : table.count ≡ 0 = at.stands.steps in
+    record { opening = shelf; threads = many ∙ sym long; steps = omega arith }
+
+pub commands_fit : (plan : PlanData) (threads : List ThreadData) (turns : List LentTurn) → IsSound plan → length threads ≡ length plan.bundle.threads → map turn_seen turns ≡ command_turns plan.bundle
+    → All (TurnFits (length threads)) (map turn_seen turns)
+commands_fit plan threads turns sound long same =
+    subst (λ (n : ℕ). All (TurnFits n) (map turn_seen turns)) (sym long) (subst (All (TurnFits (length plan.bundle.threads))) (sym same) (turns_fit plan.bundle sound.accepted))
+
+-- ---- what closes the threads
+
+-- a table and threads after all commands of a plan, which made so many lines
+pub record AreDone (plan : PlanData) (c : Setting) (table : TableData) (threads : List ThreadData) (printed : ℕ) : Type 0 where
+  pub sound : IsSound plan
+  pub there : AreAt table threads (commands_played c plan)
+  pub same : table.setting ≡ c
+  pub shelf : c.opening ≡ opening plan.library
+  pub many : c.threads ≡ length plan.bundle.threads
+  pub long : length threads ≡ length plan.bundle.threads
+  pub numbered : AreNumbered printed threads
+  pub printed_few : printed ≤ 20480000
+  pub steps_few : steps table ≤ 40960000
+
+pub are_done : (plan : PlanData) (start table : TableData) (before threads : List ThreadData) (turns : List LentTurn) (printed : ℕ) → IsSound plan → AreAt start before begun
+    → start.setting.opening ≡ opening plan.library → start.setting.threads ≡ length plan.bundle.threads → length threads ≡ length plan.bundle.threads
+    → map turn_seen turns ≡ command_turns plan.bundle
+    → AreAt table threads (played start.setting plan.library begun (map turn_seen turns)) → GoesOn (2 * length turns) start table → AreNumbered printed threads → printed ≤ length turns
+    → AreDone plan start.setting table threads printed
+are_done plan start table before threads turns printed sound at shelf many long same after on numbered few =
+    let commands : length turns ≤ 20480000 = few_commands plan turns sound same in
+    let none : start.count ≡ 0 = at.stands.steps in
+    let made : steps table ≤ steps start + 2 * length turns = on.steps in
+    record {
+      sound = sound;
+      there = subst (λ (ts : List Turn). AreAt table threads (played start.setting plan.library begun ts)) same after;
+      same = on.setting;
+      shelf = shelf;
+      many = many;
+      long = long;
+      numbered = numbered;
+      printed_few = omega arith;
+      steps_few = omega arith;
+    }
+
+numbers_from : (printed : ℕ) (threads : List ThreadData) → AreNumbered printed threads → AreFrom 0 threads
+numbers_from printed threads numbered = λ i d lt. let own = (numbered i d lt).number in omega (arith, own)
+
+-- the turns that close these threads
+abbrev pub closings_of : PlanData → List ThreadData → List Turn
+closings_of plan threads = flat_map (λ (t : ThreadData). closing (plan.bundle.rounds + 1) t.side.number t.side.holds) threads
+
+pub closings_are : (plan : PlanData) (c : Setting) (table : TableData) (threads : List ThreadData) (printed : ℕ) → AreDone plan c table threads printed
+    → closings_of plan threads ≡ closing_turns plan.bundle (commands_played c plan).history
+closings_are plan c table threads printed done =
+    closing_is plan.bundle (commands_played c plan).history (plan.bundle.rounds + 1) threads refl done.long (numbers_from printed threads done.numbered) (λ k d lt. (done.there.follow k d lt).knows.holds)
+
+pub few_closings : (plan : PlanData) (c : Setting) (table : TableData) (threads : List ThreadData) (printed : ℕ) (turns : List LentTurn) → AreDone plan c table threads printed
+    → map turn_seen turns ≡ closings_of plan threads → length turns ≤ 655360016
+few_closings plan c table threads printed turns done same =
+    let H : History = (commands_played c plan).history in
+    let entries : table.count ≡ length H = done.there.stands.steps in
+    let made : steps table ≤ 40960000 = done.steps_few in
+    let few : length (closing_turns plan.bundle H) ≤ 655360016 = few_closing plan.bundle H done.sound.accepted (omega arith) in
+    let all : length (map turn_seen turns) ≡ length (closing_turns plan.bundle H) = ap (λ (ts : List Turn). length ts) (same ∙ closings_are plan c table threads printed done) in
+    let long : length (map turn_seen turns) ≡ length turns = length-map turns turn_seen in
+    omega arith
+
+pub can_play_closings : (plan : PlanData) (c : Setting) (table : TableData) (threads : List ThreadData) (printed : ℕ) (turns : List LentTurn) → AreDone plan c table threads printed
+    → map turn_seen turns ≡ closings_of plan threads → CanPlay plan.library table threads (length turns)
+can_play_closings plan c table threads printed turns done same =
+    let few : length turns ≤ 655360016 = few_closings plan c table threads printed turns done same in
+    let made : steps table ≤ 40960000 = done.steps_few in
+    record {
+      opening = ap (λ (s : Setting). s.opening) done.same ∙ done.shelf;
+      threads = ap (λ (s : Setting). s.threads) done.same ∙ done.many ∙ sym done.long;
+      steps = omega arith;
+    }
+
+pub all_closings_fit : (plan : PlanData) (c : Setting) (table : TableData) (threads : List ThreadData) (printed : ℕ) (turns : List LentTurn) → AreDone plan c table threads printed
+    → map turn_seen turns ≡ closings_of plan threads → All (TurnFits (length threads)) (map turn_seen turns)
+all_closings_fit plan c table threads printed turns done same =
+    subst (All (TurnFits (length threads))) (sym same) (closings_fit (length threads) (plan.bundle.rounds + 1) 0 threads (numbers_from printed threads done.numbered) (omega arith))
+
+-- the lines of a plan
+pub closed_is : (plan : PlanData) (c : Setting) (table : TableData) (threads : List ThreadData) (printed : ℕ) (turns : List LentTurn) (lines : List OutLine) → AreDone plan c table threads printed
+    → map turn_seen turns ≡ closings_of plan threads → lines ≡ (played table.setting plan.library (commands_played c plan) (map turn_seen turns)).lines
+    → lines ≡ (closed c plan (commands_played c plan)).lines
+closed_is plan c table threads printed turns lines done same is =
+    is
+    ∙ ap (λ (s : Setting). (played s plan.library (commands_played c plan) (map turn_seen turns)).lines) done.same
+    ∙ ap (λ (ts : List Turn). (played c plan.library (commands_played c plan) ts).lines) (same ∙ closings_are plan c table threads printed done)
+
+-- without a thread there is nothing to close
+no_closing_turns : (b : Bundle) (H : History) → b.threads ≡ [] → closing_turns b H ≡ []
+no_closing_turns b H none = ap (λ (n : ℕ). flat_map (λ (t : ℕ). closing (b.rounds + 1) t (open_holds H t)) (first_numbers n)) (ap (λ (names : List (List ℕ)). length names) none)
+
+-- a plan without threads has no line
+pub no_lines : (plan : PlanData) (rows generations : ℕ) → plan.bundle.threads ≡ [] → serial_lines rows generations plan ≡ []
+no_lines plan rows generations none =
+    let c : Setting = setting plan rows generations in
+    let commands : commands_played c plan ≡ begun = ap (played c plan.library begun) (no_turns plan.bundle none) in
+    let closes : closing_turns plan.bundle (commands_played c plan).history ≡ [] = no_closing_turns plan.bundle (commands_played c plan).history none in
+    ap (λ (ts : List Turn). (played c plan.library (commands_played c plan) ts).lines) closes ∙ ap (λ (r : Run). r.lines) commands
+
+-- what a plan and a setting are made of
+abbrev made_plan : Bundle → Catalog → PlanData
+made_plan bundle library = record { bundle = bundle; library = library }
+
+plan_is : (plan : PlanData) (bundle : Bundle) (library : Catalog) → bundle ≡ plan.bundle → library ≡ plan.library → made_plan bundle library ≡ plan
+plan_is plan bundle library same of = ap (λ (b : Bundle). made_plan b library) same ∙ ap (λ (l : Catalog). made_plan plan.bundle l) of
+
+pub sound_parts : (plan : PlanData) (bundle : Bundle) (library : Catalog) → bundle ≡ plan.bundle → library ≡ plan.library → IsSound plan → IsSound (record { bundle = bundle; library = library })
+sound_parts plan bundle library same of sound = subst IsSound (sym (plan_is plan bundle library same of)) sound
+
+abbrev made_setting : ℕ → ℕ → ℕ → List Offered → Setting
+made_setting threads rows generations offers = record { threads = threads; rows = rows; generations = generations; opening = offers }
+
+-- the lines that are told are those of the plan
+pub serial_told : (plan : PlanData) (rows generations count : ℕ) (bundle : Bundle) (library : Catalog) (offers : List Offered) (c : Setting) (lines : List OutLine)
+    → c ≡ record { threads = count; rows = rows; generations = generations; opening = offers } → count ≡ length bundle.threads → offers ≡ opening library → bundle ≡ plan.bundle → library ≡ plan.library
+    → lines ≡ (closed c (record { bundle = bundle; library = library }) (commands_played c (record { bundle = bundle; library = library }))).lines → lines ≡ serial_lines rows generations plan
+serial_told plan rows generations count bundle library offers c lines own many shelf same of is =
+    let told : PlanData = made_plan bundle library in
+    let whole : told ≡ plan = plan_is plan bundle library same of in
+    let set : c ≡ setting told rows generations =
+    own ∙ ap (λ (n : ℕ). made_setting n rows generations offers) many ∙ ap (λ (os : List Offered). made_setting (length bundle.threads) rows generations os) shelf
+    in
+    is ∙ ap (λ (s : Setting). (closed s told (commands_played s told)).lines) set ∙ ap (λ (p : PlanData). serial_lines rows generations p) whole

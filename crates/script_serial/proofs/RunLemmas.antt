@@ -1,0 +1,255 @@
+-- A script after some of its turns.
+use Rattle.std.proofs.Common.{◌≡◌, ℕ, suc, ◌+◌, ◌*◌, ◌^◌, ◌<◌, ◌≤◌, ◌-◌, Bool, cond, List, [], ◌∷◌, ◌++◌, length, map, drop, get_or, Option, Some, None, Result, sym, ap, subst, ◌∙◌, add-one, arith, length-append, inl, inr}
+use Rattle.std.specs.Prelude.{◌≢◌, ◌==◌, filter, All, slice_index_or, slice_set}
+use Rattle.std.proofs.Math.Seq.{drop-cons}
+use Rattle.std.proofs.lemmas.List.{get_or-map, get_or-set_same, get_or-set_other, length-map, length-set}
+use Rattle.std.proofs.lemmas.Bool.{ne_eqb}
+use Rattle.std.proofs.lemmas.Bool.Decides.{eqb_tells}
+use Rattle.category_store.specs.Catalog.{Catalog}
+use Rattle.category_store.specs.Library.{opening}
+use Rattle.handle_table.specs.declared.handle.Handle.{Handle}
+use Rattle.handle_table.specs.Entry.{Setting, History}
+use Rattle.handle_table.specs.Table.{TableData, steps}
+use Rattle.script_out.specs.declared.output.OutLine.{OutLine}
+use Rattle.script_out.specs.declared.output.Why.{Why}
+use Rattle.script_lines.specs.declared.turns.Turn.{Turn as LentTurn}
+use Rattle.script_lines.specs.Seen.{turn_seen, TaskFits, TurnFits}
+use Rattle.script_lines.specs.Turns.{Turn}
+use Rattle.script_lines.specs.Variables.{Bindings, bound, Bound, bindings_of, variable_bound, handle_said, with_binding, bindings_after}
+use Rattle.script_lines.specs.Wishes.{Wish, wish_of}
+use Rattle.script_lines.specs.Lines.{Caller}
+use Rattle.script_lines.specs.Outcome.{Outcome, granted}
+use Rattle.script_serial.specs.Serial.{Run, lines_of_thread, next_caller, outcome, with_outcome, played}
+use Rattle.script_lines.specs.Thread.{BindsAs}
+use Rattle.script_lines.specs.Board.{Left, LeavesTurn, turn_caller}
+use Rattle.script_serial.specs.Kept.{KeptData, Knows}
+use Rattle.script_serial.specs.Session.{ThreadData, Follows, IsAt, IsWith, AreAt, IsReady, GoesOn, IsNumberedThread, AreNumbered, CanPlay}
+use Rattle.script_serial.proofs.Alone.{alone}
+use Rattle.script_serial.proofs.OutcomeLemmas.{granted_thread, one_more_line, no_line_more, knows_granted}
+
+-- ---- what variables stand for
+
+abbrev pair : Bound → List ℕ × Handle
+pair b = (b.variable, b.handle)
+
+other_bound : (b : Bound) (bounds : List Bound) (t : ℕ) → b.thread ≢ t → bindings_of t (b ∷ bounds) ≡ bindings_of t bounds
+other_bound b bounds t other =
+    let rest : List Bound = filter (λ (x : Bound). x.thread == t) bounds in
+    ap (λ (q : Bool). map pair (cond q (b ∷ rest) rest)) (ne_eqb b.thread t other)
+
+-- what another thread's line binds is no concern
+with_other : (t : ThreadData) (bounds : List Bound) (who : ℕ) (v : Option (List ℕ)) (h : Option Handle) → who ≢ t.side.number → BindsAs t.side.number t.variables bounds → BindsAs t.side.number t.variables (with_binding who bounds v h)
+with_other t bounds who None h other is = is
+with_other t bounds who (Some v) None other is = is
+with_other t bounds who (Some v) (Some h) other is = λ x. is x ∙ sym (ap (λ (bs : Bindings). bound bs x) (other_bound (record { thread = who; variable = v; handle = h }) bounds t.side.number other))
+
+-- ---- one turn
+
+-- whose line the next turn of a thread prints
+caller_is : (t : ThreadData) (run : Run) (turn : Turn) → Follows t run → turn.thread ≡ t.side.number → turn_caller t.lines turn ≡ next_caller run turn
+caller_is t run turn f own =
+    ap (λ (n : ℕ). record { round = turn.round; thread = turn.thread; index = n + 1 }) (f.lines ∙ ap (λ (k : ℕ). lines_of_thread k run.lines) (sym own))
+
+-- a thread that has no turn
+pub follows_other : (c : Setting) (library : Catalog) (run : Run) (t : ThreadData) (turn : Turn) → turn.thread ≢ t.side.number → Follows t run → Follows t (with_outcome run turn (outcome c library run turn))
+follows_other c library run t turn other f =
+    let at : Caller = next_caller run turn in
+    let done : Outcome = outcome c library run turn in
+    let whose : done.line.thread ≡ turn.thread = granted_thread c library run.history at (wish_of library (bindings_of turn.thread run.bindings) turn.task) in
+    record {
+      knows = knows_granted c library run.history t.side at (wish_of library (bindings_of turn.thread run.bindings) turn.task) other f.knows;
+      variables = with_other t run.bindings turn.thread (variable_bound turn.task) (handle_said done.line.reply) other f.variables;
+      lines = f.lines ∙ sym (no_line_more t.side.number run.lines done.line (λ same. other (sym whose ∙ same)));
+    }
+
+-- the thread that has it, by what its line leaves
+pub follows_own : (c : Setting) (library : Catalog) (run : Run) (t u : ThreadData) (turn : Turn) → turn.thread ≡ t.side.number → u.side.number ≡ t.side.number → Follows t run
+    → Knows u.side (outcome c library run turn).history
+    → BindsAs u.side.number u.variables (bindings_after t.side.number run.bindings turn.task (outcome c library run turn).line.reply)
+    → u.lines ≡ t.lines + 1
+    → Follows u (with_outcome run turn (outcome c library run turn))
+follows_own c library run t u turn own number f knows binds lines =
+    let done : Outcome = outcome c library run turn in
+    let whose : done.line.thread ≡ turn.thread = granted_thread c library run.history (next_caller run turn) (wish_of library (bindings_of turn.thread run.bindings) turn.task) in
+    record {
+      knows = knows;
+      variables = subst (λ (n : ℕ). BindsAs u.side.number u.variables (bindings_after n run.bindings turn.task done.line.reply)) (sym own) binds;
+      lines =
+          lines
+          ∙ ap (λ (n : ℕ). n + 1) (f.lines ∙ ap (λ (n : ℕ). lines_of_thread n run.lines) (sym number))
+          ∙ sym (one_more_line u.side.number run.lines done.line (whose ∙ own ∙ sym number));
+    }
+
+-- ---- all turns
+
+-- the script after so many turns, and what the turns that are left make of it
+pub record PlaysOn (c : Setting) (library : Catalog) (turns : List Turn) (start : Run) (table : TableData) (threads : List ThreadData) (lines : List OutLine) (i : ℕ) (run : Run) : Type 0 where
+  pub at : AreAt table threads run
+  pub printed : run.lines ≡ lines
+  pub rest : played c library run (drop i turns) ≡ played c library start turns
+
+-- the run after one more turn
+abbrev pub next : Setting → Catalog → Run → Turn → Run
+next c library run turn = with_outcome run turn (outcome c library run turn)
+
+pub plays_on : (c : Setting) (library : Catalog) (turns : List Turn) (start : Run) (table table' : TableData) (threads threads' : List ThreadData) (lines lines' : List OutLine) (i : ℕ) (run : Run) (turn : Turn)
+    → i < length turns → turn ≡ get_or turns i turn
+    → PlaysOn c library turns start table threads lines i run
+    → lines' ≡ lines ++ (outcome c library run turn).line ∷ []
+    → AreAt table' threads' (next c library run turn)
+    → PlaysOn c library turns start table' threads' lines' (i + 1) (next c library run turn)
+plays_on c library turns start table table' threads threads' lines lines' i run turn lt is p pushed at = record {
+  at = at;
+  printed = ap (λ (ls : List OutLine). ls ++ (outcome c library run turn).line ∷ []) p.printed ∙ sym pushed;
+  rest =
+      let cut : drop i turns ≡ turn ∷ drop (i + 1) turns = drop-cons turns i turn lt ∙ ap (λ (q : Turn). q ∷ drop (suc i) turns) (sym is) ∙ ap (λ (n : ℕ). turn ∷ drop n turns) (sym (add-one i)) in
+      sym (ap (played c library run) cut) ∙ p.rest;
+}
+
+-- ---- all threads after a turn of one
+
+-- what holds of a list where one element is another one now
+elsewhere : {X : Type 0} (P : ℕ → X → Type 0) (xs : List X) (i : ℕ) (x : X) → i < length xs → P i x
+    → ((k : ℕ) (d : X) → k < length xs → k ≢ i → P k (slice_index_or xs k d))
+    → (k : ℕ) (d : X) → k < length (slice_set xs i x) → P k (slice_index_or (slice_set xs i x) k d)
+elsewhere {X} P xs i x lt here others = λ k d l.
+    let long : length (slice_set xs i x) ≡ length xs = length-set xs i x in
+    elim (eqb_tells k i) [
+      | inl same ↦ subst (λ (m : ℕ). P m (slice_index_or (slice_set xs i x) m d)) (sym same.1) (subst (P i) (sym (get_or-set_same xs i x d lt)) here)
+      | inr apart ↦ subst (P k) (sym (get_or-set_other xs i k x d apart.1)) (others k d (omega (arith, l, long)) apart.1)
+    ]
+
+pub all_follow : (c : Setting) (library : Catalog) (run : Run) (turn : Turn) (threads : List ThreadData) (u : ThreadData) (lines : ℕ)
+    → turn.thread < length threads → AreNumbered lines threads → All (λ (t : ThreadData). Follows t run) threads → Follows u (next c library run turn)
+    → All (λ (t : ThreadData). Follows t (next c library run turn)) (slice_set threads turn.thread u)
+all_follow c library run turn threads u lines lt numbered follow own =
+    elsewhere (λ (k : ℕ) (t : ThreadData). Follows t (next c library run turn)) threads turn.thread u lt own (λ k d l apart.
+    follows_other c library run (slice_index_or threads k d) turn (λ same. apart (sym (numbered k d l).number ∙ sym same)) (follow k d l))
+
+pub still_numbered : (threads : List ThreadData) (u : ThreadData) (i lines : ℕ) → i < length threads → AreNumbered lines threads → u.side.number ≡ i → u.lines ≤ lines + 1 → AreNumbered (lines + 1) (slice_set threads i u)
+still_numbered threads u i lines lt numbered number few =
+    elsewhere (IsNumberedThread (lines + 1)) threads i u lt (record { number = number; lines = few }) (λ k d l apart.
+    let before = numbered k d l in record { number = before.number; lines = let le = before.lines in omega arith })
+
+-- ---- what a turn leaves
+
+-- a line is that of the turn's outcome, and the table and the thread are at the script after it
+pub record IsTurned (c : Setting) (library : Catalog) (run : Run) (table : TableData) (t : ThreadData) (turn : Turn) (l : OutLine) : Type 0 where
+  pub line : l ≡ (outcome c library run turn).line
+  pub there : IsWith table t (next c library run turn)
+
+pub turned : (c : Setting) (library : Catalog) (run : Run) (old new : TableData) (t u : ThreadData) (turn : Turn) (l : OutLine)
+    → turn.thread ≡ t.side.number → u.side.number ≡ t.side.number → u.lines ≡ t.lines + 1
+    → ((H : History) (bounds : List Bound) → IsAt old t.side H → BindsAs t.side.number t.variables bounds → LeavesTurn c library (λ (G K : History). G ≡ K) (IsAt new u.side) H bounds t.lines turn l)
+    → ((bounds : List Bound) → BindsAs t.side.number t.variables bounds → BindsAs t.side.number u.variables (bindings_after t.side.number bounds turn.task l.reply))
+    → IsWith old t run → IsTurned c library run new u turn l
+turned c library run old new t u turn l own number lines leaves binds is =
+    let w : Result Wish Why = wish_of library (bindings_of turn.thread run.bindings) turn.task in
+    let done : Outcome = outcome c library run turn in
+    let here : IsAt old t.side run.history = record { stands = is.stands; knows = is.follows.knows } in
+    let left : Left (IsAt new u.side) (granted c library run.history (turn_caller t.lines turn) w) l =
+    alone c library (IsAt new u.side) run.history (turn_caller t.lines turn) w l (leaves run.history run.bindings here is.follows.variables)
+    in
+    let made : Left (IsAt new u.side) done l = subst (λ (a : Caller). Left (IsAt new u.side) (granted c library run.history a w) l) (caller_is t run turn is.follows own) left in
+    let told : BindsAs t.side.number u.variables (bindings_after t.side.number run.bindings turn.task done.line.reply) =
+    subst (λ (x : OutLine). BindsAs t.side.number u.variables (bindings_after t.side.number run.bindings turn.task x.reply)) made.line (binds run.bindings is.follows.variables)
+    in
+    let named : BindsAs u.side.number u.variables (bindings_after t.side.number run.bindings turn.task done.line.reply) =
+    subst (λ (n : ℕ). BindsAs n u.variables (bindings_after t.side.number run.bindings turn.task done.line.reply)) (sym number) told
+    in
+    record { line = made.line; there = record { stands = made.now_at.stands; follows = follows_own c library run t u turn own number is.follows made.now_at.knows named lines } }
+
+-- a turn takes two steps at most
+pub two_steps : (old new : TableData) (t u : KeptData) → new.setting ≡ old.setting → IsReady 2 old t → ((n : ℕ) → IsReady (n + 2) old t → IsReady n new u) → GoesOn 2 old new
+two_steps old new t u same ready leaves =
+    let few : steps old + 2 ≤ 2147483647 = ready.steps in
+    let rest : ℕ = 2147483647 - (steps old + 2) in
+    let after : steps new + rest ≤ 2147483647 = (leaves rest (record { number = ready.number; steps = omega arith })).steps in
+    record { setting = same; steps = omega arith }
+
+-- ---- what a turn needs
+
+-- what the turn of a thread asks for
+pub record CanTake (library : Catalog) (table : TableData) (t : ThreadData) (turn : Turn) : Type 0 where
+  pub ready : IsReady 2 table t.side
+  pub shelf : table.setting.opening ≡ opening library
+  pub own : turn.thread ≡ t.side.number
+  pub fits : TaskFits table.setting.threads turn.task
+  pub few : t.lines + 1 < 2 ^ 32
+
+-- the turn at a place
+pub turn_at : (turns : List LentTurn) (i : ℕ) (item : LentTurn) → i < length turns → item ≡ get_or turns i item → turn_seen item ≡ get_or (map turn_seen turns) i (turn_seen item)
+turn_at turns i item lt is = sym (get_or-map turn_seen turns i item (turn_seen item) lt ∙ ap turn_seen (sym is))
+
+pub fits_at : (threads : ℕ) (turns : List LentTurn) (i : ℕ) (item : LentTurn) → All (TurnFits threads) (map turn_seen turns) → i < length turns → item ≡ get_or turns i item → TurnFits threads (turn_seen item)
+fits_at threads turns i item fit lt is =
+    let long : length (map turn_seen turns) ≡ length turns = length-map turns turn_seen in
+    subst (TurnFits threads) (sym (turn_at turns i item lt is)) (fit i (turn_seen item) (omega arith))
+
+pub can_take : (library : Catalog) (start table : TableData) (before threads : List ThreadData) (count lines i : ℕ) (turn : Turn) (d : ThreadData)
+    → CanPlay library start before count → GoesOn (2 * i) start table → length threads ≡ length before → AreNumbered (lines + i) threads → lines + count < 2 ^ 32 → i < count
+    → TurnFits (length before) turn → CanTake library table (get_or threads turn.thread d) turn
+can_take library start table before threads count lines i turn d can on same numbered few lt fits =
+    let t : ThreadData = get_or threads turn.thread d in
+    let thread : turn.thread < length before = fits.thread in
+    let within : turn.thread < length threads = omega arith in
+    let own : IsNumberedThread (lines + i) turn.thread t = numbered turn.thread d within in
+    let number : t.side.number ≡ turn.thread = own.number in
+    let most : t.lines ≤ lines + i = own.lines in
+    let many : table.setting.threads ≡ length before = ap (λ (s : Setting). s.threads) on.setting ∙ can.threads in
+    let made : steps table ≤ steps start + 2 * i = on.steps in
+    let room : steps start + 2 * count ≤ 2147483647 = can.steps in
+    record {
+      ready = record { number = omega arith; steps = omega arith };
+      shelf = ap (λ (s : Setting). s.opening) on.setting ∙ can.opening;
+      own = sym number;
+      fits = subst (λ (n : ℕ). TaskFits n turn.task) (sym many) fits.task;
+      few = omega arith;
+    }
+
+-- the turn at a place of a list that can be played
+pub taking : (library : Catalog) (start table : TableData) (before threads : List ThreadData) (turns : List LentTurn) (lines now i : ℕ) (item : LentTurn) (d : ThreadData)
+    → CanPlay library start before (length turns) → GoesOn (2 * i) start table → length threads ≡ length before → AreNumbered now threads → now ≡ lines + i → lines + length turns < 2 ^ 32
+    → All (TurnFits (length before)) (map turn_seen turns) → i < length turns → item ≡ get_or turns i item → CanTake library table (get_or threads item.thread d) (turn_seen item)
+taking library start table before threads turns lines now i item d can on same numbered printed few fit lt is =
+    can_take library start table before threads (length turns) lines i (turn_seen item) d can on same (subst (λ (n : ℕ). AreNumbered n threads) printed numbered) few lt (fits_at (length before) turns i item fit lt is)
+
+-- ---- what the loop over turns keeps
+
+pub more_lines : (lines lines' : List OutLine) (l : OutLine) (n i : ℕ) → lines' ≡ lines ++ l ∷ [] → length lines ≡ n + i → length lines' ≡ n + (i + 1)
+more_lines lines lines' l n i pushed same =
+    let long : length (lines ++ l ∷ []) ≡ length lines + 1 = length-append lines (l ∷ []) in
+    let all : length lines' ≡ length (lines ++ l ∷ []) = ap (λ (ls : List OutLine). length ls) pushed in
+    omega arith
+
+pub numbered_on : (threads : List ThreadData) (d u : ThreadData) (k : ℕ) (lines lines' : List OutLine) (l : OutLine) → lines' ≡ lines ++ l ∷ [] → k < length threads → AreNumbered (length lines) threads
+    → u.side.number ≡ (get_or threads k d).side.number → u.lines ≡ (get_or threads k d).lines + 1 → AreNumbered (length lines') (slice_set threads k u)
+numbered_on threads d u k lines lines' l pushed lt numbered number more =
+    let long : length (lines ++ l ∷ []) ≡ length lines + 1 = length-append lines (l ∷ []) in
+    let all : length lines' ≡ length lines + 1 = ap (λ (ls : List OutLine). length ls) pushed ∙ long in
+    let own : IsNumberedThread (length lines) k (get_or threads k d) = numbered k d lt in
+    let most : (get_or threads k d).lines ≤ length lines = own.lines in
+    subst (λ (n : ℕ). AreNumbered n (slice_set threads k u)) (sym all) (still_numbered threads u k (length lines) lt numbered (number ∙ own.number) (omega arith))
+
+pub goes_on : (start table table' : TableData) (i : ℕ) → GoesOn (2 * i) start table → GoesOn 2 table table' → GoesOn (2 * (i + 1)) start table'
+goes_on start table table' i before after =
+    let made : steps table ≤ steps start + 2 * i = before.steps in
+    let more : steps table' ≤ steps table + 2 = after.steps in
+    record { setting = after.setting ∙ before.setting; steps = omega arith }
+
+-- the script after one more turn, where the thread at its place has left this
+pub after_turn : (library : Catalog) (turns : List LentTurn) (start : Run) (c : Setting) (table table' : TableData) (threads : List ThreadData) (d u : ThreadData) (lines lines' : List OutLine) (l : OutLine) (i most : ℕ) (run : Run) (item : LentTurn)
+    → table.setting ≡ c → i < length turns → item ≡ get_or turns i item → item.thread < length threads → AreNumbered most threads
+    → ((r : Run) → IsWith table (get_or threads item.thread d) r → IsTurned table.setting library r table' u (turn_seen item) l)
+    → lines' ≡ lines ++ l ∷ []
+    → PlaysOn c library (map turn_seen turns) start table threads lines i run
+    → PlaysOn c library (map turn_seen turns) start table' (slice_set threads item.thread u) lines' (i + 1) (next c library run (turn_seen item))
+after_turn library turns start c table table' threads d u lines lines' l i most run item same lt is within numbered leaves pushed p =
+    let turn : Turn = turn_seen item in
+    let long : length (map turn_seen turns) ≡ length turns = length-map turns turn_seen in
+    let before : IsWith table (get_or threads item.thread d) run = record { stands = p.at.stands; follows = p.at.follow item.thread d within } in
+    let after : IsWith table' u (next c library run turn) = subst (λ (s : Setting). IsWith table' u (next s library run turn)) same (leaves run before).there in
+    let said : l ≡ (outcome c library run turn).line = subst (λ (s : Setting). l ≡ (outcome s library run turn).line) same (leaves run before).line in
+    plays_on c library (map turn_seen turns) start table table' threads (slice_set threads item.thread u) lines lines' i run turn (omega (arith, lt, long)) (turn_at turns i item lt is) p
+    (pushed ∙ ap (λ (x : OutLine). lines ++ x ∷ []) said)
+    (record { stands = after.stands; follow = all_follow c library run turn threads u most within numbered p.at.follow after.follows })

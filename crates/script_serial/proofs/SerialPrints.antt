@@ -1,0 +1,236 @@
+-- What `serial` prints is what a script may print, and its places go up from line to line.
+use Rattle.std.proofs.Common.{◌≡◌, ℕ, zero, suc, ◌+◌, ◌<◌, ◌≤◌, Bool, true, false, cond, List, [], ◌∷◌, ◌++◌, length, map, flat_map, refl, sym, ap, subst, ◌∙◌, arith, inl, inr}
+use Rattle.std.specs.Prelude.{◌==◌, nat_lt, nat_le, count_by, All}
+use Rattle.std.specs.List.{range_with_len}
+use Rattle.std.proofs.lemmas.Bool.{cases_lt, lt-ltb, le-ltb, lt-leb, eqb-true}
+use Rattle.std.proofs.lemmas.List.Elements.{All-nil, All-cons, All-head, All-tail, All-append, All-weaker, All-filter, All-map}
+use Rattle.std.proofs.lemmas.List.FromFn.{length-range_with_len}
+use Rattle.category_store.specs.Catalog.{Catalog}
+use Rattle.handle_table.specs.Entry.{History, Setting}
+use Rattle.script_commands.specs.declared.command.Placed.{Placed}
+use Rattle.script_lang.specs.declared.bundle.Bundle.{Bundle}
+use Rattle.script_out.specs.declared.output.OutLine.{OutLine}
+use Rattle.script_lines.specs.declared.holds.OpenHold.{OpenHold}
+use Rattle.script_serial.specs.Plan.{PlanData}
+use Rattle.script_lines.specs.Holds.{open_holds}
+use Rattle.script_lines.specs.Turns.{Turn, first_numbers, in_round, in_thread, turn_of, thread_turns, round_turns, command_turns, closing_turn, releases, closing, closing_turns, Releases, Ends}
+use Rattle.script_serial.specs.Serial.{Run, outcome, with_outcome, played, begun, commands_played, serial_lines, setting}
+use Rattle.script_serial.specs.Prints.{Told, told, places_in, all_places, of_thread, before_round, from_round, PlacedCall, calls_after, history_below, caller_of, callers_after, command_calls, all_turns, AreTold, ArePlaced, Prints, AreInOrder}
+use Rattle.script_serial.proofs.LineLists.{filter_true, filter_none, all_kept, GoUp, AreBelow, increasing, range_up, up_right, up_below, up_kept, count_once}
+use Rattle.script_serial.proofs.SerialLines.{first_places, all_turns_counted, callers_played, played_append, added, played_lines, added_append}
+use Rattle.script_serial.proofs.SerialCalls.{calls_from, calls_length, goes_nowhere, past_is, played_legal, calls_played, told_first, line_round}
+use Rattle.script_serial.proofs.SerialTold.{AreByRound, added_rounds, IsOnItsWay, are_told}
+use Rattle.script_serial.proofs.TurnLemmas.{flat_all}
+
+-- ---- turns are in order of their rounds
+
+join_rounds : (xs ys : List Turn) → AreByRound xs → AreByRound ys → All (λ (t : Turn). All (λ (u : Turn). t.round ≤ u.round) ys) xs → AreByRound (xs ++ ys)
+join_rounds [] ys first second below = second
+join_rounds (x ∷ xs) ys first second below =
+    let Below : Turn → Type 0 = λ (t : Turn). All (λ (u : Turn). t.round ≤ u.round) ys in
+    (All-append (λ (u : Turn). x.round ≤ u.round) xs ys first.0 (All-head Below x xs below), join_rounds xs ys first.1 second (All-tail Below x xs below))
+
+-- the turns of one round
+abbrev AreOf : ℕ → List Turn → Type 0
+AreOf round turns = All (λ (t : Turn). t.round ≡ round) turns
+
+one_round : (round : ℕ) (turns : List Turn) → AreOf round turns → AreByRound turns
+one_round round [] of = tt
+one_round round (turn ∷ turns) of =
+    let here : turn.round ≡ round = All-head (λ (t : Turn). t.round ≡ round) turn turns of in
+    let rest : AreOf round turns = All-tail (λ (t : Turn). t.round ≡ round) turn turns of in
+    (All-weaker (λ (t : Turn). t.round ≡ round) (λ (u : Turn). turn.round ≤ u.round) (λ u is. omega (arith, here, is)) turns rest, one_round round turns rest)
+
+round_is : (threads : ℕ) (ps : List Placed) (round : ℕ) → AreOf round (round_turns threads ps round)
+round_is threads ps round =
+    let those : List Placed = in_round round ps in
+    flat_all (λ (t : Turn). t.round ≡ round) (thread_turns those) (first_numbers threads) (λ thread.
+    All-map (λ (t : Turn). t.round ≡ round) turn_of (in_thread those thread)
+    (All-filter (λ (p : Placed). p.thread == thread) (λ (p : Placed). p.round ≡ round) those
+    (All-weaker (λ (p : Placed). (p.round == round) ≡ true) (λ (p : Placed). p.round ≡ round) (λ p is. eqb-true p.round round is) those
+    (filter_true (λ (p : Placed). p.round == round) ps))))
+
+-- turns of the rounds from one on, so many
+abbrev AreWithin : ℕ → ℕ → List Turn → Type 0
+AreWithin from n turns = All (λ (t : Turn). (from ≤ t.round) × (t.round < from + n)) turns
+
+pub rounds_within : (threads : ℕ) (ps : List Placed) (from n : ℕ) → AreWithin from n (flat_map (round_turns threads ps) (range_with_len from n))
+rounds_within threads ps from zero = All-nil (λ (t : Turn). (from ≤ t.round) × (t.round < from + 0))
+rounds_within threads ps from (suc n) =
+    let Within : Turn → Type 0 = λ (t : Turn). (from ≤ t.round) × (t.round < from + suc n) in
+    All-append Within (round_turns threads ps from) (flat_map (round_turns threads ps) (range_with_len (from + 1) n))
+    (All-weaker (λ (t : Turn). t.round ≡ from) Within (λ t is. (omega (arith, is), omega (arith, is))) (round_turns threads ps from) (round_is threads ps from))
+    (All-weaker (λ (t : Turn). (from + 1 ≤ t.round) × (t.round < from + 1 + n)) Within (λ t is. let low = is.0 in let high = is.1 in (omega (arith, low), omega (arith, high)))
+    (flat_map (round_turns threads ps) (range_with_len (from + 1) n)) (rounds_within threads ps (from + 1) n))
+
+rounds_by : (threads : ℕ) (ps : List Placed) (from n : ℕ) → AreByRound (flat_map (round_turns threads ps) (range_with_len from n))
+rounds_by threads ps from zero = tt
+rounds_by threads ps from (suc n) =
+    let later : List Turn = flat_map (round_turns threads ps) (range_with_len (from + 1) n) in
+    join_rounds (round_turns threads ps from) later (one_round from (round_turns threads ps from) (round_is threads ps from)) (rounds_by threads ps (from + 1) n)
+    (All-weaker (λ (t : Turn). t.round ≡ from) (λ (t : Turn). All (λ (u : Turn). t.round ≤ u.round) later)
+    (λ t here. All-weaker (λ (u : Turn). (from + 1 ≤ u.round) × (u.round < from + 1 + n)) (λ (u : Turn). t.round ≤ u.round) (λ u is. let low = is.0 in omega (arith, low, here)) later (rounds_within threads ps (from + 1) n))
+    (round_turns threads ps from) (round_is threads ps from))
+
+closing_is_of : (round thread : ℕ) (holds : List OpenHold) → AreOf round (closing round thread holds)
+closing_is_of round thread holds =
+    All-append (λ (t : Turn). t.round ≡ round) (releases round thread holds) (closing_turn round thread Ends ∷ [])
+    (All-map (λ (t : Turn). t.round ≡ round) (λ (o : OpenHold). closing_turn round thread (Releases o.handle)) holds (λ k d l. refl))
+    (All-cons (λ (t : Turn). t.round ≡ round) (closing_turn round thread Ends) [] refl (All-nil (λ (t : Turn). t.round ≡ round)))
+
+pub closing_round : (b : Bundle) (H : History) → AreOf (b.rounds + 1) (closing_turns b H)
+closing_round b H = flat_all (λ (t : Turn). t.round ≡ b.rounds + 1) (λ (t : ℕ). closing (b.rounds + 1) t (open_holds H t)) (first_numbers (length b.threads)) (λ t. closing_is_of (b.rounds + 1) t (open_holds H t))
+
+turns_by_round : (b : Bundle) (H : History) → AreByRound (command_turns b ++ closing_turns b H)
+turns_by_round b H =
+    let last : List Turn = closing_turns b H in
+    join_rounds (command_turns b) last (rounds_by (length b.threads) b.commands 1 b.rounds) (one_round (b.rounds + 1) last (closing_round b H))
+    (All-weaker (λ (t : Turn). (1 ≤ t.round) × (t.round < 1 + b.rounds)) (λ (t : Turn). All (λ (u : Turn). t.round ≤ u.round) last)
+    (λ t is. let high = is.1 in All-weaker (λ (u : Turn). u.round ≡ b.rounds + 1) (λ (u : Turn). t.round ≤ u.round) (λ u at. omega (arith, high, at)) last (closing_round b H))
+    (command_turns b) (rounds_within (length b.threads) b.commands 1 b.rounds))
+
+-- ---- the places of lines that are in order of their rounds
+
+abbrev AreLinesByRound : List OutLine → Type 0
+AreLinesByRound [] = Unit {0}
+AreLinesByRound (l ∷ lines) = All (λ (m : OutLine). l.round ≤ m.round) lines × AreLinesByRound lines
+
+lines_by_round : (c : Setting) (library : Catalog) (run : Run) (turns : List Turn) → AreByRound turns → AreLinesByRound (added c library run turns)
+lines_by_round c library run [] by = tt
+lines_by_round c library run (turn ∷ turns) by =
+    let next : Run = with_outcome run turn (outcome c library run turn) in
+    (subst (λ (r : ℕ). All (λ (m : OutLine). r ≤ m.round) (added c library next turns)) (sym (line_round c library run turn)) (added_rounds c library turn.round next turns by.0), lines_by_round c library next turns by.1)
+
+before_here : (round : ℕ) (l : OutLine) (lines : List OutLine) → l.round < round → before_round round (l ∷ lines) ≡ l ∷ before_round round lines
+before_here round l lines lt = ap (λ (b : Bool). cond b (l ∷ before_round round lines) (before_round round lines)) (lt-ltb l.round round lt)
+
+from_later : (round : ℕ) (l : OutLine) (lines : List OutLine) → l.round < round → from_round round (l ∷ lines) ≡ from_round round lines
+from_later round l lines lt = ap (λ (b : Bool). cond b (l ∷ from_round round lines) (from_round round lines)) (lt-leb round l.round lt)
+
+before_none : (round : ℕ) (l : OutLine) (lines : List OutLine) → round ≤ l.round → All (λ (m : OutLine). l.round ≤ m.round) lines → before_round round (l ∷ lines) ≡ []
+before_none round l lines le from =
+    filter_none (λ (m : OutLine). nat_lt m.round round) (l ∷ lines)
+    (All-cons (λ (m : OutLine). nat_lt m.round round ≡ false) l lines (le-ltb l.round round le)
+    (All-weaker (λ (m : OutLine). l.round ≤ m.round) (λ (m : OutLine). nat_lt m.round round ≡ false) (λ m h. le-ltb m.round round (omega (arith, h, le))) lines from))
+
+-- each place of a round is below each of the rounds from another on
+rounds_apart : (round : ℕ) (lines : List OutLine) → AreLinesByRound lines → GoUp (all_places lines) → AreBelow (all_places (before_round round lines)) (all_places (from_round round lines))
+rounds_apart round [] by up = All-nil (λ (p : ℕ). All (λ (q : ℕ). p < q) [])
+rounds_apart round (l ∷ lines) by up =
+    let here : List ℕ = places_in l.places in
+    let rest : List ℕ = all_places lines in
+    let later : List ℕ = all_places (from_round round lines) in
+    let Below : List ℕ → ℕ → Type 0 = λ (qs : List ℕ) (p : ℕ). All (λ (q : ℕ). p < q) qs in
+    elim (cases_lt l.round round) [
+      | inl lt ↦
+          let first : All (Below later) here =
+          All-weaker (Below rest) (Below later) (λ p below. all_kept (λ (m : OutLine). places_in m.places) (λ (q : ℕ). p < q) (λ (m : OutLine). nat_le round m.round) lines below) here (up_below here rest up)
+          in
+          let both : AreBelow (here ++ all_places (before_round round lines)) later =
+          All-append (Below later) here (all_places (before_round round lines)) first (rounds_apart round lines by.1 (up_right here rest up))
+          in
+          subst (λ (ls : List OutLine). AreBelow (all_places ls) (all_places (from_round round (l ∷ lines)))) (sym (before_here round l lines lt))
+          (subst (λ (ls : List OutLine). AreBelow (here ++ all_places (before_round round lines)) (all_places ls)) (sym (from_later round l lines lt)) both)
+      | inr le ↦
+          subst (λ (ls : List OutLine). AreBelow (all_places ls) (all_places (from_round round (l ∷ lines)))) (sym (before_none round l lines le by.0))
+          (All-nil (Below (all_places (from_round round (l ∷ lines)))))
+    ]
+
+are_placed : (last n : ℕ) (lines : List OutLine) → AreLinesByRound lines → all_places lines ≡ first_places n → ArePlaced last lines
+are_placed last n lines by counted =
+    let up : GoUp (all_places lines) = subst GoUp (sym counted) (range_up 0 n) in
+    let long : length (all_places lines) ≡ n = ap length counted ∙ length-range_with_len 0 n in
+    record {
+      once = λ place lt. ap (count_by (λ (p : ℕ). p == place)) counted ∙ count_once place 0 n (omega arith) (omega (arith, lt, long));
+      threads = λ thread. increasing (all_places (of_thread thread lines)) (up_kept (λ (l : OutLine). places_in l.places) (λ (l : OutLine). l.thread == thread) lines up);
+      rounds = λ round. rounds_apart round lines by up;
+      closing = increasing (all_places (from_round (last + 1) lines)) (up_kept (λ (l : OutLine). places_in l.places) (λ (l : OutLine). nat_le (last + 1) l.round) lines up);
+    }
+
+-- ---- all of it
+
+module _ (rows generations : ℕ) (plan : PlanData) where
+  abbrev pub c : Setting
+  c = setting plan rows generations
+
+  -- the history of the commands, all turns, and the lines that they add
+  abbrev pub commanded : History
+  commanded = (commands_played c plan).history
+
+  abbrev pub turns : List Turn
+  turns = command_turns plan.bundle ++ closing_turns plan.bundle commanded
+
+  abbrev pub lines : List OutLine
+  lines = added c plan.library begun turns
+
+  abbrev pub whole : History
+  whole = (played c plan.library begun turns).history
+
+  pub serial_is : serial_lines rows generations plan ≡ lines
+  serial_is =
+      ap (λ (run : Run). run.lines) (sym (played_append c plan.library begun (command_turns plan.bundle) (closing_turns plan.bundle commanded)))
+      ∙ played_lines c plan.library begun turns
+
+  -- the history of the commands is that of the calls of their lines
+  pub turns_are : all_turns c plan lines ≡ turns
+  turns_are =
+      let commands : List Turn = command_turns plan.bundle in
+      let first : List OutLine = added c plan.library begun commands in
+      let rest : List OutLine = added c plan.library (commands_played c plan) (closing_turns plan.bundle commanded) in
+      let split : lines ≡ first ++ rest = added_append c plan.library begun commands (closing_turns plan.bundle commanded) in
+      let calls : command_calls plan lines ≡ calls_from commanded =
+      ap (λ (ls : List OutLine). calls_after plan.library [] (told commands ls)) split
+      ∙ ap (calls_after plan.library []) (told_first c plan.library begun commands rest)
+      ∙ calls_played c plan.library begun [] commands refl
+      in
+      let legal = played_legal c plan.library begun commands tt in
+      let past : history_below c (command_calls plan lines) (length (command_calls plan lines)) ≡ commanded =
+      ap (λ (cs : List PlacedCall). history_below c cs (length cs)) calls
+      ∙ ap (history_below c (calls_from commanded)) (calls_length commanded)
+      ∙ past_is c commanded commanded legal (goes_nowhere commanded)
+      in
+      ap (λ (H : History). commands ++ closing_turns plan.bundle H) past
+
+  callers_are : map caller_of lines ≡ callers_after [] (all_turns c plan lines)
+  callers_are =
+      ap (map caller_of) (sym (played_lines c plan.library begun turns))
+      ∙ callers_played c plan.library begun turns
+      ∙ ap (callers_after []) (sym turns_are)
+
+  pub places_are : all_places lines ≡ first_places (length whole)
+  places_are = ap all_places (sym (played_lines c plan.library begun turns)) ∙ all_turns_counted c plan.library begun turns refl
+
+  begins : IsOnItsWay c plan lines whole begun [] turns
+  begins = record {
+    legal = played_legal c plan.library begun turns tt;
+    final = refl;
+    lines = refl;
+    bounds = refl;
+    next = λ t. refl;
+    counted = refl;
+    by_round = turns_by_round plan.bundle commanded;
+    earlier = All-nil (λ (l : OutLine). All (λ (u : Turn). l.round ≤ u.round) turns);
+    printed = All-nil (λ (v : ℕ). v ≤ 0);
+    printed_before = All-nil (λ (v : ℕ). v ≤ 0);
+  }
+
+  told_are : let ds = told turns lines in AreTold c plan lines (calls_after plan.library [] ds) [] ds
+  told_are =
+      let ds : List Told = told turns lines in
+      let calls : calls_after plan.library [] ds ≡ calls_from whole = calls_played c plan.library begun [] turns refl in
+      subst (λ (cs : List PlacedCall). AreTold c plan lines cs [] ds) (sym calls) (are_told c plan lines whole begun [] turns begins)
+
+  prints : Prints c plan lines
+  prints = record {
+    callers = callers_are;
+    placed = are_placed plan.bundle.rounds (length whole) lines (lines_by_round c plan.library begun turns (turns_by_round plan.bundle commanded)) places_are;
+    told = subst (λ (ts : List Turn). let ds = told ts lines in AreTold c plan lines (calls_after plan.library [] ds) [] ds) (sym turns_are) told_are;
+  }
+
+  -- serial prints what a script may print
+  pub serial_prints : Prints c plan (serial_lines rows generations plan)
+  serial_prints = subst (Prints c plan) (sym serial_is) prints
+
+  -- and its places go up from line to line
+  pub serial_in_order : AreInOrder (serial_lines rows generations plan)
+  serial_in_order = increasing (all_places (serial_lines rows generations plan)) (subst GoUp (sym (ap all_places serial_is ∙ places_are)) (range_up 0 (length whole)))

@@ -1,0 +1,376 @@
+-- Each line that `serial` prints tells what its task asks for, judged by the history before its own places.
+use Rattle.std.proofs.Common.{◌≡◌, ℕ, suc, ◌≤◌, true, false, List, [], ◌∷◌, ◌++◌, length, Option, Some, None, Result, Ok, Err, refl, sym, ap, subst, ◌∙◌, arith, inl, inr, le_refl, append-nil, append_assoc, length-append}
+use Rattle.std.specs.Prelude.{◌==◌, nat_lt, nat_le, All}
+use Rattle.std.specs.Option.{option_to_list}
+use Rattle.std.proofs.lemmas.Bool.{le-ltb, le-leb}
+use Rattle.std.proofs.lemmas.List.Elements.{All-nil, All-cons, All-head, All-tail, All-append, All-weaker, All-push, filter-append}
+use Rattle.std.proofs.lemmas.List.FromFn.{length-range_with_len}
+use Rattle.std.proofs.lemmas.Grind.{flat_map-append}
+use Rattle.mask_compose.specs.Parts.{Parts}
+use Rattle.category_store.specs.Catalog.{Catalog}
+use Rattle.handle_table.specs.declared.handle.Named.{Named}
+use Rattle.handle_table.specs.Entry as table
+use Rattle.handle_table.specs.Entry.{Entry, History, Setting}
+use Rattle.handle_table.specs.History.{sets, global, global_at, selection}
+use Rattle.handle_table.specs.Answer.{answer, entry, own, IsLegal}
+use Rattle.script_words.specs.declared.categories.Categories.TheVariants.{All as AllCategories}
+use Rattle.script_commands.specs.declared.command.Read.{Read}
+use Rattle.script_out.specs.declared.output.OutLine.{OutLine}
+use Rattle.script_out.specs.declared.output.Said.TheVariants as said
+use Rattle.script_out.specs.declared.output.Why.{Why}
+use Rattle.script_serial.specs.Plan.{PlanData}
+use Rattle.script_lines.specs.Holds.{object_held, open_holds, held_as}
+use Rattle.script_lines.specs.Lines.{Caller, told_line, placed_line, global_read_line, global_name_line}
+use Rattle.script_lines.specs.Turns.{Turn}
+use Rattle.script_lines.specs.Variables.{Bound, bindings_of}
+use Rattle.script_lines.specs.Wishes.{Wish, Calls, ReadsOf, Reads, AsksSelection, AsksName, wish_of}
+use Rattle.script_lines.specs.Outcome.{Outcome, with_call, reads_between, reads_of, read_line, granted}
+use Rattle.script_serial.specs.Serial.{Run, next_caller, outcome, with_outcome, played}
+use Rattle.script_serial.specs.Prints.{Told, told, bound_by, places_in, all_places, of_thread, before_round, up_to_round, history_below, Around, around, past, next_place, seen, lines_of, first_of, versions, IsUpToPlace, IsVersion, global_of, IsReadOf, IsRead, IsGranted, IsTold, AreTold, caller_of}
+use Rattle.script_serial.proofs.LineLists.{all_kept, fewer_kept, filter_all, filter_none}
+use Rattle.script_serial.proofs.SerialLines.{granted_caller, IsCounted, one_turn, added}
+use Rattle.script_serial.proofs.SerialCalls.{calls_from, calls_length, GoesOnFrom, goes_nowhere, one_entry, goes_on, past_is, granted_on, turn_on, played_on, wish_in, told_of, line_thread, line_round, bound_next}
+use Rattle.script_serial.proofs.SerialSeen.{own_past, next_of, own_seen, selection_seen, holds_seen, own_back, granted_next, sets_on, global_on, past_up, UpTo, granted_version, released_after}
+
+-- ---- one line
+
+-- what a line is judged by, where the history before it is H and all lines come to F
+pub record Judges (x : Around) (H F : History) (at : Caller) : Type 0 where
+  pub legal : IsLegal x.setting F
+  pub pasts : (n : ℕ) → past x n ≡ history_below x.setting (calls_from F) n
+  pub whole : x.whole ≡ F
+  pub seen : next_place at.thread x.before ≡ length (own_past H at.thread)
+  pub version : IsVersion x at (sets H)
+
+past_at : (x : Around) (F H : History) → IsLegal x.setting F → ((n : ℕ) → past x n ≡ history_below x.setting (calls_from F) n) → GoesOnFrom H F → past x (length H) ≡ H
+past_at x F H legal pasts on = pasts (length H) ∙ past_is x.setting F H legal on
+
+seen_is : (x : Around) (H F : History) (at : Caller) → Judges x H F at → GoesOnFrom H F → seen x at.thread ≡ own_past H at.thread
+seen_is x H F at j on =
+    ap (past x) j.seen
+    ∙ past_at x F (own_past H at.thread) j.legal j.pasts (goes_on (own_past H at.thread) H F (own_back H at.thread) on)
+
+global_is : (x : Around) (H F : History) (at : Caller) → Judges x H F at → GoesOnFrom H F → global_of x (sets H) ≡ global x.setting H
+global_is x H F at j on = ap (λ (G : History). global_at x.setting G (sets H)) j.whole ∙ global_on x.setting H F on
+
+read_judged : (x : Around) (H F : History) (at : Caller) (read : Read) (object : Option Parts) → Judges x H F at → GoesOnFrom H F
+    → IsRead x at (read_line x.setting x.plan.library H at read object) read object
+read_judged x H F at read (Some object) j on = refl
+read_judged x H F at read None j on = record {
+  version = sets H;
+  bounds = j.version;
+  is = ap (global_read_line x.plan.library at read (sets H)) (sym (global_is x H F at j on));
+}
+
+between_judged : (x : Around) (H F : History) (at : Caller) (n : Named) (read : Read) (object : Option Parts) → Judges x H F at
+    → object_held (answer x.setting H at.thread (table.Hold n)) ≡ object
+    → GoesOnFrom (reads_between x.setting x.plan.library H at n read object).history F
+    → IsReadOf x at (reads_between x.setting x.plan.library H at n read object).line n read None
+between_judged x H F at n read None j is on =
+    let c : Setting = x.setting in
+    let before : past x (length H) ≡ H = past_at x F H j.legal j.pasts (goes_on H (with_call c H at.thread (table.Hold n)) F (one_entry H (entry c H at.thread (table.Hold n))) on) in
+    inr (record {
+      place = length H;
+      held = ap (λ (G : History). object_held (answer c G at.thread (table.Hold n))) before ∙ is;
+      is = ap (λ (G : History). placed_line x.plan.library (length H) at AllCategories (answer c G at.thread (table.Hold n))) (sym before);
+    })
+between_judged x H F at n read (Some object) j is on =
+    let c : Setting = x.setting in
+    let held : History = with_call c H at.thread (table.Hold n) in
+    let released : History = with_call c held at.thread (table.Release n) in
+    let later : GoesOnFrom held F = goes_on held released F (one_entry held (entry c held at.thread (table.Release n))) on in
+    let before : past x (length H) ≡ H = past_at x F H j.legal j.pasts (goes_on H held F (one_entry H (entry c H at.thread (table.Hold n))) later) in
+    let between : past x (length held) ≡ held = past_at x F held j.legal j.pasts later in
+    inl (record {
+      hold = length H;
+      release = length held;
+      object = object;
+      held = ap (λ (G : History). object_held (answer c G at.thread (table.Hold n))) before ∙ is;
+      released = ap (λ (G : History). answer c G at.thread (table.Release n)) between ∙ released_after c H at.thread n object is;
+      is = refl;
+    })
+
+of_judged : (x : Around) (H F : History) (at : Caller) (n : Named) (read : Read) (held : Option Parts) → Judges x H F at
+    → GoesOnFrom (reads_of x.setting x.plan.library H at n read held).history F
+    → IsReadOf x at (reads_of x.setting x.plan.library H at n read held).line n read held
+of_judged x H F at n read (Some object) j on = refl
+of_judged x H F at n read None j on = between_judged x H F at n read (object_held (answer x.setting H at.thread (table.Hold n))) j refl on
+
+-- the line of a wish is as the relation says
+granted_judged : (x : Around) (H F : History) (at : Caller) (w : Result Wish Why) → Judges x H F at
+    → GoesOnFrom (granted x.setting x.plan.library H at w).history F
+    → IsGranted x at (granted x.setting x.plan.library H at w).line w
+granted_judged x H F at (Err why) j on = refl
+granted_judged x H F at (Ok (Calls categories op)) j on =
+    let c : Setting = x.setting in
+    let before : past x (length H) ≡ H = past_at x F H j.legal j.pasts (goes_on H (with_call c H at.thread op) F (one_entry H (entry c H at.thread op)) on) in
+    record {
+      place = length H;
+      is = ap (λ (G : History). placed_line x.plan.library (length H) at categories (answer c G at.thread op)) (sym before);
+    }
+granted_judged x H F at (Ok (ReadsOf n read)) j on =
+    let t : ℕ = at.thread in
+    let held : Option Parts = held_as (open_holds H t) n in
+    let on' : GoesOnFrom H F = goes_on H (reads_of x.setting x.plan.library H at n read held).history F (granted_on x.setting x.plan.library H at (Ok (ReadsOf n read))) on in
+    let same : held ≡ held_as (open_holds (seen x t) t) n =
+    ap (λ hs. held_as hs n) (sym (ap (λ (G : History). open_holds G t) (seen_is x H F at j on') ∙ holds_seen H t))
+    in
+    subst (IsReadOf x at (reads_of x.setting x.plan.library H at n read held).line n read) same (of_judged x H F at n read held j on)
+granted_judged x H F at (Ok (Reads read)) j on =
+    let t : ℕ = at.thread in
+    let same : own H t ≡ own (seen x t) t = sym (ap (λ (G : History). own G t) (seen_is x H F at j on) ∙ own_seen H t) in
+    subst (IsRead x at (read_line x.setting x.plan.library H at read (own H t)) read) same (read_judged x H F at read (own H t) j on)
+granted_judged x H F at (Ok AsksSelection) j on =
+    let t : ℕ = at.thread in
+    ap (λ (s : Named). told_line at (said.Is s)) (sym (ap (λ (G : History). selection G t) (seen_is x H F at j on) ∙ selection_seen H t))
+granted_judged x H F at (Ok (AsksName categories)) j on = record {
+  version = sets H;
+  bounds = j.version;
+  is = ap (global_name_line x.plan.library at categories (sets H)) (sym (global_is x H F at j on));
+}
+
+-- ---- the bounds of a version
+
+-- turns whose rounds do not go down
+abbrev pub AreByRound : List Turn → Type 0
+AreByRound [] = Unit {0}
+AreByRound (turn ∷ turns) = All (λ (u : Turn). turn.round ≤ u.round) turns × AreByRound turns
+
+pub added_rounds : (c : Setting) (library : Catalog) (round : ℕ) (run : Run) (turns : List Turn) → All (λ (u : Turn). round ≤ u.round) turns → All (λ (l : OutLine). round ≤ l.round) (added c library run turns)
+added_rounds c library round run [] from = All-nil (λ (l : OutLine). round ≤ l.round)
+added_rounds c library round run (turn ∷ turns) from =
+    let done : Outcome = outcome c library run turn in
+    All-cons (λ (l : OutLine). round ≤ l.round) done.line (added c library (with_outcome run turn done) turns)
+    (subst (λ (r : ℕ). round ≤ r) (sym (line_round c library run turn)) (All-head (λ (u : Turn). round ≤ u.round) turn turns from))
+    (added_rounds c library round (with_outcome run turn done) turns (All-tail (λ (u : Turn). round ≤ u.round) turn turns from))
+
+grown : (c : Setting) (library : Catalog) (run : Run) (turn : Turn) → length run.history ≤ length (outcome c library run turn).history
+grown c library run turn =
+    let on = turn_on c library run turn in
+    let long = length-append on.more run.history in
+    let is : length (outcome c library run turn).history ≡ length (on.more ++ run.history) = ap length on.is in
+    omega (arith, long, is)
+
+-- the places of the lines that turns add are not below those before
+none_below : (n : ℕ) → All (λ (p : ℕ). n ≤ p) []
+none_below n = All-nil (λ (p : ℕ). n ≤ p)
+
+one_below : (n p : ℕ) → n ≤ p → All (λ (q : ℕ). n ≤ q) (p ∷ [])
+one_below n p le = All-cons (λ (q : ℕ). n ≤ q) p [] le (none_below n)
+
+between_places_from : (c : Setting) (library : Catalog) (H : History) (at : Caller) (n : Named) (read : Read) (object : Option Parts) → All (λ (p : ℕ). length H ≤ p) (places_in (reads_between c library H at n read object).line.places)
+between_places_from c library H at n read None = one_below (length H) (length H) (le_refl (length H))
+between_places_from c library H at n read (Some object) = All-cons (λ (q : ℕ). length H ≤ q) (length H) (suc (length H) ∷ []) (le_refl (length H)) (one_below (length H) (suc (length H)) (omega arith))
+
+of_places_from : (c : Setting) (library : Catalog) (H : History) (at : Caller) (n : Named) (read : Read) (held : Option Parts) → All (λ (p : ℕ). length H ≤ p) (places_in (reads_of c library H at n read held).line.places)
+of_places_from c library H at n read (Some object) = none_below (length H)
+of_places_from c library H at n read None = between_places_from c library H at n read (object_held (answer c H at.thread (table.Hold n)))
+
+read_places_from : (c : Setting) (library : Catalog) (H : History) (at : Caller) (read : Read) (object : Option Parts) → All (λ (p : ℕ). length H ≤ p) (places_in (read_line c library H at read object).places)
+read_places_from c library H at read (Some object) = none_below (length H)
+read_places_from c library H at read None = none_below (length H)
+
+granted_places_from : (c : Setting) (library : Catalog) (H : History) (at : Caller) (w : Result Wish Why) → All (λ (p : ℕ). length H ≤ p) (places_in (granted c library H at w).line.places)
+granted_places_from c library H at (Err why) = none_below (length H)
+granted_places_from c library H at (Ok (Calls categories op)) = one_below (length H) (length H) (le_refl (length H))
+granted_places_from c library H at (Ok (ReadsOf n read)) = of_places_from c library H at n read (held_as (open_holds H at.thread) n)
+granted_places_from c library H at (Ok (Reads read)) = read_places_from c library H at read (own H at.thread)
+granted_places_from c library H at (Ok AsksSelection) = none_below (length H)
+granted_places_from c library H at (Ok (AsksName categories)) = none_below (length H)
+
+added_from : (c : Setting) (library : Catalog) (n : ℕ) (run : Run) (turns : List Turn) → n ≤ length run.history → All (λ (p : ℕ). n ≤ p) (all_places (added c library run turns))
+added_from c library n run [] le = none_below n
+added_from c library n run (turn ∷ turns) le =
+    let done : Outcome = outcome c library run turn in
+    let next : Run = with_outcome run turn done in
+    let more = grown c library run turn in
+    All-append (λ (p : ℕ). n ≤ p) (places_in done.line.places) (all_places (added c library next turns))
+    (All-weaker (λ (p : ℕ). length run.history ≤ p) (λ (p : ℕ). n ≤ p) (λ p from. omega (arith, from, le)) (places_in done.line.places) (granted_places_from c library run.history (next_caller run turn) (wish_in library run turn)))
+    (added_from c library n next turns (omega (arith, le, more)))
+
+told_lines : (turns : List Turn) (c : Setting) (library : Catalog) (run : Run) → lines_of (told turns (added c library run turns)) ≡ added c library run turns
+told_lines [] c library run = refl
+told_lines (turn ∷ turns) c library run =
+    let done : Outcome = outcome c library run turn in
+    ap (λ (ls : List OutLine). done.line ∷ ls) (told_lines turns c library (with_outcome run turn done))
+
+-- ---- a run on its way, with the lines that are told so far
+
+pub record IsOnItsWay (c : Setting) (plan : PlanData) (all : List OutLine) (F : History) (run : Run) (before : List Told) (turns : List Turn) : Type 0 where
+  pub legal : IsLegal c F
+  pub final : F ≡ (played c plan.library run turns).history
+  pub lines : all ≡ run.lines ++ added c plan.library run turns
+  pub bounds : bound_by before ≡ run.bindings
+  pub next : (t : ℕ) → next_place t before ≡ length (own_past run.history t)
+  pub counted : IsCounted run
+  pub by_round : AreByRound turns
+  pub earlier : All (λ (l : OutLine). All (λ (u : Turn). l.round ≤ u.round) turns) run.lines
+  pub printed : All (λ (v : ℕ). v ≤ sets run.history) (versions run.lines)
+  pub printed_before : All (λ (v : ℕ). v ≤ sets run.history) (versions (lines_of before))
+
+rounds_at_most : (run : Run) (turn : Turn) (turns : List Turn) → All (λ (l : OutLine). All (λ (u : Turn). l.round ≤ u.round) (turn ∷ turns)) run.lines → All (λ (l : OutLine). l.round ≤ turn.round) run.lines
+rounds_at_most run turn turns earlier =
+    All-weaker (λ (l : OutLine). All (λ (u : Turn). l.round ≤ u.round) (turn ∷ turns)) (λ (l : OutLine). l.round ≤ turn.round)
+    (λ l h. All-head (λ (u : Turn). l.round ≤ u.round) turn turns h) run.lines earlier
+
+-- the lines of the rounds before a turn's are among those before it
+lines_before : (c : Setting) (plan : PlanData) (lines : List OutLine) (F : History) (run : Run) (before : List Told) (turn : Turn) (turns : List Turn) → IsOnItsWay c plan lines F run before (turn ∷ turns)
+    → before_round turn.round lines ≡ before_round turn.round run.lines
+lines_before c plan lines F run before turn turns w =
+    let later : List OutLine = added c plan.library run (turn ∷ turns) in
+    let from : All (λ (u : Turn). turn.round ≤ u.round) (turn ∷ turns) = All-cons (λ (u : Turn). turn.round ≤ u.round) turn turns (le_refl turn.round) w.by_round.0 in
+    let none : before_round turn.round later ≡ [] =
+    filter_none (λ (l : OutLine). nat_lt l.round turn.round) later
+    (All-weaker (λ (l : OutLine). turn.round ≤ l.round) (λ (l : OutLine). nat_lt l.round turn.round ≡ false) (λ l le. le-ltb l.round turn.round le) later (added_rounds c plan.library turn.round run (turn ∷ turns) from))
+    in
+    ap (before_round turn.round) w.lines
+    ∙ filter-append (λ (l : OutLine). nat_lt l.round turn.round) run.lines later
+    ∙ ap (λ (ls : List OutLine). before_round turn.round run.lines ++ ls) none
+    ∙ append-nil (before_round turn.round run.lines)
+
+-- the lines before a turn are among those of the rounds up to its own
+lines_up_to : (c : Setting) (plan : PlanData) (lines : List OutLine) (F : History) (run : Run) (before : List Told) (turn : Turn) (turns : List Turn) → IsOnItsWay c plan lines F run before (turn ∷ turns)
+    → up_to_round turn.round lines ≡ run.lines ++ up_to_round turn.round (added c plan.library run (turn ∷ turns))
+lines_up_to c plan lines F run before turn turns w =
+    let later : List OutLine = added c plan.library run (turn ∷ turns) in
+    let all : up_to_round turn.round run.lines ≡ run.lines =
+    filter_all (λ (l : OutLine). nat_le l.round turn.round) run.lines
+    (All-weaker (λ (l : OutLine). l.round ≤ turn.round) (λ (l : OutLine). nat_le l.round turn.round ≡ true) (λ l le. le-leb l.round turn.round le) run.lines (rounds_at_most run turn turns w.earlier))
+    in
+    ap (up_to_round turn.round) w.lines
+    ∙ filter-append (λ (l : OutLine). nat_le l.round turn.round) run.lines later
+    ∙ ap (λ (ls : List OutLine). ls ++ up_to_round turn.round later) all
+
+pub places_so_far : (run : Run) → IsCounted run → length (all_places run.lines) ≡ length run.history
+places_so_far run counted = ap length counted ∙ length-range_with_len 0 (length run.history)
+
+up_to_first : (x : Around) (H : History) (ps : List ℕ) → ((p : ℕ) → length H ≤ p → sets H ≤ sets (past x p)) → All (λ (p : ℕ). length H ≤ p) ps → IsUpToPlace x (sets H) (first_of ps)
+up_to_first x H [] above from = tt
+up_to_first x H (p ∷ ps) above from = above p (All-head (λ (q : ℕ). length H ≤ q) p ps from)
+
+-- what the next line is judged by
+abbrev next_around : Setting → PlanData → List OutLine → History → Run → List Told → Turn → List Turn → Around
+next_around c plan lines F run before turn turns =
+    around c plan lines (calls_from F) before (told turns (added c plan.library (with_outcome run turn (outcome c plan.library run turn)) turns))
+
+on_way : (c : Setting) (plan : PlanData) (lines : List OutLine) (F : History) (run : Run) (before : List Told) (turns : List Turn) → IsOnItsWay c plan lines F run before turns → GoesOnFrom run.history F
+on_way c plan lines F run before turns w = subst (GoesOnFrom run.history) (sym w.final) (played_on c plan.library run turns)
+
+version_is : (c : Setting) (plan : PlanData) (lines : List OutLine) (F : History) (run : Run) (before : List Told) (turn : Turn) (turns : List Turn) → IsOnItsWay c plan lines F run before (turn ∷ turns)
+    → IsVersion (next_around c plan lines F run before turn turns) (next_caller run turn) (sets run.history)
+version_is c plan lines F run before turn turns w =
+    let x : Around = next_around c plan lines F run before turn turns in
+    let H : History = run.history in
+    let t : ℕ = turn.thread in
+    let next : Run = with_outcome run turn (outcome c plan.library run turn) in
+    let later : List OutLine = added c plan.library run (turn ∷ turns) in
+    let on : GoesOnFrom H F = on_way c plan lines F run before (turn ∷ turns) w in
+    let here : past x (length H) ≡ H = past_is c F H w.legal on in
+    let long : length (all_places run.lines) ≡ length H = places_so_far run w.counted in
+    let below : (n : ℕ) → n ≤ length H → sets (past x n) ≤ sets H = λ n le. subst (λ (G : History). sets (past x n) ≤ sets G) here (past_up c (calls_from F) n (length H) le) in
+    let above : (n : ℕ) → length H ≤ n → sets H ≤ sets (past x n) = λ n le. subst (λ (G : History). sets G ≤ sets (past x n)) here (past_up c (calls_from F) (length H) n le) in
+    let back : GoesOnFrom (own_past H t) H = own_back H t in
+    let shorter : length (own_past H t) ≤ length H = let sum = length-append back.more (own_past H t) in let is : length H ≡ length (back.more ++ own_past H t) = ap length back.is in omega (arith, sum, is) in
+    let fewer : length (all_places (before_round turn.round lines)) ≤ length H =
+    let few = fewer_kept (λ (l : OutLine). places_in l.places) (λ (l : OutLine). nat_lt l.round turn.round) run.lines in
+    let same : length (all_places (before_round turn.round lines)) ≡ length (all_places (before_round turn.round run.lines)) = ap (λ (ls : List OutLine). length (all_places ls)) (lines_before c plan lines F run before turn turns w) in
+    omega (arith, few, same, long)
+    in
+    let more : length H ≤ length (all_places (up_to_round turn.round lines)) =
+    let rest : List OutLine = up_to_round turn.round later in
+    let same : length (all_places (up_to_round turn.round lines)) ≡ length (all_places run.lines ++ all_places rest) =
+    ap (λ (ls : List OutLine). length (all_places ls)) (lines_up_to c plan lines F run before turn turns w)
+    ∙ ap length (flat_map-append (λ (l : OutLine). places_in l.places) run.lines rest)
+    in
+    let sum = length-append (all_places run.lines) (all_places rest) in
+    omega (arith, same, sum, long)
+    in
+    let behind : All (λ (p : ℕ). length H ≤ p) (all_places (of_thread t (lines_of x.after))) =
+    all_kept (λ (l : OutLine). places_in l.places) (λ (p : ℕ). length H ≤ p) (λ (l : OutLine). l.thread == t) (lines_of x.after)
+    (subst (λ (ls : List OutLine). All (λ (p : ℕ). length H ≤ p) (all_places ls)) (sym (told_lines turns c plan.library next))
+    (added_from c plan.library (length H) next turns (grown c plan.library run turn)))
+    in
+    record {
+      seen = subst (λ (n : ℕ). sets (past x n) ≤ sets H) (sym (w.next t)) (below (length (own_past H t)) shorter);
+      rounds = below (length (all_places (before_round turn.round lines))) fewer;
+      next = up_to_first x H (all_places (of_thread t (lines_of x.after))) above behind;
+      round = above (length (all_places (up_to_round turn.round lines))) more;
+      told = all_kept (λ (l : OutLine). option_to_list l.global) (λ (v : ℕ). v ≤ sets H) (λ (l : OutLine). l.thread == t) (lines_of before) w.printed_before;
+      told_earlier = subst (λ (ls : List OutLine). All (λ (v : ℕ). v ≤ sets H) (versions ls)) (sym (lines_before c plan lines F run before turn turns w))
+          (all_kept (λ (l : OutLine). option_to_list l.global) (λ (v : ℕ). v ≤ sets H) (λ (l : OutLine). nat_lt l.round turn.round) run.lines w.printed);
+    }
+
+-- the next line tells what its turn asks for
+line_told : (c : Setting) (plan : PlanData) (lines : List OutLine) (F : History) (run : Run) (before : List Told) (turn : Turn) (turns : List Turn) → IsOnItsWay c plan lines F run before (turn ∷ turns)
+    → IsTold (next_around c plan lines F run before turn turns) (told_of turn (outcome c plan.library run turn).line)
+line_told c plan lines F run before turn turns w =
+    let x : Around = next_around c plan lines F run before turn turns in
+    let at : Caller = next_caller run turn in
+    let done : Outcome = outcome c plan.library run turn in
+    let wished : Result Wish Why = wish_in plan.library run turn in
+    let next : Run = with_outcome run turn done in
+    let judges : Judges x run.history F at = record {
+      legal = w.legal;
+      pasts = λ n. refl;
+      whole = ap (history_below c (calls_from F)) (calls_length F) ∙ past_is c F F w.legal (goes_nowhere F);
+      seen = w.next turn.thread;
+      version = version_is c plan lines F run before turn turns w;
+    }
+    in
+    let on : GoesOnFrom done.history F = subst (GoesOnFrom done.history) (sym w.final) (played_on c plan.library next turns) in
+    let judged : IsGranted x at done.line wished = granted_judged x run.history F at wished judges on in
+    let whose : caller_of done.line ≡ at = granted_caller c plan.library run.history at wished in
+    let same : wished ≡ wish_of plan.library (bindings_of done.line.thread (bound_by before)) turn.task =
+    sym (ap (λ (thread : ℕ). wish_of plan.library (bindings_of thread (bound_by before)) turn.task) (line_thread c plan.library run turn)
+    ∙ ap (λ (bs : List Bound). wish_of plan.library (bindings_of turn.thread bs) turn.task) w.bounds)
+    in
+    subst (λ (a : Caller). IsGranted x a done.line (wish_of plan.library (bindings_of done.line.thread (bound_by before)) turn.task)) (sym whose)
+    (subst (IsGranted x at done.line) same judged)
+
+-- ---- all lines
+
+-- no version that was printed is above that of the history
+still_up : (H G : History) (vs : List ℕ) → sets H ≤ sets G → All (λ (v : ℕ). v ≤ sets H) vs → All (λ (v : ℕ). v ≤ sets G) vs
+still_up H G vs up = All-weaker (λ (v : ℕ). v ≤ sets H) (λ (v : ℕ). v ≤ sets G) (λ v le. omega (arith, le, up)) vs
+
+one_line_on : (c : Setting) (plan : PlanData) (lines : List OutLine) (F : History) (run : Run) (before : List Told) (turn : Turn) (turns : List Turn) → IsOnItsWay c plan lines F run before (turn ∷ turns)
+    → let done = outcome c plan.library run turn in IsOnItsWay c plan lines F (with_outcome run turn done) (told_of turn done.line ∷ before) turns
+one_line_on c plan lines F run before turn turns w =
+    let done : Outcome = outcome c plan.library run turn in
+    let next : Run = with_outcome run turn done in
+    let l : OutLine = done.line in
+    let at : Caller = next_caller run turn in
+    let up : sets run.history ≤ sets done.history = sets_on run.history done.history (turn_on c plan.library run turn) in
+    let new : UpTo (sets done.history) l.global = granted_version c plan.library run.history at (wish_in plan.library run turn) in
+    let small : ℕ → Type 0 = λ (v : ℕ). v ≤ sets done.history in
+    let tail : All (λ (k : OutLine). All (λ (u : Turn). k.round ≤ u.round) turns) run.lines =
+    All-weaker (λ (k : OutLine). All (λ (u : Turn). k.round ≤ u.round) (turn ∷ turns)) (λ (k : OutLine). All (λ (u : Turn). k.round ≤ u.round) turns)
+    (λ k h. All-tail (λ (u : Turn). k.round ≤ u.round) turn turns h) run.lines w.earlier
+    in
+    record {
+      legal = w.legal;
+      final = w.final;
+      lines = w.lines ∙ sym (append_assoc run.lines (l ∷ []) (added c plan.library next turns));
+      bounds = bound_next c plan.library run before turn w.bounds;
+      next = λ t.
+          ap (λ (n : ℕ). next_of (l.thread == t) (places_in l.places) n) (w.next t)
+          ∙ ap (λ (thread : ℕ). next_of (thread == t) (places_in l.places) (length (own_past run.history t))) (line_thread c plan.library run turn)
+          ∙ granted_next t c plan.library run.history at (wish_in plan.library run turn);
+      counted = one_turn c plan.library run turn w.counted;
+      by_round = w.by_round.1;
+      earlier = All-push (λ (k : OutLine). All (λ (u : Turn). k.round ≤ u.round) turns) run.lines l tail
+          (subst (λ (r : ℕ). All (λ (u : Turn). r ≤ u.round) turns) (sym (line_round c plan.library run turn)) w.by_round.0);
+      printed = subst (All small) (sym (flat_map-append (λ (k : OutLine). option_to_list k.global) run.lines (l ∷ [])))
+          (All-append small (versions run.lines) (versions (l ∷ [])) (still_up run.history done.history (versions run.lines) up w.printed)
+          (subst (All small) (sym (append-nil (option_to_list l.global))) new));
+      printed_before = All-append small (option_to_list l.global) (versions (lines_of before)) new (still_up run.history done.history (versions (lines_of before)) up w.printed_before);
+    }
+
+pub are_told : (c : Setting) (plan : PlanData) (lines : List OutLine) (F : History) (run : Run) (before : List Told) (turns : List Turn) → IsOnItsWay c plan lines F run before turns
+    → AreTold c plan lines (calls_from F) before (told turns (added c plan.library run turns))
+are_told c plan lines F run before [] w = tt
+are_told c plan lines F run before (turn ∷ turns) w =
+    let done : Outcome = outcome c plan.library run turn in (
+      line_told c plan lines F run before turn turns w,
+      are_told c plan lines F (with_outcome run turn done) (told_of turn done.line ∷ before) turns (one_line_on c plan lines F run before turn turns w),
+    )

@@ -1,0 +1,5 @@
+use Rattle.script_serial.proofs.ToldApart.{isolated}
+use Rattle.script_serial.proofs.laws.isolation.Goals as goal
+
+pub returns : goal.returns
+returns c = record { isolation = isolated }

@@ -1,0 +1,56 @@
+-- What threads that share handles with nobody print: what the script says of them without the others (our own).
+use Rattle.std.specs.Prelude.{◌≡◌, ℕ, ◌≤◌, true, List, [], ◌∷◌, length}
+use Rattle.handle_table.specs.Entry.{History, Setting}
+use Rattle.handle_table.specs.History.{sets, global_at, selection}
+use Rattle.handle_table.specs.Answer.{IsLegal, own}
+use Rattle.handle_table.specs.Isolation.{has_thread, part_of, IsClosed}
+use Rattle.script_out.specs.declared.output.OutLine.{OutLine}
+use Rattle.script_serial.specs.Plan.{PlanData}
+use Rattle.script_lines.specs.Holds.{open_holds}
+use Rattle.script_serial.specs.Prints.{Told, told, PlacedCall, calls_after, history_below, all_turns, Around, around, IsTold}
+
+-- the lines with their tasks, and all their calls
+abbrev pub all_told : Setting → PlanData → List OutLine → List Told
+all_told c plan lines = told (all_turns c plan lines) lines
+
+abbrev pub all_calls : Setting → PlanData → List OutLine → List PlacedCall
+all_calls c plan lines = calls_after plan.library [] (all_told c plan lines)
+
+-- the history of the calls whose places are below a number, and that of all calls
+abbrev pub front : Setting → PlanData → List OutLine → ℕ → History
+front c plan lines n = history_below c (all_calls c plan lines) n
+
+abbrev pub whole : Setting → PlanData → List OutLine → History
+whole c plan lines = front c plan lines (length (all_calls c plan lines))
+
+-- two histories say the same to a thread: what it selects, its own object, the objects that it holds, the global object of each
+-- version, and how many versions there are
+pub record SaysTheSameTo (c : Setting) (t : ℕ) (G H : History) : Type 0 where
+  pub selection : selection G t ≡ selection H t
+  pub own : own G t ≡ own H t
+  pub holds : open_holds G t ≡ open_holds H t
+  pub globals : (version : ℕ) → version ≤ sets G → global_at c G version ≡ global_at c H version
+  pub sets : sets G ≡ sets H
+
+-- what a line is judged by without the other threads: the part of each history
+abbrev pub apart : List ℕ → Around → Around
+apart threads x = record x { history = λ (place : ℕ). part_of threads (x.history place); whole = part_of threads x.whole }
+
+-- each line of the threads tells what its task asks for, judged by the parts alone
+abbrev pub AreToldApart : List ℕ → Setting → PlanData → List OutLine → List PlacedCall → List Told → List Told → Type 0
+AreToldApart threads c plan lines calls before [] = Unit {0}
+AreToldApart threads c plan lines calls before (d ∷ after) =
+    (has_thread threads d.line.thread ≡ true → IsTold (apart threads (around c plan lines calls before after)) d)
+    × AreToldApart threads c plan lines calls (d ∷ before) after
+
+-- the threads read what they would read without the others: their part of the history is legal, each front of it says the
+-- same to them as its part, and each of their lines tells what the parts alone say. Places alone count the calls of others
+pub record AreApart (c : Setting) (plan : PlanData) (lines : List OutLine) (threads : List ℕ) : Type 0 where
+  pub legal : IsLegal c (part_of threads (whole c plan lines))
+  pub fronts : (n : ℕ) → n ≤ length (all_calls c plan lines) → (t : ℕ) → has_thread threads t ≡ true
+      → SaysTheSameTo c t (front c plan lines n) (part_of threads (front c plan lines n))
+  pub told : AreToldApart threads c plan lines (all_calls c plan lines) [] (all_told c plan lines)
+
+-- so do all threads that share handles among themselves alone
+abbrev pub IsIsolated : Setting → PlanData → List OutLine → Type 0
+IsIsolated c plan lines = (threads : List ℕ) → IsClosed threads (whole c plan lines) → AreApart c plan lines threads

@@ -1,0 +1,7 @@
+pub mod Plan
+pub mod Serial
+pub mod Prints
+pub mod Isolation
+pub mod Laws
+pub mod Kept
+pub mod Session
