@@ -1,5 +1,5 @@
 //! Tests of threads that run beside each other.
-ghost use Rattle.std.specs.Prelude.{◌≡◌, ℕ, ◌+◌, ◌*◌, ◌<◌, ◌≤◌, ◌∷◌, [], length, IfOk, map};
+ghost use Rattle.std.specs.Prelude.{◌≡◌, ℕ, ◌+◌, ◌*◌, ◌<◌, ◌≤◌, length, IfOk, map};
 ghost use Rattle.std.specs.List.{range_with_len};
 ghost use Rattle.turn_gate.specs.Callers.{IsSeatOf};
 ghost use Rattle.handle_table.specs.Table.{IsOpening};
@@ -28,7 +28,7 @@ const ENTRIES: u32 = 4 * MAKES + 1;
 
 /// A part that is its number.
 #[derive(Clone, Copy)]
-struct Number(u32);
+pub(crate) struct Number(pub(crate) u32);
 
 impl Part for Number {
     ghost use Rattle.std.specs.Prelude.{};
@@ -58,13 +58,13 @@ fn is_all_of(object: &Object<Number>, number: u32) -> bool {
         .all(|category| object.part(*category).0 == number)
 }
 
-// What a name stands for that has this number in all categories.
-fn offer(number: u32) -> Offer<Number>
-    ensures { result.available ≡ 31 }
+// What a name stands for that has this number in these categories.
+pub(crate) fn offered(number: u32, available: Mask) -> Offer<Number>
+    ensures { result.available ≡ available }
 {
     Offer {
         object: all_of(number),
-        available: Mask::all(),
+        available,
     }
 }
 
@@ -74,22 +74,15 @@ fn shelf(alloc: Global) -> Result<List<Offer<Number>>, AllocError>
     ensures three { IfOk result (λ offers. length offers ≡ 3) }
 {
     let mut offers = Vec::with_capacity(alloc, 3)?;
-    offers.push_reserved(offer(0));
-    offers.push_reserved(offer(1));
-    offers.push_reserved(offer(2));
+    offers.push_reserved(offered(0, Mask::all()));
+    offers.push_reserved(offered(1, Mask::all()));
+    offers.push_reserved(offered(2, Mask::all()));
     Ok(List::of(offers))
 }
 
 // The number of all parts of the global object after so many changes.
 fn number_of(version: u32) -> u32 {
     if version == 0 { 0 } else { 1 + version % 2 }
-}
-
-// The name of this number for each category.
-fn names_of(number: u32) -> [u32; 5]
-    ensures { result ≡ number ∷ number ∷ number ∷ number ∷ number ∷ [] }
-{
-    [number, number, number, number, number]
 }
 
 // Makes an object of this number. Gives the global locale where that is refused.
@@ -100,7 +93,8 @@ fn make<R: Wait>(rt: &R, shared: &Shared<Number>, mine: &mut Mine<Number>, numbe
     ensures may { (n : ℕ) → MayMake shared.now (n + 1) mine.old → MayMake shared.now n mine.new }
     ensures same { mine.new.number ≡ mine.old.number }
 {
-    match shared.newlocale(rt, mine, Mask::all(), names_of(number), None) {
+    let names = [number, number, number, number, number];
+    match shared.newlocale(rt, mine, Mask::all(), names, None) {
         Ok((_place, handle)) => Named::Of(handle),
         Err(_) => Named::Global,
     }
@@ -194,8 +188,8 @@ fn set<R: Wait>(rt: &R, shared: &Shared<Number>, mine: &mut Mine<Number>, versio
     ensures may { (n : ℕ) → MayMake shared.now (n + 1) mine.old → MayMake shared.now n mine.new }
     ensures same { mine.new.number ≡ mine.old.number }
 {
-    let names = names_of(1 + version % 2);
-    match shared.setlocale(rt, mine, Mask::all(), names) {
+    let name = 1 + version % 2;
+    match shared.setlocale(rt, mine, Mask::all(), [name, name, name, name, name]) {
         Ok((_place, made)) => made == version,
         Err(_) => false,
     }
