@@ -1,13 +1,13 @@
 -- The definitions on small inputs.
-use Rattle.std.proofs.Common.{◌≡◌, ℕ, length, List, [], ◌∷◌, None, Some, refl, lit<}
+use Rattle.std.proofs.Common.{◌≡◌, ℕ, length, List, [], ◌∷◌, None, Some, Ok, refl, sym, lit<}
 use Rattle.std.specs.Prelude.{codes}
 use Rattle.std.specs.Fmt.{decimal}
 use Rattle.std.proofs.lemmas.Fmt.{decimal_digit}
 use Rattle.locale_cli.specs.declared.words.TheConstants.{DEFAULT_ROWS, MOST_ROWS, DEFAULT_GENERATIONS, MOST_GENERATIONS}
 use Rattle.locale_cli.specs.declared.answer.Status.TheVariants.{Done, TooLarge}
-use Rattle.locale_cli.specs.declared.words.Mode.TheVariants.{Check, Serial}
+use Rattle.locale_cli.specs.declared.words.Mode.TheVariants.{Check, Serial, Run}
 use Rattle.locale_cli.specs.declared.top.TheConstants.{INPUT_LIMIT}
-use Rattle.locale_cli.specs.Answer.{answer_of, counts_line}
+use Rattle.locale_cli.specs.Answer.{counts_line, answer_for, IsAnswer}
 use Rattle.locale_cli.specs.Status.{status_of, due_status}
 use Rattle.locale_cli.specs.Words.{mode_of, with_option, number_up_to}
 use Rattle.script_lang.specs.Accepted.{bundle_of, bundle_with}
@@ -57,7 +57,18 @@ serial_word = refl
 check_word : mode_of (codes "check" ∷ []) ≡ Some Check
 check_word = refl
 
-unknown_word : mode_of (codes "run" ∷ []) ≡ None
+run_word : mode_of (codes "run" ∷ []) ≡ Some (Run 16 65535)
+run_word = refl
+
+run_with_options : mode_of (codes "run" ∷ codes "generations=3" ∷ codes "rows=2" ∷ []) ≡ Some (Run 2 3)
+unfolding with_option number_up_to behind_front decimal_number
+run_with_options = refl
+
+run_without_rows : mode_of (codes "run" ∷ codes "rows=0" ∷ []) ≡ None
+unfolding with_option number_up_to behind_front decimal_number
+run_without_rows = refl
+
+unknown_word : mode_of (codes "runs" ∷ []) ≡ None
 unknown_word = refl
 
 two_modes : mode_of (codes "serial" ∷ codes "check" ∷ []) ≡ None
@@ -159,17 +170,18 @@ some_counts : counts_line (record { locales = 3; charmaps = 1; threads = 2; roun
 some_counts = simp digits
 
 -- the empty input is a bundle without threads, which has one round
-empty_input : (answer_of (Serial 16 65535) []).text ≡ []
+empty_input : IsAnswer (Serial 16 65535) [] (answer_for (Ok []))
 unfolding bundle_of bundle_with
-empty_input = refl
+empty_input = (Ok [], refl, refl)
 
-empty_input_counted : (answer_of Check []).text ≡ codes "ok: locales 0 charmaps 0 threads 0 rounds 1 commands 0\n"
+empty_input_counted : IsAnswer Check [] (answer_for (Ok (codes "ok: locales 0 charmaps 0 threads 0 rounds 1 commands 0\n")))
 unfolding bundle_of bundle_with
-empty_input_counted = simp digits
+empty_input_counted =
+    let line : counts_line (record { locales = 0; charmaps = 0; threads = 0; rounds = 1; commands = 0 }) ≡ codes "ok: locales 0 charmaps 0 threads 0 rounds 1 commands 0\n" = simp digits in
+    (Ok (codes "ok: locales 0 charmaps 0 threads 0 rounds 1 commands 0\n"), sym line, refl)
 
-empty_input_done : (answer_of Check []).status ≡ Done
-unfolding bundle_of bundle_with
-empty_input_done = refl
+done_without_a_fault : (text : List ℕ) → (answer_for (Ok text)).status ≡ Done
+done_without_a_fault text = refl
 
 default_rows : DEFAULT_ROWS ≡ 16
 default_rows = refl

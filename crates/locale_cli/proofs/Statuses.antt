@@ -15,35 +15,61 @@ use Rattle.locale_cli.specs.declared.answer.Status.{Status}
 use Rattle.locale_cli.specs.declared.answer.Status.TheVariants.{Done, Usage, Refused, ReadFault, WriteFault, Memory, TooLarge}
 use Rattle.locale_cli.specs.declared.words.Mode.{Mode}
 use Rattle.locale_cli.specs.declared.words.Mode.TheVariants.{Check}
-use Rattle.locale_cli.specs.Answer.{output, status_for, text_for, answer_of}
+use Rattle.locale_cli.specs.declared.answer.Answer.{Answer}
+use Rattle.locale_cli.specs.Answer.{Outputs, OutputsOf, status_for, text_for, IsAnswer}
 use Rattle.script_serial.specs.Plan.{PlanData, counts, plan_of}
 use Rattle.script_out.specs.Refusal.{refusal_line}
 use Rattle.locale_cli.specs.Run.{SourceStep, SinkStep, Told, Ran}
 use Rattle.locale_cli.specs.Status.{too_large_line, WholeInput, IsDone, IsChecked, IsRefused, IsCutShort, status_of, due_status, IsDue, StayedSound}
 
--- what is printed of a plan, or its fault
-abbrev printed_of : Mode → Reads PlanData → Reads (List ℕ)
-printed_of mode r = r >>= λ plan. Ok (output mode plan)
+-- ---- what may be printed of a plan, or its fault
 
--- a refused answer is that of a refused bundle
-refused_is : (mode : Mode) (input : List ℕ) (r : Reads PlanData) → plan_of input ≡ r → Refused ≡ status_for (printed_of mode r) → (fault : Place × Reason) × (plan_of input ≡ Err fault) × (text_for (printed_of mode r) ≡ refusal_line fault.0 fault.1)
-refused_is mode input (Ok plan) e d = absurd cc
-refused_is mode input (Err fault) e d = (fault, e, refl)
+refused_out : (mode : Mode) (r : Reads PlanData) (out : Reads (List ℕ)) → OutputsOf mode r out → Refused ≡ status_for out → (fault : Place × Reason) × (r ≡ Err fault) × (text_for out ≡ refusal_line fault.0 fault.1)
+refused_out mode (Ok plan) (Ok text) o e = absurd cc
+refused_out mode (Ok plan) (Err fault) o e = absurd o
+refused_out mode (Err fault) (Ok text) o e = absurd o
+refused_out mode (Err fault) (Err printed) o e = (fault, refl, ap (λ (f : Place × Reason). refusal_line f.0 f.1) o)
 
--- an answer with the status 0 is that of an accepted bundle
-done_is : (mode : Mode) (input : List ℕ) (r : Reads PlanData) → plan_of input ≡ r → Done ≡ status_for (printed_of mode r) → (plan : PlanData) × (plan_of input ≡ Ok plan) × (text_for (printed_of mode r) ≡ output mode plan)
-done_is mode input (Ok plan) e d = (plan, e, refl)
-done_is mode input (Err fault) e d = absurd cc
-
--- no answer has the status of a failed write
-not_cut : (mode : Mode) (r : Reads PlanData) → WriteFault ≡ status_for (printed_of mode r) → ⊥
-not_cut mode (Ok plan) e = cc
-not_cut mode (Err fault) e = cc
+done_out : (mode : Mode) (r : Reads PlanData) (out : Reads (List ℕ)) → OutputsOf mode r out → Done ≡ status_for out → (plan : PlanData) × (r ≡ Ok plan) × Outputs mode plan (text_for out)
+done_out mode (Ok plan) (Ok text) o e = (plan, refl, o)
+done_out mode (Ok plan) (Err fault) o e = absurd o
+done_out mode (Err fault) (Ok text) o e = absurd o
+done_out mode (Err fault) (Err printed) o e = absurd cc
 
 -- each mode has the same status
-status_is : (mode : Mode) (r : Reads PlanData) → status_of r ≡ status_for (printed_of mode r)
-status_is mode (Ok plan) = refl
-status_is mode (Err fault) = refl
+status_is : (mode : Mode) (r : Reads PlanData) (out : Reads (List ℕ)) → OutputsOf mode r out → status_of r ≡ status_for out
+status_is mode (Ok plan) (Ok text) o = refl
+status_is mode (Ok plan) (Err fault) o = absurd o
+status_is mode (Err fault) (Ok text) o = absurd o
+status_is mode (Err fault) (Err printed) o = refl
+
+-- no answer has the status of a failed write
+cut_out : (out : Reads (List ℕ)) → WriteFault ≡ status_for out → ⊥
+cut_out (Ok text) e = cc
+cut_out (Err fault) e = cc
+
+-- ---- answers
+
+same_status : (mode : Mode) (input : List ℕ) (a : Answer) (is : IsAnswer mode input a) → a.status ≡ status_for is.0
+same_status mode input a is = ap (λ (b : Answer). b.status) is.2
+
+same_text : (mode : Mode) (input : List ℕ) (a : Answer) (is : IsAnswer mode input a) → a.text ≡ text_for is.0
+same_text mode input a is = ap (λ (b : Answer). b.text) is.2
+
+-- a refused answer is that of a refused bundle
+refused_is : (mode : Mode) (input : List ℕ) (a : Answer) → IsAnswer mode input a → Refused ≡ a.status → (fault : Place × Reason) × (plan_of input ≡ Err fault) × (a.text ≡ refusal_line fault.0 fault.1)
+refused_is mode input a is e =
+    let d = refused_out mode (plan_of input) is.0 is.1 (e ∙ same_status mode input a is) in
+    (d.0, d.1, same_text mode input a is ∙ d.2)
+
+-- an answer with the status 0 is that of an accepted bundle
+done_is : (mode : Mode) (input : List ℕ) (a : Answer) → IsAnswer mode input a → Done ≡ a.status → (plan : PlanData) × (plan_of input ≡ Ok plan) × Outputs mode plan a.text
+done_is mode input a is e =
+    let d = done_out mode (plan_of input) is.0 is.1 (e ∙ same_status mode input a is) in
+    (d.0, d.1, subst (Outputs mode d.0) (sym (same_text mode input a is)) d.2)
+
+not_cut : (mode : Mode) (input : List ℕ) (a : Answer) → IsAnswer mode input a → WriteFault ≡ a.status → ⊥
+not_cut mode input a is e = cut_out is.0 (e ∙ same_status mode input a is)
 
 -- the status is another one
 other : {P : Type 0} (a b r : Status) → (a ≡ b → ⊥) → r ≡ a → r ≡ b → P
@@ -55,10 +81,10 @@ sound_fell before after rose sound = absurd (let lt = rose sound.not_last in ome
 
 pub ran_refused : (mode : Mode) (s : SourceStep) (k : SinkStep) (U : Type 0) (r : Status) → Ran mode s k U r → r ≡ Refused → IsRefused s.left s.left' k.written k.written'
 ran_refused mode s k U r (inl (inl a)) e =
-    elim a.3 [
+    elim a.5 [
       | inl t ↦
-          let d = refused_is mode a.0 (plan_of a.0) refl (sym e ∙ t.0) in
-          (a.0, d.0, a.1, d.1, subst (λ (x : List ℕ). Appends k.written k.written' x) d.2 t.1)
+          let d = refused_is mode a.0 a.1 a.4 (sym e ∙ t.0) in
+          (a.0, d.0, a.2, d.1, subst (λ (x : List ℕ). Appends k.written k.written' x) d.2 t.1)
       | inr f ↦ other Refused WriteFault r (λ q. cc) e f.0
     ]
 ran_refused mode s k U r (inl (inr a)) e =
@@ -71,10 +97,10 @@ ran_refused mode s k U r (inr (u, inr m)) e = other Refused Memory r (λ q. cc) 
 
 pub ran_done : (mode : Mode) (s : SourceStep) (k : SinkStep) (U : Type 0) (r : Status) → Ran mode s k U r → r ≡ Done → IsDone mode s.left s.left' k.written k.written'
 ran_done mode s k U r (inl (inl a)) e =
-    elim a.3 [
+    elim a.5 [
       | inl t ↦
-          let d = done_is mode a.0 (plan_of a.0) refl (sym e ∙ t.0) in
-          (a.0, d.0, a.1, d.1, subst (λ (x : List ℕ). Appends k.written k.written' x) d.2 t.1)
+          let d = done_is mode a.0 a.1 a.4 (sym e ∙ t.0) in
+          (a.0, d.0, a.1.text, a.2, d.1, d.2, t.1)
       | inr f ↦ other Done WriteFault r (λ q. cc) e f.0
     ]
 ran_done mode s k U r (inl (inr a)) e =
@@ -88,9 +114,9 @@ ran_done mode s k U r (inr (u, inr m)) e = other Done Memory r (λ q. cc) e m.0
 -- the front of what was due was written
 pub ran_cut : (mode : Mode) (s : SourceStep) (k : SinkStep) (U : Type 0) (r : Status) → Ran mode s k U r → r ≡ WriteFault → IsCutShort mode s.left s.left' k.written k.written'
 ran_cut mode s k U r (inl (inl a)) e =
-    elim a.3 [
-      | inl t ↦ absurd (not_cut mode (plan_of a.0) (sym e ∙ t.0))
-      | inr f ↦ inl (a.0, a.1, f.1)
+    elim a.5 [
+      | inl t ↦ absurd (not_cut mode a.0 a.1 a.4 (sym e ∙ t.0))
+      | inr f ↦ inl (a.0, a.1, a.2, a.4, f.1)
     ]
 ran_cut mode s k U r (inl (inr a)) e =
     elim a.2 [
@@ -106,7 +132,8 @@ same_mode o m n p q = cc
 
 -- the counts of an accepted bundle
 pub is_checked : (left left' written written' : Option (List ℕ)) → IsDone Check left left' written written' → IsChecked left left' written written'
-is_checked left left' written written' d = (d.0, counts d.1.bundle, d.2, ap (λ (r : Reads PlanData). r >>= λ plan. Ok (counts plan.bundle)) d.3, d.4)
+is_checked left left' written written' d =
+    (d.0, counts d.1.bundle, d.3, ap (λ (r : Reads PlanData). r >>= λ plan. Ok (counts plan.bundle)) d.4, subst (λ (x : List ℕ). Appends written written' x) d.5 d.6)
 
 -- ---- which counts stay
 
@@ -115,13 +142,13 @@ told_sound status text r k (inl t) sound = t.2
 told_sound status text r k (inr f) sound = absurd (sound f.0)
 
 pub ran_read_sound : (mode : Mode) (s : SourceStep) (k : SinkStep) (U : Type 0) (r : Status) → Ran mode s k U r → r ≢ ReadFault → s.faults' ≡ s.faults
-ran_read_sound mode s k U r (inl (inl a)) sound = a.2
+ran_read_sound mode s k U r (inl (inl a)) sound = a.3
 ran_read_sound mode s k U r (inl (inr a)) sound = a.1
 ran_read_sound mode s k U r (inr (u, inl f)) sound = absurd (sound f.0)
 ran_read_sound mode s k U r (inr (u, inr m)) sound = m.1
 
 pub ran_write_sound : (mode : Mode) (s : SourceStep) (k : SinkStep) (U : Type 0) (r : Status) → (U → k.faults' ≡ k.faults) → Ran mode s k U r → r ≢ WriteFault → k.faults' ≡ k.faults
-ran_write_sound mode s k U r still (inl (inl a)) sound = told_sound (answer_of mode a.0).status (answer_of mode a.0).text r k a.3 sound
+ran_write_sound mode s k U r still (inl (inl a)) sound = told_sound a.1.status a.1.text r k a.5 sound
 ran_write_sound mode s k U r still (inl (inr a)) sound = told_sound TooLarge too_large_line r k a.2 sound
 ran_write_sound mode s k U r still (inr u) sound = still u.0
 
@@ -143,10 +170,10 @@ large_is None left' n c = tt
 large_is (Some xs) None n c = absurd c.1
 large_is (Some xs) (Some ys) n c = omega (arith, ap length c.1, length-append c.0 ys, c.2)
 
-due_whole : (mode : Mode) (x input : List ℕ) → x ≡ input → length input ≤ INPUT_LIMIT → due_status x ≡ (answer_of mode input).status
-due_whole mode x input e le =
+due_whole : (mode : Mode) (x input : List ℕ) (a : Answer) → IsAnswer mode input a → x ≡ input → length input ≤ INPUT_LIMIT → due_status x ≡ a.status
+due_whole mode x input a is e le =
     let small : nat_lt INPUT_LIMIT (length x) ≡ false = rw e (le-ltb _ _ le) in
-    rw small (ap (λ (z : List ℕ). status_of (plan_of z)) e ∙ status_is mode (plan_of input))
+    rw small (ap (λ (z : List ℕ). status_of (plan_of z)) e ∙ status_is mode (plan_of input) is.0 is.1 ∙ sym (same_status mode input a is))
 
 due_large : (x : List ℕ) → INPUT_LIMIT + 1 ≤ length x → due_status x ≡ TooLarge
 due_large x le =
@@ -167,8 +194,8 @@ fault_due r due f h e = subst (λ (x : Status). IsDue x due) (sym e) h
 
 pub ran_due : (mode : Mode) (s : SourceStep) (k : SinkStep) (U : Type 0) (r : Status) → Ran mode s k U r → IfSome s.left (λ input. IsDue r (due_status input))
 ran_due mode s k U r (inl (inl a)) =
-    elim a.3 [
-      | inl t ↦ IfSome_then s.left (whole_is s.left s.left' a.0 a.1) (λ x e. is_due r (due_status x) (due_whole mode x a.0 e a.1.within ∙ sym t.0))
+    elim a.5 [
+      | inl t ↦ IfSome_then s.left (whole_is s.left s.left' a.0 a.2) (λ x e. is_due r (due_status x) (due_whole mode x a.0 a.1 a.4 e a.2.within ∙ sym t.0))
       | inr f ↦ if_all s.left (λ x. IsDue r (due_status x)) (λ x. fault_due r (due_status x) WriteFault tt f.0)
     ]
 ran_due mode s k U r (inl (inr a)) =
@@ -181,8 +208,8 @@ ran_due mode s k U r (inr (u, inr m)) = if_all s.left (λ x. IsDue r (due_status
 
 pub ran_complete : (mode : Mode) (s : SourceStep) (k : SinkStep) (U : Type 0) (r : Status) → Ran mode s k U r → StayedSound s.faults s.faults' → StayedSound k.faults k.faults' → IfSome s.left (λ input. (r ≡ due_status input) ⊎ (r ≡ Memory))
 ran_complete mode s k U r (inl (inl a)) source sink =
-    elim a.3 [
-      | inl t ↦ IfSome_then s.left (whole_is s.left s.left' a.0 a.1) (λ x e. inl (t.0 ∙ sym (due_whole mode x a.0 e a.1.within)))
+    elim a.5 [
+      | inl t ↦ IfSome_then s.left (whole_is s.left s.left' a.0 a.2) (λ x e. inl (t.0 ∙ sym (due_whole mode x a.0 a.1 a.4 e a.2.within)))
       | inr f ↦ sound_fell k.faults k.faults' f.2 sink
     ]
 ran_complete mode s k U r (inl (inr a)) source sink =

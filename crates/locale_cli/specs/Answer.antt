@@ -1,12 +1,12 @@
 -- The answer to an input (our own).
 use Rattle.std.specs.Prelude.{◌≡◌, ℕ, List, ◌++◌, codes, Result, Ok, Err}
 use Rattle.std.specs.Fmt.{decimal}
-use Rattle.lc_base.specs.Reading.{Reads, Gives}
+use Rattle.lc_base.specs.Reading.{Reads, ◌>>=◌, Fails}
 use Rattle.lc_base.specs.declared.fault.TextFault.{TextFault}
 use Rattle.script_out.specs.Output.{newline, printed}
 use Rattle.script_out.specs.Refusal.{refusal_line}
 use Rattle.script_serial.specs.declared.plan.Counts.{Counts}
-use Rattle.script_serial.specs.Plan.{PlanData, counts, plan_of}
+use Rattle.script_serial.specs.Plan.{PlanData, counts, plan_of, counts_of}
 use Rattle.script_out.specs.declared.output.OutLine.{OutLine}
 use Rattle.script_serial.specs.Serial.{serial_lines, setting}
 use Rattle.script_serial.specs.Prints.{Prints}
@@ -25,6 +25,10 @@ counts_line c =
     codes " threads " ++ decimal c.threads ++
     codes " rounds " ++ decimal c.rounds ++
     codes " commands " ++ decimal c.commands ++ newline
+
+-- the line of counts of an input, or its first fault
+abbrev pub counts_text : List ℕ → Reads (List ℕ)
+counts_text input = counts_of input >>= λ counts. Ok (counts_line counts)
 
 -- lines that `run` may print: those of one history of the threads' calls, in which threads that share handles with nobody read
 -- what they would read without the others
@@ -67,6 +71,7 @@ answer_for out = record { status = status_for out; text = text_for out }
 abbrev pub IsAnswer : Mode → List ℕ → Answer → Type 0
 IsAnswer mode input a = (out : Reads (List ℕ)) × OutputsOf mode (plan_of input) out × (a ≡ answer_for out)
 
--- what a function that prints an input gives: an output that may be, or the first fault; want of memory says nothing
+-- what a function that prints an input gives: what may be printed, or the first fault; want of memory says nothing
 abbrev pub MayPrint : Mode → List ℕ → Result (List ℕ) TextFault → Type 0
-MayPrint mode input result = (out : Reads (List ℕ)) × OutputsOf mode (plan_of input) out × Gives (λ text. text) result out
+MayPrint mode input (Ok text) = OutputsOf mode (plan_of input) (Ok text)
+MayPrint mode input (Err fault) = Fails fault (plan_of input)

@@ -2,8 +2,9 @@
 
 ghost use Rattle.std.specs.Prelude.{◌≡◌, ◌<◌, ◌^◌, ◌++◌, length, IfOk, OnOk};
 ghost use Rattle.std.specs.Fmt.{decimal};
-ghost use Rattle.locale_cli.specs.Answer.{IsAnswer, MayPrint, Outputs, counts_line, serial_text};
-ghost use Rattle.locale_cli.specs.declared.words.Mode.TheVariants.{Check, Serial, Run};
+ghost use Rattle.lc_base.specs.Reading.{Gives};
+ghost use Rattle.locale_cli.specs.Answer.{IsAnswer, MayPrint, Outputs, counts_line, counts_text, serial_text};
+ghost use Rattle.locale_cli.specs.declared.words.Mode.TheVariants.{Serial, Run};
 ghost use Rattle.locale_cli.specs.StatusCode.{status_code};
 ghost use Rattle.locale_cli.specs.Words.{IsSized};
 ghost use Rattle.script_out.specs.Refusal.{refusal_line};
@@ -73,28 +74,45 @@ pub fn answer_to<R: Threads + Wait + Sync, P: Pause + Sync>(
     requires sized { IsSized mode }
     ensures { IfOk result (IsAnswer mode input.now) }
 {
-    let output = match mode {
-        Mode::Check => checked(alloc, input),
-        Mode::Serial { rows, generations } => alone(alloc, input, rows, generations),
-        Mode::Run { rows, generations } => beside(rt, alloc, input, rows, generations, pause),
-    };
-    match output {
+    match printed(rt, alloc, mode, input, pause) {
         Ok(text) => Ok(Answer {
             status: Status::Done,
             text,
         }),
-        Err(TextFault::At(place, reason)) => Ok(Answer {
-            status: Status::Refused,
-            text: refusal(alloc, place, reason)?,
-        }),
+        Err(TextFault::At(place, reason)) => {
+            let text = refusal(alloc, place, reason)?;
+            Ok(Answer {
+                status: Status::Refused,
+                text,
+            })
+        }
         Err(TextFault::Memory) => Err(AllocError),
+    }
+}
+
+/// What the mode prints of a bundle.
+fn printed<R: Threads + Wait + Sync, P: Pause + Sync>(
+    rt: &R,
+    alloc: Global,
+    mode: Mode,
+    input: &[u8],
+    pause: &P,
+) -> Result<ByteText, TextFault>
+    requires length { length input.now < 2 ^ 31 }
+    requires sized { IsSized mode }
+    ensures { MayPrint mode input.now result }
+{
+    match mode {
+        Mode::Check => checked(alloc, input),
+        Mode::Serial { rows, generations } => alone(alloc, input, rows, generations),
+        Mode::Run { rows, generations } => beside(rt, alloc, input, rows, generations, pause),
     }
 }
 
 /// The line of counts of a bundle.
 fn checked(alloc: Global, input: &[u8]) -> Result<ByteText, TextFault>
     requires { length input.now < 2 ^ 31 }
-    ensures { MayPrint Check input.now result }
+    ensures { Gives (λ text. text) result (counts_text input.now) }
 {
     let counts = check(alloc, input)?;
     Ok(counts_line(alloc, &counts)?)
