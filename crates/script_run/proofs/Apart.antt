@@ -1,10 +1,8 @@
 -- What a thread's own calls and lines say is the same with those of others between them.
-use Rattle.std.proofs.Common.{◌≡◌, ℕ, suc, ◌+◌, ◌<◌, ◌≤◌, Bool, true, false, ◌&&◌, List, [], ◌∷◌, ◌++◌, length, map, Option, Some, None, refl, sym, ap, subst, ◌∙◌, arith, inl, inr}
+use Rattle.std.proofs.Common.{◌≡◌, ℕ, suc, ◌+◌, ◌≤◌, Bool, true, false, ◌&&◌, List, [], ◌∷◌, ◌++◌, length, map, Option, Some, None, refl, sym, ap, subst, ◌∙◌, arith, inl, inr}
 use Rattle.std.specs.Prelude.{◌==◌, if◌then◌else◌, filter, zip, All}
-use Rattle.std.proofs.lemmas.Bool.{eq-eqb}
 use Rattle.std.proofs.lemmas.Bool.Decides.{eqb_tells}
-use Rattle.std.proofs.lemmas.List.{map-append}
-use Rattle.std.proofs.lemmas.List.Elements.{All-head, All-tail, filter-append}
+use Rattle.std.proofs.lemmas.List.Elements.{All-head, All-tail}
 use Rattle.mask_compose.specs.Parts.{Parts}
 use Rattle.handle_table.specs.declared.handle.Handle.{Handle}
 use Rattle.handle_table.specs.declared.handle.Named.{Named}
@@ -16,12 +14,11 @@ use Rattle.script_out.specs.declared.output.OutLine.{OutLine}
 use Rattle.script_lines.specs.declared.holds.OpenHold.{OpenHold}
 use Rattle.script_lines.specs.Board.{Moments, granted_at}
 use Rattle.script_lines.specs.Holds.{holds_after, open_holds}
-use Rattle.script_lines.specs.Turns.{Task}
-use Rattle.script_lines.specs.Variables.{Bindings, Bound, bindings_of, bindings_after, with_binding, variable_bound, handle_said}
+use Rattle.script_lines.specs.Variables.{Bindings, Bound, bindings_of, with_binding, variable_bound, handle_said}
 use Rattle.script_lines.specs.Wishes.{wish_of, ops_of}
 use Rattle.script_serial.specs.Plan.{PlanData}
-use Rattle.script_serial.specs.Prints.{Told, PlacedCall, call_of, bound_by, caller_of, places_in, behind_last, or_earlier, next_place, calls_of}
-use Rattle.script_run.specs.Timed.{oldest, places_by, Timed, tellings, own_lines, second_moment, moments_in, IsEntryOf, IsRight, AreRight}
+use Rattle.script_serial.specs.Prints.{Told, PlacedCall, call_of, bound_by, caller_of, places_in, behind_last, or_earlier, next_place}
+use Rattle.script_run.specs.Timed.{oldest, places_by, Timed, tellings, own_lines, second_moment, IsEntryOf, IsRight, AreRight}
 
 -- ---- what a thread selects, has taken up and holds is said by its own calls
 

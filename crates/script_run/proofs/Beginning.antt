@@ -1,6 +1,6 @@
 -- The workers of a script before its first round.
-use Rattle.std.proofs.Common.{◌≡◌, ℕ, suc, ◌+◌, ◌*◌, ◌<◌, ◌≤◌, List, [], ◌∷◌, ◌++◌, length, map, Some, refl, sym, ap, subst, ◌∙◌, arith, inl, inr, length-append}
-use Rattle.std.specs.Prelude.{All, slice_index_or}
+use Rattle.std.proofs.Common.{◌≡◌, ℕ, suc, ◌+◌, ◌<◌, ◌≤◌, List, [], ◌∷◌, ◌++◌, length, map, refl, sym, ap, subst, ◌∙◌, arith, inl, inr, length-append}
+use Rattle.std.specs.Prelude.{slice_index_or}
 use Rattle.std.specs.List.{range_with_len}
 use Rattle.std.proofs.lemmas.List.Elements.{All-nil}
 use Rattle.std.proofs.Math.Seq.{get_or-append_seam}
@@ -9,16 +9,16 @@ use Rattle.std.proofs.lemmas.List.{append-nil, length-map, get_or_append_left}
 use Rattle.std.proofs.lemmas.List.FromFn.{length-range_with_len, get_or-map-range_with_len}
 use Rattle.turn_gate.specs.Callers.{Gate}
 use Rattle.handle_table.specs.Entry.{History, Setting}
-use Rattle.thread_current.specs.Thread.{Thread, IsInOrder, GoesOnFrom, first_thread}
+use Rattle.thread_current.specs.Thread.{Thread, IsInOrder, first_thread}
 use Rattle.script_lines.specs.Holds.{open_holds}
-use Rattle.script_lines.specs.Variables.{Bindings, bound, bindings_of}
+use Rattle.script_lines.specs.Variables.{Bindings, bound}
 use Rattle.script_serial.specs.Plan.{PlanData}
 use Rattle.script_run.specs.declared.seated.Seated.{Seated}
 use Rattle.script_run.specs.declared.worker.Worker.{Worker}
 use Rattle.script_run.specs.Seated.{held_data}
-use Rattle.script_run.specs.Timed.{Timed, IsInRound, IsWhole, placed_back, places_by}
+use Rattle.script_run.specs.Timed.{Timed, IsInRound, places_by}
 use Rattle.script_run.specs.Beside.{IsWorker}
-use Rattle.script_run.specs.Rounds.{Each, mine_of, IsFor, IsFirst, IsReady, AreBetween}
+use Rattle.script_run.specs.Rounds.{Each, mine_of, IsFor, IsFirst, AreBetween}
 
 first_in_order : (gate : Gate Setting) (i : ℕ) → i < gate.terms.seats → IsInOrder gate.terms (first_thread gate i)
 first_in_order gate i lt = record { legal = tt; callers = tt; calls = refl; in_reach = lt }
@@ -57,7 +57,7 @@ pub between_first : (gate : Gate Setting) (plan : PlanData) (mines : List Thread
 between_first gate plan mines ws for are long first =
     let n : ℕ = gate.terms.setting.threads in
     let count : length ws ≡ n =
-      long ∙ ap (λ (ts : List Thread). length ts) are ∙ length-map (range_with_len 0 n) (first_thread gate) ∙ length-range_with_len 0 n
+    long ∙ ap (λ (ts : List Thread). length ts) are ∙ length-map (range_with_len 0 n) (first_thread gate) ∙ length-range_with_len 0 n
     in
     record {
       met = [];
@@ -76,18 +76,18 @@ between_first gate plan mines ws for are long first =
       lines_are = refl;
       count = count;
       ready = λ i d lt.
-        let w : Worker = slice_index_or ws i d in
-        let here : IsFirst mines i w = first i d lt in
-        let below : i < n = omega (arith, lt, count) in
-        let same : mine_of w ≡ first_thread gate i =
+          let w : Worker = slice_index_or ws i d in
+          let here : IsFirst mines i w = first i d lt in
+          let below : i < n = omega (arith, lt, count) in
+          let same : mine_of w ≡ first_thread gate i =
           here.mine ∙ ap (λ (ts : List Thread). slice_index_or ts i (mine_of w)) are ∙ get_or-map-range_with_len (first_thread gate) 0 n i i (mine_of w) below (omega arith)
-        in
-        record {
-          number = here.number;
-          worker = first_worker gate plan mines i w here same (let seats = for.seats in omega (arith, below, seats));
-          later = ((mine_of w).seen, sym (append-nil (mine_of w).seen));
-          given = here.given;
-        };
+          in
+          record {
+            number = here.number;
+            worker = first_worker gate plan mines i w here same (let seats = for.seats in omega (arith, below, seats));
+            later = ((mine_of w).seen, sym (append-nil (mine_of w).seen));
+            given = here.given;
+          };
     }
 
 -- ---- made one after another

@@ -1,5 +1,5 @@
 -- The threads of a script close, one after another.
-use Rattle.std.proofs.Common.{◌≡◌, ℕ, zero, suc, ◌+◌, ◌*◌, ◌<◌, ◌≤◌, ◌^◌, Bool, true, false, cond, List, [], ◌∷◌, ◌++◌, length, map, reverse, refl, sym, ap, subst, ◌∙◌, arith, inl, inr, length-append}
+use Rattle.std.proofs.Common.{◌≡◌, ℕ, zero, suc, ◌+◌, ◌<◌, ◌≤◌, Bool, true, false, cond, List, [], ◌∷◌, ◌++◌, length, reverse, refl, sym, ap, subst, ◌∙◌, arith, inl, inr, length-append}
 use Rattle.std.specs.Prelude.{◌==◌, flat_map, All, slice_index_or}
 use Rattle.std.specs.List.{range_with_len}
 use Rattle.std.proofs.Math.Seq.{get_or-append_seam}
@@ -10,7 +10,6 @@ use Rattle.handle_table.specs.Entry.{Entry, History, Setting}
 use Rattle.handle_table.specs.Answer.{IsLegal}
 use Rattle.handle_table.specs.Kept.{AreThreads}
 use Rattle.handle_table.specs.Table.{TableData, StandsFor}
-use Rattle.turn_gate.specs.declared.entry.Terms.{Terms}
 use Rattle.turn_gate.specs.Callers.{Gate, IsSeatOf}
 use Rattle.turn_gate.specs.Ends.{SomeCaller}
 use Rattle.thread_current.specs.Thread.{Thread, thread_of, IsThreadOf, IsInOrder, SawMore, GoesOnFrom, IsPart, entries_by}
@@ -19,21 +18,21 @@ use Rattle.script_out.specs.declared.output.OutLine.{OutLine}
 use Rattle.script_lines.specs.declared.holds.OpenHold.{OpenHold}
 use Rattle.script_lines.specs.declared.thread.Thread.{Thread as ScriptThread}
 use Rattle.script_lines.specs.Holds.{open_holds}
-use Rattle.script_lines.specs.Turns.{Turn, Ends, Releases, closing_turn, releases, closing, closing_turns, command_turns}
+use Rattle.script_lines.specs.Turns.{Turn, Ends, Releases, closing_turn, releases, closing, closing_turns}
 use Rattle.script_serial.specs.Plan.{PlanData, IsSound}
 use Rattle.script_serial.specs.Prints.{Prints}
 use Rattle.script_serial.proofs.LineLists.{all_left}
 use Rattle.script_run.specs.declared.seated.Seated.{Seated}
 use Rattle.script_run.specs.declared.worker.Worker.{Worker}
 use Rattle.script_run.specs.Seated.{held_data}
-use Rattle.script_run.specs.Timed.{Timed, AreTimed, AreRight, IsWhole, own_lines, lines_in, turns_made, turn_made, last_end, end_of, places_by, placed_back, stacked}
-use Rattle.script_run.specs.Beside.{HasMade, IsWorker, CanClose, Closes}
-use Rattle.script_run.specs.Rounds.{Each, EachTwo, IsFor, mine_of, turns_to, IsReady, AreBetween, SeatData, SeatSeesMore, IsCloser, AreClosers, AreClosing}
+use Rattle.script_run.specs.Timed.{Timed, AreTimed, IsWhole, own_lines, lines_in, turns_made, turn_made, last_end, end_of, places_by, placed_back, stacked}
+use Rattle.script_run.specs.Beside.{IsWorker, CanClose, Closes}
+use Rattle.script_run.specs.Rounds.{Each, EachTwo, IsFor, mine_of, turns_to, IsReady, AreBetween, SeatData, SeatSeesMore, IsCloser, AreClosing}
 use Rattle.script_run.proofs.Growth.{are_right_grow}
 use Rattle.script_run.proofs.Apart.{holds_says}
 use Rattle.script_run.proofs.Stacked.{HasAdded, stacked_onto, whole_stacked}
 use Rattle.script_run.proofs.Stacking.{IsOf, IsBefore, right_within, stacked_same, stacked_back, flat_same, and_at, at_here, at_other}
-use Rattle.script_run.proofs.Seeing.{goes_on, goes_same, as_long, entries_of_both, no_entry, same_places, made_kept, worker_kept, thread_with}
+use Rattle.script_run.proofs.Seeing.{goes_on, as_long, entries_of_both, no_entry, same_places, made_kept, worker_kept, thread_with}
 use Rattle.script_run.proofs.Rounding.{made_of}
 use Rattle.script_run.proofs.Taking.{lines_few, filter_short}
 use Rattle.script_run.proofs.Counting.{few_turns_to}
@@ -141,7 +140,7 @@ can_close gate plan seats w ws mine lines was sound for saw orders =
     let most : length (turns_to plan.bundle plan.bundle.rounds) ≤ length plan.bundle.commands = few_turns_to plan.bundle plan.bundle.rounds in
     let commands : length plan.bundle.commands ≤ 20000 = sound.accepted.few_commands in
     let holds : length w.thread.side.holds.items ≡ length (open_holds mine.seen w.thread.side.number) =
-      ap (λ (hs : List HeldData). length hs) worker.seated.knows.holds ∙ length-map (open_holds mine.seen w.thread.side.number) held_data
+    ap (λ (hs : List HeldData). length hs) worker.seated.knows.holds ∙ length-map (open_holds mine.seen w.thread.side.number) held_data
     in
     let few = worker.few in
     let counted = worker.lines in
@@ -185,12 +184,12 @@ closing_next gate plan seats others all w ws mine lines closed lines' seat was n
     let calls_w : entries_by k (mine_of w).seen ≡ entries_by k M = ready_calls gate plan M made k w ready (was.whole.places k (omega (arith, count))) in
     let own_w : (mine_of w).number ≡ k = ready.worker.seated.knows.number ∙ ready.number in
     let calls : entries_by k mine.seen ≡ entries_by k M =
-      ap (λ (j : ℕ). entries_by j mine.seen) (sym own_mine) ∙ order.calls ∙ next.saw.calls ∙ sym ready.worker.made.in_order.calls ∙ ap (λ (j : ℕ). entries_by j (mine_of w).seen) own_w ∙ calls_w
+    ap (λ (j : ℕ). entries_by j mine.seen) (sym own_mine) ∙ order.calls ∙ next.saw.calls ∙ sym ready.worker.made.in_order.calls ∙ ap (λ (j : ℕ). entries_by j (mine_of w).seen) own_w ∙ calls_w
     in
     let turns : turns_made new ≡ reverse (closing round k (open_holds M k)) =
-      closes.turns
-      ∙ ap (λ (j : ℕ). reverse (closing round j (open_holds mine.seen j))) ready.number
-      ∙ ap (λ (os : List OpenHold). reverse (closing round k os)) (holds_says k mine.seen M calls)
+    closes.turns
+    ∙ ap (λ (j : ℕ). reverse (closing round j (open_holds mine.seen j))) ready.number
+    ∙ ap (λ (os : List OpenHold). reverse (closing round k os)) (holds_says k mine.seen M calls)
     in
     let mine_later : GoesOnFrom mine.seen M = goes_on (mine_of w).seen M mine.seen next.saw.later ready.later in
     let long_M : length M ≤ length mine.seen = as_long mine.seen M mine_later in
@@ -204,23 +203,23 @@ closing_next gate plan seats others all w ws mine lines closed lines' seat was n
     } in
     let last_old : last_end (stacked old [] k) ≤ length mine.seen = last_before seats mine old (λ i d lt e. as_long mine.seen (thread_of 0 (slice_index_or seats i d)).seen (next.last i d lt e)) was.closers.last in
     let since_old : All (λ (t : Timed). last_end (stacked old [] k) ≤ t.moment) new =
-      All-weaker (λ (t : Timed). length mine.seen ≤ t.moment) (λ (t : Timed). last_end (stacked old [] k) ≤ t.moment) (λ t le. omega (arith, le, last_old)) new closes.since
+    All-weaker (λ (t : Timed). length mine.seen ≤ t.moment) (λ (t : Timed). last_end (stacked old [] k) ≤ t.moment) (λ t le. omega (arith, le, last_old)) new closes.since
     in
     let all_long : length all ≡ suc k =
-      let long = next.long in
-      let both : length all ≡ length others + 1 = ap (λ (ss : List SeatData). length ss) all_is ∙ length-append others (seat ∷ []) in
-      omega (arith, long, both)
+    let long = next.long in
+    let both : length all ≡ length others + 1 = ap (λ (ss : List SeatData). length ss) all_is ∙ length-append others (seat ∷ []) in
+    omega (arith, long, both)
     in
     let stack : stacked more [] (suc k) ≡ new ++ stacked old [] k = ap (λ (ts : List Timed). ts ++ stacked more [] k) here ∙ ap (λ (ts : List Timed). new ++ ts) (before []) in
     let stack_made : stacked more made (suc k) ≡ new ++ stacked old made k = ap (λ (ts : List Timed). ts ++ stacked more made k) here ∙ ap (λ (ts : List Timed). new ++ ts) (before made) in
     let seat_at : (i : ℕ) (d : SeatData) → i ≡ k → slice_index_or all i d ≡ seat = λ i d e.
-      ap (λ (ss : List SeatData). slice_index_or ss i d) all_is ∙ ap (λ (j : ℕ). slice_index_or (others ++ seat ∷ []) j d) (e ∙ sym next.long) ∙ get_or-append_seam others seat [] d
+    ap (λ (ss : List SeatData). slice_index_or ss i d) all_is ∙ ap (λ (j : ℕ). slice_index_or (others ++ seat ∷ []) j d) (e ∙ sym next.long) ∙ get_or-append_seam others seat [] d
     in
     let long_seat : length mine.seen ≤ length (thread_of 0 seat).seen = as_long (thread_of 0 seat).seen mine.seen closes.later in
     let last_new : last_end (stacked more [] (suc k)) ≤ length (thread_of 0 seat).seen =
-      subst (λ (ts : List Timed). last_end ts ≤ length (thread_of 0 seat).seen) (sym stack)
-      (last_within new (stacked old [] k) (length (thread_of 0 seat).seen)
-      (right_within gate.terms.setting plan (thread_of 0 seat).seen new (own_lines k made) closes.made.right) (omega (arith, last_old, long_seat)))
+    subst (λ (ts : List Timed). last_end ts ≤ length (thread_of 0 seat).seen) (sym stack)
+    (last_within new (stacked old [] k) (length (thread_of 0 seat).seen)
+    (right_within gate.terms.setting plan (thread_of 0 seat).seen new (own_lines k made) closes.made.right) (omega (arith, last_old, long_seat)))
     in
     record {
       met = M;
@@ -239,7 +238,7 @@ closing_next gate plan seats others all w ws mine lines closed lines' seat was n
           | inr apart ↦
               let below : i < k = let differs = apart.1 in omega (arith, lt, all_long, differs) in
               let there : slice_index_or all i d ≡ slice_index_or others i d =
-                ap (λ (ss : List SeatData). slice_index_or ss i d) all_is ∙ get_or_append_left others (seat ∷ []) d i (let long = next.long in omega (arith, below, long))
+              ap (λ (ss : List SeatData). slice_index_or ss i d) all_is ∙ get_or_append_left others (seat ∷ []) d i (let long = next.long in omega (arith, below, long))
               in
               subst (λ (s : SeatData). IsCloser gate plan round M made i (more i) s) (sym there)
               (subst (λ (ts : List Timed). IsCloser gate plan round M made i ts (slice_index_or others i d)) (sym (at_other old k new i below))
@@ -247,12 +246,12 @@ closing_next gate plan seats others all w ws mine lines closed lines' seat was n
         ];
         timed = subst (λ (j : ℕ). AreTimed (stacked more [] j)) (sym all_long) (subst AreTimed (sym stack) (timed_join new (stacked old [] k) closes.timed was.closers.timed since_old));
         last = λ i d lt e.
-          subst (λ (j : ℕ). last_end (stacked more [] j) ≤ length (thread_of 0 (slice_index_or all i d)).seen) (sym all_long)
-          (subst (λ (s : SeatData). last_end (stacked more [] (suc k)) ≤ length (thread_of 0 s).seen) (sym (seat_at i d (omega (arith, e, all_long)))) last_new);
+            subst (λ (j : ℕ). last_end (stacked more [] j) ≤ length (thread_of 0 (slice_index_or all i d)).seen) (sym all_long)
+            (subst (λ (s : SeatData). last_end (stacked more [] (suc k)) ≤ length (thread_of 0 s).seen) (sym (seat_at i d (omega (arith, e, all_long)))) last_new);
       };
       lines_are =
-        lines_is ∙ ap (λ (ls : List OutLine). lines ++ ls) (closes.added ∙ ap (λ (ls : List OutLine). ls ++ reverse (lines_in new)) ready.given) ∙ ap (λ (ls : List OutLine). ls ++ reverse (lines_in new)) was.lines_are
-        ∙ sym (
+          lines_is ∙ ap (λ (ls : List OutLine). lines ++ ls) (closes.added ∙ ap (λ (ls : List OutLine). ls ++ reverse (lines_in new)) ready.given) ∙ ap (λ (ls : List OutLine). ls ++ reverse (lines_in new)) was.lines_are
+          ∙ sym (
           ap (λ (j : ℕ). reverse (lines_in (stacked more made j))) all_long
           ∙ ap (λ (ts : List Timed). reverse (lines_in ts)) stack_made
           ∙ ap (λ (ls : List OutLine). reverse ls) (map-append (λ (t : Timed). t.told.line) new (stacked old made k))
@@ -275,7 +274,7 @@ share_of gate plan round M H made i more seat closer part =
     let own : seat.number ≡ i = closer.number in
     let seen : History = (thread_of 0 seat).seen in
     let same : entries_by i H ≡ entries_by i seen =
-      ap (λ (j : ℕ). entries_by j H) (sym own) ∙ part.1 ∙ sym closer.has.in_order.calls ∙ ap (λ (j : ℕ). entries_by j seen) own
+    ap (λ (j : ℕ). entries_by j H) (sym own) ∙ part.1 ∙ sym closer.has.in_order.calls ∙ ap (λ (j : ℕ). entries_by j seen) own
     in
     record {
       own = all_left (IsOf i) more (own_lines i made) (All-weaker (λ (m : Timed). m.told.line.thread ≡ seat.number) (IsOf i) (λ m e. e ∙ own) (more ++ own_lines i made) closer.has.own);
@@ -306,8 +305,8 @@ closed_prints gate plan seats lines table H was for stands same parts =
     let callers : AreThreads n H = subst (λ (s : Setting). AreThreads s.threads H) same stands.keeps.callers in
     let before : All (IsBefore round) made = All-weaker (λ (t : Timed). t.told.line.round ≤ plan.bundle.rounds) (IsBefore round) (λ t le. omega (arith, le)) made was.in_rounds in
     let shares : (d : SeatData) (i : ℕ) → i < n → HasAdded c plan M H round made i (more i) = λ d i lt.
-      let within : i < length seats = omega (arith, lt, all) in
-      share_of gate plan round M H made i (more i) (slice_index_or seats i d) (was.closers.closers i d within) (parts i d within)
+    let within : i < length seats = omega (arith, lt, all) in
+    share_of gate plan round M H made i (more i) (slice_index_or seats i d) (was.closers.closers i d within) (parts i d within)
     in
     let some : 0 < length seats = let has = for.some in omega (arith, has, all, threads) in
     let d : SeatData = first_of seats some in
@@ -315,10 +314,10 @@ closed_prints gate plan seats lines table H was for stands same parts =
     let whole : IsWhole c plan H (stacked more made n) = whole_stacked c plan M H made more round was.whole before legal callers later (shares d) in
     let upon : stacked more made n ≡ stacked more [] n ++ made = stacked_onto more made n in
     let back : reverse (turns_made (stacked more [] n)) ≡ closing_turns plan.bundle M =
-      stacked_back turn_made more [] n
-      ∙ flat_same (λ (j : ℕ). reverse (turns_made (more j))) (λ (j : ℕ). closing round j (open_holds M j)) n
-        (λ j lt. ap (λ (ts : List Turn). reverse ts) (was.closers.closers j d (omega (arith, lt, all))).turns ∙ reverse-reverse (closing round j (open_holds M j)))
-      ∙ ap (λ (k : ℕ). flat_map (λ (j : ℕ). closing round j (open_holds M j)) (range_with_len 0 k)) threads
+    stacked_back turn_made more [] n
+    ∙ flat_same (λ (j : ℕ). reverse (turns_made (more j))) (λ (j : ℕ). closing round j (open_holds M j)) n
+    (λ j lt. ap (λ (ts : List Turn). reverse ts) (was.closers.closers j d (omega (arith, lt, all))).turns ∙ reverse-reverse (closing round j (open_holds M j)))
+    ∙ ap (λ (k : ℕ). flat_map (λ (j : ℕ). closing round j (open_holds M j)) (range_with_len 0 k)) threads
     in
     subst (Prints c plan) (sym (was.lines_are ∙ ap (λ (k : ℕ). reverse (lines_in (stacked more made k))) all ∙ ap (λ (ts : List Timed). reverse (lines_in ts)) upon))
     (prints c plan M H (stacked more [] n) made was.whole was.turns (subst (IsWhole c plan H) upon whole)

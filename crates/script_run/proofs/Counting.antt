@@ -1,5 +1,5 @@
 -- How many turns a script's commands have: no more than there are commands.
-use Rattle.std.proofs.Common.{◌≡◌, ℕ, zero, suc, ◌+◌, ◌<◌, ◌≤◌, Bool, true, false, cond, List, [], ◌∷◌, ◌++◌, length, map, refl, sym, ap, ◌∙◌, arith, length-append}
+use Rattle.std.proofs.Common.{◌≡◌, ℕ, zero, suc, ◌+◌, ◌≤◌, Bool, true, false, cond, List, [], ◌∷◌, ◌++◌, length, ap, ◌∙◌, arith, length-append}
 use Rattle.std.specs.Prelude.{◌==◌, nat_lt, filter, flat_map}
 use Rattle.std.specs.List.{range_with_len}
 use Rattle.std.proofs.lemmas.Bool.Decides.{nat_tests}
@@ -8,7 +8,7 @@ use Rattle.std.proofs.lemmas.List.{length-map, append-nil}
 use Rattle.std.proofs.lemmas.List.Sums.{length-filter, count_by-le-length}
 use Rattle.script_commands.specs.declared.command.Placed.{Placed}
 use Rattle.script_lang.specs.declared.bundle.Bundle.{Bundle}
-use Rattle.script_lines.specs.Turns.{Turn, in_round, in_thread, turn_of, thread_turns, turns_of_threads, round_turns, first_numbers}
+use Rattle.script_lines.specs.Turns.{Turn, in_round, in_thread, turn_of, thread_turns, round_turns}
 use Rattle.script_run.specs.Rounds.{turns_to}
 use Rattle.script_run.proofs.Stacking.{range_more}
 
@@ -37,17 +37,17 @@ numbers_short : {X A : Type 0} (key : X → ℕ) (xs : List X) (f : ℕ → List
 numbers_short key xs f each a zero = omega arith
 numbers_short key xs f each a (suc n) =
     let whole : flat_map f (range_with_len a (suc n)) ≡ flat_map f (range_with_len a n) ++ f (a + n) =
-      ap (λ (ms : List ℕ). flat_map f ms) (range_more a n) ∙ flat_map-append f (range_with_len a n) ((a + n) ∷ [])
-      ∙ ap (λ (ys : List _). flat_map f (range_with_len a n) ++ ys) (append-nil (f (a + n)))
+    ap (λ (ms : List ℕ). flat_map f ms) (range_more a n) ∙ flat_map-append f (range_with_len a n) ((a + n) ∷ [])
+    ∙ ap (λ (ys : List _). flat_map f (range_with_len a n) ++ ys) (append-nil (f (a + n)))
     in
     let long : length (flat_map f (range_with_len a (suc n))) ≡ length (flat_map f (range_with_len a n)) + length (f (a + n)) =
-      ap (λ (ys : List _). length ys) whole ∙ length-append (flat_map f (range_with_len a n)) (f (a + n))
+    ap (λ (ys : List _). length ys) whole ∙ length-append (flat_map f (range_with_len a n)) (f (a + n))
     in
     let before = numbers_short key xs f each a n in
     let here = each (a + n) in
     let one = one_number key (a + n) xs in
     let next : length (filter (λ (x : _). nat_lt (key x) ((a + n) + 1)) xs) ≡ length (filter (λ (x : _). nat_lt (key x) (a + suc n)) xs) =
-      ap (λ (m : ℕ). length (filter (λ (x : _). nat_lt (key x) m) xs)) (omega arith)
+    ap (λ (m : ℕ). length (filter (λ (x : _). nat_lt (key x) m) xs)) (omega arith)
     in
     omega (arith, long, before, here, one, next)
 

@@ -1,6 +1,6 @@
 -- What stands before a place stays when a history grows, and so does what is right for it.
 use Rattle.std.proofs.Common.{◌≡◌, ℕ, suc, ◌+◌, ◌<◌, ◌≤◌, Bool, true, false, List, [], ◌∷◌, ◌++◌, length, refl, sym, ap, subst, ◌∙◌, arith, inl, inr, length-append}
-use Rattle.std.specs.Prelude.{nat_lt, ◌==◌, if◌then◌else◌, All, unwrap_or}
+use Rattle.std.specs.Prelude.{◌==◌, if◌then◌else◌, unwrap_or}
 use Rattle.std.proofs.lemmas.Bool.{cases_lt, le-leb, lt-leb}
 use Rattle.std.proofs.lemmas.List.Elements.{All-weaker}
 use Rattle.handle_table.specs.Entry.{Entry, History, Setting}

@@ -1,6 +1,6 @@
 -- The list of a thread's open Holds: no two are of one handle, and the one that is named is taken out of it.
-use Rattle.std.proofs.Common.{◌≡◌, ◌⊎◌, inl, inr, ℕ, zero, suc, ◌+◌, ◌<◌, ◌≤◌, Bool, true, false, cond, not, List, [], ◌∷◌, ◌++◌, map, length, take, drop, get_or, Option, Some, None, refl, sym, ap, ◌∙◌, subst, arith, add-one}
-use Rattle.std.specs.Prelude.{◌==◌, ◌&&◌, ◌||◌, filter, position, nat_lt, find, option_map, if◌then◌else◌}
+use Rattle.std.proofs.Common.{◌≡◌, ◌⊎◌, inl, inr, ℕ, zero, suc, ◌+◌, ◌<◌, Bool, true, false, cond, not, List, [], ◌∷◌, ◌++◌, length, get_or, Option, Some, None, refl, sym, ap, ◌∙◌, subst, arith}
+use Rattle.std.specs.Prelude.{◌==◌, ◌||◌, filter, position, nat_lt, find, option_map, if◌then◌else◌}
 use Rattle.std.specs.List.{list_any, remove, position_or_len}
 use Rattle.std.specs.Option.{is_some}
 use Rattle.std.proofs.lemmas.Bool.{false≢true, cases_Bool, false_from_ne_true, ltb-true, lt-ltb, eqb-true}
@@ -11,12 +11,12 @@ use Rattle.handle_table.specs.declared.handle.Named.{Named}
 use Rattle.handle_table.specs.declared.handle.Named.TheVariants.{Global, Of}
 use Rattle.handle_table.specs.Entry.{Op, New, Dup, Free, Use, Hold, Release, SetGlobal, Install, Post, Fetch, Pins, End, Reply, Held, Refusal, AlreadyHeld, History, Setting, names, same_handle, is_accepted}
 use Rattle.handle_table.specs.History.{holding, object}
-use Rattle.handle_table.specs.Answer.{answer, IsLegal, unless, first_reason, reasons, never_made, stale, already_held}
+use Rattle.handle_table.specs.Answer.{answer, IsLegal, unless, first_reason, never_made, stale}
 use Rattle.handle_table.proofs.Numbering.{same_handles, same_itself}
 use Rattle.thread_current.specs.Mine.{HeldData}
 use Rattle.mask_compose.specs.Parts.{Parts}
 use Rattle.script_lines.specs.declared.holds.OpenHold.{OpenHold}
-use Rattle.script_lines.specs.Holds.{object_held, with_hold, without, hold_change, changed, holds_after, open_holds, is_of, held_as}
+use Rattle.script_lines.specs.Holds.{object_held, with_hold, without, hold_change, changed, open_holds, is_of, held_as}
 use Rattle.script_lines.proofs.HoldLaws.{held_where_holding}
 use Rattle.script_run.specs.Seated.{held_data, handed_out, AreApart, is_held, IsTaken, IsUnheld}
 

@@ -1,6 +1,6 @@
 -- How a line leads from what its thread had seen to what it has seen then.
-use Rattle.std.proofs.Common.{◌≡◌, ℕ, suc, ◌+◌, ◌<◌, ◌≤◌, Bool, true, false, cond, not, List, [], ◌∷◌, ◌++◌, length, map, Option, Some, None, Result, Ok, Err, refl, sym, ap, ◌∙◌, subst, arith, eq-eqb, append_assoc}
-use Rattle.std.specs.Prelude.{◌==◌, ◌||◌, if◌then◌else◌, filter, reverse, zip, All, unwrap_or}
+use Rattle.std.proofs.Common.{◌≡◌, ℕ, ◌+◌, ◌≤◌, Bool, true, false, cond, not, List, [], ◌∷◌, ◌++◌, length, map, Option, Some, None, Result, Ok, Err, refl, sym, ap, ◌∙◌, subst, arith, eq-eqb, append_assoc}
+use Rattle.std.specs.Prelude.{◌||◌, if◌then◌else◌, filter, reverse, zip, All, unwrap_or}
 use Rattle.std.specs.List.{list_any}
 use Rattle.std.proofs.lemmas.Bool.{lt-ltb, le-ltb}
 use Rattle.std.proofs.lemmas.List.{length-append}
@@ -34,7 +34,7 @@ use Rattle.script_lines.specs.Lines.{Caller, version_made, shown, line, told_lin
 use Rattle.script_lines.specs.Names.{object_name}
 use Rattle.script_lines.specs.Reads.{local}
 use Rattle.script_lines.specs.Outcome.{Outcome, tells, with_call, calls, read_line, name_line}
-use Rattle.script_lines.specs.Board.{Moments, reads_between, held_or_refused, reads_of, reads, asks_name, granted_at, AreMoments, AreMomentsBetween, AreMomentsOf}
+use Rattle.script_lines.specs.Board.{Moments, reads_between, reads_of, reads, granted_at, AreMomentsOf}
 use Rattle.script_serial.specs.Prints.{PlacedCall, call_of, caller_of, places_in, behind_last}
 use Rattle.script_run.specs.Seated.{MayFollow}
 use Rattle.script_run.specs.Timed.{oldest, places_by, second_moment, IsEntryOf}
@@ -276,7 +276,7 @@ between : (c : Setting) (library : Catalog) (at : Caller) (S first second : Hist
     → held_line library (length first) (length second) at read o
     ≡ (granted_at c library (moments_by (with_call c second at.thread (Release n)) seen (held_line library (length first) (length second) at read o) (length first)) at (Ok (ReadsOf n read))).line)
     → IsStep c library at (Ok (ReadsOf n read)) S
-        (record { history = with_call c second at.thread (Release n); line = held_line library (length first) (length second) at read o }) (length first)
+    (record { history = with_call c second at.thread (Release n); line = held_line library (length first) (length second) at read o }) (length first)
 between c library at S first second n read o f g is same =
     let t : ℕ = at.thread in
     let H : History = with_call c first t (Hold n) in

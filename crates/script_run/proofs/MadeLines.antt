@@ -1,12 +1,11 @@
 -- One more line of a thread is right behind its earlier lines.
-use Rattle.std.proofs.Common.{◌≡◌, ◌⊎◌, inl, inr, ℕ, suc, ◌+◌, ◌*◌, ◌<◌, ◌≤◌, Bool, true, false, cond, List, [], ◌∷◌, ◌++◌, length, map, Option, Some, None, Result, Ok, Err, refl, sym, ap, ◌∙◌, subst, arith, eq-eqb, add-one}
-use Rattle.std.specs.Prelude.{◌==◌, if◌then◌else◌, nat_lt, filter, reverse, zip, All, unwrap_or}
-use Rattle.std.proofs.lemmas.Bool.{lt-ltb, le-ltb, ltb-true, cases_Bool, false≢true, eqb-true}
-use Rattle.std.proofs.lemmas.List.Elements.{All-nil, All-cons, All-head, All-tail, All-weaker}
-use Rattle.turn_gate.specs.declared.entry.Terms.{Terms}
+use Rattle.std.proofs.Common.{◌≡◌, inl, inr, ℕ, suc, ◌+◌, ◌≤◌, Bool, true, false, cond, List, [], ◌∷◌, ◌++◌, length, map, Result, refl, sym, ap, ◌∙◌, subst, arith, eq-eqb}
+use Rattle.std.specs.Prelude.{◌==◌, nat_lt, filter, reverse, zip, All}
+use Rattle.std.proofs.lemmas.Bool.{lt-ltb, cases_Bool, false≢true}
+use Rattle.std.proofs.lemmas.List.Elements.{All-cons, All-head, All-tail}
 use Rattle.category_store.specs.Catalog.{Catalog}
-use Rattle.handle_table.specs.Entry.{Op, Entry, History, Setting}
-use Rattle.thread_current.specs.Thread.{GoesOnFrom, entries_by}
+use Rattle.handle_table.specs.Entry.{History, Setting}
+use Rattle.thread_current.specs.Thread.{entries_by}
 use Rattle.script_out.specs.declared.output.OutLine.{OutLine}
 use Rattle.script_out.specs.declared.output.Places.{Places}
 use Rattle.script_out.specs.declared.output.Places.TheVariants as places
@@ -14,14 +13,14 @@ use Rattle.script_out.specs.declared.output.Why.{Why}
 use Rattle.script_lines.specs.Turns.{Task}
 use Rattle.script_lines.specs.Lines.{Caller}
 use Rattle.script_lines.specs.Outcome.{Outcome}
-use Rattle.script_lines.specs.Variables.{Bindings, bindings_of}
+use Rattle.script_lines.specs.Variables.{bindings_of}
 use Rattle.script_lines.specs.Wishes.{Wish, wish_of, ops_of}
 use Rattle.script_lines.specs.Board.{granted_at}
 use Rattle.script_serial.specs.Plan.{PlanData}
-use Rattle.script_serial.specs.Prints.{Told, PlacedCall, bound_by, caller_of, call_of, calls_of, places_in, behind_last, or_earlier, next_place}
-use Rattle.script_run.specs.Timed.{oldest, places_by, Timed, last_end, AreTimed, tellings, placed_back, second_moment, moments_in, IsEntryOf, IsRight, AreRight}
+use Rattle.script_serial.specs.Prints.{Told, bound_by, caller_of, call_of, places_in, behind_last, or_earlier, next_place}
+use Rattle.script_run.specs.Timed.{oldest, places_by, Timed, last_end, AreTimed, tellings, placed_back, IsEntryOf, IsRight, AreRight}
 use Rattle.script_run.proofs.Growth.{oldest_grows, are_right_grow}
-use Rattle.script_run.proofs.LineSteps.{IsStep, moments_by, longer}
+use Rattle.script_run.proofs.LineSteps.{IsStep, moments_by}
 
 -- ---- behind the newest place of a thread
 

@@ -1,5 +1,5 @@
 -- Workers meet: the first one each other, twice.
-use Rattle.std.proofs.Common.{◌≡◌, ℕ, zero, suc, ◌+◌, ◌<◌, ◌≤◌, ◌⊎◌, List, [], ◌∷◌, ◌++◌, length, refl, sym, ap, subst, ◌∙◌, arith, inl, inr, get_or-set_same, get_or-set_other, length-append}
+use Rattle.std.proofs.Common.{◌≡◌, ℕ, ◌+◌, ◌<◌, ◌≤◌, ◌⊎◌, List, [], ◌∷◌, ◌++◌, length, refl, sym, ap, subst, ◌∙◌, arith, inl, inr, get_or-set_same, get_or-set_other, length-append}
 use Rattle.std.specs.Prelude.{slice_index_or}
 use Rattle.std.proofs.Math.ListN.{set}
 use Rattle.std.proofs.lemmas.Bool.Decides.{eqb_tells}
@@ -116,7 +116,7 @@ each_end P xs x each here = λ i d lt. elim (at_end xs x i d lt) [
 two_end : (P : Worker → Worker → Type 0) (xs ys : List Worker) (x y : Worker) → length ys ≡ length xs → EachTwo xs ys (λ i v w. P v w) → P x y → EachTwo (xs ++ x ∷ []) (ys ++ y ∷ []) (λ i v w. P v w)
 two_end P xs ys x y long each here = λ i d lt.
     let same : length (xs ++ x ∷ []) ≡ length (ys ++ y ∷ []) =
-      let a = length-append xs (x ∷ []) in let b = length-append ys (y ∷ []) in omega (arith, a, b, long)
+    let a = length-append xs (x ∷ []) in let b = length-append ys (y ∷ []) in omega (arith, a, b, long)
     in
     elim (at_end xs x i d lt) [
       | inl before ↦
@@ -136,8 +136,8 @@ all_met terms f0 f1 f2 os0 os1 os2 first second one two seen long longer order =
   legal = (first.in_order order).legal;
   callers = (first.in_order order).callers;
   more = two_end (λ (old new : Worker). SeesMore terms old new) os0 os2 f0 f2 (longer ∙ long)
-    (λ i d lt. sees_again terms (slice_index_or os0 i d) (slice_index_or os1 i d) (slice_index_or os2 i d) (one i d lt).more (two i d (omega (arith, lt, long))).more)
-    (sees_again terms f0 f1 f2 first second);
+      (λ i d lt. sees_again terms (slice_index_or os0 i d) (slice_index_or os1 i d) (slice_index_or os2 i d) (one i d lt).more (two i d (omega (arith, lt, long))).more)
+      (sees_again terms f0 f1 f2 first second);
   from = each_end (λ (w : Worker). GoesOnFrom (mine_of f1).seen (mine_of w).seen) os0 f0 seen first.saw.later;
   on = each_end (λ (w : Worker). GoesOnFrom (mine_of w).seen (mine_of f1).seen) os2 f2 (λ i d lt. (two i d (omega (arith, lt, longer))).other) second.saw.later;
 }

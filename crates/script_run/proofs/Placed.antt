@@ -23,11 +23,11 @@ use Rattle.script_lines.specs.Lines.{Caller}
 use Rattle.script_lines.specs.Variables.{bindings_of}
 use Rattle.script_lines.specs.Wishes.{Wish, Calls, ReadsOf, Reads, AsksSelection, AsksName, wish_of}
 use Rattle.script_serial.specs.Plan.{PlanData}
-use Rattle.script_serial.specs.Prints.{Told, bound_by, places_in, all_places, of_thread, before_round, from_round, behind_last, caller_of, ArePlaced}
-use Rattle.script_serial.proofs.LineLists.{GoUp, increasing, bit_of, filter_all, filter_none, all_right}
-use Rattle.script_run.specs.Timed.{oldest, places_by, Timed, end_of, last_end, AreTimed, lines_in, tellings, placed_back, own_lines, moments_in, IsRight, AreRight, in_rounds_before, in_rounds_to, IsInRound, IsWhole}
+use Rattle.script_serial.specs.Prints.{Told, bound_by, places_in, all_places, before_round, from_round, behind_last, caller_of, ArePlaced}
+use Rattle.script_serial.proofs.LineLists.{GoUp, increasing, bit_of, filter_all, filter_none}
+use Rattle.script_run.specs.Timed.{oldest, Timed, end_of, last_end, AreTimed, lines_in, tellings, placed_back, own_lines, moments_in, IsRight, AreRight, in_rounds_before, in_rounds_to, IsInRound, IsWhole}
 use Rattle.script_run.proofs.Growth.{oldest_length}
-use Rattle.script_run.proofs.Counted.{whole_length, once as stands_once, GoDown, AreAbove, down_left, down_right, down_join, down_up, all_reversed, places_down, kept_places, kept_lines, reversed_places}
+use Rattle.script_run.proofs.Counted.{whole_length, once as stands_once, GoDown, down_left, down_right, down_join, down_up, all_reversed, places_down, kept_places, reversed_places}
 
 -- ---- the first call of a line stands at its moment
 

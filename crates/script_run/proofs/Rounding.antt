@@ -1,29 +1,27 @@
 -- One round of a script: what its workers may take, and what they leave.
-use Rattle.std.proofs.Common.{◌≡◌, ℕ, zero, suc, ◌+◌, ◌*◌, ◌<◌, ◌≤◌, ◌^◌, Bool, true, false, cond, List, [], ◌∷◌, ◌++◌, length, get_or, map, reverse, Result, Ok, Err, refl, sym, ap, subst, ◌∙◌, arith, inl, inr, length-append}
-use Rattle.std.specs.Prelude.{◌==◌, filter, flat_map, All, OnOk, IsOk, slice_index_or}
+use Rattle.std.proofs.Common.{◌≡◌, ℕ, zero, suc, ◌+◌, ◌<◌, ◌≤◌, Bool, true, false, cond, List, [], ◌∷◌, ◌++◌, length, map, reverse, Result, Ok, Err, refl, sym, ap, subst, ◌∙◌, arith, inl, inr}
+use Rattle.std.specs.Prelude.{◌==◌, flat_map, All, OnOk, IsOk, slice_index_or}
 use Rattle.std.specs.List.{range_with_len}
 use Rattle.std.proofs.lemmas.Bool.{ne_eqb, false≢true}
 use Rattle.std.proofs.lemmas.Bool.Decides.{eqb_tells}
-use Rattle.std.proofs.lemmas.List.{append-nil, get_or_default, length-map, length-reverse, reverse-append, reverse-reverse}
+use Rattle.std.proofs.lemmas.List.{append-nil, get_or_default, reverse-append, reverse-reverse}
 use Rattle.std.proofs.lemmas.List.Elements.{All-nil, All-cons, All-head, All-tail, All-weaker, All-same, All-append, All-map, All-filter, filter-append}
 use Rattle.handle_table.specs.Entry.{History, Setting}
 use Rattle.handle_table.specs.Kept.{AreThreads}
-use Rattle.turn_gate.specs.declared.entry.Terms.{Terms}
 use Rattle.turn_gate.specs.Callers.{Gate}
 use Rattle.thread_current.specs.Thread.{Thread, IsThreadOf, IsInOrder, GoesOnFrom, entries_by}
 use Rattle.script_out.specs.declared.output.OutLine.{OutLine}
 use Rattle.script_commands.specs.declared.command.Placed.{Placed}
 use Rattle.category_store.specs.Catalog.{Catalog}
 use Rattle.script_lines.specs.declared.thread.Thread.{Thread as ScriptThread}
-use Rattle.script_lang.specs.Accepted.{IsAccepted, IsPlaced}
-use Rattle.script_lines.specs.Turns.{Turn, in_round, in_thread, turn_of, thread_turns, turns_of_threads, round_turns, first_numbers}
-use Rattle.script_serial.specs.Plan.{PlanData, IsSound}
+use Rattle.script_lines.specs.Turns.{Turn, in_round, in_thread, turn_of, thread_turns, turns_of_threads, round_turns}
+use Rattle.script_serial.specs.Plan.{PlanData}
 use Rattle.script_serial.proofs.LineLists.{all_left, filter_all, filter_none}
 use Rattle.script_run.specs.declared.seated.Seated.{Seated}
 use Rattle.script_run.specs.declared.worker.Worker.{Worker}
-use Rattle.script_run.specs.Timed.{Timed, AreTimed, AreRight, IsWhole, own_lines, lines_in, turns_made, turn_made, places_by, placed_back, stacked}
-use Rattle.script_run.specs.Beside.{HasMade, IsWorker, CanWork, Works, turns_of}
-use Rattle.script_run.specs.Rounds.{Each, EachTwo, mine_of, with_mine, IsFor, HasWorked, HasGiven, SeesMore, AllMet, IsReady, AreBetween, turns_to}
+use Rattle.script_run.specs.Timed.{Timed, IsWhole, own_lines, lines_in, turns_made, turn_made, places_by, stacked}
+use Rattle.script_run.specs.Beside.{IsWorker, Works, turns_of}
+use Rattle.script_run.specs.Rounds.{Each, EachTwo, mine_of, IsFor, HasWorked, HasGiven, SeesMore, AllMet, IsReady, AreBetween, turns_to}
 use Rattle.script_run.proofs.Growth.{are_right_grow}
 use Rattle.script_run.proofs.Stacked.{EachOwn, HasAdded, own_stacked, all_stacked, whole_stacked}
 use Rattle.script_run.proofs.Stacking.{IsOf, IsIn, IsBefore, stacked_back, flat_same, flat_next, Chosen, choose, is_same}
@@ -76,9 +74,9 @@ turns_of_near ps (suc n) thread lt =
     elim (eqb_tells n thread) [
       | inl here ↦
           let there : turns_of n (turns_of_threads (suc n) ps) ≡ thread_turns ps n =
-            turns_next_thread ps n n
-            ∙ ap (λ (ts : List Turn). ts ++ turns_of n (thread_turns ps n)) (turns_of_far ps n n (omega arith))
-            ∙ own_turns ps n
+          turns_next_thread ps n n
+          ∙ ap (λ (ts : List Turn). ts ++ turns_of n (thread_turns ps n)) (turns_of_far ps n n (omega arith))
+          ∙ own_turns ps n
           in
           subst (λ (k : ℕ). turns_of k (turns_of_threads (suc n) ps) ≡ thread_turns ps k) here.1 there
       | inr apart ↦
@@ -158,7 +156,7 @@ left_by gate plan M W made round i turns ws worked given met d in_round ready wo
     let new : Worker = slice_index_or met i d in
     let number : old.thread.side.number ≡ i = ready.number in
     let works : Works gate plan (turns_of old.thread.side.number turns) old.thread done.thread (own_lines i made) old.lines.items done.lines.items =
-      on_ok (WorksFor gate plan.library turns old done) done.outcome give.done work.works plan (own_lines i made) refl ready.worker
+    on_ok (WorksFor gate plan.library turns old done) done.outcome give.done work.works plan (own_lines i made) refl ready.worker
     in
     let kept_number : done.thread.side.number ≡ old.thread.side.number = on_ok (done.thread.side.number ≡ old.thread.side.number) done.outcome give.done work.number in
     let mine_is : mine_of gave ≡ mine_of done = ap (λ (t : ScriptThread Seated). t.side.mine) give.thread in
@@ -167,37 +165,39 @@ left_by gate plan M W made round i turns ws worked given met d in_round ready wo
     let own_number : (mine_of done).number ≡ i = works.worker.seated.knows.number ∙ kept_number ∙ number in
     let gave_worker : IsWorker gate plan gave.thread (works.more ++ own_lines i made) = subst (λ (t : ScriptThread Seated). IsWorker gate plan t (works.more ++ own_lines i made)) (sym give.thread) works.worker in
     let new_worker : IsWorker gate plan new.thread (works.more ++ own_lines i made) =
-      subst (λ (w : Worker). IsWorker gate plan w.thread (works.more ++ own_lines i made)) (sym more.same) (worker_kept gate plan gave.thread (mine_of new) (works.more ++ own_lines i made) gave_worker more.saw order)
+    subst (λ (w : Worker). IsWorker gate plan w.thread (works.more ++ own_lines i made)) (sym more.same) (worker_kept gate plan gave.thread (mine_of new) (works.more ++ own_lines i made) gave_worker more.saw order)
     in
     let turns_are : turns_made works.more ≡ reverse (turns_of i turns) = works.turns ∙ ap (λ (n : ℕ). reverse (turns_of n turns)) number in
     let new_number : (mine_of new).number ≡ i = more.saw.same.number ∙ ap (λ (t : Thread). t.number) mine_is ∙ own_number in
     let same_calls : entries_by i (mine_of new).seen ≡ entries_by i (mine_of done).seen =
-      ap (λ (n : ℕ). entries_by n (mine_of new).seen) (sym new_number)
-      ∙ order.calls ∙ more.saw.calls ∙ ap (λ (t : Thread). t.calls) mine_is ∙ sym works.worker.made.in_order.calls
-      ∙ ap (λ (n : ℕ). entries_by n (mine_of done).seen) own_number
+    ap (λ (n : ℕ). entries_by n (mine_of new).seen) (sym new_number)
+    ∙ order.calls ∙ more.saw.calls ∙ ap (λ (t : Thread). t.calls) mine_is ∙ sym works.worker.made.in_order.calls
+    ∙ ap (λ (n : ℕ). entries_by n (mine_of done).seen) own_number
     in
     let same : entries_by i W ≡ entries_by i (mine_of done).seen = between_same i (mine_of done).seen W (mine_of new).seen from_done on same_calls in
-    let since_long : length M ≤ length (mine_of old).seen = as_long (mine_of old).seen M ready.later in
-    (works.more, record {
-      share = record {
-        own = all_left (IsOf i) works.more (own_lines i made) (All-weaker (λ (m : Timed). m.told.line.thread ≡ (mine_of done).number) (IsOf i) (λ m e. e ∙ own_number) (works.more ++ own_lines i made) works.worker.made.own);
-        of_round = made_of (λ (t : Turn). t.round ≡ round) works.more (turns_of i turns) turns_are in_round;
-        right = are_right_grow gate.terms.setting plan W (mine_of done).seen (works.more ++ own_lines i made) from_done works.worker.made.right;
-        timed = works.worker.made.timed;
-        places =
-          same_places i (mine_of done).seen W from_done same
-          ∙ ap (λ (n : ℕ). places_by n (mine_of done).seen) (sym own_number)
-          ∙ works.worker.made.places;
-        since = All-weaker (λ (t : Timed). length (mine_of old).seen ≤ t.moment) (λ (t : Timed). length M ≤ t.moment) (λ t le. omega (arith, le, since_long)) works.more works.since;
-      };
-      turns_are = turns_are;
-      lines_are = works.added ∙ ap (λ (ls : List OutLine). ls ++ reverse (lines_in works.more)) ready.given;
-      number = ap (λ (w : Worker). w.thread.side.number) more.same ∙ ap (λ (t : ScriptThread Seated). t.side.number) give.thread ∙ kept_number ∙ number;
-      worker = new_worker;
-      later = on;
-      on = goes_on (mine_of done).seen M W from_done (goes_on (mine_of old).seen M (mine_of done).seen works.later ready.later);
-      given = ap (λ (w : Worker). w.lines.items) more.same ∙ give.lines;
-    })
+    let since_long : length M ≤ length (mine_of old).seen = as_long (mine_of old).seen M ready.later in (
+      works.more,
+      record {
+        share = record {
+          own = all_left (IsOf i) works.more (own_lines i made) (All-weaker (λ (m : Timed). m.told.line.thread ≡ (mine_of done).number) (IsOf i) (λ m e. e ∙ own_number) (works.more ++ own_lines i made) works.worker.made.own);
+          of_round = made_of (λ (t : Turn). t.round ≡ round) works.more (turns_of i turns) turns_are in_round;
+          right = are_right_grow gate.terms.setting plan W (mine_of done).seen (works.more ++ own_lines i made) from_done works.worker.made.right;
+          timed = works.worker.made.timed;
+          places =
+              same_places i (mine_of done).seen W from_done same
+              ∙ ap (λ (n : ℕ). places_by n (mine_of done).seen) (sym own_number)
+              ∙ works.worker.made.places;
+          since = All-weaker (λ (t : Timed). length (mine_of old).seen ≤ t.moment) (λ (t : Timed). length M ≤ t.moment) (λ t le. omega (arith, le, since_long)) works.more works.since;
+        };
+        turns_are = turns_are;
+        lines_are = works.added ∙ ap (λ (ls : List OutLine). ls ++ reverse (lines_in works.more)) ready.given;
+        number = ap (λ (w : Worker). w.thread.side.number) more.same ∙ ap (λ (t : ScriptThread Seated). t.side.number) give.thread ∙ kept_number ∙ number;
+        worker = new_worker;
+        later = on;
+        on = goes_on (mine_of done).seen M W from_done (goes_on (mine_of old).seen M (mine_of done).seen works.later ready.later);
+        given = ap (λ (w : Worker). w.lines.items) more.same ∙ give.lines;
+      },
+    )
 
 -- a worker that has worked and given its lines away is in order at its table
 pub in_order_at : (gate : Gate Setting) (plan : PlanData) (rounds : ℕ) (lines : List OutLine) (turns : List Turn) (ws worked given : List Worker)
@@ -227,13 +227,13 @@ all_turns_made : (plan : PlanData) (n rounds : ℕ) (made : List Timed) (more : 
     → ((j : ℕ) → j < n → turns_made (more j) ≡ reverse (turns_of j those)) → turns_made (stacked more made n) ≡ reverse (turns_to plan.bundle (rounds + 1))
 all_turns_made plan n rounds made more those was by_thread is each =
     let back : reverse (turns_made (stacked more made n)) ≡ turns_to plan.bundle (rounds + 1) =
-      stacked_back turn_made more made n
-      ∙ ap (λ (ts : List Turn). reverse ts ++ flat_map (λ (j : ℕ). reverse (turns_made (more j))) (range_with_len 0 n)) was
-      ∙ ap (λ (ts : List Turn). ts ++ flat_map (λ (j : ℕ). reverse (turns_made (more j))) (range_with_len 0 n)) (reverse-reverse (turns_to plan.bundle rounds))
-      ∙ ap (λ (ts : List Turn). turns_to plan.bundle rounds ++ ts) (
-        flat_same (λ (j : ℕ). reverse (turns_made (more j))) (λ (j : ℕ). turns_of j those) n (λ j lt. ap (λ (ts : List Turn). reverse ts) (each j lt) ∙ reverse-reverse (turns_of j those))
-        ∙ by_thread ∙ is)
-      ∙ sym (turns_next plan.bundle rounds)
+    stacked_back turn_made more made n
+    ∙ ap (λ (ts : List Turn). reverse ts ++ flat_map (λ (j : ℕ). reverse (turns_made (more j))) (range_with_len 0 n)) was
+    ∙ ap (λ (ts : List Turn). ts ++ flat_map (λ (j : ℕ). reverse (turns_made (more j))) (range_with_len 0 n)) (reverse-reverse (turns_to plan.bundle rounds))
+    ∙ ap (λ (ts : List Turn). turns_to plan.bundle rounds ++ ts) (
+    flat_same (λ (j : ℕ). reverse (turns_made (more j))) (λ (j : ℕ). turns_of j those) n (λ j lt. ap (λ (ts : List Turn). reverse ts) (each j lt) ∙ reverse-reverse (turns_of j those))
+    ∙ by_thread ∙ is)
+    ∙ sym (turns_next plan.bundle rounds)
     in
     sym (reverse-reverse (turns_made (stacked more made n))) ∙ ap (λ (ts : List Turn). reverse ts) back
 
@@ -256,54 +256,54 @@ next_at gate plan rounds lines lines' turns ws worked given met d was for turns_
     let those : List Turn = turns_of_threads n (in_round round plan.bundle.commands) in
     let turns_are : turns ≡ those = turns_is ∙ ap (λ (k : ℕ). turns_of_threads k (in_round round plan.bundle.commands)) (sym threads) in
     let own_turns : (i : ℕ) → i < n → turns_of i turns ≡ thread_turns (in_round round plan.bundle.commands) i = λ i lt.
-      ap (λ (ts : List Turn). turns_of i ts) turns_are ∙ turns_of_near (in_round round plan.bundle.commands) n i lt
+    ap (λ (ts : List Turn). turns_of i ts) turns_are ∙ turns_of_near (in_round round plan.bundle.commands) n i lt
     in
     let chosen : Chosen (List Timed) (Share gate plan M W made round turns worked met d) n =
-      choose (Share gate plan M W made round turns worked met d) n [] (λ i lt.
-      let within : i < length ws = omega (arith, lt, count) in
-      let within_worked : i < length worked = omega (arith, within, worked_long) in
-      let within_given : i < length given = omega (arith, within, given_long) in
-      let within_met : i < length met = omega (arith, within, met_long) in
-      left_by gate plan M W made round i turns ws worked given met d
-      (subst (All (λ (t : Turn). t.round ≡ round)) (sym (own_turns i lt)) (thread_of_round plan.bundle.commands round i))
-      (was.ready i d within) (work i d within) (give i d within_worked) (all.more i d within_given) (all.from i d within_given) (all.on i d within_met))
+    choose (Share gate plan M W made round turns worked met d) n [] (λ i lt.
+    let within : i < length ws = omega (arith, lt, count) in
+    let within_worked : i < length worked = omega (arith, within, worked_long) in
+    let within_given : i < length given = omega (arith, within, given_long) in
+    let within_met : i < length met = omega (arith, within, met_long) in
+    left_by gate plan M W made round i turns ws worked given met d
+    (subst (All (λ (t : Turn). t.round ≡ round)) (sym (own_turns i lt)) (thread_of_round plan.bundle.commands round i))
+    (was.ready i d within) (work i d within) (give i d within_worked) (all.more i d within_given) (all.from i d within_given) (all.on i d within_met))
     in
     let more : ℕ → List Timed = chosen.of in
     let some : 0 < n = let has = for.some in omega (arith, has, threads) in
     let before : All (IsBefore round) made = All-weaker (λ (t : Timed). t.told.line.round ≤ rounds) (IsBefore round) (λ t le. omega (arith, le)) made was.in_rounds in
     let own : EachOwn more n = λ j lt. (chosen.is j lt).share.own in
     let whole : IsWhole c plan W (stacked more made n) =
-      whole_stacked c plan M W made more round was.whole before all.legal (subst (λ (k : ℕ). AreThreads k W) for.seats all.callers) (chosen.is 0 some).on (λ i lt. (chosen.is i lt).share)
+    whole_stacked c plan M W made more round was.whole before all.legal (subst (λ (k : ℕ). AreThreads k W) for.seats all.callers) (chosen.is 0 some).on (λ i lt. (chosen.is i lt).share)
     in
     record {
       met = W;
       made = stacked more made n;
       whole = whole;
       in_rounds = all_stacked (λ (t : Timed). t.told.line.round ≤ round) more made n
-        (λ j lt. All-weaker (IsIn round) (λ (t : Timed). t.told.line.round ≤ round) (λ t e. omega (arith, e)) (more j) (chosen.is j lt).share.of_round)
-        (All-weaker (IsBefore round) (λ (t : Timed). t.told.line.round ≤ round) (λ t lt. omega (arith, lt)) made before);
+          (λ j lt. All-weaker (IsIn round) (λ (t : Timed). t.told.line.round ≤ round) (λ t e. omega (arith, e)) (more j) (chosen.is j lt).share.of_round)
+          (All-weaker (IsBefore round) (λ (t : Timed). t.told.line.round ≤ round) (λ t lt. omega (arith, lt)) made before);
       turns = all_turns_made plan n rounds made more those
-        (was.turns) (turns_by_thread (in_round round plan.bundle.commands) n)
-        (ap (λ (k : ℕ). turns_of_threads k (in_round round plan.bundle.commands)) threads)
-        (λ j lt. (chosen.is j lt).turns_are ∙ ap (λ (ts : List Turn). reverse (turns_of j ts)) turns_are);
+          (was.turns) (turns_by_thread (in_round round plan.bundle.commands) n)
+          (ap (λ (k : ℕ). turns_of_threads k (in_round round plan.bundle.commands)) threads)
+          (λ j lt. (chosen.is j lt).turns_are ∙ ap (λ (ts : List Turn). reverse (turns_of j ts)) turns_are);
       lines_are = printed
-        ∙ ap (λ (ls : List OutLine). ls ++ flat_map (λ (w : Worker). w.lines.items) worked) was.lines_are
-        ∙ ap (λ (ls : List OutLine). reverse (lines_in made) ++ ls) (
+          ∙ ap (λ (ls : List OutLine). ls ++ flat_map (λ (w : Worker). w.lines.items) worked) was.lines_are
+          ∙ ap (λ (ls : List OutLine). reverse (lines_in made) ++ ls) (
           flat_by_place (λ (w : Worker). w.lines.items) (λ (j : ℕ). reverse (lines_in (more j))) worked d 0
-            (λ i lt. (chosen.is i (omega (arith, lt, worked_long, count))).lines_are ∙ ap (λ (k : ℕ). reverse (lines_in (more k))) (omega arith))
+          (λ i lt. (chosen.is i (omega (arith, lt, worked_long, count))).lines_are ∙ ap (λ (k : ℕ). reverse (lines_in (more k))) (omega arith))
           ∙ ap (λ (k : ℕ). flat_map (λ (j : ℕ). reverse (lines_in (more j))) (range_with_len 0 k)) (worked_long ∙ count))
-        ∙ sym (stacked_back (λ (t : Timed). t.told.line) more made n);
+          ∙ sym (stacked_back (λ (t : Timed). t.told.line) more made n);
       count = met_long ∙ count;
       ready = λ i e lt.
-        let below : i < n = omega (arith, lt, met_long, count) in
-        let here = chosen.is i below in
-        let same : slice_index_or met i d ≡ slice_index_or met i e = get_or_default met i d e lt in
-        subst (IsReady gate plan W (stacked more made n) i) same (record {
-          number = here.number;
-          worker = subst (IsWorker gate plan (slice_index_or met i d).thread) (sym (own_stacked more made n i own below)) here.worker;
-          later = here.later;
-          given = here.given;
-        });
+          let below : i < n = omega (arith, lt, met_long, count) in
+          let here = chosen.is i below in
+          let same : slice_index_or met i d ≡ slice_index_or met i e = get_or_default met i d e lt in
+          subst (IsReady gate plan W (stacked more made n) i) same (record {
+            number = here.number;
+            worker = subst (IsWorker gate plan (slice_index_or met i d).thread) (sym (own_stacked more made n i own below)) here.worker;
+            later = here.later;
+            given = here.given;
+          });
     }
 
 -- the same, whatever the workers are

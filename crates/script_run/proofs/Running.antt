@@ -1,5 +1,5 @@
 -- A plan and the table that its script runs at.
-use Rattle.std.proofs.Common.{◌≡◌, ℕ, ◌+◌, ◌*◌, ◌<◌, ◌≤◌, Bool, true, false, List, [], ◌∷◌, length, map, refl, sym, ap, subst, ◌∙◌, arith}
+use Rattle.std.proofs.Common.{◌≡◌, ℕ, ◌+◌, ◌*◌, ◌<◌, Bool, true, false, List, [], ◌∷◌, length, map, refl, sym, ap, subst, ◌∙◌, arith}
 use Rattle.std.specs.Prelude.{All}
 use Rattle.std.specs.List.{range_with_len}
 use Rattle.std.proofs.lemmas.Bool.{false≢true}
@@ -16,7 +16,7 @@ use Rattle.script_out.specs.declared.output.OutLine.{OutLine}
 use Rattle.script_serial.specs.Isolation.{IsIsolated}
 use Rattle.script_serial.specs.Plan.{PlanData}
 use Rattle.script_serial.specs.Prints.{Prints}
-use Rattle.script_serial.specs.Serial.{setting, serial_lines}
+use Rattle.script_serial.specs.Serial.{setting}
 use Rattle.script_serial.proofs.PlayLemmas.{no_lines}
 use Rattle.script_serial.proofs.SerialNewest.{printed_in_order}
 use Rattle.script_serial.proofs.ToldApart.{isolated}

@@ -1,28 +1,27 @@
 -- What a call leaves of a thread at a shared table.
-use Rattle.std.proofs.Common.{◌≡◌, ◌⊎◌, inl, inr, ℕ, ◌+◌, ◌<◌, ◌≤◌, Bool, true, false, cond, not, List, [], ◌∷◌, ◌++◌, length, Option, Some, None, refl, sym, ap, ◌∙◌, subst, arith, eq-eqb}
-use Rattle.std.specs.Prelude.{◌==◌, if◌then◌else◌, find, option_map}
-use Rattle.std.specs.Option.{option_copied}
+use Rattle.std.proofs.Common.{◌≡◌, ℕ, ◌+◌, Bool, true, false, cond, List, [], ◌∷◌, ◌++◌, length, Option, Some, refl, sym, ap, ◌∙◌, subst, arith, eq-eqb}
+use Rattle.std.specs.Prelude.{find, option_map}
 use Rattle.std.specs.List.{list_any}
 use Rattle.turn_gate.specs.declared.entry.Terms.{Terms}
 use Rattle.turn_gate.specs.Callers.{Gate}
 use Rattle.mask_compose.specs.Parts.{Parts}
 use Rattle.handle_table.specs.declared.handle.Handle.{Handle}
 use Rattle.handle_table.specs.declared.handle.Named.{Named}
-use Rattle.handle_table.specs.declared.handle.Named.TheVariants.{Global, Of}
-use Rattle.handle_table.specs.Entry.{Op, New, Dup, Free, Use, Hold, Release, SetGlobal, Install, Post, Fetch, Pins, End, Reply, Was, Set, Held, Released, Refusal, Refused, Entry, History, Setting, is_accepted}
-use Rattle.handle_table.specs.History.{sets, global, global_at, selection, holding}
+use Rattle.handle_table.specs.declared.handle.Named.TheVariants.{Of}
+use Rattle.handle_table.specs.Entry.{Op, Use, Hold, Release, SetGlobal, Reply, Was, Set, Held, Released, Refusal, Refused, Entry, History, Setting, is_accepted}
+use Rattle.handle_table.specs.History.{sets, global, global_at, selection}
 use Rattle.handle_table.specs.Answer.{answer, own, IsLegal}
 use Rattle.thread_current.specs.Mine.{HeldData}
-use Rattle.thread_current.specs.Thread.{Thread, IsThreadOf, IsInOrder, GoesOnFrom, entries_by, without_newest, before, Answered, SawMore, IsSameThread, selected, own_object, holds}
+use Rattle.thread_current.specs.Thread.{Thread, IsThreadOf, IsInOrder, entries_by, without_newest, before, Answered, SawMore, IsSameThread, selected, own_object, holds}
 use Rattle.script_lines.specs.declared.holds.OpenHold.{OpenHold}
 use Rattle.script_lines.specs.declared.holds.HoldChange.TheVariants as changes
-use Rattle.script_lines.specs.Holds.{object_held, with_hold, without, hold_change, changed, holds_after, open_holds, is_of, held_as}
+use Rattle.script_lines.specs.Holds.{object_held, with_hold, hold_change, changed, holds_after, open_holds, is_of, held_as}
 use Rattle.script_lines.specs.Outcome.{with_call}
 use Rattle.script_lines.specs.Board.{Answers, Finds}
 use Rattle.handle_table.proofs.Unchanged.{newest_version}
 use Rattle.script_run.specs.declared.seated.Seated.{Seated}
-use Rattle.script_run.specs.Seated.{held_data, handed_out, KnowsSeated, IsSeatedAt, MayFollow, HasCalls, AnswersSeated, AreApart, is_held, IsTaken, IsUnheld}
-use Rattle.script_run.proofs.Apart.{own_says, selection_says, holds_says}
+use Rattle.script_run.specs.Seated.{held_data, handed_out, KnowsSeated, IsSeatedAt, MayFollow, HasCalls, AnswersSeated, is_held, IsTaken, IsUnheld}
+use Rattle.script_run.proofs.Apart.{holds_says}
 use Rattle.script_run.proofs.HoldLists.{holds_of, apart_holds, found_as}
 
 -- ---- entries of a thread

@@ -1,6 +1,6 @@
 -- What a turn leaves of a thread of the script, and what several turns leave.
-use Rattle.std.proofs.Common.{◌≡◌, ℕ, suc, ◌+◌, ◌*◌, ◌<◌, ◌≤◌, Bool, true, false, cond, not, List, [], ◌∷◌, ◌++◌, length, map, Option, Some, None, Result, Ok, Err, refl, sym, ap, ◌∙◌, subst, arith, eq-eqb, append_assoc, append-nil}
-use Rattle.std.specs.Prelude.{◌==◌, ◌||◌, if◌then◌else◌, filter, reverse, All}
+use Rattle.std.proofs.Common.{◌≡◌, ℕ, ◌+◌, ◌≤◌, Bool, true, cond, not, List, [], ◌∷◌, ◌++◌, length, map, Some, None, Result, Ok, Err, refl, sym, ap, ◌∙◌, subst, arith, eq-eqb, append_assoc, append-nil}
+use Rattle.std.specs.Prelude.{◌==◌, ◌||◌, if◌then◌else◌, filter, reverse}
 use Rattle.std.specs.List.{list_any}
 use Rattle.std.proofs.lemmas.List.{reverse-append}
 use Rattle.std.proofs.lemmas.List.Elements.{All-nil, All-cons}
@@ -9,7 +9,7 @@ use Rattle.turn_gate.specs.Callers.{Gate}
 use Rattle.category_store.specs.Catalog.{Catalog}
 use Rattle.handle_table.specs.declared.handle.Handle.{Handle}
 use Rattle.handle_table.specs.declared.handle.Named.TheVariants.{Of}
-use Rattle.handle_table.specs.Entry.{Op, Release, Reply, Released, NotHeld, Entry, History, Setting}
+use Rattle.handle_table.specs.Entry.{Op, Release, Reply, Released, NotHeld, History, Setting}
 use Rattle.handle_table.specs.History.{holding}
 use Rattle.handle_table.specs.Answer.{answer, first_reason, unless}
 use Rattle.handle_table.proofs.Numbering.{same_itself}
@@ -22,14 +22,14 @@ use Rattle.script_lines.specs.Holds.{without, holds_after, open_holds, is_of}
 use Rattle.script_lines.specs.Lines.{Caller}
 use Rattle.script_lines.specs.Outcome.{Outcome, with_call}
 use Rattle.script_lines.specs.Thread.{BindsAs}
-use Rattle.script_lines.specs.Turns.{Task, Releases, Turn, closing_turn}
+use Rattle.script_lines.specs.Turns.{Releases, Turn, closing_turn}
 use Rattle.script_lines.specs.Variables.{Bindings, bound, Bound, bindings_of, bindings_after}
 use Rattle.script_lines.specs.Wishes.{Wish, Calls, ReadsOf, Reads, AsksSelection, AsksName, wish_of}
 use Rattle.script_lines.specs.Board.{Moments, granted_at, AreMomentsOf, LeavesTurn, turn_caller}
 use Rattle.script_serial.specs.Plan.{PlanData}
-use Rattle.script_serial.specs.Prints.{bound_by, caller_of}
+use Rattle.script_serial.specs.Prints.{bound_by}
 use Rattle.script_run.specs.declared.seated.Seated.{Seated}
-use Rattle.script_run.specs.Seated.{IsSeatedAt, MayFollow, HasCalls, AreApart}
+use Rattle.script_run.specs.Seated.{IsSeatedAt, MayFollow, AreApart}
 use Rattle.script_run.specs.Timed.{Timed, tellings, lines_in, turn_made, turns_made}
 use Rattle.script_run.specs.Beside.{HasMade, IsWorker, Adds, Works, WorksOn}
 use Rattle.script_run.proofs.HoldLists.{holds_of, apart_holds, kept_all}

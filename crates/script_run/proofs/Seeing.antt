@@ -1,18 +1,18 @@
 -- Threads that see more of one history and make no call: what they have made stays.
-use Rattle.std.proofs.Common.{◌≡◌, ℕ, ◌+◌, ◌*◌, ◌≤◌, Bool, true, false, cond, List, [], ◌∷◌, ◌++◌, length, map, Some, refl, sym, ap, subst, ◌∙◌, arith, length-append, append_assoc}
-use Rattle.std.specs.Prelude.{◌==◌, All}
+use Rattle.std.proofs.Common.{◌≡◌, ℕ, ◌+◌, ◌≤◌, Bool, true, false, cond, List, [], ◌∷◌, ◌++◌, length, map, refl, sym, ap, subst, ◌∙◌, arith, length-append, append_assoc}
+use Rattle.std.specs.Prelude.{◌==◌}
 use Rattle.std.proofs.lemmas.List.Elements.{All-weaker}
 use Rattle.turn_gate.specs.declared.entry.Terms.{Terms}
 use Rattle.turn_gate.specs.Callers.{Gate}
 use Rattle.handle_table.specs.Entry.{Entry, History, Setting}
-use Rattle.thread_current.specs.Thread.{Thread, IsThreadOf, IsInOrder, IsSameThread, SawMore, GoesOnFrom, entries_by}
+use Rattle.thread_current.specs.Thread.{Thread, IsInOrder, SawMore, GoesOnFrom, entries_by}
 use Rattle.script_lines.specs.declared.holds.OpenHold.{OpenHold}
 use Rattle.script_lines.specs.declared.thread.Thread.{Thread as ScriptThread}
 use Rattle.script_lines.specs.Holds.{open_holds}
 use Rattle.script_serial.specs.Plan.{PlanData}
 use Rattle.script_run.specs.declared.seated.Seated.{Seated}
-use Rattle.script_run.specs.Seated.{held_data, IsSeatedAt, KnowsSeated}
-use Rattle.script_run.specs.Timed.{Timed, places_by, placed_back}
+use Rattle.script_run.specs.Seated.{held_data}
+use Rattle.script_run.specs.Timed.{Timed, places_by}
 use Rattle.script_run.specs.Beside.{HasMade, IsWorker}
 use Rattle.script_run.proofs.Growth.{are_right_grow}
 use Rattle.script_run.proofs.Apart.{holds_says, places_stay}
@@ -51,10 +51,10 @@ between_same t S W T low high same =
     let lower : entries_by t W ≡ entries_by t low.0 ++ entries_by t S = ap (entries_by t) low.1 ∙ entries_of_both t low.0 S in
     let upper : entries_by t T ≡ entries_by t high.0 ++ entries_by t W = ap (entries_by t) high.1 ∙ entries_of_both t high.0 W in
     let low_long : length (entries_by t W) ≡ length (entries_by t low.0) + length (entries_by t S) =
-      ap (λ (H : History). length H) lower ∙ length-append (entries_by t low.0) (entries_by t S)
+    ap (λ (H : History). length H) lower ∙ length-append (entries_by t low.0) (entries_by t S)
     in
     let high_long : length (entries_by t T) ≡ length (entries_by t high.0) + length (entries_by t W) =
-      ap (λ (H : History). length H) upper ∙ length-append (entries_by t high.0) (entries_by t W)
+    ap (λ (H : History). length H) upper ∙ length-append (entries_by t high.0) (entries_by t W)
     in
     let ends : length (entries_by t T) ≡ length (entries_by t S) = ap (λ (H : History). length H) same in
     let none : entries_by t low.0 ≡ [] = no_entry (entries_by t low.0) (omega (arith, low_long, high_long, ends)) in
@@ -78,9 +78,9 @@ made_kept terms plan t u made was saw order = record {
   right = are_right_grow terms.setting plan u.seen t.seen made saw.later was.right;
   timed = was.timed;
   places =
-    ap (λ (n : ℕ). places_by n u.seen) saw.same.number
-    ∙ same_places t.number t.seen u.seen saw.later (saw_entries terms t u was.in_order order saw)
-    ∙ was.places;
+      ap (λ (n : ℕ). places_by n u.seen) saw.same.number
+      ∙ same_places t.number t.seen u.seen saw.later (saw_entries terms t u was.in_order order saw)
+      ∙ was.places;
 }
 
 -- the same thread of the script with what it is at the table
@@ -96,7 +96,7 @@ pub worker_kept : (gate : Gate Setting) (plan : PlanData) (t : ScriptThread Seat
     → IsWorker gate plan (thread_with t mine) made
 worker_kept gate plan t mine made was saw order =
     let same : open_holds mine.seen t.side.number ≡ open_holds t.side.mine.seen t.side.number =
-      holds_kept gate.terms t.side.mine mine t.side.number was.seated.knows.number was.made.in_order order saw
+    holds_kept gate.terms t.side.mine mine t.side.number was.seated.knows.number was.made.in_order order saw
     in
     let calls : length mine.calls ≡ length t.side.mine.calls = ap (λ (H : History). length H) saw.calls in
     let holds : length (open_holds mine.seen t.side.number) ≡ length (open_holds t.side.mine.seen t.side.number) = ap (λ (os : List OpenHold). length os) same in

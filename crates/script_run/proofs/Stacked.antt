@@ -1,6 +1,6 @@
 -- Lines that several threads have made beside each other are right behind all earlier lines, for one history of their calls.
-use Rattle.std.proofs.Common.{◌≡◌, ℕ, zero, suc, ◌+◌, ◌<◌, ◌≤◌, Bool, true, false, List, [], ◌∷◌, ◌++◌, length, refl, sym, ap, subst, ◌∙◌, arith, inl, inr, reverse}
-use Rattle.std.specs.Prelude.{◌≢◌, ◌==◌, nat_lt, nat_le, filter, flat_map, All}
+use Rattle.std.proofs.Common.{◌≡◌, ℕ, zero, suc, ◌+◌, ◌<◌, ◌≤◌, true, false, List, [], ◌∷◌, ◌++◌, length, refl, sym, ap, subst, ◌∙◌, arith, inl, inr, reverse}
+use Rattle.std.specs.Prelude.{◌≢◌, ◌==◌, nat_lt, nat_le, flat_map, All}
 use Rattle.std.specs.List.{range_with_len}
 use Rattle.std.proofs.lemmas.Bool.{cases_lt, eq-eqb, ne_eqb, le-leb, lt-leb}
 use Rattle.std.proofs.lemmas.List.{append-nil, append_assoc, map-append, reverse-append}
@@ -13,7 +13,7 @@ use Rattle.thread_current.specs.Thread.{GoesOnFrom}
 use Rattle.script_lines.specs.Turns.{Turn}
 use Rattle.script_serial.specs.Plan.{PlanData}
 use Rattle.script_serial.proofs.LineLists.{filter_all, filter_none}
-use Rattle.script_run.specs.Timed.{places_by, Timed, end_of, AreTimed, tellings, turn_made, turns_made, placed_back, stacked, own_lines, IsRight, AreRight, in_rounds_before, in_rounds_to, IsInRound, IsWhole}
+use Rattle.script_run.specs.Timed.{places_by, Timed, end_of, AreTimed, turn_made, turns_made, placed_back, stacked, own_lines, AreRight, in_rounds_before, in_rounds_to, IsInRound, IsWhole}
 use Rattle.script_run.proofs.Apart.{right_onto}
 use Rattle.script_run.proofs.Counted.{whole_length}
 use Rattle.script_run.proofs.Growth.{are_right_grow}

@@ -1,5 +1,5 @@
 -- What a worker may take: its turns of a round, and what closes it.
-use Rattle.std.proofs.Common.{◌≡◌, ℕ, ◌+◌, ◌*◌, ◌<◌, ◌≤◌, ◌^◌, Bool, List, ◌++◌, length, map, reverse, refl, sym, ap, subst, ◌∙◌, arith, length-append}
+use Rattle.std.proofs.Common.{◌≡◌, ℕ, ◌+◌, ◌<◌, ◌≤◌, Bool, List, ◌++◌, length, reverse, refl, sym, ap, subst, ◌∙◌, arith, length-append}
 use Rattle.std.specs.Prelude.{◌≢◌, ◌==◌, filter, All, slice_index_or}
 use Rattle.std.proofs.lemmas.List.{length-map, length-reverse}
 use Rattle.std.proofs.lemmas.List.Elements.{All-weaker, All-filter, All-map}
@@ -76,13 +76,13 @@ may_work gate plan rounds lines ws turns was sound for turns_is = λ i d lt.
     let below : i < length plan.bundle.threads = let count = was.count in let threads = for.threads in omega (arith, lt, count, threads) in
     let ps : List Placed = in_round (rounds + 1) plan.bundle.commands in
     let own : turns_of w.thread.side.number turns ≡ thread_turns ps i =
-      ap (λ (k : ℕ). turns_of k turns) ready.number ∙ ap (λ (ts : List Turn). turns_of i ts) turns_is ∙ turns_of_near ps (length plan.bundle.threads) i below
+    ap (λ (k : ℕ). turns_of k turns) ready.number ∙ ap (λ (ts : List Turn). turns_of i ts) turns_is ∙ turns_of_near ps (length plan.bundle.threads) i below
     in
     let made_long : length was.made ≡ length (turns_to plan.bundle rounds) = lines_few plan rounds was.made was.turns in
     let own_few : length (own_lines i was.made) ≤ length was.made = filter_short (λ (t : Timed). t.told.line.thread == i) was.made in
     let turns_few : length (turns_of w.thread.side.number turns) ≤ length turns = filter_short (λ (t : Turn). t.thread == w.thread.side.number) turns in
     let next : length (turns_to plan.bundle (rounds + 1)) ≡ length (turns_to plan.bundle rounds) + length turns =
-      ap (λ (ts : List Turn). length ts) (turns_next plan.bundle rounds ∙ ap (λ (ts : List Turn). turns_to plan.bundle rounds ++ ts) (sym turns_is)) ∙ length-append (turns_to plan.bundle rounds) turns
+    ap (λ (ts : List Turn). length ts) (turns_next plan.bundle rounds ∙ ap (λ (ts : List Turn). turns_to plan.bundle rounds ++ ts) (sym turns_is)) ∙ length-append (turns_to plan.bundle rounds) turns
     in
     let most : length (turns_to plan.bundle (rounds + 1)) ≤ length plan.bundle.commands = few_turns_to plan.bundle (rounds + 1) in
     let commands : length plan.bundle.commands ≤ 20000 = sound.accepted.few_commands in

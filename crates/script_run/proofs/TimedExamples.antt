@@ -1,5 +1,5 @@
 -- Lines that are judged by one history, at worked examples.
-use Rattle.std.proofs.Common.{◌≡◌, ℕ, ◌+◌, ◌<◌, ◌≤◌, List, [], ◌∷◌, length, Option, Some, None, refl, arith, All}
+use Rattle.std.proofs.Common.{◌≡◌, ℕ, ◌+◌, ◌<◌, List, [], ◌∷◌, length, None, refl, arith, All}
 use Rattle.std.specs.Prelude.{codes}
 use Rattle.std.proofs.lemmas.List.Elements.{All-nil, All-cons}
 use Rattle.lc_base.specs.declared.item.Item.TheVariants.{Radixchar}
@@ -16,12 +16,11 @@ use Rattle.script_out.specs.declared.output.Said.{Said}
 use Rattle.script_out.specs.declared.output.Said.TheVariants as said
 use Rattle.script_lines.specs.Outcome.{with_call}
 use Rattle.script_lines.specs.Turns.{Task, Runs, Ends}
-use Rattle.script_serial.specs.Plan.{PlanData}
 use Rattle.script_serial.specs.Prints.{PlacedCall}
 use Rattle.script_serial.specs.Serial.{setting}
 use Rattle.script_serial.proofs.Examples.{line_of, first_of}
 use Rattle.script_serial.proofs.PrintsExamples.{shared}
-use Rattle.script_run.specs.Timed.{oldest, places_by, Timed, end_of, last_end, AreTimed, placed_back, own_lines, IsEntryOf, AreRight, in_rounds_before, in_rounds_to, IsInRound}
+use Rattle.script_run.specs.Timed.{oldest, places_by, Timed, end_of, AreTimed, placed_back, own_lines, IsEntryOf, AreRight, in_rounds_before, in_rounds_to, IsInRound}
 
 -- ---- what stands before a place, and whose places they are
 

@@ -1,22 +1,19 @@
 -- What the loops over a thread's turns keep, and the end of a thread.
-use Rattle.std.proofs.Common.{◌≡◌, ℕ, zero, suc, ◌+◌, ◌*◌, ◌^◌, ◌<◌, ◌≤◌, Bool, true, false, cond, List, [], ◌∷◌, ◌++◌, map, length, take, drop, get_or, Option, Some, None, refl, sym, ap, ◌∙◌, subst, arith, add-one, eq-eqb, append-nil, append_assoc, drop-cons}
-use Rattle.std.specs.Prelude.{◌==◌, if◌then◌else◌, filter, reverse, All}
+use Rattle.std.proofs.Common.{◌≡◌, ℕ, zero, suc, ◌+◌, ◌*◌, ◌<◌, ◌≤◌, Bool, true, false, cond, List, [], ◌∷◌, ◌++◌, map, length, take, drop, get_or, None, refl, sym, ap, ◌∙◌, subst, arith, add-one, eq-eqb, append-nil, append_assoc, drop-cons}
+use Rattle.std.specs.Prelude.{◌==◌, reverse}
 use Rattle.std.specs.List.{list_any}
 use Rattle.std.proofs.Math.Seq.{take-suc}
 use Rattle.std.proofs.lemmas.List.{get_or-map, length-map, map-append, reverse-append}
-use Rattle.std.proofs.lemmas.List.Elements.{All-nil, All-cons, All-head, All-tail, filter-append}
-use Rattle.turn_gate.specs.Callers.{Gate, Caller, IsSeatOf}
+use Rattle.std.proofs.lemmas.List.Elements.{All-cons, All-head, All-tail, filter-append}
+use Rattle.turn_gate.specs.Callers.{Gate, Caller}
 use Rattle.category_store.specs.Catalog.{Catalog}
-use Rattle.category_store.specs.Library.{opening}
-use Rattle.category_store.specs.Shelf.{IsNumbered, IsInstallable}
 use Rattle.category_store.specs.declared.share.Share.{Share}
 use Rattle.handle_table.specs.declared.op.Op as ops
 use Rattle.handle_table.specs.declared.op.Reply as replies
 use Rattle.handle_table.specs.declared.handle.Handle.{Handle}
-use Rattle.handle_table.specs.Entry.{End, Ended, Setting, History, Entry}
-use Rattle.handle_table.specs.History.{holding}
+use Rattle.handle_table.specs.Entry.{End, Ended, Setting, History}
 use Rattle.thread_current.specs.Mine.{HeldData}
-use Rattle.thread_current.specs.Thread.{Thread, thread_of, IsInOrder, GoesOnFrom, entries_by, before, Answered, holds}
+use Rattle.thread_current.specs.Thread.{thread_of, IsInOrder, GoesOnFrom, entries_by, before, Answered, holds}
 use Rattle.script_out.specs.declared.output.OutLine.{OutLine}
 use Rattle.script_out.specs.declared.output.Places.TheVariants as places
 use Rattle.script_out.specs.declared.output.Said.TheVariants as said
@@ -29,12 +26,12 @@ use Rattle.script_lines.specs.Holds.{open_holds, is_of}
 use Rattle.script_lines.specs.Lines.{Caller as LineCaller, line}
 use Rattle.script_lines.specs.Outcome.{with_call, calls}
 use Rattle.script_lines.specs.Seen.{turn_seen}
-use Rattle.script_lines.specs.Turns.{Task, Releases, Ends, Turn, closing_turn, releases, closing}
+use Rattle.script_lines.specs.Turns.{Releases, Ends, Turn, closing_turn, releases}
 use Rattle.script_serial.specs.Plan.{PlanData}
 use Rattle.script_run.specs.declared.seated.Seated.{Seated}
-use Rattle.script_run.specs.Seated.{held_data, handed_out, IsSeatedAt, MayFollow, HasCalls, MayCall, IsFirst}
-use Rattle.script_run.specs.Timed.{Timed, tellings, lines_in, turns_made, AreTimed}
-use Rattle.script_run.specs.Beside.{HasMade, IsWorker, CanAdd, Adds, turns_of, CanWork, WorksOn, Works, CanClose, GivesUp, EndsSeat, Closes}
+use Rattle.script_run.specs.Seated.{held_data, handed_out, IsSeatedAt, MayFollow, MayCall, IsFirst}
+use Rattle.script_run.specs.Timed.{Timed, lines_in, turns_made, AreTimed}
+use Rattle.script_run.specs.Beside.{HasMade, IsWorker, CanAdd, Adds, turns_of, CanWork, WorksOn, CanClose, GivesUp, EndsSeat, Closes}
 use Rattle.script_run.proofs.HoldLists.{holds_of}
 use Rattle.script_run.proofs.SeatLemmas.{legal_before, others_between}
 use Rattle.script_run.proofs.LineSteps.{longer, goes_further, goes_one_more, call_step}

@@ -1,5 +1,5 @@
 -- Laws of a thread at a table that threads share.
-use Rattle.std.proofs.Common.{◌≡◌, ℕ, ◌+◌, [], refl, subst, arith}
+use Rattle.std.proofs.Common.{ℕ, ◌+◌, [], refl, subst, arith}
 use Rattle.turn_gate.specs.Callers.{Gate}
 use Rattle.handle_table.specs.Entry.{History, Setting}
 use Rattle.handle_table.specs.Answer.{IsLegal}

@@ -54,9 +54,7 @@ impl Seated {
 fn hold_at(holds: &[Held<Share>], named: Named) -> Option<usize>
     ensures { result ≡ position (is_held named) holds.now }
 {
-    holds
-        .iter()
-        .position(|held| is_named(named, held.handle()))
+    holds.iter().position(|held| is_named(named, held.handle()))
 }
 
 // The open Hold of what is named.
@@ -174,11 +172,7 @@ impl<'a, R: Wait, G: OneTable> Beside<'a, R, G> {
     }
 
     // Answers a call that does not end its thread.
-    fn answer(
-        &self,
-        side: &mut Seated,
-        op: Op<Share>,
-    ) -> Result<(u64, Reply<Share>), AllocError>
+    fn answer(&self, side: &mut Seated, op: Op<Share>) -> Result<(u64, Reply<Share>), AllocError>
         requires calls { HasCalls 1 self.now.shared.now side.old }
         requires op { MayCall self.now.shared.now.terms.setting (op_of op) }
         ensures answers { IfOk result (λ r. AnswersSeated self.now.shared.now side.old side.new (op_of op) r.0 (reply_of r.1)) }

@@ -150,7 +150,9 @@ impl Worker {
     {
         let at = self.thread.next_caller(round);
         let Worker {
-            thread, mut lines, ..
+            thread,
+            mut lines,
+            ..
         } = self;
         let side = thread.side;
         let (place, seat) = common.shared.end(common.rt, side.mine);

@@ -1,7 +1,6 @@
 use Rattle.std.proofs.Common.{◌≡◌, ◌+◌, ◌++◌, List, length, map, take, drop, sym, ap, subst, ◌∙◌, arith}
 use Rattle.std.specs.Prelude.{flat_map}
 use Rattle.thread_current.specs.Thread.{IsThreadOf, IsInOrder}
-use Rattle.script_out.specs.declared.output.OutLine.{OutLine}
 use Rattle.script_lines.specs.Seen.{turn_seen}
 use Rattle.script_lines.specs.Turns.{Turn, round_turns}
 use Rattle.script_lines.specs.declared.turns.Turn.{Turn as LentTurn}
@@ -45,7 +44,7 @@ meet_all-requires-clause-threads g c =
     let work : EachTwo items0 worked (λ i old new. HasWorked gate plan.library turns old new) = subst (λ (ws : List Worker). EachTwo ws worked (λ i old new. HasWorked gate plan.library turns old new)) slice0 c.side_by_side.ensures in
     let give : EachTwo worked given (λ i old new. HasGiven old new) = subst (λ (ws : List Worker). EachTwo ws given (λ i old new. HasGiven old new)) slice1 c.in_ok-gather.ensures.given in
     let ordered : Each given (λ i w. IsThreadOf gate (mine_of w) × IsInOrder gate.terms (mine_of w)) =
-      in_order_at gate plan c.loop-i.i c.loop-i.lines.items turns items0 worked given c.loop-i.invariant (omega (arith, long1, items0_long)) (omega (arith, long2, items0_long)) work give
+    in_order_at gate plan c.loop-i.i c.loop-i.lines.items turns items0 worked given c.loop-i.invariant (omega (arith, long1, items0_long)) (omega (arith, long2, items0_long)) work give
     in
     subst (λ (ws : List Worker). Each ws (λ i w. IsThreadOf gate (mine_of w))) (sym items2) (λ i d lt. (ordered i d lt).0)
 
@@ -71,7 +70,7 @@ meet_all-requires-clause-in_order g c =
     let work : EachTwo items0 worked (λ i old new. HasWorked gate plan.library turns old new) = subst (λ (ws : List Worker). EachTwo ws worked (λ i old new. HasWorked gate plan.library turns old new)) slice0 c.side_by_side.ensures in
     let give : EachTwo worked given (λ i old new. HasGiven old new) = subst (λ (ws : List Worker). EachTwo ws given (λ i old new. HasGiven old new)) slice1 c.in_ok-gather.ensures.given in
     let ordered : Each given (λ i w. IsThreadOf gate (mine_of w) × IsInOrder gate.terms (mine_of w)) =
-      in_order_at gate plan c.loop-i.i c.loop-i.lines.items turns items0 worked given c.loop-i.invariant (omega (arith, long1, items0_long)) (omega (arith, long2, items0_long)) work give
+    in_order_at gate plan c.loop-i.i c.loop-i.lines.items turns items0 worked given c.loop-i.invariant (omega (arith, long1, items0_long)) (omega (arith, long2, items0_long)) work give
     in
     subst (λ (ws : List Worker). Each ws (λ i w. IsInOrder gate.terms (mine_of w))) (sym items2) (λ i d lt. (ordered i d lt).1)
 
@@ -97,13 +96,13 @@ loop-i-preserved g c =
     let work : EachTwo items0 worked (λ i old new. HasWorked gate plan.library turns old new) = subst (λ (ws : List Worker). EachTwo ws worked (λ i old new. HasWorked gate plan.library turns old new)) slice0 c.side_by_side.ensures in
     let give : EachTwo worked given (λ i old new. HasGiven old new) = subst (λ (ws : List Worker). EachTwo ws given (λ i old new. HasGiven old new)) slice1 c.in_ok-gather.ensures.given in
     let ordered : Each given (λ i w. IsThreadOf gate (mine_of w) × IsInOrder gate.terms (mine_of w)) =
-      in_order_at gate plan c.loop-i.i c.loop-i.lines.items turns items0 worked given c.loop-i.invariant (omega (arith, long1, items0_long)) (omega (arith, long2, items0_long)) work give
+    in_order_at gate plan c.loop-i.i c.loop-i.lines.items turns items0 worked given c.loop-i.invariant (omega (arith, long1, items0_long)) (omega (arith, long2, items0_long)) work give
     in
     let met : List Worker = c.meet_all.new.workers.items in
     let items2_long = ap (λ (ws : List Worker). length ws) items2 in
     let met_long : length met ≡ length items0 = omega (arith, c.meet_all.ensures.length, items2_long, long2, items0_long) in
     let printed : c.gather.new.lines.items ≡ c.loop-i.lines.items ++ flat_map (λ (w : Worker). w.lines.items) worked =
-      c.in_ok-gather.ensures.lines ∙ ap (λ (ws : List Worker). c.loop-i.lines.items ++ flat_map (λ (w : Worker). w.lines.items) ws) slice1
+    c.in_ok-gather.ensures.lines ∙ ap (λ (ws : List Worker). c.loop-i.lines.items ++ flat_map (λ (w : Worker). w.lines.items) ws) slice1
     in
     between_next gate plan c.loop-i.i c.loop-i.lines.items c.gather.new.lines.items turns items0 worked given met c.loop-i.invariant c.requires.terms turns_are
     (omega (arith, long1, items0_long)) (omega (arith, long2, items0_long)) met_long work printed give

@@ -1,4 +1,3 @@
-use Rattle.script_serial.specs.Plan.{PlanData}
 use Rattle.script_run.specs.Rounds.{AreBetween}
 use Rattle.script_run.proofs.rounds.all_rounds.Given as goal
 

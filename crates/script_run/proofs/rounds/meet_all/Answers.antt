@@ -1,4 +1,4 @@
-use Rattle.std.proofs.Common.{◌≡◌, ◌++◌, ◌∷◌, [], List, length, take, drop, refl, sym, ap, subst, ◌∙◌, arith}
+use Rattle.std.proofs.Common.{◌≡◌, ◌++◌, ◌∷◌, [], List, length, take, drop, sym, ap, subst, ◌∙◌, arith}
 use Rattle.thread_current.specs.Thread.{IsInOrder, GoesOnFrom}
 use Rattle.script_run.specs.declared.worker.Worker.{Worker}
 use Rattle.script_run.specs.Rounds.{Each, EachTwo, mine_of, HasMet, AllMet}

@@ -1,4 +1,4 @@
-use Rattle.std.proofs.Common.{◌≡◌, ◌∷◌, List, length, ap, sym, ◌∙◌, arith, subst}
+use Rattle.std.proofs.Common.{◌≡◌, ◌∷◌, List, length, ap, ◌∙◌, arith, subst}
 use Rattle.std.specs.Vec.Iter.{into_iter_items}
 use Rattle.thread_current.specs.Thread.{Thread}
 use Rattle.script_run.proofs.Beginning.{FirstSoFar, first_next}
@@ -17,11 +17,11 @@ loop-mine-preserved c =
     let steps : into_iter_items c.loop-mine.mine-iterator ≡ c.in-Some.mine ∷ into_iter_items c.next.new.self = c.in-Some.ensures.steps.0 in
     record {
       so_far = first_next c.args.all c.loop-mine.workers.items c.push.new.self.items c.in-Some.mine (into_iter_items c.next.new.self) c.new-in-loop-mine.result c.new.result
-        (subst (FirstSoFar c.args.all c.loop-mine.workers.items) steps c.loop-mine.invariant.so_far) c.in_ok-push.ensures.items
-        c.new-in-loop-mine.ensures.0 (c.new.ensures.0 ∙ c.len-number.ensures ∙ c.loop-mine.workers.ok.0) c.new.ensures.1 c.new.ensures.2 c.new-in-loop-mine.ensures.3 c.new-in-loop-mine.ensures.1 c.new-in-loop-mine.ensures.2;
+          (subst (FirstSoFar c.args.all c.loop-mine.workers.items) steps c.loop-mine.invariant.so_far) c.in_ok-push.ensures.items
+          c.new-in-loop-mine.ensures.0 (c.new.ensures.0 ∙ c.len-number.ensures ∙ c.loop-mine.workers.ok.0) c.new.ensures.1 c.new.ensures.2 c.new-in-loop-mine.ensures.3 c.new-in-loop-mine.ensures.1 c.new-in-loop-mine.ensures.2;
       left =
-        let was = c.loop-mine.invariant.left in
-        let gone = c.in-Some.ensures.steps.1 in
-        let short = ap (λ (ts : List Thread). length ts) steps in
-        omega (arith, was, gone, short);
+          let was = c.loop-mine.invariant.left in
+          let gone = c.in-Some.ensures.steps.1 in
+          let short = ap (λ (ts : List Thread). length ts) steps in
+          omega (arith, was, gone, short);
     }

@@ -1,4 +1,4 @@
-use Rattle.std.proofs.Common.{Option, Some, None, List, refl, sym, ap, ◌∙◌}
+use Rattle.std.proofs.Common.{Option, Some, None, List, ap, ◌∙◌}
 use Rattle.std.specs.Prelude.{find, option_map}
 use Rattle.mask_compose.specs.Parts.{Parts}
 use Rattle.thread_current.specs.Mine.{HeldData}

@@ -1,4 +1,4 @@
-use Rattle.std.proofs.Common.{◌≡◌, ◌+◌, ◌^◌, ◌<◌, map, sym, ◌∙◌, arith, ne_eqb}
+use Rattle.std.proofs.Common.{◌+◌, ◌^◌, ◌<◌, map, sym, ◌∙◌, arith, ne_eqb}
 use Rattle.script_lines.specs.Seen.{turn_seen}
 use Rattle.script_run.proofs.WorkLemmas.{turn_at, turn_below, going_can, going_past, going_on}
 use Rattle.script_run.proofs.worker.Worker.lines_of.Goals as goal
