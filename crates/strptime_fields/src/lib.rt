@@ -1,0 +1,19 @@
+//! The fields of a time that a text has by a format of the locale (XSH strptime).
+#![tactic(auto)]
+
+mod fault;
+mod follow;
+mod item;
+mod kept;
+mod names;
+mod number;
+mod parsed;
+mod plain;
+mod progress;
+mod scan;
+
+pub use fault::ScanFault;
+pub use names::longest_names_hold;
+pub use parsed::Parsed;
+pub use plain::{is_plain, plain_formats_hold};
+pub use scan::{strptime, strptime_counted};

@@ -1,0 +1,106 @@
+//! The fields of a time that was read.
+
+ghost use Rattle.std.specs.Prelude.{◌≡◌, ◌+◌, ◌*◌, pos};
+ghost use Rattle.strptime_fields.specs.Keeping.{near_year, or_zero, year_of, hour_of, yday_of};
+
+use crate::kept::Kept;
+
+/// The fields that a text has, each where an item of the format says it (XBD time.h, struct tm).
+#[derive(Clone, Copy, Debug, PartialEq, Eq)]
+pub struct Parsed {
+    /// From 0 to 9999.
+    pub year: Option<i32>,
+    /// From 1 to 12.
+    pub mon: Option<u8>,
+    /// From 1 to 31.
+    pub mday: Option<u8>,
+    /// From 0 to 23.
+    pub hour: Option<u8>,
+    /// From 0 to 59.
+    pub min: Option<u8>,
+    /// From 0 to 60.
+    pub sec: Option<u8>,
+    /// From 0, which is Sunday, to 6.
+    pub wday: Option<u8>,
+    /// From 0 to 365.
+    pub yday: Option<u16>,
+}
+
+/// The year of a century that is not said: from 1969 to 2068.
+fn near_year(year_of_century: u8) -> i32
+    ensures { result ≡ pos (near_year year_of_century) }
+{
+    if year_of_century < 69 {
+        2000 + i32::from(year_of_century)
+    } else {
+        1900 + i32::from(year_of_century)
+    }
+}
+
+/// The year of a century, where a year of the century that is absent counts as 0.
+fn century_year(century: u8, year_of_century: Option<u8>) -> i32
+    ensures { result ≡ pos (100 * century + or_zero year_of_century) }
+{
+    let hundreds = 100 * i32::from(century);
+    match year_of_century {
+        None => hundreds,
+        Some(year) => hundreds + i32::from(year),
+    }
+}
+
+/// The year.
+fn year_of(kept: &Kept) -> Option<i32>
+    ensures { result ≡ year_of kept.now }
+{
+    match (kept.year, kept.century) {
+        (Some(year), _) => Some(i32::from(year)),
+        (None, Some(century)) => Some(century_year(century, kept.year_of_century)),
+        (None, None) => match kept.year_of_century {
+            None => None,
+            Some(year) => Some(near_year(year)),
+        },
+    }
+}
+
+/// The hour.
+fn hour_of(kept: &Kept) -> Option<u8>
+    ensures { result ≡ hour_of kept.now }
+{
+    match (kept.hour, kept.half_day_hour) {
+        (Some(hour), _) => Some(hour),
+        (None, Some(hour)) if kept.half_day == Some(1) => Some(hour % 12 + 12),
+        (None, Some(hour)) => Some(hour % 12),
+        (None, None) => None,
+    }
+}
+
+/// The day of the year, from 0.
+fn yday_of(kept: &Kept) -> Option<u16>
+    ensures { result ≡ yday_of kept.now }
+{
+    match kept.year_day {
+        None => None,
+        Some(day) => Some(day.saturating_sub(1)),
+    }
+}
+
+impl Kept {
+    ghost use Rattle.std.specs.Prelude.{◌≡◌};
+    ghost use Rattle.strptime_fields.specs.Keeping.{parsed};
+
+    /// The fields.
+    pub fn parsed(&self) -> Parsed
+        ensures { result ≡ parsed self.now }
+    {
+        Parsed {
+            year: year_of(self),
+            mon: self.mon,
+            mday: self.mday,
+            hour: hour_of(self),
+            min: self.min,
+            sec: self.sec,
+            wday: self.wday,
+            yday: yday_of(self),
+        }
+    }
+}
