@@ -78,13 +78,16 @@ fn has_line(text: &[u8], line: &[u8]) -> bool {
 /// What a script printed, how often its pause was called, and how many commands gave up.
 type Ran = (Vec<u8>, u64, u64);
 
-// Runs a bundle whose commands wait so.
+// Runs a bundle whose commands wait so. The bundles of the tests are short: `prepare` takes no text of 2^31 bytes.
 fn ran<R: Threads + Wait + Sync>(
     rt: &R,
     alloc: Global,
     bundle: &[u8],
     waits: [(Which, Which); 2],
 ) -> Result<Ran, TextFault> {
+    if bundle.len() > 65_536 {
+        return Err(TextFault::Memory);
+    }
     let pause = Until::new(waits);
     let plan = prepare(alloc, bundle)?;
     let lines = run(rt, alloc, &plan, 16, 65535, &pause)?;
