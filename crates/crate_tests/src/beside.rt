@@ -3,8 +3,8 @@
 use lc_base::TextFault;
 use script_out::print;
 use script_run::{Pause, run};
-use script_serial::prepare;
-use std::alloc::Global;
+use script_serial::{Plan, prepare};
+use std::alloc::{AllocError, Global};
 use std::sync::Wait;
 use std::sync::atomic::{AtomicU64, Ordering};
 use std::test::Fail;
@@ -78,24 +78,46 @@ fn has_line(text: &[u8], line: &[u8]) -> bool {
 /// What a script printed, how often its pause was called, and how many commands gave up.
 type Ran = (Vec<u8>, u64, u64);
 
-// Runs a bundle whose commands wait so. The bundles of the tests are short: `prepare` takes no text of 2^31 bytes.
+// Runs a bundle whose commands wait so.
 fn ran<R: Threads + Wait + Sync>(
     rt: &R,
     alloc: Global,
     bundle: &[u8],
     waits: [(Which, Which); 2],
 ) -> Result<Ran, TextFault> {
+    let pause = Until::new(waits);
+    let text = printed(rt, alloc, bundle, &pause)?;
+    let calls = pause.calls.load(Ordering::SeqCst);
+    let given_up = pause.given_up.load(Ordering::SeqCst);
+    Ok((text, calls, given_up))
+}
+
+// What the bundle prints. Those of the tests are short: `prepare` takes no text of 2^31 bytes.
+fn printed<R: Threads + Wait + Sync>(
+    rt: &R,
+    alloc: Global,
+    bundle: &[u8],
+    pause: &Until,
+) -> Result<Vec<u8>, TextFault> {
     if bundle.len() > 65_536 {
         return Err(TextFault::Memory);
     }
-    let pause = Until::new(waits);
     let plan = prepare(alloc, bundle)?;
-    let lines = run(rt, alloc, &plan, 16, 65535, &pause)?;
+    let text = text_of(rt, alloc, &plan, pause);
+    drop(plan);
+    Ok(text?)
+}
+
+// What the script of a plan prints.
+fn text_of<R: Threads + Wait + Sync>(
+    rt: &R,
+    alloc: Global,
+    plan: &Plan,
+    pause: &Until,
+) -> Result<Vec<u8>, AllocError> {
+    let lines = run(rt, alloc, plan, 16, 65535, pause)?;
     let text = print(alloc, &lines, plan.threads())?;
-    let printed = Vec::from_slice(alloc, text.as_bytes())?;
-    let calls = pause.calls.load(Ordering::SeqCst);
-    let given_up = pause.given_up.load(Ordering::SeqCst);
-    Ok((printed, calls, given_up))
+    Vec::from_slice(alloc, text.as_bytes())
 }
 
 const ALONE_AND_BESIDE: &[u8] = b".locale us UTF-8
