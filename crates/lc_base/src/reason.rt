@@ -73,6 +73,8 @@ pub enum Reason {
     FormatRank,
     /// There are more than 100 alternative digits.
     TooManyDigits,
+    /// A line of a message catalog is wrong.
+    BadMessage,
 }
 
 /// A part of a line of the bundle.
@@ -103,6 +105,12 @@ pub enum Limit {
     Format,
     /// 64 amounts of a command.
     Amounts,
+    /// 64 whole numbers of a command.
+    Numbers,
+    /// 1024 bytes of a text in a command.
+    CommandText,
+    /// 64 message catalogs.
+    Catalogs,
     /// 65536 names of a charmap.
     Names,
     /// 65536 operands in a line.
@@ -113,6 +121,10 @@ pub enum Limit {
     Texts,
     /// 16 conversions of a format.
     Conversions,
+    /// 4096 bytes of a message.
+    Message,
+    /// 4096 messages of a catalog.
+    Messages,
 }
 
 /// A character class that another one excludes.

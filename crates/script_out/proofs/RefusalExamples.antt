@@ -45,11 +45,17 @@ words rs = flat_map (λ r. reason_text r ++ newline) rs
 parts_of_a_line : words (reasons.BadLine parts.Directive ∷ reasons.BadLine parts.Command ∷ reasons.BadLine parts.Argument ∷ reasons.BadLine parts.Thread ∷ []) ≡ codes "BadLine directive\nBadLine command\nBadLine argument\nBadLine thread\n"
 parts_of_a_line = refl
 
-limits_of_a_bundle : words (reasons.OverLimit limits.Locales ∷ reasons.OverLimit limits.Later ∷ reasons.OverLimit limits.Charmaps ∷ reasons.OverLimit limits.Threads ∷ reasons.OverLimit limits.Rounds ∷ reasons.OverLimit limits.Commands ∷ reasons.OverLimit limits.Format ∷ reasons.OverLimit limits.Amounts ∷ []) ≡ codes "OverLimit locales\nOverLimit later\nOverLimit charmaps\nOverLimit threads\nOverLimit rounds\nOverLimit commands\nOverLimit format\nOverLimit amounts\n"
+limits_of_a_bundle : words (reasons.OverLimit limits.Locales ∷ reasons.OverLimit limits.Later ∷ reasons.OverLimit limits.Charmaps ∷ reasons.OverLimit limits.Threads ∷ reasons.OverLimit limits.Rounds ∷ reasons.OverLimit limits.Commands ∷ reasons.OverLimit limits.Format ∷ reasons.OverLimit limits.Amounts ∷ reasons.OverLimit limits.Numbers ∷ reasons.OverLimit limits.CommandText ∷ reasons.OverLimit limits.Catalogs ∷ []) ≡ codes "OverLimit locales\nOverLimit later\nOverLimit charmaps\nOverLimit threads\nOverLimit rounds\nOverLimit commands\nOverLimit format\nOverLimit amounts\nOverLimit numbers\nOverLimit text\nOverLimit catalogs\n"
 limits_of_a_bundle = refl
 
 limits_of_a_source : words (reasons.OverLimit limits.Names ∷ reasons.OverLimit limits.Operands ∷ reasons.OverLimit limits.Text ∷ reasons.OverLimit limits.Texts ∷ reasons.OverLimit limits.Conversions ∷ []) ≡ codes "OverLimit names\nOverLimit operands\nOverLimit string\nOverLimit list\nOverLimit conversions\n"
 limits_of_a_source = refl
+
+limits_of_a_catalog : words (reasons.OverLimit limits.Message ∷ reasons.OverLimit limits.Messages ∷ []) ≡ codes "OverLimit message\nOverLimit messages\n"
+limits_of_a_catalog = refl
+
+faults_of_a_catalog : words (reasons.BadMessage ∷ []) ≡ codes "BadMessage\n"
+faults_of_a_catalog = refl
 
 faults_of_a_bundle : words (reasons.NoEnd ∷ reasons.NameTwice ∷ reasons.NoCharmap ∷ reasons.NoNative ∷ reasons.NoThread ∷ reasons.NoLater ∷ []) ≡ codes "NoEnd\nNameTwice\nNoCharmap\nNoNative\nNoThread\nNoLater\n"
 faults_of_a_bundle = refl

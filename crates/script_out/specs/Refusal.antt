@@ -29,11 +29,16 @@ limit_word limits.Rounds = codes "rounds"
 limit_word limits.Commands = codes "commands"
 limit_word limits.Format = codes "format"
 limit_word limits.Amounts = codes "amounts"
+limit_word limits.Numbers = codes "numbers"
+limit_word limits.CommandText = codes "text"
+limit_word limits.Catalogs = codes "catalogs"
 limit_word limits.Names = codes "names"
 limit_word limits.Operands = codes "operands"
 limit_word limits.Text = codes "string"
 limit_word limits.Texts = codes "list"
 limit_word limits.Conversions = codes "conversions"
+limit_word limits.Message = codes "message"
+limit_word limits.Messages = codes "messages"
 
 -- the word for a character class
 abbrev pub class_word : Class → List ℕ
@@ -85,6 +90,7 @@ reason_text reasons.BadEra = codes "BadEra"
 reason_text (reasons.BadFormat at) = codes "BadFormat" ++ space ++ decimal at
 reason_text reasons.FormatRank = codes "FormatRank"
 reason_text reasons.TooManyDigits = codes "TooManyDigits"
+reason_text reasons.BadMessage = codes "BadMessage"
 
 -- `refused: L:C REASON` and a newline
 abbrev pub refusal_line : Place → Reason → List ℕ

@@ -63,6 +63,7 @@ fn push_reason(out: &mut Vec<u8>, reason: Reason) -> Result<(), AllocError>
         Reason::BadFormat(at) => push_count(out, "BadFormat", at),
         Reason::FormatRank => push_word(out, "FormatRank"),
         Reason::TooManyDigits => push_word(out, "TooManyDigits"),
+        Reason::BadMessage => push_word(out, "BadMessage"),
     }
 }
 
@@ -127,11 +128,16 @@ fn limit_word(limit: Limit) -> &'static str
         Limit::Commands => "commands",
         Limit::Format => "format",
         Limit::Amounts => "amounts",
+        Limit::Numbers => "numbers",
+        Limit::CommandText => "text",
+        Limit::Catalogs => "catalogs",
         Limit::Names => "names",
         Limit::Operands => "operands",
         Limit::Text => "string",
         Limit::Texts => "list",
         Limit::Conversions => "conversions",
+        Limit::Message => "message",
+        Limit::Messages => "messages",
     }
 }
 
