@@ -2,6 +2,7 @@
 use Rattle.std.specs.Prelude.{ℕ, zero, suc, ℤ, Bool, true, false, List, [], ◌∷◌, codes, Option, Some, None, Ok, Err, if◌then◌else◌}
 use Rattle.std.specs.Str.{bytes_eq}
 use Rattle.lc_base.specs.declared.reason.Reason.TheVariants.{BadLine, OverLimit, NoThread, NoLater}
+use Rattle.lc_base.specs.declared.reason.Limit.{Limit}
 use Rattle.lc_base.specs.declared.reason.Limit.TheVariants as limits
 use Rattle.lc_base.specs.declared.reason.LinePart.TheVariants.{Command as CommandPart, Argument}
 use Rattle.lc_base.specs.Reading.{Reads, ◌>>=◌}
@@ -9,10 +10,10 @@ use Rattle.script_commands.specs.declared.command.Command.{Command}
 use Rattle.script_commands.specs.declared.command.Command.TheVariants as commands
 use Rattle.script_commands.specs.declared.command.Command.TheVariants.{New, Dup, Free, Use, Selected, Hold, Release, Setlocale, LocaleName, Install, Post, Fetch, Pins, ReadOf}
 use Rattle.script_commands.specs.declared.command.Read.{Read}
-use Rattle.script_commands.specs.declared.command.Read.TheVariants.{Info, Conv, Class, Upper, Lower, Money, Time}
+use Rattle.script_commands.specs.declared.command.Read.TheVariants.{Info, Conv, Class, Upper, Lower, Money, Time, Number, Parse}
 use Rattle.script_commands.specs.declared.command.Target.{Target}
 use Rattle.script_commands.specs.declared.command.Target.TheVariants.{Global, Variable, Handle}
-use Rattle.script_words.specs.declared.given.TheConstants.{DEFAULT_MAX, AMOUNT_LIMIT, FORMAT_LIMIT}
+use Rattle.script_words.specs.declared.given.TheConstants.{DEFAULT_MAX, AMOUNT_LIMIT, FORMAT_LIMIT, NUMBER_LIMIT, TEXT_LIMIT}
 use Rattle.script_words.specs.declared.given.WrittenTime.{WrittenTime}
 use Rattle.script_commands.specs.declared.known.Known.{Known}
 use Rattle.script_words.specs.declared.table.Question.{Question}
@@ -24,7 +25,7 @@ use Rattle.script_words.specs.Names.{is_thread_name}
 use Rattle.script_words.specs.Spans.{Span, next_word, end_of}
 use Rattle.script_words.specs.Tables.{first_named, commands_table, items_table}
 use Rattle.script_words.specs.Words.{text_of_word, quoted_of_word, bounded, zone_of_word, decimal_number, behind_front, max_number, categories_of_word, mask_of_word, variable_of_word, class_of_word, key_of_word, cell_number, WrittenHandle, handle_of_word, WrittenCell, cell_of_word}
-use Rattle.script_words.specs.Numbers.{short_number, offset_of_word, three_numbers, Amount, amount_of_word}
+use Rattle.script_words.specs.Numbers.{short_number, offset_of_word, three_numbers, Amount, amount_of_word, number_of_word}
 
 -- ---- words of a command
 
@@ -94,29 +95,42 @@ max_bytes s = argument s >>= λ x. elim (behind_front (codes "max=") x.0.bytes) 
   | Some digits ↦ (or_wrong x.0 (max_number digits) >>= λ n. Ok (n, x.1))
 ]
 
--- what is there, or else a format that is too long
-abbrev pub or_too_long : {A : Type 0} → Span → Option A → Reads A
-or_too_long w None = Err (w.place, OverLimit limits.Format)
-or_too_long w (Some a) = Ok a
+-- what is there, or else more than a limit allows
+abbrev pub or_over : {A : Type 0} → Limit → Span → Option A → Reads A
+or_over limit w None = Err (w.place, OverLimit limit)
+or_over limit w (Some a) = Ok a
 
--- a format, which stands in quotes, and what follows it
+-- a text in quotes, of at most so many bytes, and what follows it
+abbrev pub quoted_within : ℕ → Limit → Span → Reads (List ℕ × Span)
+quoted_within most limit s = argument s >>= λ x. or_wrong x.0 (quoted_of_word x.0.bytes) >>= λ text. or_over limit x.0 (bounded most text) >>= λ text. Ok (text, x.1)
+
+-- a format, and what follows it
 unfoldable pub format : Span → Reads (List ℕ × Span)
-format s = argument s >>= λ x. or_wrong x.0 (quoted_of_word x.0.bytes) >>= λ text. or_too_long x.0 (bounded FORMAT_LIMIT text) >>= λ text. Ok (text, x.1)
+format s = quoted_within FORMAT_LIMIT limits.Format s
 
--- amounts to the end of the line, of which there may be so many; one more that is well formed is one too many
-abbrev pub amounts_from : ℕ → Span → Reads (List Amount)
-amounts_from zero s = elim (next_word s) [
+-- a text that is scanned, and what follows it
+unfoldable pub command_text : Span → Reads (List ℕ × Span)
+command_text s = quoted_within TEXT_LIMIT limits.CommandText s
+
+-- the words to the end of the line, each read by a function of its bytes, of which there may be so many; one more that is
+-- well formed is one too many
+abbrev pub all_read_as : {A : Type 0} → (List ℕ → Option A) → Limit → ℕ → Span → Reads (List A)
+all_read_as read limit zero s = elim (next_word s) [
   | None ↦ Ok []
-  | Some x ↦ (or_wrong x.0 (amount_of_word x.0.bytes) >>= λ amount. Err (x.0.place, OverLimit limits.Amounts))
+  | Some x ↦ (or_wrong x.0 (read x.0.bytes) >>= λ a. Err (x.0.place, OverLimit limit))
 ]
-amounts_from (suc n) s = elim (next_word s) [
+all_read_as read limit (suc n) s = elim (next_word s) [
   | None ↦ Ok []
-  | Some x ↦ (or_wrong x.0 (amount_of_word x.0.bytes) >>= λ amount. amounts_from n x.1 >>= λ more. Ok (amount ∷ more))
+  | Some x ↦ (or_wrong x.0 (read x.0.bytes) >>= λ a. all_read_as read limit n x.1 >>= λ more. Ok (a ∷ more))
 ]
 
 -- all that is left are amounts
 unfoldable pub amounts : Span → Reads (List Amount)
-amounts s = amounts_from AMOUNT_LIMIT s
+amounts s = all_read_as amount_of_word limits.Amounts AMOUNT_LIMIT s
+
+-- all that is left are whole numbers
+unfoldable pub whole_numbers : Span → Reads (List ℤ)
+whole_numbers s = all_read_as number_of_word limits.Numbers NUMBER_LIMIT s
 
 -- minutes east of UTC, which may be left out, and what follows them
 unfoldable pub offset : Span → Reads (Option ℤ × Span)
@@ -193,6 +207,22 @@ time_words s = do
   over ← no_more time.1
   Ok (Time max.0 format.0 time.0)
 
+-- `MAX F NUMBERS`, of `number`
+unfoldable pub number_words : Span → Reads Read
+number_words s = do
+  max ← max_bytes s
+  format ← format max.1
+  numbers ← whole_numbers format.1
+  Ok (Number max.0 format.0 numbers)
+
+-- `F TEXT`, of `parse`
+unfoldable pub parse_words : Span → Reads Read
+parse_words s = do
+  format ← format s
+  text ← command_text format.1
+  over ← no_more text.1
+  Ok (Parse format.0 text.0)
+
 -- the words of what is read
 abbrev pub read_words : Question → Span → Reads Read
 read_words questions.Info s = info_words s
@@ -202,6 +232,8 @@ read_words questions.Upper s = lone_value s >>= λ value. Ok (Upper value)
 read_words questions.Lower s = lone_value s >>= λ value. Ok (Lower value)
 read_words questions.Money s = money_words s
 read_words questions.Time s = time_words s
+read_words questions.Number s = number_words s
+read_words questions.Parse s = parse_words s
 
 -- ---- commands, each by its words in order; what follows the first word is given
 

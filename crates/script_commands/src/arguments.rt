@@ -12,18 +12,19 @@ ghost use Rattle.script_words.specs.Spans.{span, spans};
 ghost use Rattle.script_words.specs.Words.{text_of_word, categories_of_word, mask_of_word, variable_of_word, class_of_word, cell_number, decimal_number};
 ghost use Rattle.script_words.specs.Numbers.{short_number, three_numbers};
 ghost use Rattle.script_words.specs.Tables.{first_named, items_table};
-ghost use Rattle.script_commands.specs.Commands.{argument, read_as, no_more, is_over, handle, target, target_word, lone_target, thread_cell, cell, key, max_bytes, format, amounts, offset, zone, moment};
+ghost use Rattle.script_commands.specs.Commands.{argument, read_as, no_more, is_over, handle, target, target_word, lone_target, thread_cell, cell, key, max_bytes, format, command_text, amounts, whole_numbers, offset, zone, moment};
 
 use crate::command::Target;
 use crate::known::{Known, THREAD_LIMIT, lacks_key, thread_number};
 use handle_table::Handle;
 use lc_base::{ByteText, CELLS, Item, Limit, LinePart, List, Place, Reason, TextFault};
 use script_words::{
-    AMOUNT_LIMIT, Categories, DEFAULT_MAX, Format, Piece, WrittenAmount, WrittenCell,
-    WrittenHandle, WrittenTime, amount_of_word, behind_front, categories_of_word, cell_number,
-    cell_of_word, class_of_word, decimal_number, handle_of_word, is_thread_name, item_named,
-    key_of_word, mask_of_word, max_number, offset_of_word, quoted_of_word, short_number,
-    text_of_word, three_numbers, variable_of_word, zone_of_word,
+    AMOUNT_LIMIT, Categories, CommandText, DEFAULT_MAX, Format, NUMBER_LIMIT, Piece, WrittenAmount,
+    WrittenCell, WrittenHandle, WrittenNumber, WrittenTime, amount_of_word, behind_front,
+    categories_of_word, cell_number, cell_of_word, class_of_word, decimal_number, handle_of_word,
+    is_thread_name, item_named, key_of_word, mask_of_word, max_number, number_of_word,
+    offset_of_word, quoted_of_word, short_number, text_of_word, three_numbers, variable_of_word,
+    zone_of_word,
 };
 use std::alloc::Global;
 
@@ -322,6 +323,21 @@ pub fn format(alloc: Global, rest: Piece<'_>) -> Result<(Format, Piece<'_>), Tex
     }
 }
 
+/// A text in quotes, and what follows it.
+#[tactic(auto, unfolding(crate::specs::Commands::command_text))]
+pub fn command_text(alloc: Global, rest: Piece<'_>) -> Result<(CommandText, Piece<'_>), TextFault>
+    ensures { Gives (λ x. (x.0, span x.1)) result (command_text (span rest.entry)) }
+{
+    let (word, rest) = argument(rest)?;
+    let Some(text) = quoted_of_word(alloc, word.bytes)? else {
+        return Err(wrong_word(word.place));
+    };
+    match CommandText::of(text) {
+        Some(text) => Ok((text, rest)),
+        None => Err(TextFault::At(word.place, Reason::OverLimit(Limit::CommandText))),
+    }
+}
+
 /// The amounts to the end of the line.
 #[tactic(auto, unfolding(crate::specs::Commands::amounts))]
 pub fn amounts(alloc: Global, rest: Piece<'_>) -> Result<List<WrittenAmount>, TextFault>
@@ -340,6 +356,26 @@ pub fn amounts(alloc: Global, rest: Piece<'_>) -> Result<List<WrittenAmount>, Te
         left = behind;
     }
     Ok(List::of(amounts))
+}
+
+/// The whole numbers to the end of the line.
+#[tactic(auto, unfolding(crate::specs::Commands::whole_numbers))]
+pub fn whole_numbers(alloc: Global, rest: Piece<'_>) -> Result<List<WrittenNumber>, TextFault>
+    ensures { Gives (λ x. x) result (whole_numbers (span rest.entry)) }
+{
+    let mut numbers = Vec::new(alloc);
+    let mut left = rest;
+    while let Some((word, behind)) = left.next_word() {
+        let Some(number) = number_of_word(word.bytes) else {
+            return Err(wrong_word(word.place));
+        };
+        if numbers.len() == NUMBER_LIMIT {
+            return Err(TextFault::At(word.place, Reason::OverLimit(Limit::Numbers)));
+        }
+        numbers.push(number)?;
+        left = behind;
+    }
+    Ok(List::of(numbers))
 }
 
 /// Three numbers with a byte between them, and what follows them.

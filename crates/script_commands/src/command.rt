@@ -2,7 +2,7 @@
 
 use handle_table::Handle;
 use lc_base::{ByteText, Item, List};
-use script_words::{Categories, Format, WrittenAmount, WrittenTime};
+use script_words::{Categories, CommandText, Format, WrittenAmount, WrittenNumber, WrittenTime};
 
 /// What a command names.
 #[derive(Debug, Drop)]
@@ -48,6 +48,18 @@ pub enum Read {
         max: u32,
         format: Format,
         time: WrittenTime,
+    },
+    /// `number MAX F NUMBERS`, `number_l H MAX F NUMBERS`: printf's whole numbers.
+    Number {
+        /// The most bytes of the text.
+        max: u32,
+        format: Format,
+        numbers: List<WrittenNumber>,
+    },
+    /// `parse F TEXT`, `parse_l H F TEXT`: strptime.
+    Parse {
+        format: Format,
+        text: CommandText,
     },
 }
 

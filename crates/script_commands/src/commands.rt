@@ -5,11 +5,12 @@ ghost use Rattle.std.specs.Option.{option_copied};
 ghost use Rattle.lc_base.specs.Reading.{Gives};
 ghost use Rattle.script_commands.specs.InRange.{IsBaseOwned, IsInRange};
 ghost use Rattle.script_words.specs.Spans.{span};
-ghost use Rattle.script_commands.specs.Commands.{info_words, conv_words, class_words, lone_value, money_words, time_words, read_words, base, new_command, dup_command, selection, use_command, setlocale_command, install_command, post_command, fetch_command, read_command, read_of_command, command_of, command};
+ghost use Rattle.script_commands.specs.Commands.{info_words, conv_words, class_words, lone_value, money_words, time_words, number_words, parse_words, read_words, base, new_command, dup_command, selection, use_command, setlocale_command, install_command, post_command, fetch_command, read_command, read_of_command, command_of, command};
 
 use crate::arguments::{
-    amounts, argument, categories, cell, cell_word, class, format, is_over, item, key, locale,
-    lone_target, mask, max_bytes, moment, no_more, target, target_word, value, variable,
+    amounts, argument, categories, cell, cell_word, class, command_text, format, is_over, item,
+    key, locale, lone_target, mask, max_bytes, moment, no_more, target, target_word, value,
+    variable, whole_numbers,
 };
 use crate::command::{Command, Read, Target};
 use crate::known::{Known, THREAD_LIMIT};
@@ -84,6 +85,32 @@ fn time_words(alloc: Global, rest: Piece<'_>) -> Result<Read, TextFault>
     Ok(Read::Time { max, format, time })
 }
 
+/// `MAX F NUMBERS`, of `number`.
+#[tactic(auto, unfolding(crate::specs::Commands::number_words))]
+fn number_words(alloc: Global, rest: Piece<'_>) -> Result<Read, TextFault>
+    ensures { Gives (λ x. x) result (number_words (span rest.entry)) }
+{
+    let (max, rest) = max_bytes(rest)?;
+    let (format, rest) = format(alloc, rest)?;
+    let numbers = whole_numbers(alloc, rest)?;
+    Ok(Read::Number {
+        max,
+        format,
+        numbers,
+    })
+}
+
+/// `F TEXT`, of `parse`.
+#[tactic(auto, unfolding(crate::specs::Commands::parse_words))]
+fn parse_words(alloc: Global, rest: Piece<'_>) -> Result<Read, TextFault>
+    ensures { Gives (λ x. x) result (parse_words (span rest.entry)) }
+{
+    let (format, rest) = format(alloc, rest)?;
+    let (text, rest) = command_text(alloc, rest)?;
+    no_more(rest)?;
+    Ok(Read::Parse { format, text })
+}
+
 /// The words of what is read.
 fn read_words(alloc: Global, question: Question, rest: Piece<'_>) -> Result<Read, TextFault>
     ensures { Gives (λ x. x) result (read_words question (span rest.entry)) }
@@ -96,6 +123,8 @@ fn read_words(alloc: Global, question: Question, rest: Piece<'_>) -> Result<Read
         Question::Lower => Ok(Read::Lower(lone_value(rest)?)),
         Question::Money => money_words(alloc, rest),
         Question::Time => time_words(alloc, rest),
+        Question::Number => number_words(alloc, rest),
+        Question::Parse => parse_words(alloc, rest),
     }
 }
 

@@ -1,5 +1,5 @@
--- What a read of an object replies (XSH nl_langinfo, localeconv, iswctype, towupper, towlower, strfmon and strftime; the words of a refusal are our own).
-use Rattle.std.specs.Prelude.{ℕ, Bool, List, [], ◌∷◌, ◌++◌, map, Option, Some, None, Result, Ok, Err}
+-- What a read of an object replies (XSH nl_langinfo, localeconv, iswctype, towupper, towlower, strfmon, strftime, fprintf and strptime; the words of a refusal are our own).
+use Rattle.std.specs.Prelude.{ℕ, ℤ, Bool, List, [], ◌∷◌, ◌++◌, map, Option, Some, None, Result, Ok, Err}
 use Rattle.std.specs.Fmt.{decimal}
 use Rattle.std.specs.List.{flat_map}
 use Rattle.lc_base.specs.declared.item.Item.{Item}
@@ -20,6 +20,11 @@ use Rattle.strfmon.specs.Money.{money}
 use Rattle.strftime_fields.specs.declared.fault.TimeFault.{TimeFault}
 use Rattle.strftime_fields.specs.declared.fault.TimeFault.TheVariants as time_faults
 use Rattle.strftime_fields.specs.Answers.{answer}
+use Rattle.int_format.specs.declared.fault.IntFault.{IntFault}
+use Rattle.int_format.specs.declared.fault.IntFault.TheVariants as int_faults
+use Rattle.int_format.specs.Ints.{at_most, ints}
+use Rattle.strptime_fields.specs.declared.fault.ScanFault.TheVariants as scan_faults
+use Rattle.strptime_fields.specs.Scans.{Scanned, scan}
 use Rattle.langinfo.specs.declared.conv.Lconv.{Lconv}
 use Rattle.langinfo.specs.Items.{info}
 use Rattle.langinfo.specs.Conv.{conv}
@@ -140,6 +145,34 @@ moment_said values max format (Err range) = said.Refused (whys.TmRange range.fie
 abbrev pub time_said : Catalog → Parts → ℕ → List ℕ → WrittenTime → Said
 time_said library object max format t = moment_said (time_in library object) max format (time_given t)
 
+-- ---- fprintf of whole numbers
+
+-- why there is no text of numbers. The last row never arises, as above: `ints` and `at_most` refuse by the other three alone
+abbrev pub int_fault_said : IntFault → Said
+int_fault_said (int_faults.BadFormat at) = said.Refused (whys.BadFormat at)
+int_fault_said (int_faults.MissingNumber at) = said.Refused (whys.MissingNumber at)
+int_fault_said int_faults.TooBig = said.Refused whys.TooBig
+int_fault_said int_faults.Memory = said.Refused whys.TooBig
+
+abbrev pub number_text_said : Result (List ℕ) IntFault → Said
+number_text_said (Ok text) = said.Text text
+number_text_said (Err fault) = int_fault_said fault
+
+-- the text, unless it is longer than max; a wrong conversion and a missing number go before that
+abbrev pub number_said : Catalog → Parts → ℕ → List ℕ → List ℤ → Said
+number_said library object max format numbers = number_text_said (at_most max (ints (numeric_in library object) format numbers))
+
+-- ---- strptime
+
+-- the fields that a text has, with the index of its first byte that was not read, or why it has none
+abbrev pub scanned_said : Scanned → Said
+scanned_said (Ok found) = said.Parsed found.0 found.1
+scanned_said (Err (scan_faults.BadFormat at)) = said.Refused (whys.BadFormat at)
+scanned_said (Err (scan_faults.Mismatch at)) = said.Refused (whys.Mismatch at)
+
+abbrev pub parse_said : Catalog → Parts → List ℕ → List ℕ → Said
+parse_said library object format text = scanned_said (scan (time_in library object) format text)
+
 -- ---- reads
 
 -- what a read replies of an object
@@ -151,3 +184,5 @@ local library object (reads.Upper value) = said.Value (image (ctype_in library o
 local library object (reads.Lower value) = said.Value (image (ctype_in library object).lower value)
 local library object (reads.Money max format amounts) = money_said library object max format amounts
 local library object (reads.Time max format time) = time_said library object max format time
+local library object (reads.Number max format numbers) = number_said library object max format numbers
+local library object (reads.Parse format text) = parse_said library object format text

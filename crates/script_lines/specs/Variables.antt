@@ -72,6 +72,7 @@ handle_said (said.Installed count) = None
 handle_said said.Posted = None
 handle_said (said.Pins count) = None
 handle_said (said.Text text) = None
+handle_said (said.Parsed fields rest) = None
 handle_said (said.Conv texts numbers) = None
 handle_said (said.Class is) = None
 handle_said (said.Value value) = None

@@ -119,6 +119,7 @@ pub fn handle_said(reply: &Said) -> Option<Handle>
         | Said::Posted
         | Said::Pins(_)
         | Said::Text(_)
+        | Said::Parsed(..)
         | Said::Conv(..)
         | Said::Class(_)
         | Said::Value(_)

@@ -1,10 +1,13 @@
 //! What reads of an object reply.
 
-ghost use Rattle.std.specs.Prelude.{◌≡◌, ◌++◌, IfOk, OnOk};
-ghost use Rattle.script_lines.specs.Reads.{ctype_in, numeric_in, monetary_in, time_in, messages_in, info_said, more_sizes, sizes_text, conv_texts, conv_numbers, fields_said, conv_said, class_said, amounts_given, money_said, time_given, time_said, local};
+ghost use Rattle.std.specs.Prelude.{◌≡◌, ◌++◌, true, IfOk, OnOk};
+ghost use Rattle.std.specs.List.{list_all};
+ghost use Rattle.int_format.specs.Ints.{is_number};
+ghost use Rattle.script_lines.specs.Reads.{ctype_in, numeric_in, monetary_in, time_in, messages_in, info_said, more_sizes, sizes_text, conv_texts, conv_numbers, fields_said, conv_said, class_said, amounts_given, money_said, time_given, time_said, number_said, scanned_said, parse_said, local};
 
 use category_store::{Library, Share};
 use ctype_classes::Ctype;
+use int_format::{IntFault, int_format};
 use langinfo::{Lconv, localeconv, nl_langinfo};
 use lc_base::{ByteText, Category, Item, List};
 use mask_compose::Object;
@@ -13,10 +16,11 @@ use monetary_cat::Monetary;
 use numeric_cat::Numeric;
 use script_commands::Read;
 use script_out::{Said, Why, push_number};
-use script_words::{Format, WrittenAmount, WrittenTime};
+use script_words::{CommandText, Format, WrittenAmount, WrittenNumber, WrittenTime};
 use std::alloc::{AllocError, Global};
 use strfmon::{Amount, MoneyFault, strfmon};
 use strftime_fields::{TimeFault, Tm, TmRange, strftime};
+use strptime_fields::{Parsed, ScanFault, strptime};
 use time_cat::Time;
 
 /// What a read replies of an object.
@@ -43,6 +47,12 @@ pub fn local(
             amounts,
         } => money_said(alloc, library, object, *max, format, amounts),
         Read::Time { max, format, time } => time_said(alloc, library, object, *max, format, time),
+        Read::Number {
+            max,
+            format,
+            numbers,
+        } => number_said(alloc, library, object, *max, format, numbers),
+        Read::Parse { format, text } => Ok(parse_said(library, object, format, text)),
     }
 }
 
@@ -296,4 +306,68 @@ fn time_said(
         Err(TimeFault::TooBig) => Ok(Said::Refused(Why::TooBig)),
         Err(TimeFault::Memory) => Err(AllocError),
     }
+}
+
+/// The numbers, as int_format takes them.
+fn numbers_given(alloc: Global, numbers: &[WrittenNumber]) -> Result<Vec<i128>, AllocError>
+    ensures same { IfOk result (λ given. given.items ≡ numbers.now) }
+    ensures in_range { IfOk result (λ given. list_all is_number given.items ≡ true) }
+{
+    let mut given = Vec::new(alloc);
+    for number in numbers {
+        given.push(number.value())?;
+    }
+    Ok(given)
+}
+
+/// The text of whole numbers, or why there is none.
+fn number_said(
+    alloc: Global,
+    library: &Library,
+    object: &Object<Share>,
+    max: u32,
+    format: &Format,
+    numbers: &List<WrittenNumber>,
+) -> Result<Said, AllocError>
+    ensures { IfOk result (λ said. said ≡ number_said library.now object.now max format.now numbers.now) }
+{
+    let numbers = numbers_given(alloc, numbers.as_slice())?;
+    let values = numeric_in(library, object);
+    match int_format(
+        alloc,
+        values,
+        format.as_bytes(),
+        numbers.as_slice(),
+        max as usize,
+    ) {
+        Ok(text) => Ok(Said::Text(text)),
+        Err(IntFault::BadFormat { at }) => Ok(Said::Refused(Why::BadFormat(at))),
+        Err(IntFault::MissingNumber { at }) => Ok(Said::Refused(Why::MissingNumber(at))),
+        Err(IntFault::TooBig) => Ok(Said::Refused(Why::TooBig)),
+        Err(IntFault::Memory) => Err(AllocError),
+    }
+}
+
+/// The fields that a text has, or why it has none.
+fn scanned_said(scanned: Result<(Parsed, usize), ScanFault>) -> Said
+    ensures { result ≡ scanned_said scanned }
+{
+    match scanned {
+        Ok((fields, rest)) => Said::Parsed(fields, rest),
+        Err(ScanFault::BadFormat { at }) => Said::Refused(Why::BadFormat(at)),
+        Err(ScanFault::Mismatch { at }) => Said::Refused(Why::Mismatch(at)),
+    }
+}
+
+/// The fields of a time that a text has, or why it has none.
+fn parse_said(
+    library: &Library,
+    object: &Object<Share>,
+    format: &Format,
+    text: &CommandText,
+) -> Said
+    ensures { result ≡ parse_said library.now object.now format.now text.now }
+{
+    let values = time_in(library, object);
+    scanned_said(strptime(values, format.as_bytes(), text.as_bytes()))
 }

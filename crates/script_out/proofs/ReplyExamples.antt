@@ -1,7 +1,8 @@
 -- Printed lines and replies.
-use Rattle.std.proofs.Common.{◌≡◌, ℕ, true, false, List, [], ◌∷◌, ◌++◌, Some, None, refl}
+use Rattle.std.proofs.Common.{◌≡◌, ℕ, pos, negsuc, true, false, List, [], ◌∷◌, ◌++◌, Some, None, refl}
 use Rattle.std.specs.Prelude.{codes}
 use Rattle.std.specs.Fmt.{digits}
+use Rattle.strptime_fields.specs.declared.parsed.Parsed.{Parsed}
 use Rattle.handle_table.specs.declared.handle.Handle.{Handle}
 use Rattle.handle_table.specs.declared.handle.Named.TheVariants.{Global, Of}
 use Rattle.handle_table.specs.declared.op.Refusal.TheVariants as refusals
@@ -71,6 +72,45 @@ pinned = refl
 text_printed : reply_text names (said.Text (97 ∷ 34 ∷ 92 ∷ 10 ∷ 31 ∷ 32 ∷ 126 ∷ 127 ∷ 195 ∷ [])) ≡ codes "text \"a\\\"\\\\\\x0a\\x1f ~\\x7f" ++ 195 ∷ 34 ∷ []
 text_printed = refl
 
+-- a time without a day of the year: the fields that the text does not have are `-`
+abbrev time_read : Parsed
+time_read = record {
+  year = Some (pos 2021);
+  mon = Some 1;
+  mday = Some 3;
+  hour = Some 14;
+  min = Some 5;
+  sec = Some 6;
+  wday = Some 0;
+  yday = None;
+}
+
+parsed_printed : reply_text names (said.Parsed time_read 24) ≡ codes "parsed 2021 1 3 14 5 6 0 - 24"
+unfolding digits
+parsed_printed = refl
+
+-- the day of the month alone
+abbrev day_read : Parsed
+day_read = record {
+  year = None;
+  mon = None;
+  mday = Some 7;
+  hour = None;
+  min = None;
+  sec = None;
+  wday = None;
+  yday = None;
+}
+
+day_printed : reply_text names (said.Parsed day_read 1) ≡ codes "parsed - - 7 - - - - - 1"
+unfolding digits
+day_printed = refl
+
+-- the day of the year is the last field, and a year below 0 has its sign
+ends_printed : reply_text names (said.Parsed (record day_read { year = Some (negsuc 11); mday = None; yday = Some 365 }) 0) ≡ codes "parsed -12 - - - - - - 365 0"
+unfolding digits
+ends_printed = refl
+
 conv_printed : reply_text [] (said.Conv (codes "." ∷ [] ∷ codes "3;3" ∷ []) (127 ∷ 0 ∷ [])) ≡ codes "conv \".\" \"\" \"3;3\" 127 0"
 unfolding digits
 conv_printed = refl
@@ -131,6 +171,14 @@ bad_format = refl
 missing_amount : reply_text [] (said.Refused (whys.MissingAmount 3)) ≡ codes "refused MissingAmount 3"
 unfolding digits
 missing_amount = refl
+
+missing_number : reply_text [] (said.Refused (whys.MissingNumber 3)) ≡ codes "refused MissingNumber 3"
+unfolding digits
+missing_number = refl
+
+mismatch : reply_text [] (said.Refused (whys.Mismatch 2)) ≡ codes "refused Mismatch 2"
+unfolding digits
+mismatch = refl
 
 too_big : reply_text [] (said.Refused whys.TooBig) ≡ codes "refused TooBig"
 too_big = refl

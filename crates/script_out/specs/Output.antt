@@ -1,7 +1,7 @@
 -- The printed lines (our own).
-use Rattle.std.specs.Prelude.{ℕ, Bool, ◌+◌, ◌/◌, ◌%◌, ◌==◌, nat_lt, ◌||◌, List, [], ◌∷◌, ◌++◌, slice_index_or, codes, Option, Some, None, if◌then◌else◌}
+use Rattle.std.specs.Prelude.{ℕ, ℤ, Bool, ◌+◌, ◌/◌, ◌%◌, ◌==◌, nat_lt, ◌||◌, List, [], ◌∷◌, ◌++◌, slice_index_or, codes, Option, Some, None, if◌then◌else◌}
 use Rattle.std.specs.List.{flat_map}
-use Rattle.std.specs.Fmt.{decimal}
+use Rattle.std.specs.Fmt.{decimal, signed_decimal}
 use Rattle.lc_base.specs.Categories.{category_name}
 use Rattle.script_out.specs.declared.output.Places.{Places}
 use Rattle.script_out.specs.declared.output.Places.TheVariants as places
@@ -15,6 +15,7 @@ use Rattle.handle_table.specs.declared.handle.Handle.{Handle}
 use Rattle.handle_table.specs.declared.handle.Named.{Named}
 use Rattle.handle_table.specs.declared.handle.Named.TheVariants.{Global, Of}
 use Rattle.script_out.specs.declared.output.OutLine.{OutLine}
+use Rattle.strptime_fields.specs.declared.parsed.Parsed.{Parsed}
 use Rattle.time_cat.specs.declared.tm.TmField.{TmField}
 use Rattle.time_cat.specs.declared.tm.TmField.TheVariants as fields
 
@@ -93,7 +94,31 @@ why_text whys.NoClass = codes "NoClass"
 why_text (whys.TmRange field) = codes "TmRange " ++ field_text field
 why_text (whys.BadFormat at) = codes "BadFormat " ++ decimal at
 why_text (whys.MissingAmount at) = codes "MissingAmount " ++ decimal at
+why_text (whys.MissingNumber at) = codes "MissingNumber " ++ decimal at
+why_text (whys.Mismatch at) = codes "Mismatch " ++ decimal at
 why_text whys.TooBig = codes "TooBig"
+
+-- a year, and `-` where there is none
+abbrev pub year_text : Option ℤ → List ℕ
+year_text None = codes "-"
+year_text (Some year) = signed_decimal year
+
+-- a number, and `-` where there is none
+abbrev pub known_text : Option ℕ → List ℕ
+known_text None = codes "-"
+known_text (Some n) = decimal n
+
+-- fields, each behind a space
+abbrev pub fields_text : List (Option ℕ) → List ℕ
+fields_text fields = flat_map (λ field. space ++ known_text field) fields
+
+-- the fields behind the year, in the order in which they are printed
+abbrev pub fields_behind_year : Parsed → List (Option ℕ)
+fields_behind_year p = p.mon ∷ p.mday ∷ p.hour ∷ p.min ∷ p.sec ∷ p.wday ∷ p.yday ∷ []
+
+-- the fields of a time that was read, and the index of the first byte that was not read
+abbrev pub parsed_text : Parsed → ℕ → List ℕ
+parsed_text p rest = codes "parsed " ++ year_text p.year ++ fields_text (fields_behind_year p) ++ space ++ decimal rest
 
 -- texts in quotes, each behind a space
 abbrev pub texts_text : List (List ℕ) → List ℕ
@@ -120,6 +145,7 @@ reply_text names (said.Installed count) = codes "installed " ++ decimal count
 reply_text names said.Posted = codes "posted"
 reply_text names (said.Pins count) = codes "pins " ++ decimal count
 reply_text names (said.Text text) = codes "text " ++ quoted text
+reply_text names (said.Parsed fields rest) = parsed_text fields rest
 reply_text names (said.Conv texts numbers) = codes "conv" ++ texts_text texts ++ numbers_text numbers
 reply_text names (said.Class is) = class_text is
 reply_text names (said.Value value) = codes "value " ++ decimal value

@@ -1,14 +1,15 @@
 //! The printed lines.
 
-ghost use Rattle.std.specs.Prelude.{◌≡◌, ◌++◌, ◌<◌, [], slice_index_or, IfOk, OnOk};
+ghost use Rattle.std.specs.Prelude.{◌≡◌, ◌++◌, ◌<◌, ◌≤◌, ◌==◌, ◌||◌, nat_lt, take, length, [], ◌∷◌, slice_index_or, IsTrue, IfOk, OnOk};
 ghost use Rattle.std.specs.Fmt.{decimal};
 ghost use Rattle.std.specs.List.{flat_map};
-ghost use Rattle.script_out.specs.Output.{hex_digit, escaped, quoted, places_text, version_text, handle_text, named_text, refusal_text, field_text, why_text, texts_text, numbers_text, class_text, reply_text, caller_text, outcome_text, line_text, printed};
+ghost use Rattle.script_out.specs.Output.{hex_digit, escaped, quoted, places_text, version_text, handle_text, named_text, refusal_text, field_text, why_text, year_text, known_text, fields_behind_year, fields_text, parsed_text, texts_text, numbers_text, class_text, reply_text, caller_text, outcome_text, line_text, printed};
 
 use handle_table::{Handle, Named, Refusal};
 use itoa::Buffer;
 use lc_base::{ByteText, List};
 use std::alloc::{AllocError, Global};
+use strptime_fields::Parsed;
 use time_cat::TmField;
 
 /// The positions of a line's entries in the history.
@@ -39,6 +40,10 @@ pub enum Why {
     BadFormat(usize),
     /// No amount is left for the `%` at this byte of the format.
     MissingAmount(usize),
+    /// No number is left for the `%` at this byte of the format.
+    MissingNumber(usize),
+    /// The text does not meet an item of the format; the item begins at this byte of the text.
+    Mismatch(usize),
     /// The text is longer than it may be.
     TooBig,
 }
@@ -67,8 +72,10 @@ pub enum Said {
     Posted,
     /// pins: their number.
     Pins(u32),
-    /// nl_langinfo, strfmon and strftime.
+    /// nl_langinfo, strfmon, strftime and the text of whole numbers.
     Text(ByteText),
+    /// strptime: the fields that were read, and the index of the first byte that was not read.
+    Parsed(Parsed, usize),
     /// localeconv: the ten fields that are texts, and the fourteen that are numbers.
     Conv(List<ByteText>, List<u8>),
     /// iswctype: whether the value is of the class.
@@ -209,6 +216,7 @@ fn push_reply(out: &mut Vec<u8>, reply: &Said, threads: &List<ByteText>) -> Resu
             out.extend_from_slice(b"text ")?;
             push_quoted(out, text.as_bytes())
         }
+        Said::Parsed(fields, rest) => push_parsed(out, *fields, *rest),
         Said::Conv(texts, numbers) => {
             out.extend_from_slice(b"conv")?;
             push_texts(out, texts.as_slice())?;
@@ -235,6 +243,73 @@ fn push_reply(out: &mut Vec<u8>, reply: &Said, threads: &List<ByteText>) -> Resu
             out.extend_from_slice(b"refused ")?;
             push_why(out, *why)
         }
+    }
+}
+
+/// Adds the fields of a time and the index of the first byte that was not read.
+fn push_parsed(out: &mut Vec<u8>, fields: Parsed, rest: usize) -> Result<(), AllocError>
+    ensures { OnOk result (out.new.items ≡ out.old.items ++ parsed_text fields rest) }
+{
+    out.extend_from_slice(b"parsed ")?;
+    push_year(out, fields.year)?;
+    push_fields(out, &fields_behind_year(fields))?;
+    out.push(b' ')?;
+    push_number(out, rest as u64)
+}
+
+/// Adds a year, or `-` where there is none.
+fn push_year(out: &mut Vec<u8>, year: Option<i32>) -> Result<(), AllocError>
+    ensures { OnOk result (out.new.items ≡ out.old.items ++ year_text year) }
+{
+    match year {
+        None => out.extend_from_slice(b"-"),
+        Some(year) => out.extend_from_slice(Buffer::new().format(year).as_bytes()),
+    }
+}
+
+/// The fields behind the year, in the order in which they are printed.
+fn fields_behind_year(fields: Parsed) -> [Option<u16>; 7]
+    ensures { result ≡ fields_behind_year fields }
+{
+    [
+        widened(fields.mon),
+        widened(fields.mday),
+        widened(fields.hour),
+        widened(fields.min),
+        widened(fields.sec),
+        widened(fields.wday),
+        fields.yday,
+    ]
+}
+
+/// The same field, as wide as the day of the year.
+fn widened(field: Option<u8>) -> Option<u16>
+    ensures { result ≡ field }
+{
+    match field {
+        None => None,
+        Some(n) => Some(u16::from(n)),
+    }
+}
+
+/// Adds fields, each behind a space.
+fn push_fields(out: &mut Vec<u8>, fields: &[Option<u16>]) -> Result<(), AllocError>
+    ensures { OnOk result (out.new.items ≡ out.old.items ++ fields_text fields.now) }
+{
+    for field in fields {
+        out.push(b' ')?;
+        push_field(out, *field)?;
+    }
+    Ok(())
+}
+
+/// Adds a field, or `-` where there is none.
+fn push_field(out: &mut Vec<u8>, field: Option<u16>) -> Result<(), AllocError>
+    ensures { OnOk result (out.new.items ≡ out.old.items ++ known_text field) }
+{
+    match field {
+        None => out.extend_from_slice(b"-"),
+        Some(n) => push_number(out, u64::from(n)),
     }
 }
 
@@ -308,11 +383,13 @@ fn push_why(out: &mut Vec<u8>, why: Why) -> Result<(), AllocError>
         }
         Why::BadFormat(at) => push_at(out, b"BadFormat ", at),
         Why::MissingAmount(at) => push_at(out, b"MissingAmount ", at),
+        Why::MissingNumber(at) => push_at(out, b"MissingNumber ", at),
+        Why::Mismatch(at) => push_at(out, b"Mismatch ", at),
         Why::TooBig => out.extend_from_slice(b"TooBig"),
     }
 }
 
-/// Adds a word and a place in a format.
+/// Adds a word and a place in a format or in a text.
 fn push_at(out: &mut Vec<u8>, word: &[u8], at: usize) -> Result<(), AllocError>
     ensures { OnOk result (out.new.items ≡ out.old.items ++ (word.now ++ decimal at)) }
 {
@@ -369,26 +446,86 @@ fn push_quoted(out: &mut Vec<u8>, text: &[u8]) -> Result<(), AllocError>
     ensures { OnOk result (out.new.items ≡ out.old.items ++ quoted text.now) }
 {
     out.push(b'"')?;
-    push_all_escaped(out, text)?;
+    if is_plain_text(text) {
+        out.extend_from_slice(text)?;
+    } else {
+        push_escaped_text(out, text)?;
+    }
     out.push(b'"')?;
     Ok(())
 }
 
-fn push_all_escaped(out: &mut Vec<u8>, text: &[u8]) -> Result<(), AllocError>
+/// Whether a text stands in quotes as it is. Reads to the end of it, many bytes at once.
+fn is_plain_text(text: &[u8]) -> bool
+    ensures { IsTrue result → flat_map escaped text.now ≡ text.now }
+{
+    let mut plain = true;
+    for c in text {
+        if !is_plain(*c) {
+            plain = false;
+        }
+    }
+    plain
+}
+
+/// Adds a text, with the bytes between those that are escaped at once.
+fn push_escaped_text(out: &mut Vec<u8>, text: &[u8]) -> Result<(), AllocError>
     ensures { OnOk result (out.new.items ≡ out.old.items ++ flat_map escaped text.now) }
 {
-    for c in text {
-        push_escaped(out, *c)?;
+    let mut left = text;
+    loop {
+        let (plain, behind) = left.split_at(plain_length(left));
+        out.extend_from_slice(plain)?;
+        match behind {
+            [] => return Ok(()),
+            [c, behind @ ..] => {
+                push_escaped(out, *c)?;
+                left = behind;
+            }
+        }
     }
-    Ok(())
+}
+
+/// How many bytes at the front of a text stand in quotes as they are.
+fn plain_length(text: &[u8]) -> usize
+    ensures within { result ≤ length text.now }
+    ensures plain { flat_map escaped (take result text.now) ≡ take result text.now }
+{
+    for (i, c) in text.iter().enumerate() {
+        if !is_plain(*c) {
+            return i;
+        }
+    }
+    text.len()
+}
+
+/// Whether a byte stands in quotes as it is.
+fn is_plain(c: u8) -> bool
+    ensures { IsTrue result → escaped c ≡ c ∷ [] }
+{
+    !is_quote(c) && !is_control(c)
+}
+
+/// Whether a byte has a backslash before it in quotes.
+fn is_quote(c: u8) -> bool
+    ensures { result ≡ ((c == 34) || (c == 92)) }
+{
+    c == b'"' || c == b'\\'
+}
+
+/// Whether a byte stands in quotes by its number.
+fn is_control(c: u8) -> bool
+    ensures { result ≡ (nat_lt c 32 || (c == 127)) }
+{
+    c < 32 || c == 127
 }
 
 fn push_escaped(out: &mut Vec<u8>, c: u8) -> Result<(), AllocError>
     ensures { OnOk result (out.new.items ≡ out.old.items ++ escaped c) }
 {
-    if c == b'"' || c == b'\\' {
+    if is_quote(c) {
         out.extend_from_slice(&[b'\\', c])
-    } else if c < 32 || c == 127 {
+    } else if is_control(c) {
         out.extend_from_slice(&[b'\\', b'x', hex_digit(c / 16), hex_digit(c % 16)])
     } else {
         out.extend_from_slice(&[c])

@@ -1,9 +1,9 @@
--- Times and amounts of money, as they are written (our own).
-use Rattle.std.specs.Prelude.{ℕ, ◌^◌, ℤ, pos, neg_ℤ, ◌==◌, nat_lt, nat_le, Bool, true, false, ◌&&◌, List, [], ◌∷◌, ◌++◌, length, Option, Some, None, option_map, option_and_then, if◌then◌else◌}
+-- Times, amounts of money and whole numbers, as they are written (our own).
+use Rattle.std.specs.Prelude.{ℕ, ◌^◌, ℤ, pos, negsuc, neg_ℤ, ◌==◌, nat_lt, nat_le, Bool, true, false, ◌&&◌, List, [], ◌∷◌, ◌++◌, length, Option, Some, None, option_map, option_and_then, if◌then◌else◌}
 use Rattle.std.specs.Char.{is_ascii_digit}
 use Rattle.std.specs.List.{list_all}
 use Rattle.std.specs.Str.Parse.{digits_value}
-use Rattle.script_words.specs.declared.given.TheConstants.{TIME_DIGITS, WHOLE_DIGITS, FRACTION_DIGITS}
+use Rattle.script_words.specs.declared.given.TheConstants.{TIME_DIGITS, WHOLE_DIGITS, FRACTION_DIGITS, NUMBER_DIGITS}
 use Rattle.script_words.specs.Words.{decimal_number, cut_at}
 
 -- ---- times
@@ -65,3 +65,26 @@ unsigned_amount negative w = elim (cut_at 46 w) [
 unfoldable pub amount_of_word : List ℕ → Option Amount
 amount_of_word [] = None
 amount_of_word (c ∷ cs) = if c == 45 then unsigned_amount true cs else unsigned_amount false (c ∷ cs)
+
+-- ---- whole numbers
+
+-- whether a number is from -2 ^ 63 to 2 ^ 64 - 1
+abbrev pub is_number : ℤ → Bool
+is_number (pos n) = nat_lt n (2 ^ 64)
+is_number (negsuc n) = nat_lt n (2 ^ 63)
+
+-- a number that is in this range
+abbrev pub in_range : ℤ → Option ℤ
+in_range v = if is_number v then Some v else None
+
+-- the number of digits, of which there is one at least, behind its sign
+abbrev pub number_of : Bool → List ℕ → Option ℤ
+number_of negative ds =
+    if nat_lt 0 (length ds) && are_digits NUMBER_DIGITS ds
+    then in_range (if negative then neg_ℤ (pos (digits_value 10 ds)) else pos (digits_value 10 ds))
+    else None
+
+-- a whole number, perhaps behind a `-`
+unfoldable pub number_of_word : List ℕ → Option ℤ
+number_of_word [] = None
+number_of_word (c ∷ cs) = if c == 45 then number_of true cs else number_of false (c ∷ cs)

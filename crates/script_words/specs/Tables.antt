@@ -52,6 +52,10 @@ commands_table =
     (codes "money_l", verbs.ReadOf questions.Money) ∷
     (codes "time", verbs.Read questions.Time) ∷
     (codes "time_l", verbs.ReadOf questions.Time) ∷
+    (codes "number", verbs.Read questions.Number) ∷
+    (codes "number_l", verbs.ReadOf questions.Number) ∷
+    (codes "parse", verbs.Read questions.Parse) ∷
+    (codes "parse_l", verbs.ReadOf questions.Parse) ∷
     []
 
 -- the items

@@ -1,4 +1,4 @@
-//! What commands that format are given.
+//! What commands that format and scan are given.
 
 ghost use Rattle.std.specs.Prelude.{◌≡◌, ◌≤◌, length};
 ghost use Rattle.script_words.specs.Words.{bounded};
@@ -23,6 +23,15 @@ pub const WHOLE_DIGITS: usize = 19;
 
 /// The most digits of an amount behind its point.
 pub const FRACTION_DIGITS: usize = 18;
+
+/// The most numbers of a command.
+pub const NUMBER_LIMIT: usize = 64;
+
+/// The most digits of a number.
+pub const NUMBER_DIGITS: usize = 20;
+
+/// The most bytes of a text that a command scans.
+pub const TEXT_LIMIT: usize = 1024;
 
 /// The most digits of a number of a time.
 pub const TIME_DIGITS: usize = 9;
@@ -113,6 +122,86 @@ impl WrittenAmount {
         ensures small { result ≤ FRACTION_DIGITS }
     {
         self.scale
+    }
+}
+
+/// A whole number as it is written, from -2^63 to 2^64 - 1.
+#[derive(Clone, Copy, Debug)]
+pub struct WrittenNumber {
+    number: i128,
+}
+
+impl Model for WrittenNumber {
+    ghost use Rattle.std.specs.Prelude.{◌≡◌, ℤ, true};
+    ghost use Rattle.script_words.specs.Numbers.{is_number};
+
+    ghost Value = { ℤ };
+
+    ghost view = { λ n. n.number };
+
+    ghost invariant = { λ n. is_number n.number ≡ true };
+
+    ghost inverse = { λ n. record { number = n } };
+}
+
+impl WrittenNumber {
+    ghost use Rattle.std.specs.Prelude.{true};
+    ghost use Rattle.script_words.specs.Numbers.{is_number, in_range};
+
+    /// The number, if it is from -2^63 to 2^64 - 1.
+    pub fn of(number: i128) -> Option<WrittenNumber>
+        ensures { result ≡ in_range number }
+    {
+        if number < i128::from(i64::MIN) || number > i128::from(u64::MAX) {
+            return None;
+        }
+        Some(WrittenNumber { number })
+    }
+
+    pub fn value(self) -> i128
+        ensures is { result ≡ self }
+        ensures in_range { is_number result ≡ true }
+    {
+        self.number
+    }
+}
+
+/// A text of at most 1024 bytes that a command scans.
+#[derive(Debug, Drop)]
+pub struct CommandText {
+    text: ByteText,
+}
+
+impl Model for CommandText {
+    ghost use Rattle.std.specs.Prelude.{ℕ, ◌≤◌, List, length};
+    ghost use Rattle.script_words.specs.declared.given.TheConstants.{TEXT_LIMIT};
+
+    ghost Value = { List ℕ };
+
+    ghost view = { λ t. t.text };
+
+    ghost invariant = { λ t. length t.text ≤ TEXT_LIMIT };
+}
+
+impl CommandText {
+    ghost use Rattle.script_words.specs.declared.given.TheConstants.{TEXT_LIMIT};
+
+    /// The text; `None` where it has more than 1024 bytes.
+    pub fn of(text: ByteText) -> Option<CommandText>
+        ensures { result ≡ bounded TEXT_LIMIT text }
+    {
+        if text.as_bytes().len() > TEXT_LIMIT {
+            return None;
+        }
+        Some(CommandText { text })
+    }
+
+    /// The bytes of the text.
+    pub fn as_bytes(&self) -> &[u8]
+        ensures is { result.now ≡ self.now }
+        ensures short { length result.now ≤ TEXT_LIMIT }
+    {
+        self.text.as_bytes()
     }
 }
 

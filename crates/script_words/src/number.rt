@@ -1,13 +1,15 @@
-//! Times and amounts of money, as they are written.
+//! Times, amounts of money and whole numbers, as they are written.
 
 ghost use Rattle.std.specs.Prelude.{◌≡◌, ◌++◌, ◌^◌, ◌<◌, ◌≤◌, ◌≤ℤ◌, pos, true, length, IfSome};
 ghost use Rattle.std.specs.Char.{is_ascii_digit};
 ghost use Rattle.std.specs.List.{list_all};
 ghost use Rattle.std.specs.Str.Parse.{digits_value_after};
 ghost use Rattle.script_words.specs.declared.given.TheConstants.{FRACTION_DIGITS};
-ghost use Rattle.script_words.specs.Numbers.{short_number, offset_of_word, three_numbers, are_digits, within, signed_units, amount_of, unsigned_amount, amount_of_word};
+ghost use Rattle.script_words.specs.Numbers.{short_number, offset_of_word, three_numbers, are_digits, within, signed_units, amount_of, unsigned_amount, amount_of_word, number_of, number_of_word};
 
-use crate::given::{FRACTION_DIGITS, TIME_DIGITS, WHOLE_DIGITS, WrittenAmount};
+use crate::given::{
+    FRACTION_DIGITS, NUMBER_DIGITS, TIME_DIGITS, WHOLE_DIGITS, WrittenAmount, WrittenNumber,
+};
 use crate::word::{are_digits as all_digits, cut_at, decimal_number};
 
 /// The magnitude of the least number of 64 bits.
@@ -132,5 +134,28 @@ pub fn amount_of_word(word: &[u8]) -> Option<WrittenAmount>
         [] => None,
         [b'-', rest @ ..] => unsigned_amount(true, rest),
         _ => unsigned_amount(false, word),
+    }
+}
+
+/// The number of digits with this sign.
+fn number_of(negative: bool, digits: &[u8]) -> Option<WrittenNumber>
+    ensures { result ≡ number_of negative digits.now }
+{
+    if digits.is_empty() || !are_digits(NUMBER_DIGITS, digits) {
+        return None;
+    }
+    let magnitude = i128::from(number_behind(u64::MAX, 0, digits)?);
+    WrittenNumber::of(if negative { -magnitude } else { magnitude })
+}
+
+/// A whole number, perhaps behind a `-`.
+#[tactic(auto, unfolding(crate::specs::Numbers::number_of_word))]
+pub fn number_of_word(word: &[u8]) -> Option<WrittenNumber>
+    ensures { result ≡ number_of_word word.now }
+{
+    match word {
+        [] => None,
+        [b'-', digits @ ..] => number_of(true, digits),
+        _ => number_of(false, word),
     }
 }

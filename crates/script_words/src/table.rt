@@ -39,6 +39,10 @@ pub enum Question {
     Money,
     /// strftime.
     Time,
+    /// printf's whole numbers.
+    Number,
+    /// strptime.
+    Parse,
 }
 
 /// What a command does.
@@ -82,7 +86,7 @@ const DIRECTIVES: [(&[u8], Directive); 6] = [
 ];
 
 /// The commands.
-const COMMANDS: [(&[u8], Verb); 24] = [
+const COMMANDS: [(&[u8], Verb); 28] = [
     (b"new", Verb::New),
     (b"dup", Verb::Dup),
     (b"free", Verb::Free),
@@ -107,6 +111,10 @@ const COMMANDS: [(&[u8], Verb); 24] = [
     (b"money_l", Verb::ReadOf(Question::Money)),
     (b"time", Verb::Read(Question::Time)),
     (b"time_l", Verb::ReadOf(Question::Time)),
+    (b"number", Verb::Read(Question::Number)),
+    (b"number_l", Verb::ReadOf(Question::Number)),
+    (b"parse", Verb::Read(Question::Parse)),
+    (b"parse_l", Verb::ReadOf(Question::Parse)),
 ];
 
 /// The items of nl_langinfo.
