@@ -1,6 +1,8 @@
 pub mod HoldLaws
 pub mod Joined
 pub mod LineLemmas
+pub mod NumberExamples
+pub mod NumberLemmas
 pub mod ReadExamples
 pub mod TurnLists
 pub mod VariableLemmas

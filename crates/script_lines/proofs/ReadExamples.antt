@@ -1,5 +1,5 @@
 -- What reads of an object reply, at worked examples.
-use Rattle.std.proofs.Common.{◌≡◌, ℕ, true, false, [], ◌∷◌, Some, refl}
+use Rattle.std.proofs.Common.{◌≡◌, ℕ, true, false, [], ◌∷◌, Some, None, refl}
 use Rattle.std.specs.Prelude.{ℤ, pos, negsuc, codes}
 use Rattle.std.specs.Fmt.{digits}
 use Rattle.lc_base.specs.declared.item.Item.TheVariants.{Codeset, Crncystr, Yesexpr}
@@ -20,12 +20,16 @@ use Rattle.time_cat.specs.Formats.{pieces as time_pieces}
 use Rattle.time_cat.specs.Times.{time_of}
 use Rattle.time_cat.specs.Values.{values_of}
 use Rattle.time_cat.specs.Shown.{expanded}
+use Rattle.strptime_fields.specs.declared.parsed.Parsed.{Parsed}
+use Rattle.strptime_fields.specs.Items.{item}
+use Rattle.strptime_fields.specs.Reading.{number as read_number, longest}
+use Rattle.strptime_fields.specs.Scans.{followed}
 use Rattle.category_store.specs.Catalog.{Catalog}
 use Rattle.compiled_categories.specs.Locale.{posix_locale}
 use Rattle.script_words.specs.Numbers.{Amount}
 use Rattle.script_words.specs.declared.given.WrittenTime.{WrittenTime}
 use Rattle.script_commands.specs.declared.command.Read.{Read}
-use Rattle.script_commands.specs.declared.command.Read.TheVariants.{Info, Conv, Class, Upper, Lower, Money, Time}
+use Rattle.script_commands.specs.declared.command.Read.TheVariants.{Info, Conv, Class, Upper, Lower, Money, Time, Parse}
 use Rattle.script_out.specs.declared.output.Said.{Said}
 use Rattle.script_out.specs.declared.output.Said.TheVariants as said
 use Rattle.script_out.specs.declared.output.Why.TheVariants as whys
@@ -167,3 +171,26 @@ time_wrong = refl
 out_of_range : of_posix (Time 0 (codes "%Q") (noon (pos 13))) ≡ said.Refused (whys.TmRange Mon)
 unfolding values_of expanded time_pieces time_conversion time_of
 out_of_range = refl
+
+-- ---- times that are read
+
+-- the day of the month alone, and the index of the byte behind it
+abbrev seventh : Parsed
+seventh = record { year = None; mon = None; mday = Some 7; hour = None; min = None; sec = None; wday = None; yday = None }
+
+day_read : of_posix (Parse (codes "%d") (codes "7x")) ≡ said.Parsed seventh 1
+unfolding values_of followed time_pieces time_conversion item read_number longest
+day_read = refl
+
+day_out_of_range : of_posix (Parse (codes "%d") (codes "32")) ≡ said.Refused (whys.Mismatch 0)
+unfolding values_of followed time_pieces time_conversion item read_number longest
+day_out_of_range = refl
+
+-- the place of a mismatch is one in the text, that of a wrong conversion one in the format, which goes first
+mismatch_of_text : of_posix (Parse (codes "%H:%M") (codes "10-20")) ≡ said.Refused (whys.Mismatch 2)
+unfolding values_of followed time_pieces time_conversion item read_number longest
+mismatch_of_text = refl
+
+parse_wrong : of_posix (Parse (codes "xy%Ey") (codes "z")) ≡ said.Refused (whys.BadFormat 2)
+unfolding values_of followed time_pieces time_conversion item read_number longest
+parse_wrong = refl

@@ -309,6 +309,7 @@ fn time_said(
 }
 
 /// The numbers, as int_format takes them.
+#[tactic(auto, using(crate::proofs::NumberLemmas::one_more_number))]
 fn numbers_given(alloc: Global, numbers: &[WrittenNumber]) -> Result<Vec<i128>, AllocError>
     ensures same { IfOk result (λ given. given.items ≡ numbers.now) }
     ensures in_range { IfOk result (λ given. list_all is_number given.items ≡ true) }

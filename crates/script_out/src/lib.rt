@@ -2,6 +2,7 @@
 #![tactic(auto)]
 
 mod output;
+mod quoting;
 mod refusal;
 
 pub use output::{OutLine, Places, Said, Why, print, push_number};

@@ -1,7 +1,7 @@
 use Rattle.std.proofs.Common.{◌≡◌, take}
 use Rattle.std.specs.List.{flat_map}
 use Rattle.script_out.specs.Output.{escaped}
-use Rattle.script_out.proofs.output.plain_length.Given as goal
+use Rattle.script_out.proofs.quoting.plain_length.Given as goal
 
 -- the bytes so far stand as they are
 abbrev pub invariant-loop-i : goal.invariant-loop-i

@@ -1,7 +1,7 @@
 use Rattle.std.proofs.Common.{◌≡◌, ◌++◌, length}
 use Rattle.std.specs.List.{flat_map}
 use Rattle.script_out.specs.Output.{escaped}
-use Rattle.script_out.proofs.output.push_escaped_text.Given as goal
+use Rattle.script_out.proofs.quoting.push_escaped_text.Given as goal
 
 -- what is written, and what is left
 abbrev pub invariant-loop-c : goal.invariant-loop-c

@@ -1,7 +1,7 @@
 use Rattle.std.proofs.Common.{◌≡◌, drop, IsTrue}
 use Rattle.std.specs.List.{flat_map}
 use Rattle.script_out.specs.Output.{escaped}
-use Rattle.script_out.proofs.output.is_plain_text.Given as goal
+use Rattle.script_out.proofs.quoting.is_plain_text.Given as goal
 
 -- where the bytes so far are plain, the text is plain as soon as what is left of it is
 abbrev pub invariant-loop-c : goal.invariant-loop-c
