@@ -2,8 +2,8 @@
 # tables of docs/REFUSALS.md: awk -v cases=FOLDER/ -v statuses=FILE -v refused=FILE -f documents.awk FILES.
 # The fences say what a block is: `bundle` is a whole bundle, and the next block, `output`, what `serial`
 # prints for it; `locale` is what stands in a `.locale` block and `charmap` what stands in a `.charmap`
-# block, which `check` accepts; `lines NAME` are lines of examples/NAME.out. A block with another mark, or
-# none, is no case, and has no line of a bundle or a source.
+# block, which `check` accepts; `lines NAME` are lines of examples/NAME.out, or of NAME.out where a folder
+# is named. A block with another mark, or none, is no case, and has no line of a bundle or a source.
 function problem(what) { print FILENAME ":" FNR ": " what; wrong = 1 }
 function case_name(   name) {
   name = FILENAME
@@ -30,7 +30,7 @@ function counted(locales, charmaps) {
   return "ok: locales " locales " charmaps " charmaps " threads 0 rounds 1 commands 0\n"
 }
 function read_lines(name,   file, line) {
-  file = "examples/" name ".out"
+  file = (name ~ /\// ? "" : "examples/") name ".out"
   while ((getline line < file) > 0) is_line[name, line] = 1
   close(file)
 }
@@ -47,7 +47,7 @@ function end_block() {
 FNR == 1 && (mark != "" || bundle != "") { problem("the document before has an open block, or a bundle without output") }
 FNR == 1 { mark = ""; bundle = ""; part = "" }
 mark != "" && /^```$/ { end_block(); next }
-mark == "lines" && !(excerpt SUBSEP $0 in is_line) { problem("no line of examples/" excerpt ".out") }
+mark == "lines" && !(excerpt SUBSEP $0 in is_line) { problem("no line of " excerpt ".out") }
 mark == "text" && /^(\.(charmap|end|later|locale|native|round|thread)( |$)|CHARMAP$|LC_[A-Z]+$)/ {
   problem("a bundle or a source whose fence does not say so")
 }

@@ -1,5 +1,5 @@
 #!/usr/bin/env python3
-"""Checks what a script printed, whoever ran it: replay.py BUNDLE OUTPUT [rows=N] [generations=N]
+"""Checks what a script printed, whoever ran it: replay.py BUNDLE OUTPUT [rows=N] [generations=N] [program=PATH]
 
 Reads the bundle's commands and the printed lines, and nothing else. The lines are one for each command, in
 order; the places are those of one history, each once, going up along a thread, from round to round and along
@@ -8,12 +8,21 @@ are made again one after another in the order of their places. A read tells what
 character and the separator of thousands as the source has them, any other read the same for the same object
 and words. A version that a line prints is one that its thread could have read there. Prints the first line
 that is wrong, and ends with 1.
+
+With a program, its `serial` must print the same replies, reads and versions included: for a script of the same
+calls in the order of their places, or, where a bundle has too few rounds for that order, for one that makes each
+object that was read anew.
 """
+import subprocess
 import sys
 
 CATEGORIES = ["LC_CTYPE", "LC_NUMERIC", "LC_MONETARY", "LC_TIME", "LC_MESSAGES"]
 READS = ("info", "conv", "class", "upper", "lower", "money", "time", "number", "parse")
 GLOBAL = "GLOBAL"
+# what a bundle may have
+MOST_ROUNDS = 64
+MOST_COMMANDS = 20000
+MOST_ROWS = 64
 
 
 class Wrong(Exception):
@@ -63,10 +72,10 @@ def plain(word):
 
 
 class Source:
-    """A locale source: its name, which categories it has, and the two texts of LC_NUMERIC."""
+    """A locale source: its name, the key of a later version, which categories it has, and the two texts of LC_NUMERIC."""
 
-    def __init__(self, name, lines):
-        self.name = name
+    def __init__(self, name, lines, key=None):
+        self.name, self.key = name, key
         self.has = {c for c in CATEGORIES if c in (line.strip() for line in lines)}
         self.texts, inside = {}, None
         for line in lines:
@@ -90,7 +99,7 @@ POSIX.texts = {"decimal_point": ".", "thousands_sep": ""}
 class Bundle:
     def __init__(self, text):
         self.threads, self.commands, self.native = [], [], "C"
-        self.opening, self.later = {"C": POSIX}, {}
+        self.opening, self.later, self.blocks = {"C": POSIX}, {}, []
         self.rounds, thread = 1, None
         lines = iter(text.split("\n"))
         for line in lines:
@@ -99,12 +108,14 @@ class Bundle:
                 continue
             if line.startswith((".locale ", ".later ", ".charmap ")):
                 block = list(iter(lambda: next(lines), ".end"))
+                self.blocks += [line, *block, ".end"]
                 if words[0] == ".locale":
                     self.opening[words[1]] = Source(words[1], block)
                 elif words[0] == ".later":
-                    self.later[words[1]] = Source(words[2], block)
+                    self.later[words[1]] = Source(words[2], block, words[1])
             elif words[0] == ".native":
                 self.native = words[1]
+                self.blocks.append(line)
             elif words[0] == ".thread":
                 if words[1] not in self.threads:
                     self.threads.append(words[1])
@@ -274,11 +285,18 @@ class Line:
     def __init__(self, text):
         fields = text.split(" ", 5)
         want(len(fields) == 6, "a line has six fields")
-        self.text = text
+        self.text, self.told = text, tuple(fields[3:])
         self.round, self.thread, self.index = int(fields[0]), fields[1], int(fields[2])
         self.places = [] if fields[3] == "-" else [int(place) for place in fields[3].split(",")]
         self.version = None if fields[4] == "-" else int(fields[4][1:])
         self.reply = fields[5]
+
+
+class Step:
+    """A command of a script that stands for a line or a part of it: its place, if it has one, and what is told of it."""
+
+    def __init__(self, line, words, place, told):
+        self.line, self.command, self.place, self.told = line, " ".join(words), place, told
 
 
 class Check:
@@ -287,6 +305,7 @@ class Check:
         self.table = Table(bundle, rows, generations)
         self.variables = [{} for _ in bundle.threads]
         self.said, self.sets, self.objects = {}, [0], {}
+        self.steps = [[] for _ in bundle.threads]
 
     def spelled(self, h):
         return GLOBAL if h == GLOBAL else "%s.%d.%d" % (self.bundle.threads[h[0]], h[1], h[2])
@@ -355,7 +374,7 @@ class Check:
         if words[0] == "info" and key:
             text = parts[1].texts.get(key, POSIX.texts[key])
             want(text is None or reply == 'text "%s"' % text, "reads %s" % text)
-        before = self.said.setdefault((parts, tuple(words)), reply)
+        before = self.said.setdefault(parts, {}).setdefault(" ".join(words), reply)
         want(before == reply, "the same read of the same object gave " + before)
 
     def bare(self, line, who, wish):
@@ -466,6 +485,7 @@ class Check:
                 open_wish[who] = judged(line, self.wish, who, words)
                 judged(line, self.call, who, 0, open_wish[who])
                 self.bind(who, words, line.reply)
+                self.steps[who] += steps_of(line, words)
             else:
                 judged(line, self.call, who, 1, open_wish[who])
             self.sets.append(len(self.table.globals) - 1)
@@ -478,6 +498,7 @@ class Check:
             line, words = queue.pop(0)
             wish = judged(line, self.wish, who, words)
             judged(line, self.held_read if wish[0] == "read_of" else self.bare, who, wish)
+            self.steps[who].append(Step(line, words, None, line.told))
 
     def versions(self):
         """The bounds of each version that a line tells without having made it."""
@@ -510,6 +531,103 @@ class Check:
                 lower[line.thread] = line.places[-1] + 1
 
 
+    def in_order_of_places(self):
+        """Each thread with its steps in the order of the places; one without a place as soon as its version is made."""
+        order, count = [], len(self.steps)
+        for who, steps in enumerate(self.steps):
+            at = -1
+            for number, step in enumerate(steps):
+                if step.place is not None:
+                    at = step.place
+                elif step.line.version:
+                    at = max(at, self.sets.index(step.line.version) - 1)
+                caller = self.bundle.threads.index(self.at[at][0].thread) if at >= 0 else 0
+                order.append((at, step.place is None, (who - caller) % count, number, who, step))
+        return [(who, step) for *_, who, step in sorted(order, key=lambda it: it[:4])]
+
+
+def steps_of(line, words):
+    """The commands that make the calls of a line one by one."""
+    if len(line.places) == 1:
+        return [Step(line, words, line.places[0], line.told)]
+    hold, release = line.places
+    return [
+        Step(line, ["hold", words[1]], hold, (str(hold), "-", "held")),
+        Step(line, words, None, ("-", "-", line.reply)),
+        Step(line, ["release", words[1]], release, (str(release), "-", "released")),
+    ]
+
+
+class Serial:
+    """The program's `serial`, with the options of the output."""
+
+    def __init__(self, program, rows, generations):
+        self.program, self.rows, self.generations = program, rows, generations
+
+    def lines(self, script, rows):
+        words = [self.program, "serial", "rows=%d" % rows, "generations=%d" % self.generations]
+        done = subprocess.run(words, input="\n".join(script).encode("latin-1"), capture_output=True, check=False)
+        want(done.returncode == 0, "serial ended with %d" % done.returncode)
+        return [Line(line) for line in done.stdout.decode("latin-1").split("\n")[:-1]]
+
+    def judges(self, check):
+        """Compares what was told with what `serial` tells."""
+        order = check.in_order_of_places()
+        script = script_in_order(check.bundle, order)
+        if script is None:
+            return self.judges_anew(check.bundle, check.said)
+        lines = self.lines(script, self.rows)
+        wanted = [(step.line, step.told) for _, step in order]
+        wanted += [(line, line.told) for line in check.lines[len(check.bundle.commands) :]]
+        want(len(lines) == len(wanted), "serial prints %d lines for %d" % (len(lines), len(wanted)))
+        for line, (printed, told) in zip(lines, wanted):
+            want_line(printed, line.told == told, "what serial tells: " + line.text)
+        return None
+
+    def judges_anew(self, bundle, said):
+        objects = list(said.items())
+        for first in range(0, len(objects), MOST_ROWS):
+            script, wanted = script_anew(bundle, objects[first : first + MOST_ROWS])
+            lines = {line.index: line for line in self.lines(script, MOST_ROWS)}
+            for index, (command, reply) in wanted.items():
+                want(lines[index].told == ("-", "-", reply), "%s told %s, and %s by serial" % (command, reply, lines[index].reply))
+
+
+def script_in_order(bundle, order):
+    """A script in which the threads make these steps in this order; None where it needs more than a bundle may have."""
+    script = [*bundle.blocks, *(".thread " + name for name in bundle.threads)]
+    before, rounds = None, 1
+    for who, step in order:
+        if before is not None and who < before:
+            script.append(".round")
+            rounds += 1
+        if who != before:
+            script.append(".thread " + bundle.threads[who])
+        script.append(step.command)
+        before = who
+    return script if rounds <= MOST_ROUNDS and len(order) <= MOST_COMMANDS else None
+
+
+def script_anew(bundle, objects):
+    """A script that makes objects of the same parts and reads them, and what is wanted of its commands, by their number."""
+    commands, wanted = [], {}
+    for number, (parts, _) in enumerate(objects):
+        names = ["%s=%s" % (c, "C" if part.key else part.name) for c, part in zip(CATEGORIES, parts)]
+        commands.append('new x%d LC_ALL "%s"' % (number, ";".join(names)))
+    for key, source in bundle.later.items():
+        commands.append("install " + key)
+        for number, (parts, _) in enumerate(objects):
+            mask = ",".join(c for c, part in zip(CATEGORIES, parts) if part is source)
+            if mask:
+                commands.append("new x%d %s %s x%d" % (number, mask, source.name, number))
+    for number, (_, reads) in enumerate(objects):
+        commands.append("use x%d" % number)
+        for command, reply in reads.items():
+            commands.append(command)
+            wanted[len(commands)] = command, reply
+    return [*bundle.blocks, ".thread A", *commands], wanted
+
+
 def want_line(line, holds, text):
     want(holds, "%s -- wanted: %s" % (line.text, text))
 
@@ -530,7 +648,11 @@ def main(bundle, output, *options):
     try:
         want(text == "" or text.endswith("\n"), "the last line ends")
         lines = [Line(line) for line in text.split("\n")[:-1]]
-        Check(read, lines, int(given.get("rows", 16)), int(given.get("generations", 65535))).run()
+        rows, generations = int(given.get("rows", 16)), int(given.get("generations", 65535))
+        check = Check(read, lines, rows, generations)
+        check.run()
+        if "program" in given and lines:
+            Serial(given["program"], rows, generations).judges(check)
     except Wrong as wrong:
         print("%s: %s" % (output, wrong))
         return 1

@@ -94,7 +94,7 @@ def main(seed, threads, rounds, commands):
         return some.choice(["LC_ALL", "LC_NUMERIC", "LC_NUMERIC,LC_TIME", "0", "2", "31", "33", *categories])
 
     def read():
-        return some.choice(["info RADIXCHAR", "info THOUSEP", 'money "%n" 1234.5', 'time "%x" 2021-01-03 14:05:06 0 2', "class alpha 97", "upper 97"])
+        return some.choice(["info RADIXCHAR", "info THOUSEP", 'money "%n" 1234.5', 'time "%x" 2021-01-03 14:05:06 0 2', "class alpha 97", "upper 97", 'number "%\'d" 1234567', 'parse "%x" "02/03/2021"'])
 
     def read_of():
         word, rest = read().split(" ", 1)
