@@ -1,0 +1,200 @@
+#!/usr/bin/env python3
+"""Runs a built program of locales over one bundle, each time with one of its calls failing: an allocation,
+the start of a thread, a read of standard input, a write to standard output; and over fronts of the bundle.
+
+    each_call.py PROGRAM BUNDLE OUTPUT
+
+OUTPUT is what serial prints for the bundle, which has one round, whose threads share no handles. Prints a
+line for each kind of fault: its name, 0 where each run ended as it must and else 1, and how many runs there
+were. What went wrong stands on lines behind it that begin with a blank. The faults come from preload.c,
+which is compiled by cc; where there is no cc, a line says so, and only the fronts are run."""
+import itertools
+import os
+import shutil
+import struct
+import subprocess
+import sys
+import tempfile
+from concurrent.futures import ThreadPoolExecutor
+
+HERE = os.path.dirname(os.path.realpath(__file__))
+KINDS = ["FAULTS_ALLOCATION", "FAULTS_THREAD", "FAULTS_READ", "FAULTS_WRITE"]
+DONE, REFUSED, READ_FAULT, WRITE_FAULT, MEMORY = 0, 3, 4, 5, 6
+LIMIT = 16777216
+
+
+class Program:
+    """A built program, and what is preloaded into it."""
+
+    def __init__(self, path, preload, folder):
+        self.path, self.preload, self.folder = path, preload, folder
+        self.names = itertools.count()
+
+    def run(self, mode, text, **faults):
+        """The status, what was written, and how often each kind of call was made."""
+        settings = dict(os.environ)
+        file = os.path.join(self.folder, f"counts{next(self.names)}")
+        if self.preload is not None:
+            with open(file, "wb") as counts:
+                counts.write(bytes(8 * len(KINDS)))
+            settings.update(LD_PRELOAD=self.preload, FAULTS_COUNTS=file)
+            settings.update((f"FAULTS_{name.upper()}", str(value)) for name, value in faults.items())
+        words = [self.path] + mode.split()
+        with open(os.memfd_create("input"), "w+b") as source:
+            source.write(text)
+            source.seek(0)
+            done = subprocess.run(
+                words, stdin=source, capture_output=True, env=settings, timeout=60, check=False)
+        if done.stderr:
+            return f"{done.returncode}, and wrote to standard error", done.stdout, [0] * len(KINDS)
+        if self.preload is None:
+            return done.returncode, done.stdout, [0] * len(KINDS)
+        with open(file, "rb") as counts:
+            made = struct.unpack(f"{len(KINDS)}Q", counts.read())
+        os.unlink(file)
+        return done.returncode, done.stdout, made
+
+    def reached(self, kind, mode, text, **faults):
+        """How many calls of a kind a run without a failing one makes."""
+        return self.run(mode, text, **faults)[2][KINDS.index(kind)]
+
+
+def preloaded(folder):
+    """The library of the faults, or None where there is no compiler."""
+    compiler = shutil.which("cc")
+    if compiler is None:
+        print("no cc: no call is made to fail", file=sys.stderr)
+        return None
+    library = os.path.join(folder, "preload.so")
+    source = os.path.join(HERE, "preload.c")
+    subprocess.run([compiler, "-O1", "-shared", "-fPIC", "-o", library, source, "-ldl"], check=True)
+    return library
+
+
+def outputs_of(output):
+    """What run may print, where serial prints this: the calls of the round in any order that keeps the order
+    of each thread's own."""
+    lines = [line.split(b" ", 4) for line in output.splitlines(keepends=True)]
+    calls = [line[1] for line in lines if line[0] == b"1" and line[3] != b"-"]
+    made = []
+    for order in sorted(set(itertools.permutations(calls))):
+        places = {name: iter([i for i, caller in enumerate(order) if caller == name]) for name in calls}
+        made.append(b"".join(
+            b" ".join([*line[:3], b"%d" % next(places[line[1]]), line[4]])
+            if line[0] == b"1" and line[3] != b"-" else b" ".join(line)
+            for line in lines))
+    return made
+
+
+def check(name, rows):
+    """Runs rows, each a call that gives what is wrong or None, and tells of them."""
+    with ThreadPoolExecutor(os.cpu_count()) as pool:
+        wrong = [said for said in pool.map(lambda row: row(), rows) if said is not None]
+    print(name, 1 if wrong else 0, len(rows), flush=True)
+    for said in wrong[:10]:
+        print("  " + said, flush=True)
+
+
+def row(program, mode, text, allowed, **faults):
+    """A run that must end with a status and an output for which `allowed` holds."""
+    def tried():
+        status, written, _ = program.run(mode, text, **faults)
+        if allowed(status, written):
+            return None
+        return f"{mode} {faults}: status {status}, {len(written)} bytes: {written[:60]!r}"
+    return tried
+
+
+def is_just(status, wanted):
+    """That this status comes, with one of these outputs."""
+    return lambda came, written: came == status and written in wanted
+
+
+def is_front(length, wanted):
+    """That a write failed behind so many bytes of one of these outputs."""
+    return lambda came, written: (
+        came == WRITE_FAULT and len(written) == length and any(text.startswith(written) for text in wanted))
+
+
+def is_cut(came, written):
+    """What a front of a bundle may give: it is refused by one line, or done."""
+    refused = written.startswith(b"refused: ") and written.count(b"\n") == 1
+    return came == REFUSED and refused or came == DONE and not written.startswith(b"refused")
+
+
+def allocations(program, mode, bundle, wanted):
+    """Each allocation refused in turn, until one is not reached any more."""
+    count = program.reached("FAULTS_ALLOCATION", mode, bundle)
+    def allowed(came, written):
+        return came == MEMORY and written == b"" or came == DONE and written in wanted
+    # (a run beside another order of calls may make some more)
+    return [row(program, mode, bundle, allowed, allocation=n) for n in range(1, count + 9)]
+
+
+def threads(program, mode, bundle, wanted):
+    """The start of each thread refused in turn."""
+    count = program.reached("FAULTS_THREAD", mode, bundle)
+    def allowed(came, written):
+        return came == MEMORY and written == b"" or came == DONE and written in wanted
+    return [row(program, mode, bundle, allowed, thread=n) for n in range(1, count + 1)]
+
+
+def reads(program, mode, bundle):
+    """Each read of at most 64 bytes failing in turn, and the first one of a whole buffer."""
+    count = program.reached("FAULTS_READ", mode, bundle, read_step=64)
+    allowed = is_just(READ_FAULT, [b""])
+    return [row(program, mode, bundle, allowed, read=n, read_step=64) for n in range(1, count + 1)] + [
+        row(program, mode, bundle, allowed, read=1)]
+
+
+def writes(program, mode, text, wanted):
+    """Each write of at most 7 bytes failing in turn."""
+    count = program.reached("FAULTS_WRITE", mode, text, write_step=7)
+    return [
+        row(program, mode, text, is_front(7 * (n - 1), wanted), write=n, write_step=7)
+        for n in range(1, count + 1)]
+
+
+def no_more_reads(program, size, other):
+    """A longer input is read no further than one byte past the limit."""
+    def tried():
+        count, more = (program.reached("FAULTS_READ", "check", bytes(length)) for length in (size, other))
+        return None if count == more else f"check: {count} reads, and {more} of a longer input"
+    return tried
+
+
+def main():
+    path, bundle, output = os.path.abspath(sys.argv[1]), read(sys.argv[2]), read(sys.argv[3])
+    wanted = {"serial": [output], "run": outputs_of(output)}
+    with tempfile.TemporaryDirectory() as folder:
+        program = Program(path, preloaded(folder), folder)
+        check("fronts_of_the_bundle", [
+            row(program, "serial", bundle[:end], is_cut) for end in range(len(bundle))])
+        if program.preload is None:
+            return
+        for mode, outputs in wanted.items():
+            check(f"refused_allocations_of_{mode}", allocations(program, mode, bundle, outputs))
+            check(f"failing_reads_of_{mode}", reads(program, mode, bundle))
+            check(f"failing_writes_of_{mode}", writes(program, mode, bundle, outputs))
+            check(f"room_of_100_bytes_of_{mode}", [
+                row(program, mode, bundle, is_front(100, outputs), room=100)])
+            check(f"output_that_takes_nothing_of_{mode}", [
+                row(program, mode, bundle, is_front(0, outputs), nothing=1)])
+            check(f"single_bytes_of_{mode}", [
+                row(program, mode, bundle, is_just(DONE, outputs), read_step=1, write_step=1)])
+        check("threads_that_do_not_start", threads(program, "run", bundle, wanted["run"]))
+        check("failing_writes_of_a_refusal", writes(
+            program, "check", b".end\n", [b"refused: 1:1 BadLine directive\n"]))
+        check("failing_writes_of_wrong_words", writes(program, "chek", bundle, [b"refused: usage\n"]))
+        check("failing_writes_of_too_large", writes(
+            program, "check", bytes(LIMIT + 1), [b"refused: too large\n"]))
+        check("no_read_past_the_limit", [no_more_reads(program, LIMIT + 1, 2 * LIMIT)])
+
+
+def read(path):
+    with open(path, "rb") as file:
+        return file.read()
+
+
+if __name__ == "__main__":
+    main()
