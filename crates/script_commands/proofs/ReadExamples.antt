@@ -15,7 +15,7 @@ use Rattle.script_commands.specs.declared.command.Read.TheVariants.{Info, Conv, 
 use Rattle.script_words.specs.Names.{is_thread_name, is_class_name}
 use Rattle.script_words.specs.Spans.{whole_line, next_word}
 use Rattle.script_words.specs.Tables.{commands_table, items_table}
-use Rattle.script_words.specs.Words.{text_of_word, quoted_of_word, zone_of_word, decimal_number, behind_front, max_number, variable_of_word, class_of_word, cut_at}
+use Rattle.script_words.specs.Words.{text_of_word, quoted_of_word, zone_of_word, decimal_number, behind_front, max_number, variable_of_word, class_of_word, cut_at, handle_of_word}
 use Rattle.script_words.specs.Numbers.{short_number, offset_of_word, three_numbers, amount_of_word, number_of_word}
 use Rattle.script_commands.specs.Commands.{argument, read_as, no_more, is_over, target, target_word, read_of_command, max_bytes, format, command_text, amounts, whole_numbers, offset, zone, moment, info_words, conv_words, class_words, lone_value, money_words, time_words, number_words, parse_words, command}
 
@@ -199,7 +199,7 @@ unfolding command next_word argument text_of_word quoted_of_word decimal_number 
 number_of_variable = refl
 
 number_max_before_handle : spoken (codes "number_l max=7 x \"%d\" 1") ≡ wrong 10
-unfolding command next_word argument text_of_word quoted_of_word decimal_number behind_front max_number cut_at number_of_word max_bytes format whole_numbers number_words commands_table target target_word read_of_command is_thread_name
+unfolding command next_word argument text_of_word quoted_of_word decimal_number behind_front max_number cut_at number_of_word max_bytes format whole_numbers number_words commands_table target target_word read_of_command is_thread_name handle_of_word
 number_max_before_handle = refl
 
 -- ---- texts that are scanned
