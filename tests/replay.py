@@ -72,7 +72,7 @@ def plain(word):
 
 
 class Source:
-    """A locale source: its name, the key of a later version, which categories it has, and the two texts of LC_NUMERIC."""
+    """A locale source: its name, a later version's key, which categories it has, and the two texts of LC_NUMERIC."""
 
     def __init__(self, name, lines, key=None):
         self.name, self.key = name, key
@@ -293,7 +293,7 @@ class Line:
 
 
 class Step:
-    """A command of a script that stands for a line or a part of it: its place, if it has one, and what is told of it."""
+    """A command that stands for a line or a part of it: its place, if it has one, and what is told of it."""
 
     def __init__(self, line, words, place, told):
         self.line, self.command, self.place, self.told = line, " ".join(words), place, told
@@ -532,7 +532,7 @@ class Check:
 
 
     def in_order_of_places(self):
-        """Each thread with its steps in the order of the places; one without a place as soon as its version is made."""
+        """The steps with their threads in the order of the places; one without a place once its version is made."""
         order, count = [], len(self.steps)
         for who, steps in enumerate(self.steps):
             at = -1
@@ -590,11 +590,12 @@ class Serial:
             script, wanted = script_anew(bundle, objects[first : first + MOST_ROWS])
             lines = {line.index: line for line in self.lines(script, MOST_ROWS)}
             for index, (command, reply) in wanted.items():
-                want(lines[index].told == ("-", "-", reply), "%s told %s, and %s by serial" % (command, reply, lines[index].reply))
+                by_serial = "%s told %s, and by serial %s" % (command, reply, lines[index].reply)
+                want(lines[index].told == ("-", "-", reply), by_serial)
 
 
 def script_in_order(bundle, order):
-    """A script in which the threads make these steps in this order; None where it needs more than a bundle may have."""
+    """A script in which the threads make these steps in this order; None where a bundle may not have so many."""
     script = [*bundle.blocks, *(".thread " + name for name in bundle.threads)]
     before, rounds = None, 1
     for who, step in order:
@@ -609,7 +610,7 @@ def script_in_order(bundle, order):
 
 
 def script_anew(bundle, objects):
-    """A script that makes objects of the same parts and reads them, and what is wanted of its commands, by their number."""
+    """A script that makes objects of the same parts and reads them, and what is wanted of its commands, by number."""
     commands, wanted = [], {}
     for number, (parts, _) in enumerate(objects):
         names = ["%s=%s" % (c, "C" if part.key else part.name) for c, part in zip(CATEGORIES, parts)]
