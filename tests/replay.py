@@ -12,7 +12,7 @@ that is wrong, and ends with 1.
 import sys
 
 CATEGORIES = ["LC_CTYPE", "LC_NUMERIC", "LC_MONETARY", "LC_TIME", "LC_MESSAGES"]
-READS = ("info", "conv", "class", "upper", "lower", "money", "time")
+READS = ("info", "conv", "class", "upper", "lower", "money", "time", "number", "parse")
 GLOBAL = "GLOBAL"
 
 

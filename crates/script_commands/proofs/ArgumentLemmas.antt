@@ -1,35 +1,35 @@
--- Amounts that are read one by one.
-use Rattle.std.proofs.Common.{◌≡◌, ℕ, zero, suc, List, [], ◌∷◌, ◌++◌, Some, None, Ok, Err, refl, sym, ap, ◌∙◌, append_assoc}
+-- Words that are read one by one to the end of the line.
+use Rattle.std.proofs.Common.{◌≡◌, ℕ, zero, suc, List, [], ◌∷◌, ◌++◌, Option, Some, None, Ok, Err, refl, sym, ap, ◌∙◌, append_assoc}
 use Rattle.std.proofs.lemmas.List.{append-nil}
+use Rattle.lc_base.specs.declared.reason.Limit.{Limit}
 use Rattle.lc_base.specs.Reading.{Reads, ◌>>=◌}
-use Rattle.script_words.specs.Numbers.{Amount, amount_of_word}
 use Rattle.script_words.specs.Spans.{Span, next_word}
-use Rattle.script_commands.specs.Commands.{amounts_from}
+use Rattle.script_commands.specs.Commands.{all_read_as}
 
--- amounts behind those that were read
-abbrev pub behind : List Amount → Reads (List Amount) → Reads (List Amount)
-behind front later = later >>= λ (more : List Amount). Ok (front ++ more)
+-- values behind those that were read
+abbrev pub behind : {A : Type 0} → List A → Reads (List A) → Reads (List A)
+behind {A} front later = later >>= λ (more : List A). Ok (front ++ more)
 
-regroup : (front : List Amount) (a : Amount) (later : Reads (List Amount)) → behind front (later >>= λ (more : List Amount). Ok (a ∷ more)) ≡ behind (front ++ a ∷ []) later
-regroup front a (Ok more) = ap {B = Reads (List Amount)} (λ (x : List Amount). Ok x) (sym (append_assoc front (a ∷ []) more))
-regroup front a (Err e) = refl
+regroup : {A : Type 0} (front : List A) (a : A) (later : Reads (List A)) → behind front (later >>= λ (more : List A). Ok (a ∷ more)) ≡ behind (front ++ a ∷ []) later
+regroup {A} front a (Ok more) = ap {B = Reads (List A)} (λ (x : List A). Ok x) (sym (append_assoc front (a ∷ []) more))
+regroup {A} front a (Err e) = refl
 
--- one more amount
-pub amounts_more : (m n : ℕ) (s w next : Span) (a : Amount) (front front' : List Amount) (total : Reads (List Amount)) → m ≡ suc n → Some (w, next) ≡ next_word s → Some a ≡ amount_of_word w.bytes → front' ≡ front ++ a ∷ []
-    → behind front (amounts_from m s) ≡ total → behind front' (amounts_from n next) ≡ total
-amounts_more m n s w next a front front' total is word amount pushed so_far =
-    let one : amounts_from (suc n) s ≡ (amounts_from n next >>= λ (more : List Amount). Ok (a ∷ more)) = rw (← word, ← amount, amounts_from) refl in
-    ap (λ (x : List Amount). behind x (amounts_from n next)) pushed
-    ∙ sym (regroup front a (amounts_from n next))
+-- one more value
+pub one_more : {A : Type 0} (read : List ℕ → Option A) (limit : Limit) (m n : ℕ) (s w next : Span) (a : A) (front front' : List A) (total : Reads (List A)) → m ≡ suc n → Some (w, next) ≡ next_word s → Some a ≡ read w.bytes → front' ≡ front ++ a ∷ []
+    → behind front (all_read_as read limit m s) ≡ total → behind front' (all_read_as read limit n next) ≡ total
+one_more {A} read limit m n s w next a front front' total is word value pushed so_far =
+    let one : all_read_as read limit (suc n) s ≡ (all_read_as read limit n next >>= λ (more : List A). Ok (a ∷ more)) = rw (← word, ← value, all_read_as) refl in
+    ap (λ (x : List A). behind x (all_read_as read limit n next)) pushed
+    ∙ sym (regroup front a (all_read_as read limit n next))
     ∙ sym (ap (behind front) one)
-    ∙ ap (λ (k : ℕ). behind front (amounts_from k s)) (sym is)
+    ∙ ap (λ (k : ℕ). behind front (all_read_as read limit k s)) (sym is)
     ∙ so_far
 
-ended : (n : ℕ) (s : Span) → None ≡ next_word s → amounts_from n s ≡ Ok []
-ended zero s e = rw (← e, amounts_from) refl
-ended (suc n) s e = rw (← e, amounts_from) refl
+ended : {A : Type 0} (read : List ℕ → Option A) (limit : Limit) (n : ℕ) (s : Span) → None ≡ next_word s → all_read_as read limit n s ≡ Ok []
+ended read limit zero s e = rw (← e, all_read_as) refl
+ended read limit (suc n) s e = rw (← e, all_read_as) refl
 
--- behind the last amount
-pub amounts_end : (n : ℕ) (s : Span) (front : List Amount) (total : Reads (List Amount)) → None ≡ next_word s → behind front (amounts_from n s) ≡ total → total ≡ Ok front
-amounts_end n s front total e so_far =
-    sym so_far ∙ ap (behind front) (ended n s e) ∙ ap {B = Reads (List Amount)} (λ (x : List Amount). Ok x) (append-nil front)
+-- behind the last value
+pub no_more_values : {A : Type 0} (read : List ℕ → Option A) (limit : Limit) (n : ℕ) (s : Span) (front : List A) (total : Reads (List A)) → None ≡ next_word s → behind front (all_read_as read limit n s) ≡ total → total ≡ Ok front
+no_more_values {A} read limit n s front total e so_far =
+    sym so_far ∙ ap (behind front) (ended read limit n s e) ∙ ap {B = Reads (List A)} (λ (x : List A). Ok x) (append-nil front)

@@ -9,14 +9,15 @@ use Rattle.lc_base.specs.declared.reason.LinePart.TheVariants as parts
 use Rattle.lc_base.specs.declared.reason.Limit.TheVariants as limits
 use Rattle.lc_base.specs.Reading.{Reads}
 use Rattle.script_commands.specs.declared.command.Command.{Command}
-use Rattle.script_commands.specs.declared.command.Command.TheVariants.{Selected, Read}
-use Rattle.script_commands.specs.declared.command.Read.TheVariants.{Info, Conv, Class, Upper, Lower, Money, Time}
+use Rattle.script_commands.specs.declared.command.Command.TheVariants.{Selected, Read, ReadOf}
+use Rattle.script_commands.specs.declared.command.Target.TheVariants as targets
+use Rattle.script_commands.specs.declared.command.Read.TheVariants.{Info, Conv, Class, Upper, Lower, Money, Time, Number, Parse}
 use Rattle.script_words.specs.Names.{is_thread_name, is_class_name}
 use Rattle.script_words.specs.Spans.{whole_line, next_word}
 use Rattle.script_words.specs.Tables.{commands_table, items_table}
-use Rattle.script_words.specs.Words.{text_of_word, quoted_of_word, zone_of_word, decimal_number, behind_front, max_number, variable_of_word, class_of_word, cut_at}
-use Rattle.script_words.specs.Numbers.{short_number, offset_of_word, three_numbers, amount_of_word}
-use Rattle.script_commands.specs.Commands.{argument, read_as, no_more, is_over, max_bytes, format, amounts, offset, zone, moment, info_words, conv_words, class_words, lone_value, money_words, time_words, command}
+use Rattle.script_words.specs.Words.{text_of_word, quoted_of_word, zone_of_word, decimal_number, behind_front, max_number, variable_of_word, class_of_word, cut_at, handle_of_word}
+use Rattle.script_words.specs.Numbers.{short_number, offset_of_word, three_numbers, amount_of_word, number_of_word}
+use Rattle.script_commands.specs.Commands.{argument, read_as, no_more, is_over, target, target_word, read_of_command, max_bytes, format, command_text, amounts, whole_numbers, offset, zone, moment, info_words, conv_words, class_words, lone_value, money_words, time_words, number_words, parse_words, command}
 
 -- ---- commands, as the second line of a script
 
@@ -161,3 +162,89 @@ time_zone_for_offset = refl
 time_short : spoken (codes "time \"%c\" 2021-13-03 12:0:00 0") ≡ wrong 31
 unfolding command next_word argument no_more read_as is_over text_of_word quoted_of_word zone_of_word decimal_number behind_front max_number variable_of_word class_of_word is_class_name is_thread_name cut_at short_number offset_of_word three_numbers amount_of_word max_bytes format amounts offset zone moment info_words conv_words class_words lone_value money_words time_words commands_table items_table
 time_short = refl
+
+-- ---- whole numbers
+
+number_plain : spoken (codes "number \"%d\" 5 -007") ≡ Ok (Read (Number 1024 (codes "%d") (pos 5 ∷ negsuc 6 ∷ [])))
+unfolding command next_word argument text_of_word quoted_of_word decimal_number behind_front max_number cut_at number_of_word max_bytes format whole_numbers number_words commands_table
+number_plain = refl
+
+number_with_max : spoken (codes "number max=0 \"%d\"") ≡ Ok (Read (Number 0 (codes "%d") []))
+unfolding command next_word argument text_of_word quoted_of_word decimal_number behind_front max_number cut_at number_of_word max_bytes format whole_numbers number_words commands_table
+number_with_max = refl
+
+number_without_format : spoken (codes "number 5") ≡ wrong 8
+unfolding command next_word argument text_of_word quoted_of_word decimal_number behind_front max_number cut_at number_of_word max_bytes format whole_numbers number_words commands_table
+number_without_format = refl
+
+number_with_fraction : spoken (codes "number \"%d\" 1 1.5 2") ≡ wrong 15
+unfolding command next_word argument text_of_word quoted_of_word decimal_number behind_front max_number cut_at number_of_word max_bytes format whole_numbers number_words commands_table
+number_with_fraction = refl
+
+number_many : spoken (codes "number \"%d\"" ++ ones 64) ≡ Ok (Read (Number 1024 (codes "%d") (replicate 64 (pos 1))))
+unfolding command next_word argument text_of_word quoted_of_word decimal_number behind_front max_number cut_at number_of_word max_bytes format whole_numbers number_words commands_table
+number_many = refl
+
+number_one_too_many : spoken (codes "number \"%d\"" ++ ones 65 ++ codes " x") ≡ refused 141 (reasons.OverLimit limits.Numbers)
+unfolding command next_word argument text_of_word quoted_of_word decimal_number behind_front max_number cut_at number_of_word max_bytes format whole_numbers number_words commands_table
+number_one_too_many = refl
+
+-- a wrong word goes before the limit at its place
+number_wrong_one_too_many : spoken (codes "number \"%d\"" ++ ones 64 ++ codes " x") ≡ wrong 141
+unfolding command next_word argument text_of_word quoted_of_word decimal_number behind_front max_number cut_at number_of_word max_bytes format whole_numbers number_words commands_table
+number_wrong_one_too_many = refl
+
+number_of_variable : spoken (codes "number_l x max=7 \"%d\" 1") ≡ Ok (ReadOf (targets.Variable (codes "x")) (Number 7 (codes "%d") (pos 1 ∷ [])))
+unfolding command next_word argument text_of_word quoted_of_word decimal_number behind_front max_number cut_at number_of_word max_bytes format whole_numbers number_words commands_table target target_word read_of_command is_thread_name
+number_of_variable = refl
+
+number_max_before_handle : spoken (codes "number_l max=7 x \"%d\" 1") ≡ wrong 10
+unfolding command next_word argument text_of_word quoted_of_word decimal_number behind_front max_number cut_at number_of_word max_bytes format whole_numbers number_words commands_table target target_word read_of_command is_thread_name handle_of_word
+number_max_before_handle = refl
+
+-- ---- texts that are scanned
+
+parse_plain : spoken (codes "parse \"%d\" \"7 \\x41\"") ≡ Ok (Read (Parse (codes "%d") (codes "7 A")))
+unfolding command next_word argument text_of_word quoted_of_word decimal_number behind_front max_number cut_at no_more format command_text parse_words commands_table
+parse_plain = refl
+
+parse_nothing : spoken (codes "parse \"\" \"\"") ≡ Ok (Read (Parse [] []))
+unfolding command next_word argument text_of_word quoted_of_word decimal_number behind_front max_number cut_at no_more format command_text parse_words commands_table
+parse_nothing = refl
+
+parse_one_word : spoken (codes "parse \"%d\"") ≡ wrong 11
+unfolding command next_word argument text_of_word quoted_of_word decimal_number behind_front max_number cut_at no_more format command_text parse_words commands_table
+parse_one_word = refl
+
+parse_three_words : spoken (codes "parse \"%d\" \"7\" \"8\"") ≡ wrong 16
+unfolding command next_word argument text_of_word quoted_of_word decimal_number behind_front max_number cut_at no_more format command_text parse_words commands_table
+parse_three_words = refl
+
+parse_text_open : spoken (codes "parse \"%d\" \"7") ≡ wrong 12
+unfolding command next_word argument text_of_word quoted_of_word decimal_number behind_front max_number cut_at no_more format command_text parse_words commands_table
+parse_text_open = refl
+
+parse_text_without_quotes : spoken (codes "parse \"%d\" 7") ≡ wrong 12
+unfolding command next_word argument text_of_word quoted_of_word decimal_number behind_front max_number cut_at no_more format command_text parse_words commands_table
+parse_text_without_quotes = refl
+
+-- no `max=` stands before a text that is scanned
+parse_with_max : spoken (codes "parse max=7 \"%d\" \"7\"") ≡ wrong 7
+unfolding command next_word argument text_of_word quoted_of_word decimal_number behind_front max_number cut_at no_more format command_text parse_words commands_table
+parse_with_max = refl
+
+parse_longest_text : spoken (codes "parse \"%d\" \"" ++ replicate 1024 65 ++ codes "\"") ≡ Ok (Read (Parse (codes "%d") (replicate 1024 65)))
+unfolding command next_word argument text_of_word quoted_of_word decimal_number behind_front max_number cut_at no_more format command_text parse_words commands_table
+parse_longest_text = refl
+
+parse_text_too_long : spoken (codes "parse \"%d\" \"" ++ replicate 1025 65 ++ codes "\" x") ≡ refused 12 (reasons.OverLimit limits.CommandText)
+unfolding command next_word argument text_of_word quoted_of_word decimal_number behind_front max_number cut_at no_more format command_text parse_words commands_table
+parse_text_too_long = refl
+
+parse_format_too_long : spoken (codes "parse \"" ++ replicate 1025 65 ++ codes "\" x") ≡ refused 7 (reasons.OverLimit limits.Format)
+unfolding command next_word argument text_of_word quoted_of_word decimal_number behind_front max_number cut_at no_more format command_text parse_words commands_table
+parse_format_too_long = refl
+
+parse_of_variable : spoken (codes "parse_l x \"%d\" \"7\"") ≡ Ok (ReadOf (targets.Variable (codes "x")) (Parse (codes "%d") (codes "7")))
+unfolding command next_word argument text_of_word quoted_of_word decimal_number behind_front max_number cut_at no_more format command_text parse_words commands_table target target_word read_of_command is_thread_name
+parse_of_variable = refl

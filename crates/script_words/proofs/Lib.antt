@@ -2,3 +2,4 @@ pub mod ReadLemmas
 pub mod WordLemmas
 mod WordExamples
 mod NumberExamples
+mod WholeExamples

@@ -1,0 +1,18 @@
+use Rattle.std.proofs.Common.{◌-◌, length, arith}
+use Rattle.lc_base.specs.declared.reason.Limit.TheVariants as limits
+use Rattle.script_words.specs.declared.given.TheConstants.{NUMBER_LIMIT}
+use Rattle.script_words.specs.Numbers.{number_of_word}
+use Rattle.script_words.specs.Spans.{span}
+use Rattle.script_commands.specs.Commands.{whole_numbers}
+use Rattle.script_commands.proofs.ArgumentLemmas.{one_more, no_more_values}
+use Rattle.script_commands.proofs.arguments.whole_numbers.Goals as goal
+
+pub loop-word-preserved : goal.loop-word-preserved
+loop-word-preserved c = record {
+  so_far = one_more number_of_word limits.Numbers (NUMBER_LIMIT - length c.loop-word.numbers.items) (NUMBER_LIMIT - length c.push.new.self.items) (span c.loop-word.left) (span c.in-Some.word) (span c.in-Some.behind) _ c.loop-word.numbers.items c.push.new.self.items _ (omega (arith, c.loop-word.invariant.few, c.in_ok-push.ensures.len)) c.in-Some.ensures.is c.in-Some-number_of_word.ensures c.in_ok-push.ensures.items c.loop-word.invariant.so_far;
+  few = omega (arith, c.loop-word.invariant.few, c.in_ok-push.ensures.len);
+}
+
+pub returns : goal.returns
+unfolding whole_numbers
+returns c = rw c.of.ensures (no_more_values number_of_word limits.Numbers (NUMBER_LIMIT - length c.loop-word.numbers.items) (span c.loop-word.left) c.loop-word.numbers.items _ c.in_default.ensures.is c.loop-word.invariant.so_far)
