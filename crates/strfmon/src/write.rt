@@ -189,6 +189,7 @@ pub fn add_conversion(
     if laid.layout.width + laid.field > room as u128 {
         return Err(MoneyFault::TooBig);
     }
+    out.reserve((laid.layout.width + laid.field) as usize)?;
     let spread = spread_of(&laid);
     add_in_field(alloc, out, m, c, &laid.look, spread, laid.decimal)?;
     Ok(())

@@ -17,6 +17,9 @@ use time_cat::{Step, Steps, Time, Tm, step_at};
 /// How many formats lie within one another: the caller's, and those of the ranks 4 to 1.
 const LEVELS: u8 = 5;
 
+/// How many bytes a text has at first room for beyond those of its format.
+const SPARE: usize = 64;
+
 /// Where a `%` stands that begins no conversion.
 #[tactic(auto, using(crate::proofs::Left::pieces_at_start))]
 fn bad_byte<L: Ledger>(format: &[u8], steps: &mut Steps<L>) -> Option<usize>
@@ -55,7 +58,8 @@ pub fn strftime_counted<L: Ledger>(
     if let Some(at) = bad_byte(format, steps) {
         return Err(TimeFault::BadFormat { at });
     }
-    let mut out = Vec::new(alloc);
+    let room = format.len().saturating_add(SPARE).min(max);
+    let mut out = Vec::with_capacity(alloc, room)?;
     put_format(LEVELS, t, tm, max, format, steps, &mut out)?;
     Ok(ByteText::from_vec(out))
 }

@@ -8,12 +8,12 @@ use Rattle.strftime_fields.proofs.text.strftime_counted.Goals as goal
 
 pub returns-in_err-put_format-clause-answer : goal.returns-in_err-put_format-clause-answer
 returns-in_err-put_format-clause-answer g c =
-    let p = err_from_is_err_and c.from_residual.result c.from_residual.ensures.1 in
-    rw (p.1, p.2) (answers_fault c.args.t.now c.args.tm.now c.args.format.now c.args.max c.new-out.result.items c.put_format.new.out.items c.in_err-put_format.field-0.0 (sym c.in_default.ensures.is) c.new-out.ensures.items c.in_err-put_format.ensures.text)
+    let p = err_from_is_err_and c.from_residual-in_err-put_format.result c.from_residual-in_err-put_format.ensures.1 in
+    rw (p.1, p.2) (answers_fault c.args.t.now c.args.tm.now c.args.format.now c.args.max _ c.put_format.new.out.items c.in_err-put_format.field-0.0 (sym c.in_default.ensures.is) c.in_ok-out.ensures.items c.in_err-put_format.ensures.text)
 
 pub returns-clause-answer : goal.returns-clause-answer
 returns-clause-answer g c =
-    let added = rw c.new-out.ensures.items at c.in_ok-put_format.ensures.text in
+    let added = rw c.in_ok-out.ensures.items at c.in_ok-put_format.ensures.text in
     rw c.from_vec.ensures (answers_text c.args.t.now c.args.tm.now c.args.format.now c.args.max c.put_format.new.out.items (sym c.in_default.ensures.is) added)
 
 pub returns-in-Some-clause-answer : goal.returns-in-Some-clause-answer
@@ -21,16 +21,16 @@ returns-in-Some-clause-answer g c = answers_bad c.args.t.now c.args.tm.now c.arg
 
 pub returns-in_err-put_format-clause-steps : goal.returns-in_err-put_format-clause-steps
 returns-in_err-put_format-clause-steps g c =
-    let p = err_from_is_err_and c.from_residual.result c.from_residual.ensures.1 in
+    let p = err_from_is_err_and c.from_residual-in_err-put_format.result c.from_residual-in_err-put_format.ensures.1 in
     let right = cost_right c.args.t.now c.args.tm.now c.args.format.now c.args.max (sym c.in_default.ensures.is) in
-    let read = rw c.new-out.ensures.items at c.in_err-put_format.ensures.steps in
+    let read = rw c.in_ok-out.ensures.items at c.in_err-put_format.ensures.steps in
     let whole : c.bad_byte.new.steps + reads c.args.max 5 c.args.t.now c.args.tm.now 0 c.args.format.now ≡ c.args.steps.now + cost c.args.t.now c.args.tm.now c.args.format.now c.args.max = omega (arith, right, c.in_default.ensures.steps) in
     rw (p.1, p.2, sym whole) (counts_fault (Unit {0}) (List ℕ) c.in_err-put_format.field-0.0 _ _ read)
 
 pub returns-clause-steps : goal.returns-clause-steps
 returns-clause-steps g c =
     let right = cost_right c.args.t.now c.args.tm.now c.args.format.now c.args.max (sym c.in_default.ensures.is) in
-    let read = rw c.new-out.ensures.items at c.in_ok-put_format.ensures.steps in
+    let read = rw c.in_ok-out.ensures.items at c.in_ok-put_format.ensures.steps in
     omega (arith, right, read, c.in_default.ensures.steps)
 
 pub returns-in-Some-clause-steps : goal.returns-in-Some-clause-steps
@@ -40,6 +40,9 @@ returns-in-Some-clause-steps g c =
 
 pub returns-in_err-put_format-clause-bound : goal.returns-in_err-put_format-clause-bound
 returns-in_err-put_format-clause-bound g c = cost_most c.args.t.now c.args.tm.now c.args.format.now c.args.max c.rules_hold.ensures
+
+pub returns-in_err-out-clause-bound : goal.returns-in_err-out-clause-bound
+returns-in_err-out-clause-bound g c = cost_most c.args.t.now c.args.tm.now c.args.format.now c.args.max c.rules_hold.ensures
 
 pub returns-clause-bound : goal.returns-clause-bound
 returns-clause-bound g c = cost_most c.args.t.now c.args.tm.now c.args.format.now c.args.max c.rules_hold.ensures
