@@ -13,7 +13,9 @@ pub fn keep_to_themselves(bundle: &Bundle) -> bool
     ensures { result ≡ all_keep_to_themselves bundle.now }
 {
     let commands = bundle.commands.as_slice();
-    commands.iter().all(|placed| keeps_to_itself(&placed.command))
+    commands
+        .iter()
+        .all(|placed| keeps_to_itself(&placed.command))
 }
 
 /// A script whose threads keep to themselves prints the same, but for the places of its calls, in
