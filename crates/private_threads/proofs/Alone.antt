@@ -14,7 +14,6 @@ use Rattle.handle_table.specs.Answer.{answer, entry, own}
 use Rattle.handle_table.specs.Isolation.{part_of, IsClosed}
 use Rattle.handle_table.proofs.Isolated.{answer_apart}
 use Rattle.script_commands.specs.declared.command.Read.{Read}
-use Rattle.script_words.specs.declared.categories.Categories.{Categories}
 use Rattle.script_out.specs.declared.output.OutLine.{OutLine}
 use Rattle.script_out.specs.declared.output.Places.{Places}
 use Rattle.script_out.specs.declared.output.Places.TheVariants as places
@@ -26,10 +25,9 @@ use Rattle.script_lines.specs.Wishes.{Wish, Calls, ReadsOf, Reads, AsksSelection
 use Rattle.script_lines.specs.Lines.{Caller, told_line, placed_line, object_line, global_read_line, global_name_line}
 use Rattle.script_serial.specs.Plan.{PlanData}
 use Rattle.script_serial.specs.Isolation.{SaysTheSameTo}
-use Rattle.script_serial.specs.Prints.{Told, bound_by, places_in, all_places, up_to_round, PlacedCall, call_of, calls_of, calls_after, with_placed, history_below, Around, around, past, behind_last, or_earlier, next_place, seen, lines_of, IsVersion, global_of, IsCall, IsRead, IsGranted, AreTold, caller_of}
+use Rattle.script_serial.specs.Prints.{Told, bound_by, places_in, all_places, up_to_round, PlacedCall, call_of, calls_of, calls_after, with_placed, history_below, Around, around, behind_last, or_earlier, next_place, seen, lines_of, IsVersion, global_of, IsRead, IsGranted, AreTold, caller_of}
 use Rattle.script_serial.proofs.Fronts.{part_says_the_same}
 use Rattle.script_serial.proofs.PlacedCalls.{place_of, AreOnce, stands_at, below_legal}
-use Rattle.script_serial.proofs.SerialCalls.{is_at}
 use Rattle.private_threads.specs.Private.{placeless}
 use Rattle.private_threads.proofs.Lists.{Rise}
 use Rattle.private_threads.proofs.Parts.{IsPrivate, IsPrivateEntry, IsPrivateCall, either, its_own, private_closed, part_with, no_sets, first_global, private_below, IsOutside, same_part}

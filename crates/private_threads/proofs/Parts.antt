@@ -1,15 +1,15 @@
 -- Histories of threads that keep to themselves: the part of one thread, and what no entry in them does.
-use Rattle.std.proofs.Common.{◌≡◌, ℕ, zero, suc, ◌<◌, ◌≤◌, Bool, true, false, cond, ◌&&◌, not, List, [], ◌∷◌, find, Option, Some, None, refl, sym, ap, subst, ◌∙◌, arith, inl, inr}
+use Rattle.std.proofs.Common.{◌≡◌, ℕ, zero, suc, ◌<◌, ◌≤◌, Bool, true, false, cond, ◌&&◌, not, List, [], ◌∷◌, find, Option, Some, None, refl, sym, ap, ◌∙◌, arith, inl, inr}
 use Rattle.std.specs.Prelude.{◌==◌, ◌⊎◌, if◌then◌else◌, All}
 use Rattle.std.proofs.lemmas.Bool.{cases_lt, eqb-true, eq-eqb, le-leb, false≢true, or_cases, or_left, or_from, and_from, not_from_false}
 use Rattle.std.proofs.lemmas.List.Elements.{All-nil, All-cons, All-head, All-tail, All-weaker}
 use Rattle.mask_compose.specs.Parts.{Parts}
 use Rattle.handle_table.specs.declared.handle.Handle.{Handle}
-use Rattle.handle_table.specs.Entry.{Op, New, Dup, Free, Use, Hold, Release, SetGlobal, Install, Post, Fetch, Pins, End, Reply, Entry, History, Setting, is_accepted}
+use Rattle.handle_table.specs.Entry.{Op, New, Dup, Free, Use, Hold, Release, SetGlobal, Install, Post, Fetch, Pins, End, Entry, History, Setting, is_accepted}
 use Rattle.handle_table.specs.Shelf.{posix}
 use Rattle.handle_table.specs.History.{sets_after, sets, global, global_at}
 use Rattle.handle_table.specs.Answer.{entry}
-use Rattle.handle_table.specs.Isolation.{has_thread, named_by, fetched_from, is_owned, is_own, is_own_cell, keeps_apart, IsClosed, is_for_all, is_in_part, part_of}
+use Rattle.handle_table.specs.Isolation.{has_thread, named_by, fetched_from, is_owned, is_own, is_own_cell, keeps_apart, IsClosed, is_for_all, part_of}
 use Rattle.script_lines.specs.declared.holds.OpenHold.{OpenHold}
 use Rattle.script_lines.specs.Holds.{object_held, hold_change, changed, holds_after, open_holds}
 use Rattle.script_serial.specs.Prints.{PlacedCall, with_placed, history_below}

@@ -1,6 +1,6 @@
 -- All lists of lines of a script whose threads keep to themselves are one, but for places.
 use Rattle.std.proofs.Common.{◌≡◌, ℕ, ◌+◌, ◌<◌, ◌≤◌, Bool, true, false, cond, List, [], ◌∷◌, ◌++◌, length, map, drop, get_or, refl, sym, ap, subst, ◌∙◌, arith, append-nil, Result}
-use Rattle.std.specs.Prelude.{◌==◌, filter, flat_map, zip, All}
+use Rattle.std.specs.Prelude.{◌==◌, zip, All}
 use Rattle.std.specs.List.{range_with_len}
 use Rattle.std.proofs.lemmas.List.{map-append}
 use Rattle.std.proofs.lemmas.List.Elements.{All-nil, All-cons, All-head, All-tail, All-append, All-map, All-filter, filter-append}
@@ -9,14 +9,12 @@ use Rattle.handle_table.specs.Entry as table
 use Rattle.handle_table.specs.Entry.{History, Setting}
 use Rattle.script_commands.specs.declared.command.Placed.{Placed}
 use Rattle.script_lang.specs.declared.bundle.Bundle.{Bundle}
-use Rattle.script_lines.specs.declared.holds.OpenHold.{OpenHold}
 use Rattle.script_lines.specs.Holds.{open_holds}
 use Rattle.script_lines.specs.Turns.{Turn, Ends, first_numbers, in_round, in_thread, turn_of, thread_turns, round_turns, command_turns, closing, closing_turns}
-use Rattle.script_lines.specs.Variables.{Bound, bindings_of, variable_bound}
+use Rattle.script_lines.specs.Variables.{bindings_of, variable_bound}
 use Rattle.script_lines.specs.Wishes.{Wish, wish_of, ops_of}
 use Rattle.script_lines.specs.Lines.{Caller}
 use Rattle.script_out.specs.declared.output.OutLine.{OutLine}
-use Rattle.script_out.specs.declared.output.Places.{Places}
 use Rattle.script_out.specs.declared.output.Why.{Why}
 use Rattle.script_serial.specs.Plan.{PlanData}
 use Rattle.script_serial.specs.Isolation.{all_told, all_calls}
