@@ -26,14 +26,14 @@ library = record {
 abbrev of_a : ℕ → List ℕ → List ℤ → Said
 of_a max format numbers = local library (record { ctype = 0; numeric = 1; monetary = 0; time = 0; messages = 0 }) (Number max format numbers)
 
-text_of_numbers : of_a 1024 (codes "%'d|%+d") (pos 1234567 ∷ pos 42 ∷ []) ≡ said.Text (codes "1,234,567|+42")
+text_of_numbers : of_a 1024 (codes "%'d|%+d") (pos 1234 ∷ pos 42 ∷ []) ≡ said.Text (codes "1,234|+42")
 unfolding separated last_digits flags_behind number_behind conversion_with piece pieces pieces_text missing
 text_of_numbers = refl
 
 -- numbers that are left over are passed over
-unsigned : of_a 20 (codes "%u") (negsuc 0 ∷ pos 7 ∷ []) ≡ said.Text (codes "18446744073709551615")
+left_over : of_a 2 (codes "%d") (negsuc 6 ∷ pos 42 ∷ []) ≡ said.Text (codes "-7")
 unfolding separated last_digits flags_behind number_behind conversion_with piece pieces pieces_text missing
-unsigned = refl
+left_over = refl
 
 missing_number : of_a 1024 (codes "%d %d") (pos 1 ∷ []) ≡ said.Refused (whys.MissingNumber 3)
 unfolding separated last_digits flags_behind number_behind conversion_with piece pieces pieces_text missing
