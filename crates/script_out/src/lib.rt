@@ -4,5 +4,5 @@
 mod output;
 mod refusal;
 
-pub use output::{OutLine, Places, Said, Why, print, push_number};
+pub use output::{OutLine, Places, Said, Why, print, push_number, push_reply};
 pub use refusal::push_refusal;

@@ -184,7 +184,12 @@ fn push_version(out: &mut Vec<u8>, version: Option<u32>) -> Result<(), AllocErro
     }
 }
 
-fn push_reply(out: &mut Vec<u8>, reply: &Said, threads: &List<ByteText>) -> Result<(), AllocError>
+/// Adds a reply.
+pub fn push_reply(
+    out: &mut Vec<u8>,
+    reply: &Said,
+    threads: &List<ByteText>,
+) -> Result<(), AllocError>
     ensures { OnOk result (out.new.items ≡ out.old.items ++ reply_text threads.now reply.now) }
 {
     match reply {
