@@ -1,9 +1,10 @@
 //! Threads of a script that run beside each other: each waits for a command of the other.
 
-use lc_base::TextFault;
+use bundle_maker::{generate, summary};
+use lc_base::{ByteText, TextFault};
 use script_out::print;
 use script_run::{Pause, run};
-use script_serial::{Plan, prepare};
+use script_serial::{Plan, prepare, serial};
 use std::alloc::{AllocError, Global};
 use std::sync::Wait;
 use std::sync::atomic::{AtomicU64, Ordering};
@@ -65,9 +66,9 @@ impl Pause for Until {
     }
 }
 
-// The bit of a command, where there are two threads with at most 31 commands each.
+// The bit of a command, where there are four threads with at most 15 commands each.
 fn bit(which: Which) -> u64 {
-    1 << (which.0 % 2 * 32 + which.1 % 32)
+    1 << (which.0 % 4 * 16 + which.1 % 16)
 }
 
 // Whether a text has this line.
@@ -200,5 +201,47 @@ fn look_loads_anew(rt: HostRuntime) -> Result<(), Fail> {
     let (printed, calls, given_up) = ran(&rt, rt.alloc(), LOOK_LOADS_ANEW, waits)?;
     assert_eq!(rt; (calls, given_up), (4, 0));
     assert!(rt; has_line(printed.as_slice(), b"1 A 2 - g1 text \",\""));
+    Ok(())
+}
+
+// The summary of a made bundle with eight commands whose threads run beside each other, and that of the
+// same bundle on one thread.
+fn made_summaries<R: Threads + Wait + Sync>(
+    rt: &R,
+    alloc: Global,
+    pause: &Until,
+) -> Result<(ByteText, ByteText), TextFault> {
+    let bundle = generate(alloc, 0, 8)?;
+    let plan = prepare(alloc, bundle.as_bytes())?;
+    let summaries = summaries(rt, alloc, &plan, pause);
+    drop(plan);
+    Ok(summaries?)
+}
+
+// Both summaries of a plan with eight commands.
+fn summaries<R: Threads + Wait + Sync>(
+    rt: &R,
+    alloc: Global,
+    plan: &Plan,
+    pause: &Until,
+) -> Result<(ByteText, ByteText), AllocError> {
+    let rounds = plan.bundle().rounds;
+    let lines = run(rt, alloc, plan, 16, 65535, pause)?;
+    let beside = summary(alloc, 8, rounds, &lines, plan.threads())?;
+    let lines = serial(alloc, plan, 16, 65535)?;
+    let alone = summary(alloc, 8, rounds, &lines, plan.threads())?;
+    Ok((beside, alone))
+}
+
+/// The threads of a made bundle run beside each other: two of them hold a command until one of the
+/// other is about to run. What they come to is what they come to one after the other.
+#[test]
+fn workers_of_make(rt: HostRuntime) -> Result<(), Fail> {
+    let pause = Until::new([((0, 1), (1, 2)), ((1, 2), (0, 1))]);
+    let (beside, alone) = made_summaries(&rt, rt.alloc(), &pause)?;
+    let calls = pause.calls.load(Ordering::SeqCst);
+    let given_up = pause.given_up.load(Ordering::SeqCst);
+    assert_eq!(rt; (calls, given_up), (8, 0));
+    assert_eq!(rt; beside.as_bytes(), alone.as_bytes());
     Ok(())
 }

@@ -76,7 +76,7 @@ other : {P : Type 0} (a b r : Status) → (a ≡ b → ⊥) → r ≡ a → r �
 other a b r differ e f = absurd (differ (sym e ∙ f))
 
 -- a count that stayed sound did not rise
-sound_fell : {P : Type 0} (before after : ℕ) → Rose before after → StayedSound before after → P
+pub sound_fell : {P : Type 0} (before after : ℕ) → Rose before after → StayedSound before after → P
 sound_fell before after rose sound = absurd (let lt = rose sound.not_last in omega (arith, sound.same))
 
 pub ran_refused : (mode : Mode) (s : SourceStep) (k : SinkStep) (U : Type 0) (r : Status) → Ran mode s k U r → r ≡ Refused → IsRefused s.left s.left' k.written k.written'
@@ -125,10 +125,6 @@ ran_cut mode s k U r (inl (inr a)) e =
     ]
 ran_cut mode s k U r (inr (u, inl f)) e = other WriteFault ReadFault r (λ q. cc) e f.0
 ran_cut mode s k U r (inr (u, inr m)) e = other WriteFault Memory r (λ q. cc) e m.0
-
--- words name one mode
-pub same_mode : (o : Option Mode) (m n : Mode) → o ≡ Some m → o ≡ Some n → m ≡ n
-same_mode o m n p q = cc
 
 -- the counts of an accepted bundle
 pub is_checked : (left left' written written' : Option (List ℕ)) → IsDone Check left left' written written' → IsChecked left left' written written'

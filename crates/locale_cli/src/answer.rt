@@ -203,7 +203,7 @@ fn run_text<R: Threads + Wait + Sync, P: Pause + Sync>(
 }
 
 /// The line of a refused bundle.
-fn refusal(alloc: Global, place: Place, reason: Reason) -> Result<ByteText, AllocError>
+pub fn refusal(alloc: Global, place: Place, reason: Reason) -> Result<ByteText, AllocError>
     ensures { IfOk result (λ text. text ≡ refusal_line place reason) }
 {
     let mut line = Vec::new(alloc);

@@ -2,6 +2,8 @@
 #![tactic(auto)]
 
 mod answer;
+mod made;
+mod request;
 mod top;
 mod words;
 

@@ -152,7 +152,7 @@ fn with_option(given: Options, word: &[u8]) -> Option<Options>
 }
 
 /// A number that was not given before.
-fn once(before: Option<u32>, number: Option<u32>) -> Option<u32>
+pub fn once(before: Option<u32>, number: Option<u32>) -> Option<u32>
     ensures { result ≡ once before number }
 {
     match before {
@@ -163,7 +163,7 @@ fn once(before: Option<u32>, number: Option<u32>) -> Option<u32>
 
 /// The number from 1 on that digits without leading zeros spell.
 #[tactic(auto, unfolding(crate::specs::Words::number_up_to))]
-fn number_up_to(most: u32, digits: &[u8]) -> Option<u32>
+pub fn number_up_to(most: u32, digits: &[u8]) -> Option<u32>
     ensures is { result ≡ number_up_to most digits.now }
     ensures within { IfSome result (IsFromOneTo most) }
 {
@@ -179,7 +179,7 @@ fn number_up_to(most: u32, digits: &[u8]) -> Option<u32>
 }
 
 /// Whether digits have no zero in front, unless it stands alone.
-fn is_unpadded(digits: &[u8]) -> bool
+pub fn is_unpadded(digits: &[u8]) -> bool
     ensures { result ≡ is_unpadded digits.now }
 {
     match digits {

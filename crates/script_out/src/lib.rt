@@ -5,5 +5,5 @@ mod output;
 mod quoting;
 mod refusal;
 
-pub use output::{OutLine, Places, Said, Why, print, push_number};
+pub use output::{OutLine, Places, Said, Why, print, push_line, push_number, push_reply};
 pub use refusal::push_refusal;
