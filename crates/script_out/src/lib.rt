@@ -4,5 +4,5 @@
 mod output;
 mod refusal;
 
-pub use output::{OutLine, Places, Said, Why, print, push_number};
+pub use output::{OutLine, Places, Said, Why, print, push_line, push_number};
 pub use refusal::push_refusal;

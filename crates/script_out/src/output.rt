@@ -128,7 +128,12 @@ fn name_of(threads: &List<ByteText>, thread: u32) -> &[u8]
     }
 }
 
-fn push_line(out: &mut Vec<u8>, line: &OutLine, threads: &List<ByteText>) -> Result<(), AllocError>
+/// Adds the printed text of a line, where the threads have these names.
+pub fn push_line(
+    out: &mut Vec<u8>,
+    line: &OutLine,
+    threads: &List<ByteText>,
+) -> Result<(), AllocError>
     ensures { OnOk result (out.new.items ≡ out.old.items ++ line_text threads.now line.now) }
 {
     push_caller(out, line, name_of(threads, line.thread))?;

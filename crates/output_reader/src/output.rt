@@ -1,0 +1,75 @@
+//! An output.
+
+ghost use Rattle.std.specs.Prelude.{◌≡◌, ◌≢◌, ◌<◌, ◌^◌, [], length, IfOk, IfErr};
+ghost use Rattle.script_out.specs.Output.{printed};
+ghost use Rattle.output_reader.specs.Lines.{AreThreadNames, AreLinesOf, FaultOf, BeginsWith, BeginsUnprinted, fault_of};
+ghost use Rattle.output_reader.specs.declared.unread.Unread.TheVariants.{Unprinted};
+
+use crate::line::line;
+use crate::unread::Unread;
+use lc_base::{ByteText, LinePart, List, Place, Reason, TextFault, ended_line};
+use script_out::OutLine;
+use std::alloc::Global;
+
+/// The lines of which this is the printed text, where the threads have these names. A fault is
+/// `BadLine argument` at the first line of the text that no line prints as: none whose threads are
+/// below the number of names, and whose numbers fit their types. The text has fewer than 2^31 bytes.
+pub fn read_output(
+    alloc: Global,
+    text: &[u8],
+    threads: &List<ByteText>,
+) -> Result<List<OutLine>, TextFault>
+    requires names { AreThreadNames threads.now }
+    requires short { length text.now < 2 ^ 31 }
+    ensures read { IfOk result (λ lines. (printed lines threads.now ≡ text.now) × AreLinesOf threads.now lines text.now) }
+    ensures fault { IfErr result (λ e. FaultOf threads.now text.now e) }
+{
+    let mut lines = Vec::new(alloc);
+    let mut rest = text;
+    let mut number = 1;
+    while !rest.is_empty() {
+        match first_line(alloc, rest, threads) {
+            Ok((found, behind)) => {
+                lines.push(found)?;
+                rest = behind;
+                number += 1;
+            }
+            Err(why) => return Err(fault_of(why, number)),
+        }
+    }
+    Ok(List::of(lines))
+}
+
+/// The first line of a text, and what follows it.
+fn first_line<'a>(
+    alloc: Global,
+    text: &'a [u8],
+    threads: &List<ByteText>,
+) -> Result<(OutLine, &'a [u8]), Unread>
+    requires { AreThreadNames threads.now }
+    ensures read { IfOk result (λ r. BeginsWith threads.now text.now r.0 r.1.now) }
+    ensures shorter { IfOk result (λ r. length r.1.now < length text.now) }
+    ensures unprinted { IfErr result (λ e. e ≡ Unprinted → text.now ≢ [] → BeginsUnprinted threads.now text.now) }
+{
+    let Some((bytes, rest)) = ended_line(text) else {
+        return Err(Unread::Unprinted);
+    };
+    let line = line(alloc, bytes, threads)?;
+    Ok((line, rest))
+}
+
+/// The refusal of the line of this number.
+fn fault_of(why: Unread, number: u32) -> TextFault
+    ensures { result ≡ fault_of why number }
+{
+    match why {
+        Unread::Unprinted => {
+            let place = Place {
+                line: number,
+                column: 1,
+            };
+            TextFault::At(place, Reason::BadLine(LinePart::Argument))
+        }
+        Unread::Memory => TextFault::Memory,
+    }
+}
