@@ -1,17 +1,19 @@
 -- The lines of an output, one after another.
-use Rattle.std.proofs.Common.{◌≡◌, ℕ, zero, suc, ◌+◌, ◌<◌, Bool, false, List, [], ◌∷◌, ◌++◌, length, map, get_or, nat_eq, refl, ap, sym, subst, ◌∙◌, arith}
+use Rattle.std.proofs.Common.{◌≡◌, ℕ, zero, suc, ◌+◌, ◌<◌, Bool, true, false, List, [], ◌∷◌, ◌++◌, length, map, get_or, nat_eq, refl, ap, sym, subst, ◌∙◌, arith}
 use Rattle.std.specs.List.{AllByRecursion}
-use Rattle.std.proofs.lemmas.List.{append_assoc, append-nil}
+use Rattle.std.proofs.lemmas.Bool.{eqb-true}
+use Rattle.std.proofs.lemmas.List.{nil_from_length, append_assoc, append-nil}
 use Rattle.lc_base.specs.declared.fault.TextFault.{TextFault}
+use Rattle.lc_base.specs.declared.fault.TextFault.TheVariants.{Memory}
 use Rattle.output_reader.specs.declared.unread.Unread.{Unread}
 use Rattle.output_reader.specs.declared.unread.Unread.TheVariants as unread
 use Rattle.lc_base.specs.Lines.{ended, EndsLine}
 use Rattle.script_out.specs.declared.output.OutLine.{OutLine}
 use Rattle.script_out.specs.Output.{line_text, printed}
-use Rattle.output_reader.specs.Lines.{whole_lines, IsPrinted, IsFirstUnprinted, BeginsUnprinted, FaultOf, fault_of}
+use Rattle.output_reader.specs.Lines.{whole_lines, IsPrinted, IsFirstUnprinted, BeginsUnprinted, FaultOf, fault_of, IsOneLine}
 use Rattle.output_reader.specs.Ranges.{IsLine}
 use Rattle.output_reader.specs.Reading.{Lacks}
-use Rattle.output_reader.proofs.Cuts.{lacks_head, never_lacks}
+use Rattle.output_reader.proofs.Cuts.{lacks_head, never_lacks, one_cut}
 use Rattle.output_reader.proofs.Giving.{false_true}
 use Rattle.output_reader.proofs.LineTexts.{pieces, line_pieces}
 
@@ -105,3 +107,51 @@ fault_found names text rest lines why number fault at counted all is begins = su
 
 pub not_empty : (l : List ℕ) (b : Bool) → b ≡ nat_eq (length l) 0 → b ≡ false → l ≡ [] → ⊥
 not_empty l b e full is = false_true (sym full ∙ e ∙ ap (λ (k : List ℕ). nat_eq (length k) 0) is)
+
+-- ---- lines that are found again
+
+pub one_line_cut : (names : List (List ℕ)) (l : OutLine) (text bytes rest more : List ℕ) → EndsLine text bytes rest → IsOneLine names l → text ≡ line_text names l ++ more → (line_text names l ≡ ended bytes) × (rest ≡ more)
+one_line_cut names l text bytes rest more cut one is =
+    let first : text ≡ bytes ++ 10 ∷ rest = cut.parts ∙ append_assoc bytes (10 ∷ []) rest in
+    let second : text ≡ one.bytes ++ 10 ∷ more = is ∙ ap (λ t. t ++ more) one.text ∙ append_assoc one.bytes (10 ∷ []) more in
+    let both = one_cut bytes rest one.bytes more 10 cut.bare one.bare (sym first ∙ second) in
+    (one.text ∙ ap (λ b. ended b) (sym both.0), both.1)
+
+pub one_line_ends : (names : List (List ℕ)) (l : OutLine) (text more : List ℕ) → Lacks text 10 → IsOneLine names l → text ≡ line_text names l ++ more → ⊥
+one_line_ends names l text more bare one is =
+    let whole : text ≡ one.bytes ++ 10 ∷ more = is ∙ ap (λ t. t ++ more) one.text ∙ append_assoc one.bytes (10 ∷ []) more in
+    never_lacks one.bytes more 10 (subst (λ (t : List ℕ). Lacks t 10) whole bare)
+
+line_some : (names : List (List ℕ)) (l : OutLine) (more : List ℕ) → IsOneLine names l → line_text names l ++ more ≡ [] → ⊥
+line_some names l more one is = one_line_ends names l [] more refl one (sym is)
+
+abbrev pub AreLeft : List (List ℕ) → List OutLine → List OutLine → List ℕ → List OutLine → Type 0
+AreLeft names all found rest later = (all ≡ found ++ later) × (rest ≡ printed later names) × AllByRecursion (λ l. IsLine names l × IsOneLine names l) later
+
+-- what the first of the lines that are left is, and what follows it
+pub record IsNext (names : List (List ℕ)) (all found : List OutLine) (rest : List ℕ) : Type 0 where
+  pub line : OutLine
+  pub more : List OutLine
+  pub whole : all ≡ found ++ line ∷ more
+  pub text : rest ≡ line_text names line ++ printed more names
+  pub is : IsLine names line
+  pub one : IsOneLine names line
+  pub others : AllByRecursion (λ l. IsLine names l × IsOneLine names l) more
+
+pub next_line : (names : List (List ℕ)) (all found : List OutLine) (rest : List ℕ) (later : List OutLine) → AreLeft names all found rest later → (rest ≡ [] → ⊥) → IsNext names all found rest
+next_line names all found rest [] left some = absurd (some left.1)
+next_line names all found rest (l ∷ ls) left some = record { line = l; more = ls; whole = left.0; text = left.1; is = left.2.0.0; one = left.2.0.1; others = left.2.1 }
+
+pub line_read : (names : List (List ℕ)) (all found items : List OutLine) (rest behind : List ℕ) (l : OutLine) (next : IsNext names all found rest) → items ≡ found ++ l ∷ [] → l ≡ next.line → behind ≡ printed next.more names → (later : List OutLine) × AreLeft names all items behind later
+line_read names all found items rest behind l next pushed same is =
+    (next.more, (next.whole ∙ ap (λ k. found ++ k ∷ next.more) (sym same) ∙ sym (append_assoc found (l ∷ []) next.more) ∙ ap (λ k. k ++ next.more) (sym pushed), is, next.others))
+
+pub all_read : (names : List (List ℕ)) (all found : List OutLine) (rest : List ℕ) (later : List OutLine) → AreLeft names all found rest later → rest ≡ [] → found ≡ all
+all_read names all found rest [] left none = sym (left.0 ∙ append-nil found)
+all_read names all found rest (l ∷ ls) left none = absurd (line_some names l (printed ls names) left.2.0.1 (sym left.1 ∙ none))
+
+pub fault_memory : (why : Unread) (number : ℕ) (fault : TextFault) → fault ≡ fault_of why number → why ≡ unread.Memory → fault ≡ Memory
+fault_memory why number fault at is = at ∙ ap (λ e. fault_of e number) is
+
+pub is_empty_list : (l : List ℕ) (b : Bool) → b ≡ nat_eq (length l) 0 → b ≡ true → l ≡ []
+is_empty_list l b e full = nil_from_length l (eqb-true (length l) 0 (sym e ∙ full))

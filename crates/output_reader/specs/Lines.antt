@@ -1,7 +1,7 @@
 -- The lines of an output, and which of them some value prints as.
-use Rattle.std.specs.Prelude.{◌≡◌, ℕ, suc, ◌<◌, List, [], ◌∷◌, ◌++◌, length, map, slice_index_or, if◌then◌else◌, true}
-use Rattle.std.specs.List.{AllByRecursion, list_all}
-use Rattle.lc_base.specs.Lines.{is_newline, onto_first}
+use Rattle.std.specs.Prelude.{◌≡◌, ℕ, suc, ◌<◌, List, [], ◌∷◌, ◌++◌, length, map, slice_index_or, if◌then◌else◌, true, false}
+use Rattle.std.specs.List.{AllByRecursion, list_all, list_any}
+use Rattle.lc_base.specs.Lines.{is_newline, onto_first, ended}
 use Rattle.lc_base.specs.declared.fault.TextFault.{TextFault}
 use Rattle.lc_base.specs.declared.fault.TextFault.TheVariants.{At, Memory}
 use Rattle.lc_base.specs.declared.reason.Reason.TheVariants.{BadLine}
@@ -12,6 +12,7 @@ use Rattle.script_out.specs.Output.{line_text}
 use Rattle.output_reader.specs.declared.unread.Unread.{Unread}
 use Rattle.output_reader.specs.declared.unread.Unread.TheVariants as unread
 use Rattle.output_reader.specs.Ranges.{IsLine}
+use Rattle.output_reader.specs.Reading.{AreDistinct}
 
 -- the lines of a text, each with its newline, which the last may lack
 abbrev pub whole_lines : List ℕ → List (List ℕ)
@@ -29,6 +30,16 @@ IsPrinted names bytes = (l : OutLine) × IsLine names l × (line_text names l �
 -- each line of the text is the printed form of the one in its place
 abbrev pub AreLinesOf : List (List ℕ) → List OutLine → List ℕ → Type 0
 AreLinesOf names lines text = AllByRecursion (IsLine names) lines × (map (line_text names) lines ≡ whole_lines text)
+
+-- the printed form of a line has one newline, at its end; that of a name with a newline has more
+pub record IsOneLine (names : List (List ℕ)) (l : OutLine) : Type 0 where
+  pub bytes : List ℕ
+  pub text : line_text names l ≡ ended bytes
+  pub bare : list_any is_newline bytes ≡ false
+
+-- lines that are found again in their printed text
+abbrev pub AreToldApart : List (List ℕ) → List OutLine → Type 0
+AreToldApart names lines = AreDistinct names × AllByRecursion (λ l. IsLine names l × IsOneLine names l) lines
 
 -- the line at this index is the first of the text that no line prints as
 pub record IsFirstUnprinted (names : List (List ℕ)) (text : List ℕ) (at : ℕ) : Type 0 where
