@@ -1,6 +1,6 @@
 -- What a run for a made bundle says of each status.
-use Rattle.std.proofs.Common.{◌≡◌, ℕ, List, Option, Some, None, Ok, Err, refl, sym, ap, subst, ◌∙◌, inl, inr}
-use Rattle.std.specs.Prelude.{◌≢◌, ◌⊎◌, map}
+use Rattle.std.proofs.Common.{◌≡◌, ℕ, List, Option, Some, Ok, Err, refl, sym, ap, subst, ◌∙◌, inl, inr}
+use Rattle.std.specs.Prelude.{◌≢◌, ◌⊎◌}
 use Rattle.std.specs.Io.KnownBytes.{Appends}
 use Rattle.lc_base.specs.declared.place.Place.{Place}
 use Rattle.lc_base.specs.declared.reason.Reason.{Reason}
@@ -16,10 +16,10 @@ use Rattle.locale_cli.specs.declared.request.Request.TheVariants.{Read, Make}
 use Rattle.locale_cli.specs.declared.words.Mode.{Mode}
 use Rattle.locale_cli.specs.declared.answer.Answer.{Answer}
 use Rattle.locale_cli.specs.Answer.{status_for, text_for, answer_for}
-use Rattle.locale_cli.specs.Made.{made_line, made_text, made_status, IsMade, IsMadeRefused, IsMadeCut, RanMade}
+use Rattle.locale_cli.specs.Made.{made_line, made_status, IsMade, IsMadeRefused, IsMadeCut, RanMade}
 use Rattle.locale_cli.specs.Run.{SinkStep}
 use Rattle.locale_cli.specs.Status.{status_of, StayedSound}
-use Rattle.locale_cli.proofs.Statuses.{sound_fell, told_sound}
+use Rattle.locale_cli.proofs.Statuses.{sound_fell}
 
 -- ---- requests
 
@@ -88,9 +88,9 @@ made_cut seed commands k U r (inl (inr f)) e = f.1
 made_cut seed commands k U r (inr u) e = other WriteFault Memory r (λ q. cc) e u.1
 
 pub made_due : (seed commands : ℕ) (k : SinkStep) (U : Type 0) (r : Status) → RanMade seed commands k U r → (r ≡ made_status seed commands) ⊎ (r ≡ WriteFault) ⊎ (r ≡ Memory)
-made_due seed commands k U r (inl (inl t)) = inl (inl (t.0 ∙ status_is commands (plan_of (generated seed commands))))
-made_due seed commands k U r (inl (inr f)) = inl (inr f.0)
-made_due seed commands k U r (inr u) = inr u.1
+made_due seed commands k U r (inl (inl t)) = inl (t.0 ∙ status_is commands (plan_of (generated seed commands)))
+made_due seed commands k U r (inl (inr f)) = inr (inl f.0)
+made_due seed commands k U r (inr u) = inr (inr u.1)
 
 pub made_complete : (seed commands : ℕ) (k : SinkStep) (U : Type 0) (r : Status) → RanMade seed commands k U r → StayedSound k.faults k.faults' → (r ≡ made_status seed commands) ⊎ (r ≡ Memory)
 made_complete seed commands k U r (inl (inl t)) sound = inl (t.0 ∙ status_is commands (plan_of (generated seed commands)))

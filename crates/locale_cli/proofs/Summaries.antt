@@ -6,6 +6,7 @@ use Rattle.std.proofs.lemmas.List.Sums.{sum_by-cons}
 use Rattle.private_threads.specs.Private.{placeless, all_keep_to_themselves, PrintAlike}
 use Rattle.script_serial.proofs.SerialNewest.{serial_prints_in_order}
 use Rattle.script_serial.specs.Prints.{Prints}
+use Rattle.script_lang.specs.declared.bundle.Bundle.{Bundle}
 use Rattle.script_out.specs.declared.output.OutLine.{OutLine}
 use Rattle.script_serial.specs.Plan.{PlanData}
 use Rattle.script_serial.specs.Serial.{serial_lines, setting}
@@ -46,8 +47,19 @@ like_serial law plan lines apart prints =
     law (setting plan DEFAULT_ROWS DEFAULT_GENERATIONS) plan lines (serial_lines DEFAULT_ROWS DEFAULT_GENERATIONS plan) apart prints (serial_prints_in_order DEFAULT_ROWS DEFAULT_GENERATIONS plan).prints
 
 -- so is what `run` gives, if it gives lines
-pub run_like_serial : PrintAlike → (plan : PlanData) (result : Result (List OutLine) AllocError) → all_keep_to_themselves plan.bundle ≡ true
+pub run_like_serial : {E : Type 0} → PrintAlike → (plan : PlanData) (result : Result (List OutLine) E) → all_keep_to_themselves plan.bundle ≡ true
     → IfOk result (λ lines. Prints (setting plan DEFAULT_ROWS DEFAULT_GENERATIONS) plan lines)
     → IfOk result (λ lines. map placeless lines ≡ map placeless (serial_lines DEFAULT_ROWS DEFAULT_GENERATIONS plan))
 run_like_serial law plan (Ok lines) apart prints = like_serial law plan lines apart prints
 run_like_serial law plan (Err e) apart prints = tt
+
+-- the summary of such lines, if there is one
+pub line_of : {E : Type 0} (commands : ℕ) (plan : PlanData) (bundle : Bundle) (names : List (List ℕ)) (lines : List OutLine) (result : Result (List ℕ) E) → bundle ≡ plan.bundle → names ≡ plan.bundle.threads
+    → map placeless lines ≡ map placeless (serial_lines DEFAULT_ROWS DEFAULT_GENERATIONS plan)
+    → IfOk result (λ text. text ≡ summary commands bundle.rounds names lines) → IfOk result (λ text. text ≡ made_line commands plan)
+line_of commands plan bundle names lines (Ok text) same threads alike is =
+    is
+    ∙ ap (λ (b : Bundle). summary commands b.rounds names lines) same
+    ∙ ap (λ (ns : List (List ℕ)). summary commands plan.bundle.rounds ns lines) threads
+    ∙ made_of commands plan lines alike
+line_of commands plan bundle names lines (Err e) same threads alike is = tt

@@ -1,5 +1,5 @@
 -- What the words of the command line ask for (our own).
-use Rattle.std.specs.Prelude.{ℕ, ◌≤◌, ◌<◌, ◌^◌, nat_lt, ◌==◌, not, ◌||◌, List, [], ◌∷◌, codes, length, Option, Some, None, option_map, option_and_then, IfSome, if◌then◌else◌}
+use Rattle.std.specs.Prelude.{ℕ, ◌^◌, nat_lt, ◌==◌, not, ◌||◌, List, [], ◌∷◌, codes, length, Option, Some, None, option_map, option_and_then, IfSome, if◌then◌else◌}
 use Rattle.std.specs.Char.{is_ascii_digit}
 use Rattle.std.specs.List.{list_all}
 use Rattle.std.specs.Str.{bytes_eq}
@@ -17,9 +17,13 @@ use Rattle.locale_cli.specs.Words.{is_unpadded, number_up_to, once, mode_named, 
 abbrev pub wide_value : List ℕ → Option ℕ
 wide_value ds = if nat_lt (digits_value 10 ds) (2 ^ 64) then Some (digits_value 10 ds) else None
 
--- the number of 64 bits that digits without leading zeros spell
-unfoldable pub seed_number : List ℕ → Option ℕ
-seed_number ds = if (length ds == 0) || not (is_unpadded ds) || not (list_all is_ascii_digit ds) then None else wide_value ds
+-- the number of 64 bits that digits spell
+unfoldable pub wide_number : List ℕ → Option ℕ
+wide_number ds = if (length ds == 0) || not (list_all is_ascii_digit ds) then None else wide_value ds
+
+-- the same, without leading zeros
+abbrev pub seed_number : List ℕ → Option ℕ
+seed_number ds = if is_unpadded ds then wide_number ds else None
 
 -- a seed that was not given before
 abbrev pub seed_once : Option ℕ → Option ℕ → Option ℕ

@@ -68,7 +68,6 @@ fn made_text<R: Threads + Wait + Sync, P: Pause + Sync>(
 }
 
 /// The summary of what a bundle with so many commands prints.
-#[tactic(auto, using(crate::proofs::Summaries::made_of))]
 fn made_line<R: Threads + Wait + Sync, P: Pause + Sync>(
     rt: &R,
     alloc: Global,

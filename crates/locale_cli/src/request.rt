@@ -6,7 +6,7 @@ ghost use Rattle.std.specs.List.{list_all};
 ghost use Rattle.std.specs.Str.Parse.{digits_value};
 ghost use Rattle.bundle_maker.specs.declared.text.TheConstants.{MOST_COMMANDS};
 ghost use Rattle.locale_cli.specs.Words.{IsFromOneTo};
-ghost use Rattle.locale_cli.specs.Request.{wide_value, seed_number, seed_once, no_recipe, with_part, with_parts, recipe_request, make_request, request_of, IsRecipe, IsPossible};
+ghost use Rattle.locale_cli.specs.Request.{wide_value, wide_number, seed_number, seed_once, no_recipe, with_part, with_parts, recipe_request, make_request, request_of, IsRecipe, IsPossible};
 
 use crate::words::{Mode, is_unpadded, mode_of, number_up_to, once};
 use bundle_maker::MOST_COMMANDS;
@@ -105,17 +105,31 @@ fn seed_once(before: Option<u64>, seed: Option<u64>) -> Option<u64>
 }
 
 /// The number of 64 bits that digits without leading zeros spell.
-#[tactic(auto, unfolding(crate::specs::Request::seed_number))]
 fn seed_number(digits: &[u8]) -> Option<u64>
     ensures { result ≡ seed_number digits.now }
 {
-    if digits.is_empty()
-        || !is_unpadded(digits)
-        || !digits.iter().all(|digit| digit.is_ascii_digit())
-    {
+    if !is_unpadded(digits) {
+        return None;
+    }
+    wide_number(digits)
+}
+
+/// The number of 64 bits that digits spell.
+#[tactic(auto, unfolding(crate::specs::Request::wide_number))]
+fn wide_number(digits: &[u8]) -> Option<u64>
+    ensures { result ≡ wide_number digits.now }
+{
+    if digits.is_empty() || !are_digits(digits) {
         return None;
     }
     wide_value(digits)
+}
+
+/// Whether all bytes are digits.
+fn are_digits(bytes: &[u8]) -> bool
+    ensures { result ≡ list_all is_ascii_digit bytes.now }
+{
+    bytes.iter().all(|byte| byte.is_ascii_digit())
 }
 
 /// The value of digits, if it has 64 bits.

@@ -2,7 +2,6 @@ use Rattle.std.proofs.Common.{◌≡◌, [], Some, sym, ap, subst, ◌∙◌, ar
 use Rattle.std.proofs.KnownBytes.{Consumes-nil}
 use Rattle.locale_cli.specs.declared.words.Mode.{Mode}
 use Rattle.locale_cli.specs.declared.answer.Status.TheVariants.{Usage, ReadFault, TooLarge}
-use Rattle.locale_cli.specs.declared.request.Request.TheVariants.{Read, Make}
 use Rattle.locale_cli.specs.declared.words.Mode.TheVariants.{Check}
 use Rattle.locale_cli.specs.Request.{request_of}
 use Rattle.locale_cli.specs.Run.{SourceStep, SinkStep}
