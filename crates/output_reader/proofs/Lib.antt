@@ -4,6 +4,7 @@ pub mod FirstWords
 pub mod Giving
 pub mod HandleTexts
 pub mod Lacking
+mod LineExamples
 pub mod LineTexts
 pub mod Outputs
 pub mod Quotes
