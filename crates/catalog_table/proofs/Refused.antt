@@ -101,3 +101,9 @@ pub book_stays : (c : CatalogSetting) (G H : History) (h : CatalogHandle) → Is
 book_stays c [] H h legal before = refl
 book_stays c (e ∷ G) H h legal before =
     book_kept e (G ++ H) h (made_once c e (G ++ H) h legal (made_stays G H h before)) ∙ book_stays c G H h legal.1 before
+
+-- ---- replies that are the answer
+
+-- what holds of the answer holds of the reply
+pub caused : {P : Type 0} (reply other r : Reply) → reply ≡ other → (other ≡ r) ↔ P → (reply ≡ r) ↔ P
+caused reply other r is cause = (λ p. cause.0 (sym is ∙ p), λ q. is ∙ cause.1 q)

@@ -96,6 +96,18 @@ impl<B: Part> Catalogs<B> {
 
         ensures setting { self.new.setting ≡ self.old.setting }
     {
+        self.answered(who, op)
+    }
+
+    /// Does what the op asks for, or refuses it.
+    fn answered(&mut self, who: u32, op: CatalogOp<B>) -> CatalogReply<B>
+        requires { who < self.old.setting.threads }
+        ensures answers { (H : History) → StandsFor self.old H →
+            reply_of B.number result ≡ answer self.old.setting H who (op_of B.number op) }
+        ensures stands { (H : History) → StandsFor self.old H →
+            StandsFor self.new (entry self.old.setting H who (op_of B.number op) ∷ H) }
+        ensures setting { self.new.setting ≡ self.old.setting }
+    {
         match op {
             CatalogOp::Open { book } => self.open(who, book),
             CatalogOp::Get { h } => self.get(h),
