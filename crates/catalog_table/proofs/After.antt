@@ -1,13 +1,13 @@
 -- What one more entry changes of what a history says, and the rows after it.
-use Rattle.std.proofs.Common.{◌≡◌, ℕ, ◌+◌, ◌*◌, ◌<◌, ◌≤◌, Bool, true, false, ◌==◌, ◌&&◌, ◌||◌, not, List, [], ◌∷◌, length, Option, None, Some, refl, ap, sym, ◌∙◌, subst, inl, inr, arith}
-use Rattle.std.proofs.lemmas.Bool.{and_right, and_from, eq-eqb, lt-ltb, cases_Bool, cases_eq, false_from_ne_true, false≢true}
+use Rattle.std.proofs.Common.{◌≡◌, ℕ, ◌+◌, ◌*◌, ◌<◌, Bool, true, false, ◌==◌, ◌&&◌, ◌||◌, not, List, ◌∷◌, length, None, Some, refl, ap, sym, ◌∙◌, subst, inl, inr, arith}
+use Rattle.std.proofs.lemmas.Bool.{and_right, and_from, eq-eqb, cases_Bool, false_from_ne_true, false≢true}
 use Rattle.std.proofs.lemmas.List.{length-set}
-use Rattle.std.specs.Prelude.{if◌then◌else◌, nat_lt}
+use Rattle.std.specs.Prelude.{if◌then◌else◌}
 use Rattle.catalog_table.specs.declared.handle.CatalogHandle.{CatalogHandle}
 use Rattle.catalog_table.specs.declared.setting.CatalogSetting.{CatalogSetting}
 use Rattle.catalog_table.specs.Entry.{Op, Open, Get, Close, NeverMade, Stale, Reply, Opened, Book, Closed, Refused, Entry, History, same_handle, is_accepted}
-use Rattle.catalog_table.specs.History.{handle_made, is_handle, makes_handle, made, op_closes, closes_handle, live, book_opened, book, is_in_row, with_handle, handles, makes, free_row}
-use Rattle.catalog_table.specs.Answer.{against, unless, opened_in, answer, entry}
+use Rattle.catalog_table.specs.History.{handle_made, is_handle, makes_handle, made, closes_handle, live, book_opened, book, is_in_row, with_handle, handles, makes, free_row}
+use Rattle.catalog_table.specs.Answer.{against, unless, opened_in, entry}
 use Rattle.catalog_table.specs.Rows.{RowData, RowsData, place, row_at, with_row, is_inside, is_newest, closed, opened, after_open, after_close}
 use Rattle.catalog_table.specs.Kept.{newest, live_book, RowStands, Keeps}
 use Rattle.catalog_table.proofs.Numbering.{nth, in_row_numbers, same_handles, same_itself}

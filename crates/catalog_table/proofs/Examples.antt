@@ -3,11 +3,14 @@ use Rattle.std.proofs.Common.{◌≡◌, ℕ, true, false, List, [], ◌∷◌, 
 use Rattle.catalog_table.specs.declared.handle.CatalogHandle.{CatalogHandle}
 use Rattle.catalog_table.specs.declared.setting.CatalogSetting.{CatalogSetting}
 use Rattle.catalog_table.specs.Entry.{Op, Open, Get, Close, NeverMade, Stale, TooMany, Reply, Opened, Book, Closed, Refused, History}
-use Rattle.catalog_table.specs.History.{made, live, book, makes, free_row}
+use Rattle.catalog_table.specs.History.{book, free_row}
 use Rattle.catalog_table.specs.Answer.{answer, entry}
-use Rattle.catalog_table.specs.Isolation.{keeps_apart, part_of}
-use Rattle.catalog_table.specs.Rows.{no_row, row_at, says_made, says_book, after_open, after_close}
+use Rattle.catalog_table.specs.Causes.{IsOfUnmade, IsOfClosed, IsWithoutRow}
+use Rattle.catalog_table.specs.Isolation.{keeps_apart, IsClosed, part_of}
+use Rattle.catalog_table.specs.Rows.{RowsData, no_row, says_made, says_book, after_open, after_close}
 use Rattle.catalog_table.specs.Kept.{live_book}
+use Rattle.catalog_table.specs.Table.{SaysTheSame}
+use Rattle.catalog_table.proofs.Refused.{refused_changes_nothing}
 
 -- the history after some calls, given oldest first
 abbrev played : CatalogSetting → History → List (ℕ × Op) → History
@@ -81,3 +84,68 @@ named_by_another = refl
 
 names_own : keeps_apart (0 ∷ []) (entry usual crossed 0 (Get (handle 0 0 1))) ≡ true
 names_own = refl
+
+not_closed_for_either : IsClosed (0 ∷ []) crossed → ⊥
+not_closed_for_either closed = let named = closed.1.0 in cc named
+
+-- ---- causes, and what is left
+
+-- thread 0 opened and closed catalog 7, and has catalog 8 open in the same row
+abbrev reopened : History
+reopened = played narrow [] ((0, Open 7) ∷ (0, Close (handle 0 0 1)) ∷ (0, Open 8) ∷ [])
+
+unmade : IsOfUnmade reopened (Get (handle 0 0 3))
+unmade = refl
+
+not_unmade : IsOfUnmade reopened (Close (handle 0 0 1)) → ⊥
+not_unmade is = cc is
+
+closed_before : IsOfClosed reopened (Close (handle 0 0 1))
+closed_before = (refl, refl)
+
+still_open : IsOfClosed reopened (Get (handle 0 0 2)) → ⊥
+still_open is = let dead = is.1 in cc dead
+
+without_row : IsWithoutRow narrow reopened 0 (Open 9)
+without_row = refl
+
+with_row : free_row narrow reopened 1 ≡ Some 0
+with_row = refl
+
+-- a closed handle keeps its catalog in the history, and nothing is answered by it
+closed_book : book reopened (handle 0 0 1) ≡ 7
+closed_book = refl
+
+closed_live_book : live_book reopened (handle 0 0 1) ≡ None
+closed_live_book = refl
+
+open_live_book : live_book reopened (handle 0 0 2) ≡ Some 8
+open_live_book = refl
+
+-- a refused Open leaves what the history says; a Close does not
+refused_open : SaysTheSame narrow (entry narrow reopened 0 (Open 9) ∷ reopened) reopened
+refused_open = refused_changes_nothing narrow (entry narrow reopened 0 (Open 9)) reopened refl
+
+accepted_close : SaysTheSame narrow (entry narrow reopened 0 (Close (handle 0 0 2)) ∷ reopened) reopened → ⊥
+accepted_close same = let alive = same.live (handle 0 0 2) in cc alive
+
+-- ---- rows
+
+-- one row for each of two threads
+abbrev empty_rows : RowsData
+empty_rows = record { threads = 2; width = 1; items = no_row ∷ no_row ∷ [] }
+
+opened_row : says_book (after_open empty_rows 1 0 7) (handle 1 0 1) ≡ Some 7
+opened_row = refl
+
+row_of_another : says_book (after_open empty_rows 1 0 7) (handle 0 0 1) ≡ None
+row_of_another = refl
+
+closed_row : says_book (after_close (after_open empty_rows 1 0 7) (handle 1 0 1)) (handle 1 0 1) ≡ None
+closed_row = refl
+
+closed_row_made : says_made (after_close (after_open empty_rows 1 0 7) (handle 1 0 1)) (handle 1 0 1) ≡ true
+closed_row_made = refl
+
+closed_by_an_old_handle : says_book (after_close (after_open (after_open empty_rows 1 0 7) 1 0 8) (handle 1 0 1)) (handle 1 0 2) ≡ Some 8
+closed_by_an_old_handle = refl

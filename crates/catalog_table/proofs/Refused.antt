@@ -1,14 +1,14 @@
 -- Each refusal and its cause, and what a refused call leaves.
-use Rattle.std.proofs.Common.{◌≡◌, ℕ, Bool, true, false, ◌&&◌, not, List, [], ◌∷◌, ◌||◌, ◌++◌, length, Option, None, Some, refl, ap, sym, ◌∙◌, inl, inr}
-use Rattle.std.proofs.lemmas.Bool.{and_left, or_right, false≢true}
+use Rattle.std.proofs.Common.{◌≡◌, ℕ, Bool, true, false, ◌&&◌, not, List, [], ◌∷◌, ◌||◌, ◌++◌, length, Option, None, Some, refl, ap, sym, ◌∙◌}
+use Rattle.std.proofs.lemmas.Bool.{and_left, or_right}
 use Rattle.std.proofs.Math.Logic.{◌↔◌}
 use Rattle.std.specs.Prelude.{if◌then◌else◌, nat_lt}
 use Rattle.std.specs.List.{list_any}
 use Rattle.catalog_table.specs.declared.handle.CatalogHandle.{CatalogHandle}
 use Rattle.catalog_table.specs.declared.setting.CatalogSetting.{CatalogSetting}
 use Rattle.catalog_table.specs.Entry.{Op, Open, Get, Close, Refusal, NeverMade, Stale, TooMany, Reply, Book, Closed, Refused, Entry, History, is_accepted}
-use Rattle.catalog_table.specs.History.{makes_handle, made, op_closes, live, book_opened, book, handles, is_free, free_row}
-use Rattle.catalog_table.specs.Answer.{against, unless, opened_in, answer, IsLegal}
+use Rattle.catalog_table.specs.History.{makes_handle, made, op_closes, live, book, handles, is_free, free_row}
+use Rattle.catalog_table.specs.Answer.{unless, opened_in, answer, IsLegal}
 use Rattle.catalog_table.specs.Causes.{IsOfUnmade, IsOfClosed, IsWithoutRow}
 use Rattle.catalog_table.specs.Table.{SaysTheSame}
 use Rattle.catalog_table.proofs.Numbering.{made_once}

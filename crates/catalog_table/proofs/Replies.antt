@@ -1,14 +1,13 @@
 -- What is replied by the rows is the answer of the history.
-use Rattle.std.proofs.Common.{◌≡◌, ℕ, ◌+◌, ◌<◌, Bool, true, false, Option, None, Some, is_some, refl, ap, sym, ◌∙◌}
-use Rattle.std.proofs.lemmas.Bool.{cases_Bool}
+use Rattle.std.proofs.Common.{◌≡◌, ℕ, ◌+◌, Bool, true, false, Option, None, Some, is_some, refl, ap, sym, ◌∙◌}
 use Rattle.std.specs.Prelude.{if◌then◌else◌}
 use Rattle.catalog_table.specs.declared.handle.CatalogHandle.{CatalogHandle}
 use Rattle.catalog_table.specs.declared.setting.CatalogSetting.{CatalogSetting}
 use Rattle.catalog_table.specs.Entry.{Refusal, NeverMade, Stale, Reply, Opened, Book, Closed, Refused, History}
-use Rattle.catalog_table.specs.History.{made, live, book, makes, free_row}
+use Rattle.catalog_table.specs.History.{made, live, book, makes}
 use Rattle.catalog_table.specs.Answer.{against, unless, opened_in}
 use Rattle.catalog_table.specs.Rows.{RowsData, row_at, says_made, says_book}
-use Rattle.catalog_table.specs.Kept.{live_book, Keeps}
+use Rattle.catalog_table.specs.Kept.{Keeps}
 use Rattle.catalog_table.proofs.Numbering.{nth}
 use Rattle.catalog_table.proofs.Says.{made_said, book_said}
 use Rattle.catalog_table.proofs.After.{against_live}

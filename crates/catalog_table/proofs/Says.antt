@@ -3,7 +3,7 @@ use Rattle.std.proofs.Common.{◌≡◌, ℕ, zero, suc, ◌*◌, ◌<◌, Bool,
 use Rattle.std.proofs.lemmas.Bool.{eqb-true, eq-eqb, ltb-true, lt-ltb, leb-true, le-leb, and_parts, and_from, cases_Bool, false≢true}
 use Rattle.std.proofs.lemmas.Nat.{mul-add-lt, same_from_place}
 use Rattle.std.proofs.Math.Nat.{mul_comm}
-use Rattle.std.specs.Prelude.{if◌then◌else◌, nat_lt, nat_le, IfSome}
+use Rattle.std.specs.Prelude.{if◌then◌else◌, nat_lt, nat_le}
 use Rattle.std.specs.Option.{option_or}
 use Rattle.catalog_table.specs.declared.handle.CatalogHandle.{CatalogHandle}
 use Rattle.catalog_table.specs.declared.setting.CatalogSetting.{CatalogSetting}

@@ -4,7 +4,7 @@ use Rattle.std.specs.List.{list_any}
 use Rattle.std.specs.Option.{option_or}
 use Rattle.catalog_table.specs.declared.handle.CatalogHandle.{CatalogHandle}
 use Rattle.catalog_table.specs.declared.setting.CatalogSetting.{CatalogSetting}
-use Rattle.catalog_table.specs.Entry.{Op, Open, Get, Close, Reply, Opened, Entry, History, same_handle, is_accepted}
+use Rattle.catalog_table.specs.Entry.{Op, Open, Close, Reply, Opened, Entry, History, same_handle, is_accepted}
 
 -- the handle that an op made, by its reply: an accepted Open makes one, and no other op does
 abbrev pub handle_made : Op → Reply → Option CatalogHandle

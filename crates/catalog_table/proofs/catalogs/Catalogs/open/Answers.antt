@@ -1,4 +1,4 @@
-use Rattle.std.proofs.Common.{◌≡◌, ◌<◌, ◌∷◌, None, Some, ap, sym, subst, ◌∙◌, arith}
+use Rattle.std.proofs.Common.{◌≡◌, ◌<◌, ◌∷◌, None, ap, sym, subst, ◌∙◌, arith}
 use Rattle.catalog_table.specs.Entry.{Open}
 use Rattle.catalog_table.specs.History.{free_row}
 use Rattle.catalog_table.specs.Answer.{opened_in, entry}

@@ -1,4 +1,4 @@
-use Rattle.std.proofs.Common.{◌<◌, ap, ◌∙◌, arith}
+use Rattle.std.proofs.Common.{ap, ◌∙◌, arith}
 use Rattle.catalog_table.specs.Rows.{RowsData, row_at, is_free_row}
 use Rattle.catalog_table.proofs.Least.{least_below_found}
 use Rattle.catalog_table.proofs.rows.Rows.free_row.Goals as goal
