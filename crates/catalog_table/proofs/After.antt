@@ -281,3 +281,9 @@ keeps_close c H w h rows caller k =
                 (row_kept G H t r (row_at rows t r) refl (close_leaves c H w h (newest H t r) other) refl stands)
           ];
     }
+
+-- what is kept after a call, where the setting and the rows are given by what they are
+pub keeps_after : (c d : CatalogSetting) (H : History) (w : ℕ) (op : Op) (rows after : RowsData) → c ≡ d → after ≡ rows
+    → Keeps c (entry c H w op ∷ H) rows → Keeps c (entry d H w op ∷ H) after
+keeps_after c d H w op rows after same to k =
+    subst (λ s. Keeps c (entry s H w op ∷ H) after) same (subst (Keeps c (entry c H w op ∷ H)) (sym to) k)

@@ -12,6 +12,7 @@ use Rattle.catalog_table.specs.History.{made, live, book, is_free, least_below, 
 use Rattle.catalog_table.specs.Rows.{RowData, RowsData, no_row, place, row_at, with_row, is_inside, is_newest, says_made, says_book, is_free_row}
 use Rattle.catalog_table.specs.Kept.{newest, live_book, Keeps}
 use Rattle.catalog_table.proofs.Numbering.{nth, made_within, within_made}
+use Rattle.catalog_table.proofs.Least.{least_below_found}
 use Rattle.catalog_table.proofs.Newest.{unmade_not_live, other_not_live, made_in_table, free_newest, least_passes}
 
 -- ---- places
@@ -148,3 +149,15 @@ free_row_has generations rows w r is =
     let row : RowData = row_at rows w r in
     let passes = least_passes rows.width r (λ q. is_free_row generations (row_at rows w q)) (sym is) in
     (passes.1, ltb-true row.makes generations (and_parts (not (is_some row.book)) (nat_lt row.makes generations) passes.0).1)
+
+-- a free row below which none is free is the least free one
+pub free_row_found : (generations : ℕ) (rows : RowsData) (w r : ℕ) (row : RowData) → r < rows.width
+    → least_below r (λ q. is_free_row generations (row_at rows w q)) ≡ None → row ≡ row_at rows w r → true ≡ is_free_row generations row
+    → Some r ≡ least_below rows.width (λ q. is_free_row generations (row_at rows w q))
+free_row_found generations rows w r row below none is free =
+    least_below_found rows.width r (λ q. is_free_row generations (row_at rows w q)) below none (free ∙ ap (is_free_row generations) is)
+
+-- what is found is the least free row of the history, if there is one
+pub found_said : (c : CatalogSetting) (H : History) (rows : RowsData) (w : ℕ) (o : Option ℕ) → Keeps c H rows → w < c.threads
+    → o ≡ least_below rows.width (λ r. is_free_row c.generations (row_at rows w r)) → free_row c H w ≡ o
+found_said c H rows w o k caller is = sym (is ∙ free_row_said c H rows w k caller)
