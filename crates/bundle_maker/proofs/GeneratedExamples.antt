@@ -78,7 +78,7 @@ of_the_second_thread = refl
 
 -- a thread may be without commands
 least_bundle : generated 0 1 ≡ LOCALES.now ++ codes ".thread T0\nnew a LC_ALL us\n.thread T1\n.thread T2\n.thread T3\n"
-unfolding commands_text digits
+unfolding generated commands_text digits
 least_bundle = refl
 
 most_commands : MOST_COMMANDS ≡ 20000

@@ -92,6 +92,7 @@ four_short : (k most : ℕ) (front a b c d : List ℕ) → length front ≤ 2000
 four_short k most front a b c d p q r s t few = omega (arith, length-append front (a ++ (b ++ (c ++ (d ++ [])))), length-append a (b ++ (c ++ (d ++ []))), length-append b (c ++ (d ++ [])), length-append c (d ++ []), length-append d [])
 
 pub generated_short : (seed commands : ℕ) → commands ≤ MOST_COMMANDS → length (generated seed commands) ≤ 16777216
+unfolding generated
 generated_short seed commands few =
     let f : ℕ → List ℕ = thread_text seed commands in
     four_short (46 * commands + 16) 16777216 LOCALES.now (f 0) (f 1) (f 2) (f 3) (lit≤ tt)

@@ -77,5 +77,5 @@ abbrev pub thread_text : ℕ → ℕ → ℕ → List ℕ
 thread_text seed commands thread = codes ".thread T" ++ decimal thread ++ newline ++ commands_text seed commands thread
 
 -- the bundle with so many commands that a seed makes
-abbrev pub generated : ℕ → ℕ → List ℕ
+unfoldable pub generated : ℕ → ℕ → List ℕ
 generated seed commands = LOCALES.now ++ flat_map (thread_text seed commands) (range_with_len 0 THREADS)

@@ -4,7 +4,7 @@ use Rattle.std.specs.List.{range_with_len}
 use Rattle.std.proofs.lemmas.List.{append-nil}
 use Rattle.bundle_maker.specs.declared.locales.TheConstants.{LOCALES}
 use Rattle.bundle_maker.specs.declared.text.TheConstants.{THREADS}
-use Rattle.bundle_maker.specs.Generated.{thread_text}
+use Rattle.bundle_maker.specs.Generated.{thread_text, generated}
 use Rattle.bundle_maker.proofs.Lengths.{generated_short}
 use Rattle.bundle_maker.proofs.Numbers.{pieces_more}
 use Rattle.bundle_maker.proofs.text.generate.Goals as goal
@@ -25,6 +25,7 @@ loop-thread-preserved c =
     ∙ ap (λ (xs : List ℕ). LOCALES.now ++ xs) (sym (pieces_more f c.loop-thread.thread))
 
 pub returns-clause-is : goal.returns-clause-is
+unfolding generated
 returns-clause-is c =
     let f : ℕ → List ℕ = thread_text c.args.seed c.args.commands in
     let all : c.loop-thread.thread ≡ THREADS = omega (arith, c.loop-thread-test.false, c.loop-thread.auto.thread-end) in
