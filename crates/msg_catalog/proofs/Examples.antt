@@ -133,9 +133,13 @@ messages-escaped_quote : messages (codes "$quote \"\n1 \"a\\\"b\\\\\"c\n") 1 ≡
 unfolding messages
 messages-escaped_quote = refl
 
-quote_blank : messages (codes "$quote \"\n$quote \n1 \"a\"") 1 ≡ Ok (said 1 1 (codes "\"a\"") ∷ [])
+quote_blank : messages (codes "$quote  \"\n$quote  \n1 \"a\"") 1 ≡ Ok (said 1 1 (codes "\"a\"") ∷ [])
 unfolding messages
 quote_blank = refl
+
+quote_blanks : messages (codes "$quote\t \"\n1 \"a\"") 1 ≡ Ok (said 1 1 (codes "a") ∷ [])
+unfolding messages
+quote_blanks = refl
 
 quote_two : messages (codes "$quote ab") 1 ≡ wrong 1 1
 unfolding messages

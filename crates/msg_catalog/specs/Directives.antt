@@ -16,12 +16,16 @@ abbrev pub set_number : List Spot → Option ℕ
 set_number [] = None
 set_number (s ∷ ss) = if is_blank s.byte then number 255 (past_blanks ss) >>= whole_number else None
 
--- the quote character, one byte behind one blank; there is none where that byte, or the blank as well, is lacking
+-- one byte, and nothing behind it; there is no quote character where it is lacking
+abbrev pub one_byte : List Spot → Option (Option ℕ)
+one_byte [] = Some None
+one_byte (s ∷ []) = Some (Some s.byte)
+one_byte (s ∷ t ∷ ss) = None
+
+-- the quote character, one byte behind one blank or more; there is none where nothing or blanks alone stand here
 abbrev pub quote_sign : List Spot → Option (Option ℕ)
 quote_sign [] = Some None
-quote_sign (s ∷ []) = if is_blank s.byte then Some None else None
-quote_sign (s ∷ c ∷ []) = if is_blank s.byte then Some (Some c.byte) else None
-quote_sign (s ∷ c ∷ d ∷ ss) = None
+quote_sign (s ∷ ss) = if is_blank s.byte then one_byte (past_blanks ss) else None
 
 -- the words of directives, and what each of them says with what follows it
 abbrev pub directives : List (List ℕ × (List Spot → Option Directive))

@@ -36,7 +36,7 @@ fn set_number(cursor: Cursor<'_>) -> Option<u32>
     if ends_word(rest) { Some(set) } else { None }
 }
 
-/// The quote character behind the word `$quote` and a blank, if there is one.
+/// The quote character behind the word `$quote` and blanks, if there is one.
 fn quote_sign(cursor: Cursor<'_>) -> Option<Option<u8>>
     ensures { result ≡ quote_sign (line_of cursor.entry) }
 {
@@ -46,7 +46,7 @@ fn quote_sign(cursor: Cursor<'_>) -> Option<Option<u8>>
     if !is_blank(first.byte) {
         return None;
     }
-    let Some((sign, rest)) = next.next() else {
+    let Some((sign, rest)) = past_blanks(next).next() else {
         return Some(None);
     };
     match rest.next() {
