@@ -1,0 +1,5 @@
+mod Examples
+pub mod Orders
+pub mod Lining
+pub mod Decoding
+pub mod Reading
