@@ -7,6 +7,8 @@
 #[cfg(test)]
 mod beside;
 #[cfg(test)]
+mod outputs;
+#[cfg(test)]
 mod sinks;
 #[cfg(test)]
 mod sources;
