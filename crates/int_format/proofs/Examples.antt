@@ -3,8 +3,8 @@ use Rattle.std.proofs.Common.{◌≡◌, ℕ, List, [], ◌∷◌, Ok, Err, Some
 use Rattle.std.specs.Prelude.{codes, ℤ, pos, negsuc, Result, true, false}
 use Rattle.digit_groups.specs.Groups.{separated}
 use Rattle.numeric_cat.specs.NumericValues.{NumericValues}
-use Rattle.int_format.specs.declared.fault.IntFault.{IntFault}
-use Rattle.int_format.specs.declared.fault.IntFault.TheVariants.{BadFormat, MissingNumber, TooBig, Memory}
+use Rattle.int_format.specs.Refusals.{IntRefusal, BadFormat, MissingNumber, TooBig}
+use Rattle.int_format.specs.declared.fault.IntFault.TheVariants as faults
 use Rattle.int_format.specs.Digits.{last_digits, digit_count}
 use Rattle.int_format.specs.Formats.{flags_behind, number_behind, conversion_with, piece, pieces}
 use Rattle.int_format.specs.Ints.{is_number, ints, at_most, pieces_text, missing, shown, Answers, below_zero}
@@ -17,7 +17,7 @@ abbrev lakhs : NumericValues
 lakhs = record { decimal_point = codes "."; thousands_sep = codes ","; grouping = pos 3 ∷ pos 2 ∷ [] }
 
 -- the text of one number
-abbrev one : List ℕ → ℤ → Result (List ℕ) IntFault
+abbrev one : List ℕ → ℤ → Result (List ℕ) IntRefusal
 one format v = ints us format (v ∷ [])
 
 plain : one (codes "%'d") (pos 1234) ≡ Ok (codes "1,234")
@@ -148,5 +148,5 @@ no_digits = refl
 own_text : Answers (λ (t : List ℕ). t) (Ok (codes "1")) (Ok (codes "1"))
 own_text = refl
 
-no_memory : Answers (λ (t : List ℕ). t) (Err Memory) (Ok (codes "1"))
+no_memory : Answers (λ (t : List ℕ). t) (Err faults.Memory) (Ok (codes "1"))
 no_memory = tt

@@ -13,48 +13,49 @@ use Rattle.int_format.specs.declared.format.Piece.TheVariants.{Literal, Convert}
 use Rattle.int_format.specs.declared.layout.Fill.{Fill}
 use Rattle.int_format.specs.declared.layout.Fill.TheVariants.{Before, Between, Behind}
 use Rattle.int_format.specs.declared.fault.IntFault.{IntFault}
-use Rattle.int_format.specs.declared.fault.IntFault.TheVariants.{BadFormat, MissingNumber, TooBig, Memory}
+use Rattle.int_format.specs.declared.fault.IntFault.TheVariants as faults
+use Rattle.int_format.specs.Refusals.{IntRefusal, BadFormat, MissingNumber, TooBig}
 use Rattle.int_format.specs.Digits.{last_digits, digit_count}
 use Rattle.int_format.specs.Formats.{followed}
-use Rattle.int_format.specs.Ints.{is_number, refusal, good_pieces, pieces_text, piece_text, numbers_behind, missing, refusal_behind, within, Refuses, padded, shown, least_digits, sizes_of, sign_text, fill_of, conversion_text}
+use Rattle.int_format.specs.Ints.{is_number, refusal, good_pieces, pieces_text, piece_text, numbers_behind, missing, refusal_behind, within, Refuses, padded, shown, least_digits, sizes_of, sign_text, fill_of, conversion_text, fault_of, unless_refused, at_most}
 
 pub refusal_start : (r : Result (List (ℕ × Piece)) ℕ) (n : ℕ) → refusal r n ≡ refusal_behind None r n
 refusal_start (Ok ps) n = refl
 refusal_start (Err at) n = refl
 
-pub refusal_bad : (lacking : Option IntFault) (at n : ℕ) → refusal_behind lacking (Err at) n ≡ Some (BadFormat at)
+pub refusal_bad : (lacking : Option ℕ) (at n : ℕ) → refusal_behind lacking (Err at) n ≡ Some (BadFormat at)
 refusal_bad None at n = refl
-refusal_bad (Some fault) at n = refl
+refusal_bad (Some place) at n = refl
 
-pub refusal_literal : (lacking : Option IntFault) (at b n : ℕ) (r : Result (List (ℕ × Piece)) ℕ) → refusal_behind lacking (followed (at, Literal b) r) n ≡ refusal_behind lacking r n
+pub refusal_literal : (lacking : Option ℕ) (at b n : ℕ) (r : Result (List (ℕ × Piece)) ℕ) → refusal_behind lacking (followed (at, Literal b) r) n ≡ refusal_behind lacking r n
 unfolding missing
 refusal_literal None at b n (Ok ps) = refl
-refusal_literal (Some fault) at b n (Ok ps) = refl
+refusal_literal (Some place) at b n (Ok ps) = refl
 refusal_literal None at b n (Err e) = refl
-refusal_literal (Some fault) at b n (Err e) = refl
+refusal_literal (Some place) at b n (Err e) = refl
 
-pub refusal_number : (lacking : Option IntFault) (at n : ℕ) (c : Conversion) (r : Result (List (ℕ × Piece)) ℕ) → 0 < n → refusal_behind lacking (followed (at, Convert c) r) n ≡ refusal_behind lacking r (n - 1)
+pub refusal_number : (lacking : Option ℕ) (at n : ℕ) (c : Conversion) (r : Result (List (ℕ × Piece)) ℕ) → 0 < n → refusal_behind lacking (followed (at, Convert c) r) n ≡ refusal_behind lacking r (n - 1)
 unfolding missing
 refusal_number lacking at zero c r some = absurd (omega arith)
 refusal_number None at (suc n) c (Ok ps) some = ap (λ k. option_map (λ at. MissingNumber at) (missing ps k)) (omega arith)
-refusal_number (Some fault) at (suc n) c (Ok ps) some = refl
+refusal_number (Some place) at (suc n) c (Ok ps) some = refl
 refusal_number None at (suc n) c (Err e) some = refl
-refusal_number (Some fault) at (suc n) c (Err e) some = refl
+refusal_number (Some place) at (suc n) c (Err e) some = refl
 
 -- once a number lacks the count of what is left does not matter
-pub refusal_lacking : (fault : IntFault) (at n m : ℕ) (p : Piece) (r : Result (List (ℕ × Piece)) ℕ) → refusal_behind (Some fault) (followed (at, p) r) n ≡ refusal_behind (Some fault) r m
-refusal_lacking fault at n m p (Ok ps) = refl
-refusal_lacking fault at n m p (Err e) = refl
+pub refusal_lacking : (place at n m : ℕ) (p : Piece) (r : Result (List (ℕ × Piece)) ℕ) → refusal_behind (Some place) (followed (at, p) r) n ≡ refusal_behind (Some place) r m
+refusal_lacking place at n m p (Ok ps) = refl
+refusal_lacking place at n m p (Err e) = refl
 
-pub refusal_missing : (at : ℕ) (c : Conversion) (r : Result (List (ℕ × Piece)) ℕ) (m : ℕ) → refusal_behind None (followed (at, Convert c) r) 0 ≡ refusal_behind (Some (MissingNumber at)) r m
+pub refusal_missing : (at : ℕ) (c : Conversion) (r : Result (List (ℕ × Piece)) ℕ) (m : ℕ) → refusal_behind None (followed (at, Convert c) r) 0 ≡ refusal_behind (Some at) r m
 unfolding missing
 refusal_missing at c (Ok ps) m = refl
 refusal_missing at c (Err e) m = refl
 
-pub refusal_over : (lacking : Option IntFault) (n : ℕ) → refusal_behind lacking (Ok []) n ≡ lacking
+pub refusal_over : (lacking : Option ℕ) (n : ℕ) → refusal_behind lacking (Ok []) n ≡ option_map (λ at. MissingNumber at) lacking
 unfolding missing
 refusal_over None n = refl
-refusal_over (Some fault) n = refl
+refusal_over (Some place) n = refl
 
 -- ---- texts
 
@@ -92,9 +93,20 @@ within_fits max_len text fits = let no : nat_lt max_len (length text) ≡ false 
 pub within_long : (max_len : ℕ) (text : List ℕ) → max_len < length text → within max_len text ≡ Err TooBig
 within_long max_len text long = let yes : nat_lt max_len (length text) ≡ true = grind (arith, nat_tests) in rw yes refl
 
-pub refuses : (e : IntFault) (max_len : ℕ) (text : List ℕ) → (e ≡ TooBig) ⊎ (e ≡ Memory) → (e ≡ TooBig → max_len < length text) → Refuses e (within max_len text)
+pub refuses : (e : IntFault) (max_len : ℕ) (text : List ℕ) → (e ≡ faults.TooBig) ⊎ (e ≡ faults.Memory) → (e ≡ faults.TooBig → max_len < length text) → Refuses e (within max_len text)
 refuses e max_len text (inl big) long = let P : IntFault → Type 0 = λ z. Refuses z (within max_len text) in subst P (sym big) (within_long max_len text (long big))
 refuses e max_len text (inr memory) long = let P : IntFault → Type 0 = λ z. Refuses z (within max_len text) in subst P (sym memory) tt
+
+-- what a call says of a refusal
+pub refused : (r : Option IntRefusal) (fault : IntFault) (max_len : ℕ) (text : List ℕ) → Some fault ≡ option_map (λ why. fault_of why) r → Refuses fault (at_most max_len (unless_refused r text))
+refused None fault max_len text e = cc
+refused (Some (BadFormat at)) fault max_len text e = let same : fault_of (BadFormat at) ≡ fault = cc in let P : IntFault → Type 0 = λ z. Refuses z (at_most max_len (unless_refused (Some (BadFormat at)) text)) in subst P same refl
+refused (Some (MissingNumber at)) fault max_len text e = let same : fault_of (MissingNumber at) ≡ fault = cc in let P : IntFault → Type 0 = λ z. Refuses z (at_most max_len (unless_refused (Some (MissingNumber at)) text)) in subst P same refl
+refused (Some TooBig) fault max_len text e = let same : fault_of TooBig ≡ fault = cc in let P : IntFault → Type 0 = λ z. Refuses z (at_most max_len (unless_refused (Some TooBig) text)) in subst P same refl
+
+pub accepted : (r : Option IntRefusal) → None ≡ option_map (λ why. fault_of why) r → r ≡ None
+accepted None e = refl
+accepted (Some why) e = cc
 
 -- a text is too long where a part of it is
 pub too_long : (max_len : ℕ) (whole out text rest : List ℕ) → whole ≡ out ++ (text ++ rest) → max_len - length out < length text → max_len < length whole

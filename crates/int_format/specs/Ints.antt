@@ -8,9 +8,10 @@ use Rattle.int_format.specs.declared.format.Piece.TheVariants.{Literal, Convert}
 use Rattle.int_format.specs.declared.layout.Fill.{Fill}
 use Rattle.int_format.specs.declared.layout.Fill.TheVariants.{Before, Between, Behind}
 use Rattle.int_format.specs.declared.fault.IntFault.{IntFault}
-use Rattle.int_format.specs.declared.fault.IntFault.TheVariants.{BadFormat, MissingNumber, TooBig, Memory}
+use Rattle.int_format.specs.declared.fault.IntFault.TheVariants as faults
 use Rattle.int_format.specs.Digits.{digits_at_least}
 use Rattle.int_format.specs.Formats.{pieces}
+use Rattle.int_format.specs.Refusals.{IntRefusal, BadFormat, MissingNumber, TooBig}
 
 -- whether a number is from -2 ^ 63 to 2 ^ 64 - 1
 abbrev pub is_number : ℤ → Bool
@@ -83,15 +84,15 @@ missing ((at, Convert c) ∷ ps) zero = Some at
 missing ((at, Convert c) ∷ ps) (suc n) = missing ps n
 
 -- the first refusal of a format with so many numbers: a bad conversion goes before a missing number
-abbrev pub refusal : Result (List (ℕ × Piece)) ℕ → ℕ → Option IntFault
+abbrev pub refusal : Result (List (ℕ × Piece)) ℕ → ℕ → Option IntRefusal
 refusal (Err at) numbers = Some (BadFormat at)
 refusal (Ok ps) numbers = option_map (λ at. MissingNumber at) (missing ps numbers)
 
--- the same behind a piece that perhaps lacked its number
-abbrev pub refusal_behind : Option IntFault → Result (List (ℕ × Piece)) ℕ → ℕ → Option IntFault
+-- the same behind pieces of which perhaps the one at this place lacked its number
+abbrev pub refusal_behind : Option ℕ → Result (List (ℕ × Piece)) ℕ → ℕ → Option IntRefusal
 refusal_behind lacking (Err at) numbers = Some (BadFormat at)
 refusal_behind None (Ok ps) numbers = refusal (Ok ps) numbers
-refusal_behind (Some fault) (Ok ps) numbers = Some fault
+refusal_behind (Some at) (Ok ps) numbers = Some (MissingNumber at)
 
 -- the pieces, where no conversion is bad
 abbrev pub good_pieces : Result (List (ℕ × Piece)) ℕ → List (ℕ × Piece)
@@ -99,32 +100,38 @@ good_pieces (Err at) = []
 good_pieces (Ok ps) = ps
 
 -- the text, or what goes before it
-abbrev pub unless_refused : Option IntFault → List ℕ → Result (List ℕ) IntFault
+abbrev pub unless_refused : Option IntRefusal → List ℕ → Result (List ℕ) IntRefusal
 unless_refused None text = Ok text
-unless_refused (Some fault) text = Err fault
+unless_refused (Some why) text = Err why
 
 -- the text of a format with its numbers, or the refusal
-abbrev pub ints : NumericValues → List ℕ → List ℤ → Result (List ℕ) IntFault
+abbrev pub ints : NumericValues → List ℕ → List ℤ → Result (List ℕ) IntRefusal
 ints n format numbers = unless_refused (refusal (pieces 0 0 format) (length numbers)) (pieces_text n (good_pieces (pieces 0 0 format)) numbers)
 
 -- a text of at most so many bytes
-abbrev pub within : ℕ → List ℕ → Result (List ℕ) IntFault
+abbrev pub within : ℕ → List ℕ → Result (List ℕ) IntRefusal
 within max_len text = if nat_lt max_len (length text) then Err TooBig else Ok text
 
 -- an answer whose text has at most so many bytes
-abbrev pub at_most : ℕ → Result (List ℕ) IntFault → Result (List ℕ) IntFault
+abbrev pub at_most : ℕ → Result (List ℕ) IntRefusal → Result (List ℕ) IntRefusal
 at_most max_len (Ok text) = within max_len text
-at_most max_len (Err fault) = Err fault
+at_most max_len (Err why) = Err why
 
--- a refusal is that of the definition, or want of memory, which says nothing
-abbrev pub Refuses : IntFault → Result (List ℕ) IntFault → Type 0
-Refuses (BadFormat at) answer = answer ≡ Err (BadFormat at)
-Refuses (MissingNumber at) answer = answer ≡ Err (MissingNumber at)
-Refuses TooBig answer = answer ≡ Err TooBig
-Refuses Memory answer = Unit {0}
+-- the fault of a call that is refused so
+abbrev pub fault_of : IntRefusal → IntFault
+fault_of (BadFormat at) = faults.BadFormat at
+fault_of (MissingNumber at) = faults.MissingNumber at
+fault_of TooBig = faults.TooBig
+
+-- a fault is the refusal of the definition, or want of memory, which says nothing
+abbrev pub Refuses : IntFault → Result (List ℕ) IntRefusal → Type 0
+Refuses (faults.BadFormat at) answer = answer ≡ Err (BadFormat at)
+Refuses (faults.MissingNumber at) answer = answer ≡ Err (MissingNumber at)
+Refuses faults.TooBig answer = answer ≡ Err TooBig
+Refuses faults.Memory answer = Unit {0}
 
 -- a result, its text seen by view, is the answer, unless memory is wanting
-abbrev pub Answers : {X : Type 0} → (X → List ℕ) → Result X IntFault → Result (List ℕ) IntFault → Type 0
+abbrev pub Answers : {X : Type 0} → (X → List ℕ) → Result X IntFault → Result (List ℕ) IntRefusal → Type 0
 Answers view (Ok x) answer = answer ≡ Ok (view x)
 Answers view (Err e) answer = Refuses e answer
 

@@ -1,3 +1,4 @@
 pub mod Digits
 pub mod Formats
+pub mod Refusals
 pub mod Ints

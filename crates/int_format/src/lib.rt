@@ -1,10 +1,10 @@
 //! Whole numbers as text (XSH fprintf: `d`, `i` and `u` with the flag `'`).
 #![tactic(auto)]
 
-ghost use Rattle.std.specs.Prelude.{◌≡◌, ◌<◌, ◌≤◌, ◌++◌, ◌⊎◌, length, List, [], ◌∷◌, ℕ, Result, Err, None, OnOk, IfErr, true};
+ghost use Rattle.std.specs.Prelude.{◌≡◌, ◌<◌, ◌≤◌, ◌++◌, ◌⊎◌, length, List, [], ◌∷◌, ℕ, Result, Err, None, option_map, OnOk, IfErr, true};
 ghost use Rattle.std.specs.List.{list_all};
 ghost use Rattle.int_format.specs.Formats.{pieces, followed};
-ghost use Rattle.int_format.specs.Ints.{is_number, ints, refusal, refusal_behind, good_pieces, pieces_text, piece_text, numbers_behind, at_most, within, Answers};
+ghost use Rattle.int_format.specs.Ints.{is_number, ints, refusal, refusal_behind, fault_of, good_pieces, pieces_text, piece_text, numbers_behind, at_most, within, Answers};
 ghost use Rattle.int_format.specs.declared.format.Piece.{Piece};
 ghost use Rattle.int_format.specs.declared.fault.IntFault.TheVariants.{TooBig, Memory};
 
@@ -29,6 +29,7 @@ use write::add_conversion;
 /// A conversion is `%`, flags, a width, `.` with a precision, perhaps `l`, `ll` or `j`, and `d`, `i`
 /// or `u`. A `%` that begins no conversion is `BadFormat`, and goes before a conversion without a
 /// number, which is `MissingNumber`; both go before `TooBig`.
+#[tactic(auto, using(crate::proofs::IntLemmas::refused, crate::proofs::IntLemmas::accepted))]
 pub fn int_format(
     alloc: Global,
     n: &Numeric,
@@ -47,7 +48,7 @@ pub fn int_format(
 
 /// The first refusal of a format with so many numbers.
 fn refusal(format: &[u8], numbers: usize) -> Option<IntFault>
-    ensures { result ≡ refusal (pieces 0 0 format.now) numbers }
+    ensures { result ≡ option_map (λ why. fault_of why) (refusal (pieces 0 0 format.now) numbers) }
 {
     let mut at = 0;
     let mut left = numbers;
@@ -59,24 +60,24 @@ fn refusal(format: &[u8], numbers: usize) -> Option<IntFault>
         (left, lacking) = behind_piece(piece, at, left, lacking);
         at += 1 + used;
     }
-    lacking
+    Some(IntFault::MissingNumber { at: lacking? })
 }
 
-/// The numbers that a piece leaves of so many, and the first missing one with it.
+/// The numbers that a piece leaves of so many, and the place of the first one that is missing.
 #[tactic(auto, using(crate::proofs::IntLemmas::refusal_literal, crate::proofs::IntLemmas::refusal_number, crate::proofs::IntLemmas::refusal_lacking, crate::proofs::IntLemmas::refusal_missing))]
 fn behind_piece(
     piece: Piece,
     at: usize,
     numbers: usize,
-    lacking: Option<IntFault>,
-) -> (usize, Option<IntFault>)
+    lacking: Option<usize>,
+) -> (usize, Option<usize>)
     ensures { (r : Result (List (ℕ × Piece)) ℕ) → refusal_behind lacking (followed (at, piece) r) numbers ≡ refusal_behind result.1 r result.0 }
 {
     match (piece, lacking) {
         (Piece::Literal(_), _) => (numbers, lacking),
         (Piece::Convert(_), Some(_)) => (numbers, lacking),
         (Piece::Convert(_), None) if numbers > 0 => (numbers - 1, None),
-        (Piece::Convert(_), None) => (0, Some(IntFault::MissingNumber { at })),
+        (Piece::Convert(_), None) => (0, Some(at)),
     }
 }
 

@@ -13,15 +13,15 @@ use Rattle.messages_cat.specs.MessagesValues.{MessagesValues}
 use Rattle.time_cat.specs.declared.tm.TmRange.{TmRange}
 use Rattle.time_cat.specs.TimeValues.{TimeValues}
 use Rattle.time_cat.specs.Times.{TmValues, time_of}
-use Rattle.strfmon.specs.declared.fault.MoneyFault.{MoneyFault}
-use Rattle.strfmon.specs.declared.fault.MoneyFault.TheVariants as money_faults
 use Rattle.strfmon.specs.MoneyAmount.{MoneyAmount}
+use Rattle.strfmon.specs.Refusals.{MoneyRefusal}
+use Rattle.strfmon.specs.Refusals as money_refusals
 use Rattle.strfmon.specs.Money.{money}
-use Rattle.strftime_fields.specs.declared.fault.TimeFault.{TimeFault}
-use Rattle.strftime_fields.specs.declared.fault.TimeFault.TheVariants as time_faults
+use Rattle.strftime_fields.specs.Refusals.{TimeRefusal}
+use Rattle.strftime_fields.specs.Refusals as time_refusals
 use Rattle.strftime_fields.specs.Answers.{answer}
-use Rattle.int_format.specs.declared.fault.IntFault.{IntFault}
-use Rattle.int_format.specs.declared.fault.IntFault.TheVariants as int_faults
+use Rattle.int_format.specs.Refusals.{IntRefusal}
+use Rattle.int_format.specs.Refusals as int_refusals
 use Rattle.int_format.specs.Ints.{at_most, ints}
 use Rattle.strptime_fields.specs.declared.fault.ScanFault.TheVariants as scan_faults
 use Rattle.strptime_fields.specs.Scans.{Scanned, scan}
@@ -106,17 +106,15 @@ class_said (Some is) = said.Class is
 abbrev pub amounts_given : List Amount → List MoneyAmount
 amounts_given amounts = map (λ (a : Amount). record { units = a.units; scale = a.scale }) amounts
 
--- why there is no text of money. The last row never arises: `money` refuses by the other three alone, and a call that lacks memory
--- has no reply. It stands because the fault of the call has that variant
-abbrev pub money_fault_said : MoneyFault → Said
-money_fault_said (money_faults.BadFormat at) = said.Refused (whys.BadFormat at)
-money_fault_said (money_faults.MissingAmount at) = said.Refused (whys.MissingAmount at)
-money_fault_said money_faults.TooBig = said.Refused whys.TooBig
-money_fault_said money_faults.Memory = said.Refused whys.TooBig
+-- why there is no text of money; a call that lacks memory has no reply
+abbrev pub money_refused : MoneyRefusal → Said
+money_refused (money_refusals.BadFormat at) = said.Refused (whys.BadFormat at)
+money_refused (money_refusals.MissingAmount at) = said.Refused (whys.MissingAmount at)
+money_refused money_refusals.TooBig = said.Refused whys.TooBig
 
-abbrev pub money_text_said : Result (List ℕ) MoneyFault → Said
+abbrev pub money_text_said : Result (List ℕ) MoneyRefusal → Said
 money_text_said (Ok text) = said.Text text
-money_text_said (Err fault) = money_fault_said fault
+money_text_said (Err why) = money_refused why
 
 abbrev pub money_said : Catalog → Parts → ℕ → List ℕ → List Amount → Said
 money_said library object max format amounts = money_text_said (money (monetary_in library object) format (amounts_given amounts) max)
@@ -127,15 +125,14 @@ money_said library object max format amounts = money_text_said (money (monetary_
 abbrev pub time_given : WrittenTime → Result TmValues TmRange
 time_given t = time_of t.year t.mon t.mday t.hour t.min t.sec t.wday t.yday t.offset t.zone
 
--- why a time has no text. The last row never arises, as above: `answer` refuses by the other two alone
-abbrev pub time_fault_said : TimeFault → Said
-time_fault_said (time_faults.BadFormat at) = said.Refused (whys.BadFormat at)
-time_fault_said time_faults.TooBig = said.Refused whys.TooBig
-time_fault_said time_faults.Memory = said.Refused whys.TooBig
+-- why a time has no text
+abbrev pub time_refused : TimeRefusal → Said
+time_refused (time_refusals.BadFormat at) = said.Refused (whys.BadFormat at)
+time_refused time_refusals.TooBig = said.Refused whys.TooBig
 
-abbrev pub time_text_said : Result (List ℕ) TimeFault → Said
+abbrev pub time_text_said : Result (List ℕ) TimeRefusal → Said
 time_text_said (Ok text) = said.Text text
-time_text_said (Err fault) = time_fault_said fault
+time_text_said (Err why) = time_refused why
 
 -- a field out of its range goes before all else
 abbrev pub moment_said : TimeValues → ℕ → List ℕ → Result TmValues TmRange → Said
@@ -147,16 +144,15 @@ time_said library object max format t = moment_said (time_in library object) max
 
 -- ---- fprintf of whole numbers
 
--- why there is no text of numbers. The last row never arises, as above: `ints` and `at_most` refuse by the other three alone
-abbrev pub int_fault_said : IntFault → Said
-int_fault_said (int_faults.BadFormat at) = said.Refused (whys.BadFormat at)
-int_fault_said (int_faults.MissingNumber at) = said.Refused (whys.MissingNumber at)
-int_fault_said int_faults.TooBig = said.Refused whys.TooBig
-int_fault_said int_faults.Memory = said.Refused whys.TooBig
+-- why there is no text of numbers
+abbrev pub int_refused : IntRefusal → Said
+int_refused (int_refusals.BadFormat at) = said.Refused (whys.BadFormat at)
+int_refused (int_refusals.MissingNumber at) = said.Refused (whys.MissingNumber at)
+int_refused int_refusals.TooBig = said.Refused whys.TooBig
 
-abbrev pub number_text_said : Result (List ℕ) IntFault → Said
+abbrev pub number_text_said : Result (List ℕ) IntRefusal → Said
 number_text_said (Ok text) = said.Text text
-number_text_said (Err fault) = int_fault_said fault
+number_text_said (Err why) = int_refused why
 
 -- the text, unless it is longer than max; a wrong conversion and a missing number go before that
 abbrev pub number_said : Catalog → Parts → ℕ → List ℕ → List ℤ → Said

@@ -3,8 +3,8 @@ use Rattle.std.proofs.Common.{◌≡◌, ℕ, List, [], ◌∷◌, Ok, Err, refl
 use Rattle.std.specs.Prelude.{codes, ℤ, pos, negsuc, Result}
 use Rattle.digit_groups.specs.Groups.{separated, separators}
 use Rattle.monetary_cat.specs.MonetaryValues.{MonetaryValues}
-use Rattle.strfmon.specs.declared.fault.MoneyFault.{MoneyFault}
-use Rattle.strfmon.specs.declared.fault.MoneyFault.TheVariants.{BadFormat, MissingAmount, TooBig, Memory}
+use Rattle.strfmon.specs.Refusals.{MoneyRefusal, BadFormat, MissingAmount, TooBig}
+use Rattle.strfmon.specs.declared.fault.MoneyFault.TheVariants as faults
 use Rattle.strfmon.specs.Decimals.{last_digits}
 use Rattle.strfmon.specs.Formats.{flags_behind, number_behind, conversion, piece, pieces}
 use Rattle.strfmon.specs.Cells.{cell}
@@ -28,7 +28,7 @@ us = record {
 }
 
 -- the text of one amount, without a limit that matters
-abbrev dollars : List ℕ → ℤ → ℕ → Result (List ℕ) MoneyFault
+abbrev dollars : List ℕ → ℤ → ℕ → Result (List ℕ) MoneyRefusal
 dollars format units scale = money us format (record { units = units; scale = scale } ∷ []) 100
 
 plain : dollars (codes "%n") (pos 12345) 2 ≡ Ok (codes "$123.45")
@@ -98,5 +98,5 @@ too_big = refl
 own_text : Answers (λ (t : List ℕ). t) (Ok (codes "$1")) (Ok (codes "$1"))
 own_text = refl
 
-no_memory : Answers (λ (t : List ℕ). t) (Err Memory) (Ok (codes "$1"))
+no_memory : Answers (λ (t : List ℕ). t) (Err faults.Memory) (Ok (codes "$1"))
 no_memory = tt

@@ -7,7 +7,8 @@ use Rattle.strfmon.specs.declared.format.Conversion.{Conversion}
 use Rattle.strfmon.specs.declared.format.Piece.{Piece}
 use Rattle.strfmon.specs.declared.format.Piece.TheVariants.{Literal, Convert}
 use Rattle.strfmon.specs.declared.fault.MoneyFault.{MoneyFault}
-use Rattle.strfmon.specs.declared.fault.MoneyFault.TheVariants.{BadFormat, MissingAmount, TooBig, Memory}
+use Rattle.strfmon.specs.declared.fault.MoneyFault.TheVariants as faults
+use Rattle.strfmon.specs.Refusals.{MoneyRefusal, BadFormat, MissingAmount, TooBig}
 use Rattle.strfmon.specs.MoneyAmount.{MoneyAmount}
 use Rattle.std.proofs.lemmas.List.{length-append, length-replicate, append-nil}
 use Rattle.digit_groups.specs.Groups.{grouped}
@@ -17,45 +18,45 @@ use Rattle.strfmon.specs.declared.decimal.Decimal.{Decimal}
 use Rattle.strfmon.specs.Decimals.{whole_digits, fraction_digits, digit_count, magnitude, fraction_kept, IsRounded}
 use Rattle.strfmon.specs.Looks.{Look, look_of, parts_text}
 use Rattle.strfmon.specs.Formats.{followed}
-use Rattle.strfmon.specs.Money.{refusal, good_pieces, pieces_text, piece_text, amounts_behind, missing, refusal_behind, within, Refuses, fraction_text, radix_of, precision_of, sizes_of, text_parts, text_with, aligned_text, conversion_text, in_field, with_spaces, spaces, is_negative, pad_count, aligned_digits, fill_count}
+use Rattle.strfmon.specs.Money.{refusal, good_pieces, pieces_text, piece_text, amounts_behind, missing, refusal_behind, within, Refuses, fraction_text, radix_of, precision_of, sizes_of, text_parts, text_with, aligned_text, conversion_text, in_field, with_spaces, spaces, is_negative, pad_count, aligned_digits, fill_count, fault_of, unless_refused}
 
 pub refusal_start : (r : Result (List (ℕ × Piece)) ℕ) (n : ℕ) → refusal r n ≡ refusal_behind None r n
 refusal_start (Ok ps) n = refl
 refusal_start (Err at) n = refl
 
-pub refusal_bad : (lacking : Option MoneyFault) (at n : ℕ) → refusal_behind lacking (Err at) n ≡ Some (BadFormat at)
+pub refusal_bad : (lacking : Option ℕ) (at n : ℕ) → refusal_behind lacking (Err at) n ≡ Some (BadFormat at)
 refusal_bad None at n = refl
-refusal_bad (Some fault) at n = refl
+refusal_bad (Some place) at n = refl
 
-pub refusal_literal : (lacking : Option MoneyFault) (at b n : ℕ) (r : Result (List (ℕ × Piece)) ℕ) → refusal_behind lacking (followed (at, Literal b) r) n ≡ refusal_behind lacking r n
+pub refusal_literal : (lacking : Option ℕ) (at b n : ℕ) (r : Result (List (ℕ × Piece)) ℕ) → refusal_behind lacking (followed (at, Literal b) r) n ≡ refusal_behind lacking r n
 unfolding missing
 refusal_literal None at b n (Ok ps) = refl
-refusal_literal (Some fault) at b n (Ok ps) = refl
+refusal_literal (Some place) at b n (Ok ps) = refl
 refusal_literal None at b n (Err e) = refl
-refusal_literal (Some fault) at b n (Err e) = refl
+refusal_literal (Some place) at b n (Err e) = refl
 
-pub refusal_amount : (lacking : Option MoneyFault) (at n : ℕ) (c : Conversion) (r : Result (List (ℕ × Piece)) ℕ) → 0 < n → refusal_behind lacking (followed (at, Convert c) r) n ≡ refusal_behind lacking r (n - 1)
+pub refusal_amount : (lacking : Option ℕ) (at n : ℕ) (c : Conversion) (r : Result (List (ℕ × Piece)) ℕ) → 0 < n → refusal_behind lacking (followed (at, Convert c) r) n ≡ refusal_behind lacking r (n - 1)
 unfolding missing
 refusal_amount lacking at zero c r some = absurd (omega arith)
 refusal_amount None at (suc n) c (Ok ps) some = ap (λ k. option_map (λ at. MissingAmount at) (missing ps k)) (omega arith)
-refusal_amount (Some fault) at (suc n) c (Ok ps) some = refl
+refusal_amount (Some place) at (suc n) c (Ok ps) some = refl
 refusal_amount None at (suc n) c (Err e) some = refl
-refusal_amount (Some fault) at (suc n) c (Err e) some = refl
+refusal_amount (Some place) at (suc n) c (Err e) some = refl
 
 -- once an amount lacks the count of what is left does not matter
-pub refusal_lacking : (fault : MoneyFault) (at n m : ℕ) (p : Piece) (r : Result (List (ℕ × Piece)) ℕ) → refusal_behind (Some fault) (followed (at, p) r) n ≡ refusal_behind (Some fault) r m
-refusal_lacking fault at n m p (Ok ps) = refl
-refusal_lacking fault at n m p (Err e) = refl
+pub refusal_lacking : (place at n m : ℕ) (p : Piece) (r : Result (List (ℕ × Piece)) ℕ) → refusal_behind (Some place) (followed (at, p) r) n ≡ refusal_behind (Some place) r m
+refusal_lacking place at n m p (Ok ps) = refl
+refusal_lacking place at n m p (Err e) = refl
 
-pub refusal_missing : (at : ℕ) (c : Conversion) (r : Result (List (ℕ × Piece)) ℕ) (m : ℕ) → refusal_behind None (followed (at, Convert c) r) 0 ≡ refusal_behind (Some (MissingAmount at)) r m
+pub refusal_missing : (at : ℕ) (c : Conversion) (r : Result (List (ℕ × Piece)) ℕ) (m : ℕ) → refusal_behind None (followed (at, Convert c) r) 0 ≡ refusal_behind (Some at) r m
 unfolding missing
 refusal_missing at c (Ok ps) m = refl
 refusal_missing at c (Err e) m = refl
 
-pub refusal_over : (lacking : Option MoneyFault) (n : ℕ) → refusal_behind lacking (Ok []) n ≡ lacking
+pub refusal_over : (lacking : Option ℕ) (n : ℕ) → refusal_behind lacking (Ok []) n ≡ option_map (λ at. MissingAmount at) lacking
 unfolding missing
 refusal_over None n = refl
-refusal_over (Some fault) n = refl
+refusal_over (Some place) n = refl
 
 -- ---- texts
 
@@ -141,9 +142,20 @@ within_fits max_len text fits = let no : nat_lt max_len (length text) ≡ false 
 pub within_long : (max_len : ℕ) (text : List ℕ) → max_len < length text → within max_len text ≡ Err TooBig
 within_long max_len text long = let yes : nat_lt max_len (length text) ≡ true = grind (arith, nat_tests) in rw yes refl
 
-pub refuses : (e : MoneyFault) (max_len : ℕ) (text : List ℕ) → (e ≡ TooBig) ⊎ (e ≡ Memory) → (e ≡ TooBig → max_len < length text) → Refuses e (within max_len text)
+pub refuses : (e : MoneyFault) (max_len : ℕ) (text : List ℕ) → (e ≡ faults.TooBig) ⊎ (e ≡ faults.Memory) → (e ≡ faults.TooBig → max_len < length text) → Refuses e (within max_len text)
 refuses e max_len text (inl big) long = let P : MoneyFault → Type 0 = λ z. Refuses z (within max_len text) in subst P (sym big) (within_long max_len text (long big))
 refuses e max_len text (inr memory) long = let P : MoneyFault → Type 0 = λ z. Refuses z (within max_len text) in subst P (sym memory) tt
+
+-- what a call says of a refusal
+pub refused : (r : Option MoneyRefusal) (fault : MoneyFault) (answer : Result (List ℕ) MoneyRefusal) → Some fault ≡ option_map (λ why. fault_of why) r → Refuses fault (unless_refused r answer)
+refused None fault answer e = cc
+refused (Some (BadFormat at)) fault answer e = let same : fault_of (BadFormat at) ≡ fault = cc in let P : MoneyFault → Type 0 = λ z. Refuses z (unless_refused (Some (BadFormat at)) answer) in subst P same refl
+refused (Some (MissingAmount at)) fault answer e = let same : fault_of (MissingAmount at) ≡ fault = cc in let P : MoneyFault → Type 0 = λ z. Refuses z (unless_refused (Some (MissingAmount at)) answer) in subst P same refl
+refused (Some TooBig) fault answer e = let same : fault_of TooBig ≡ fault = cc in let P : MoneyFault → Type 0 = λ z. Refuses z (unless_refused (Some TooBig) answer) in subst P same refl
+
+pub accepted : (r : Option MoneyRefusal) → None ≡ option_map (λ why. fault_of why) r → r ≡ None
+accepted None e = refl
+accepted (Some why) e = cc
 
 -- a text is too long where a part of it is
 pub too_long : (max_len : ℕ) (whole out text rest : List ℕ) → whole ≡ out ++ (text ++ rest) → max_len - length out < length text → max_len < length whole

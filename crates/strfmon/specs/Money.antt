@@ -8,10 +8,11 @@ use Rattle.strfmon.specs.declared.format.Conversion.{Conversion}
 use Rattle.strfmon.specs.declared.format.Piece.{Piece}
 use Rattle.strfmon.specs.declared.format.Piece.TheVariants.{Literal, Convert}
 use Rattle.strfmon.specs.declared.fault.MoneyFault.{MoneyFault}
-use Rattle.strfmon.specs.declared.fault.MoneyFault.TheVariants.{BadFormat, MissingAmount, TooBig, Memory}
+use Rattle.strfmon.specs.declared.fault.MoneyFault.TheVariants as faults
 use Rattle.strfmon.specs.MoneyAmount.{MoneyAmount}
 use Rattle.strfmon.specs.Decimals.{whole_digits, fraction_digits}
 use Rattle.strfmon.specs.Formats.{pieces}
+use Rattle.strfmon.specs.Refusals.{MoneyRefusal, BadFormat, MissingAmount, TooBig}
 use Rattle.strfmon.specs.Looks.{Look, look_of, parts_text, given}
 
 -- ---- the number
@@ -129,19 +130,19 @@ missing ((at, Convert c) ∷ ps) zero = Some at
 missing ((at, Convert c) ∷ ps) (suc n) = missing ps n
 
 -- a text of at most so many bytes
-abbrev pub within : ℕ → List ℕ → Result (List ℕ) MoneyFault
+abbrev pub within : ℕ → List ℕ → Result (List ℕ) MoneyRefusal
 within max_len text = if nat_lt max_len (length text) then Err TooBig else Ok text
 
 -- the first refusal of a format with so many amounts: a bad conversion goes before a missing amount
-abbrev pub refusal : Result (List (ℕ × Piece)) ℕ → ℕ → Option MoneyFault
+abbrev pub refusal : Result (List (ℕ × Piece)) ℕ → ℕ → Option MoneyRefusal
 refusal (Err at) amounts = Some (BadFormat at)
 refusal (Ok ps) amounts = option_map (λ at. MissingAmount at) (missing ps amounts)
 
--- the same behind a piece that perhaps lacked its amount
-abbrev pub refusal_behind : Option MoneyFault → Result (List (ℕ × Piece)) ℕ → ℕ → Option MoneyFault
+-- the same behind pieces of which perhaps the one at this place lacked its amount
+abbrev pub refusal_behind : Option ℕ → Result (List (ℕ × Piece)) ℕ → ℕ → Option MoneyRefusal
 refusal_behind lacking (Err at) amounts = Some (BadFormat at)
 refusal_behind None (Ok ps) amounts = refusal (Ok ps) amounts
-refusal_behind (Some fault) (Ok ps) amounts = Some fault
+refusal_behind (Some at) (Ok ps) amounts = Some (MissingAmount at)
 
 -- the pieces, where no conversion is bad
 abbrev pub good_pieces : Result (List (ℕ × Piece)) ℕ → List (ℕ × Piece)
@@ -149,24 +150,30 @@ good_pieces (Err at) = []
 good_pieces (Ok ps) = ps
 
 -- the text, or what goes before it
-abbrev pub unless_refused : Option MoneyFault → Result (List ℕ) MoneyFault → Result (List ℕ) MoneyFault
+abbrev pub unless_refused : Option MoneyRefusal → Result (List ℕ) MoneyRefusal → Result (List ℕ) MoneyRefusal
 unless_refused None answer = answer
-unless_refused (Some fault) answer = Err fault
+unless_refused (Some why) answer = Err why
 
 -- the text of a format with its amounts, of at most so many bytes, or the refusal
-abbrev pub money : MonetaryValues → List ℕ → List MoneyAmount → ℕ → Result (List ℕ) MoneyFault
+abbrev pub money : MonetaryValues → List ℕ → List MoneyAmount → ℕ → Result (List ℕ) MoneyRefusal
 money v format amounts max_len =
     unless_refused (refusal (pieces 0 0 format) (length amounts))
     (within max_len (pieces_text v (good_pieces (pieces 0 0 format)) amounts))
 
--- a refusal is that of the definition, or want of memory, which says nothing
-abbrev pub Refuses : MoneyFault → Result (List ℕ) MoneyFault → Type 0
-Refuses (BadFormat at) answer = answer ≡ Err (BadFormat at)
-Refuses (MissingAmount at) answer = answer ≡ Err (MissingAmount at)
-Refuses TooBig answer = answer ≡ Err TooBig
-Refuses Memory answer = Unit {0}
+-- the fault of a call that is refused so
+abbrev pub fault_of : MoneyRefusal → MoneyFault
+fault_of (BadFormat at) = faults.BadFormat at
+fault_of (MissingAmount at) = faults.MissingAmount at
+fault_of TooBig = faults.TooBig
+
+-- a fault is the refusal of the definition, or want of memory, which says nothing
+abbrev pub Refuses : MoneyFault → Result (List ℕ) MoneyRefusal → Type 0
+Refuses (faults.BadFormat at) answer = answer ≡ Err (BadFormat at)
+Refuses (faults.MissingAmount at) answer = answer ≡ Err (MissingAmount at)
+Refuses faults.TooBig answer = answer ≡ Err TooBig
+Refuses faults.Memory answer = Unit {0}
 
 -- a result, its text seen by view, is the answer, unless memory is wanting
-abbrev pub Answers : {X : Type 0} → (X → List ℕ) → Result X MoneyFault → Result (List ℕ) MoneyFault → Type 0
+abbrev pub Answers : {X : Type 0} → (X → List ℕ) → Result X MoneyFault → Result (List ℕ) MoneyRefusal → Type 0
 Answers view (Ok x) answer = answer ≡ Ok (view x)
 Answers view (Err e) answer = Refuses e answer

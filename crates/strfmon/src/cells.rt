@@ -56,6 +56,7 @@ const CELLS: [(&[Part], &[Part]); 30] = [
 ];
 
 /// A cell of a table; past its end nothing stands beside the number.
+#[inline(always)]
 fn cell_at(
     cells: &[(&'static [Part], &'static [Part])],
     index: usize,
@@ -70,6 +71,7 @@ fn cell_at(
 
 /// What stands before the number, and what behind it.
 #[tactic(auto, unfolding(crate::specs::Cells::cell))]
+#[inline(always)]
 pub fn cell(
     precedes: usize,
     position: usize,

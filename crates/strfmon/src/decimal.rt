@@ -18,6 +18,7 @@ pub struct Decimal {
 
 /// 10^exponent.
 #[tactic(auto, using(crate::proofs::DecimalLemmas::few_powers, crate::proofs::DecimalLemmas::some_power))]
+#[inline(always)]
 fn power(exponent: usize) -> u64
     requires { exponent ≤ 18 }
     ensures is { result ≡ 10 ^ exponent }
@@ -28,6 +29,7 @@ fn power(exponent: usize) -> u64
 }
 
 /// n / d as a whole number: the nearest one, and of two the even one.
+#[inline(always)]
 fn rounded(n: u64, d: u64) -> u64
     requires some { 0 < d }
     requires few { d ≤ 1000000000000000000 }
@@ -46,6 +48,7 @@ fn rounded(n: u64, d: u64) -> u64
 
 #[tactic(auto, using(crate::proofs::DecimalLemmas::part_fits))]
 /// An amount rounded to at most so many fraction digits.
+#[inline(always)]
 pub fn decimal_of(amount: Amount, precision: usize) -> Decimal
     ensures is { IsRounded result precision amount }
     ensures few { result.kept ≤ 18 }

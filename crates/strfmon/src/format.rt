@@ -69,6 +69,7 @@ const NO_FLAGS: Flags = Flags {
     left: false,
 };
 
+#[inline(always)]
 fn mark_of(byte: u8) -> Option<Mark>
     ensures { result ≡ mark_of byte }
 {
@@ -83,6 +84,7 @@ fn mark_of(byte: u8) -> Option<Mark>
 }
 
 /// The flags with one more, if it was not given before.
+#[inline(always)]
 fn with_mark(flags: Flags, mark: Mark) -> Option<Flags>
     ensures { result ≡ with_mark flags mark }
 {
@@ -125,6 +127,7 @@ fn with_fill(flags: Flags, byte: u8) -> Option<Flags>
 }
 
 /// The flags with the one that a byte and those behind it begin with, and how many bytes it takes.
+#[inline(always)]
 fn with_flag(flags: Flags, byte: u8, behind: &[u8]) -> Option<(Flags, usize)>
     ensures is { result ≡ with_flag flags byte behind.now }
     ensures within { IfSome result (λ r. r.1 ≤ length behind.now + 1) }
@@ -139,6 +142,7 @@ fn with_flag(flags: Flags, byte: u8, behind: &[u8]) -> Option<(Flags, usize)>
 }
 
 /// The flags that bytes begin with, and how many bytes they take.
+#[inline(always)]
 fn flags_of(bytes: &[u8]) -> Option<(Flags, usize)>
     ensures is { result ≡ flags bytes.now }
     ensures within { IfSome result (λ r. r.1 ≤ length bytes.now) }
@@ -180,6 +184,7 @@ fn number(bytes: &[u8]) -> Option<(u8, usize)>
 }
 
 /// The number behind a sign, if the sign is there, and how many bytes both take.
+#[inline(always)]
 fn number_after(sign: u8, bytes: &[u8]) -> Option<(Option<u8>, usize)>
     ensures is { result ≡ number_after sign bytes.now }
     ensures within { IfSome result (λ r. r.1 ≤ length bytes.now) }
@@ -197,6 +202,7 @@ fn number_after(sign: u8, bytes: &[u8]) -> Option<(Option<u8>, usize)>
 }
 
 /// Whether a conversion ends with `i` or with `n`.
+#[inline(always)]
 fn is_international(bytes: &[u8]) -> Option<bool>
     ensures is { result ≡ is_international bytes.now }
     ensures some { IfSome result (λ r. 0 < length bytes.now) }
@@ -209,6 +215,7 @@ fn is_international(bytes: &[u8]) -> Option<bool>
 }
 
 /// The conversion that bytes behind a `%` begin with, and how many bytes it takes.
+#[inline(always)]
 fn conversion_of(bytes: &[u8]) -> Option<(Conversion, usize)>
     ensures is { result ≡ conversion bytes.now }
     ensures within { IfSome result (λ r. r.1 ≤ length bytes.now) }
@@ -232,6 +239,7 @@ fn conversion_of(bytes: &[u8]) -> Option<(Conversion, usize)>
 }
 
 /// What a `%` begins, and how many bytes behind it belong to it.
+#[inline(always)]
 fn behind_percent(bytes: &[u8]) -> Option<(Piece, usize)>
     ensures is { result ≡ behind_percent bytes.now }
     ensures within { IfSome result (λ r. r.1 ≤ length bytes.now) }
@@ -245,6 +253,7 @@ fn behind_percent(bytes: &[u8]) -> Option<(Piece, usize)>
 
 /// The piece that a byte begins, and how many of the bytes behind it belong to it.
 #[tactic(auto, unfolding(crate::specs::Formats::piece))]
+#[inline(always)]
 pub fn piece_of(byte: u8, behind: &[u8]) -> Option<(Piece, usize)>
     ensures is { result ≡ piece byte behind.now }
     ensures within { IfSome result (λ r. r.1 ≤ length behind.now) }

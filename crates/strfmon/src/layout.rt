@@ -1,10 +1,10 @@
 //! The widths of an amount's text (XSH strfmon).
 
-ghost use Rattle.std.specs.Prelude.{◌≡◌, ◌+◌, ◌^◌, ◌<◌, ◌≤◌, ◌-◌, length, List, ℕ, IfSome};
+ghost use Rattle.std.specs.Prelude.{◌≡◌, ◌+◌, ◌^◌, ◌<◌, ◌≤◌, ◌-◌, not, length, List, ℕ, IfSome};
 ghost use Rattle.std.specs.Option.{ForSome};
 ghost use Rattle.digit_groups.specs.Groups.{grouped, grouped_width};
 ghost use Rattle.strfmon.specs.Decimals.{whole_digits, IsRounded};
-ghost use Rattle.strfmon.specs.Looks.{parts_text};
+ghost use Rattle.strfmon.specs.Looks.{look_of, parts_text};
 ghost use Rattle.strfmon.specs.Money.{precision_of, sizes_of, radix_of, fraction_text, aligned_digits, fill_count, pad_count, text_parts, text_with, with_spaces, conversion_text};
 ghost use Rattle.strfmon.specs.MoneyAmount.{MoneyAmount};
 ghost use Rattle.strfmon.specs.Seen.{seen};
@@ -41,6 +41,7 @@ pub struct Laid<'a> {
 }
 
 /// The fraction digits of a conversion.
+#[inline(always)]
 pub fn precision_of(m: &Monetary, c: &Conversion) -> usize
     ensures is { result ≡ precision_of m.now c.now }
     ensures small { result < 2 ^ 32 }
@@ -57,6 +58,7 @@ pub fn precision_of(m: &Monetary, c: &Conversion) -> usize
 }
 
 /// The sizes of groups.
+#[inline(always)]
 pub fn sizes_of<'a>(m: &'a Monetary, c: &Conversion) -> &'a [i32]
     ensures { result.now ≡ sizes_of m.now c.now }
 {
@@ -64,6 +66,7 @@ pub fn sizes_of<'a>(m: &'a Monetary, c: &Conversion) -> &'a [i32]
 }
 
 /// The radix, which is `.` where the locale has none.
+#[inline(always)]
 pub fn radix_of(m: &Monetary) -> &[u8]
     ensures { result.now ≡ radix_of m.now }
 {
@@ -72,6 +75,7 @@ pub fn radix_of(m: &Monetary) -> &[u8]
 }
 
 /// How many bytes grouped digits have.
+#[inline(always)]
 fn grouped_width(n: usize, sizes: &[i32], sep: &[u8]) -> u128
     requires { n ≤ 255 }
     ensures is { result ≡ grouped_width n sizes.now (length sep.now) }
@@ -106,18 +110,52 @@ fn fill_count(m: &Monetary, c: &Conversion, digits: usize, aligned: Option<usize
     grouped_width(whole, sizes, sep).saturating_sub(grouped_width(digits, sizes, sep))
 }
 
-/// How many spaces stand beside a look.
-fn pad_count(aligned: Option<usize>, own: u128, other: u128) -> u128
-    ensures is { (x y : List ℕ) → length x ≡ own → length y ≡ other → result ≡ pad_count aligned x y }
-    ensures fits { result ≤ other }
+/// How many bytes longer the look of the other sign is than so many, before the number and behind it.
+fn other_sign_pads(
+    m: &Monetary,
+    c: &Conversion,
+    negative: bool,
+    own_before: u128,
+    own_after: u128,
+) -> (u128, u128)
+    ensures before { result.0 ≡ length (parts_text (look_of m.now c.now (not negative)) (look_of m.now c.now (not negative)).before) - own_before }
+    ensures after { result.1 ≡ length (parts_text (look_of m.now c.now (not negative)) (look_of m.now c.now (not negative)).after) - own_after }
+    ensures few_before { result.0 ≤ 2 ^ 66 }
+    ensures few_after { result.1 ≤ 2 ^ 66 }
+{
+    let other = look_of(m, c, !negative);
+    let before = other.width(other.before);
+    let after = other.width(other.after);
+    (
+        before.saturating_sub(own_before),
+        after.saturating_sub(own_after),
+    )
+}
+
+/// How many spaces stand before the look of one sign and behind it, so that it is as long as that of
+/// the other sign.
+#[inline(always)]
+fn pads_of(
+    m: &Monetary,
+    c: &Conversion,
+    negative: bool,
+    aligned: Option<usize>,
+    own_before: u128,
+    own_after: u128,
+) -> (u128, u128)
+    ensures before { (own : List ℕ) → length own ≡ own_before → result.0 ≡ pad_count aligned own (parts_text (look_of m.now c.now (not negative)) (look_of m.now c.now (not negative)).before) }
+    ensures after { (own : List ℕ) → length own ≡ own_after → result.1 ≡ pad_count aligned own (parts_text (look_of m.now c.now (not negative)) (look_of m.now c.now (not negative)).after) }
+    ensures few_before { result.0 ≤ 2 ^ 66 }
+    ensures few_after { result.1 ≤ 2 ^ 66 }
 {
     match aligned {
-        Some(_) => other.saturating_sub(own),
-        None => 0,
+        Some(_) => other_sign_pads(m, c, negative, own_before, own_after),
+        None => (0, 0),
     }
 }
 
 /// How many bytes the radix and the fraction have.
+#[inline(always)]
 fn fraction_width(m: &Monetary, precision: usize) -> u128
     requires { precision < 2 ^ 32 }
     ensures is { (a : MoneyAmount) → result ≡ length (fraction_text m.now precision a) }
@@ -129,25 +167,23 @@ fn fraction_width(m: &Monetary, precision: usize) -> u128
     radix_of(m).len() as u128 + precision as u128
 }
 
-/// The layout of an amount with so many whole digits.
-pub fn layout_of(m: &Monetary, c: &Conversion, own: &Look, other: &Look, digits: usize) -> Layout
+/// The layout of an amount of this sign with so many whole digits.
+#[inline(always)]
+pub fn layout_of(m: &Monetary, c: &Conversion, own: &Look, negative: bool, digits: usize) -> Layout
     requires few { digits ≤ 255 }
     requires own_before { length own.now.before.now ≤ 3 }
     requires own_after { length own.now.after.now ≤ 3 }
-    requires other_before { length other.now.before.now ≤ 3 }
-    requires other_after { length other.now.after.now ≤ 3 }
-    ensures before { result.before ≡ pad_count (aligned_digits c.now digits) (parts_text (seen own.now) own.now.before.now) (parts_text (seen other.now) other.now.before.now) }
+    ensures before { result.before ≡ pad_count (aligned_digits c.now digits) (parts_text (seen own.now) own.now.before.now) (parts_text (look_of m.now c.now (not negative)) (look_of m.now c.now (not negative)).before) }
     ensures fill { result.fill ≡ fill_count m.now c.now digits (aligned_digits c.now digits) }
-    ensures after { result.after ≡ pad_count (aligned_digits c.now digits) (parts_text (seen own.now) own.now.after.now) (parts_text (seen other.now) other.now.after.now) }
+    ensures after { result.after ≡ pad_count (aligned_digits c.now digits) (parts_text (seen own.now) own.now.after.now) (parts_text (look_of m.now c.now (not negative)) (look_of m.now c.now (not negative)).after) }
     ensures within { result.before + result.fill + result.after ≤ result.width }
     ensures fits { result.width < 2 ^ 82 }
-    ensures width { (a : MoneyAmount) → length (whole_digits (precision_of m.now c.now) a) ≡ digits → result.width ≡ length (text_with m.now c.now a (seen own.now) (seen other.now)) }
+    ensures width { (a : MoneyAmount) → length (whole_digits (precision_of m.now c.now) a) ≡ digits → result.width ≡ length (text_with m.now c.now a (seen own.now) (look_of m.now c.now (not negative))) }
 {
     let aligned = aligned_digits(c, digits);
     let own_before = own.width(own.before);
     let own_after = own.width(own.after);
-    let before = pad_count(aligned, own_before, other.width(other.before));
-    let after = pad_count(aligned, own_after, other.width(other.after));
+    let (before, after) = pads_of(m, c, negative, aligned, own_before, own_after);
     let fill = fill_count(m, c, digits, aligned);
     let sep = m.text(MonText::MonThousandsSep);
     let whole = grouped_width(digits, sizes_of(m, c), sep);
@@ -169,6 +205,7 @@ fn field_spaces(width: u8, text: u128) -> u128
 }
 
 /// An amount laid out in a conversion.
+#[inline(always)]
 pub fn laid_out<'a>(m: &'a Monetary, c: &Conversion, amount: Amount) -> Laid<'a>
     ensures few { result.decimal.kept ≤ 18 }
     ensures short { result.decimal.kept ≤ precision_of m.now c.now }
@@ -180,9 +217,8 @@ pub fn laid_out<'a>(m: &'a Monetary, c: &Conversion, amount: Amount) -> Laid<'a>
 {
     let negative = amount.is_negative();
     let own = look_of(m, c, negative);
-    let other = look_of(m, c, !negative);
     let decimal = decimal_of(amount, precision_of(m, c));
-    let layout = layout_of(m, c, &own, &other, digit_count(decimal.whole));
+    let layout = layout_of(m, c, &own, negative, digit_count(decimal.whole));
     Laid {
         look: own,
         decimal,

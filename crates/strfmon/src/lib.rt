@@ -1,9 +1,9 @@
 //! Amounts of money as text (XSH strfmon).
 #![tactic(auto)]
 
-ghost use Rattle.std.specs.Prelude.{◌≡◌, ◌+◌, ◌<◌, ◌≤◌, ◌++◌, ◌⊎◌, length, List, [], ◌∷◌, ℕ, Result, Err, None, OnOk, IfErr};
+ghost use Rattle.std.specs.Prelude.{◌≡◌, ◌+◌, ◌<◌, ◌≤◌, ◌++◌, ◌⊎◌, length, List, [], ◌∷◌, ℕ, Result, Err, None, option_map, OnOk, IfErr};
 ghost use Rattle.strfmon.specs.Formats.{pieces, followed};
-ghost use Rattle.strfmon.specs.Money.{money, refusal, refusal_behind, good_pieces, pieces_text, piece_text, amounts_behind, within, Answers};
+ghost use Rattle.strfmon.specs.Money.{money, refusal, refusal_behind, fault_of, good_pieces, pieces_text, piece_text, amounts_behind, within, Answers};
 ghost use Rattle.strfmon.specs.declared.format.Piece.{Piece};
 ghost use Rattle.strfmon.specs.declared.fault.MoneyFault.TheVariants.{TooBig, Memory};
 
@@ -30,6 +30,7 @@ use write::add_conversion;
 /// A conversion is `%`, flags, a width, `#n`, `.p`, and `n` or `i`. A `%` that begins no conversion is
 /// `BadFormat`, and goes before a conversion without an amount, which is `MissingAmount`; both go
 /// before `TooBig`.
+#[tactic(auto, using(crate::proofs::MoneyLemmas::refused, crate::proofs::MoneyLemmas::accepted))]
 pub fn strfmon(
     alloc: Global,
     m: &Monetary,
@@ -47,7 +48,7 @@ pub fn strfmon(
 
 /// The first refusal of a format with so many amounts.
 fn refusal(format: &[u8], amounts: usize) -> Option<MoneyFault>
-    ensures { result ≡ refusal (pieces 0 0 format.now) amounts }
+    ensures { result ≡ option_map (λ why. fault_of why) (refusal (pieces 0 0 format.now) amounts) }
 {
     let mut at = 0;
     let mut left = amounts;
@@ -59,24 +60,25 @@ fn refusal(format: &[u8], amounts: usize) -> Option<MoneyFault>
         (left, lacking) = behind_piece(piece, at, left, lacking);
         at += 1 + used;
     }
-    lacking
+    Some(MoneyFault::MissingAmount { at: lacking? })
 }
 
-/// The amounts that a piece leaves of so many, and the first missing one with it.
+/// The amounts that a piece leaves of so many, and the place of the first one that is missing.
 #[tactic(auto, using(crate::proofs::MoneyLemmas::refusal_literal, crate::proofs::MoneyLemmas::refusal_amount, crate::proofs::MoneyLemmas::refusal_lacking, crate::proofs::MoneyLemmas::refusal_missing))]
+#[inline(always)]
 fn behind_piece(
     piece: Piece,
     at: usize,
     amounts: usize,
-    lacking: Option<MoneyFault>,
-) -> (usize, Option<MoneyFault>)
+    lacking: Option<usize>,
+) -> (usize, Option<usize>)
     ensures { (r : Result (List (ℕ × Piece)) ℕ) → refusal_behind lacking (followed (at, piece) r) amounts ≡ refusal_behind result.1 r result.0 }
 {
     match (piece, lacking) {
         (Piece::Literal(_), _) => (amounts, lacking),
         (Piece::Convert(_), Some(_)) => (amounts, lacking),
         (Piece::Convert(_), None) if amounts > 0 => (amounts - 1, None),
-        (Piece::Convert(_), None) => (0, Some(MoneyFault::MissingAmount { at })),
+        (Piece::Convert(_), None) => (0, Some(at)),
     }
 }
 
@@ -109,6 +111,7 @@ fn pieces_text(
 }
 
 /// The amounts that a piece leaves.
+#[inline(always)]
 fn amounts_behind(piece: Piece, amounts: &[Amount]) -> &[Amount]
     ensures { result.now ≡ amounts_behind piece amounts.now }
 {
@@ -119,6 +122,7 @@ fn amounts_behind(piece: Piece, amounts: &[Amount]) -> &[Amount]
 }
 
 /// Appends the text of a piece, if it has at most `room` bytes.
+#[inline(always)]
 fn add_piece(
     alloc: Global,
     out: &mut Vec<u8>,

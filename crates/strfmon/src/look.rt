@@ -28,6 +28,7 @@ pub struct Look<'a> {
 }
 
 /// A number, or what stands for it where the locale does not say.
+#[inline(always)]
 pub fn given(number: i32, other: usize) -> usize
     requires { other < 2 ^ 32 }
     ensures is { result ≡ given number other }
@@ -36,6 +37,7 @@ pub fn given(number: i32, other: usize) -> usize
     if number < 0 { other } else { number as usize }
 }
 
+#[inline(always)]
 fn local_numbers(m: &Monetary, negative: bool) -> Numbers
     ensures is { result ≡ local_numbers m.now negative }
     ensures precedes { result.precedes < 2 ^ 32 }
@@ -79,6 +81,7 @@ fn international_numbers(m: &Monetary, negative: bool) -> Numbers
     }
 }
 
+#[inline(always)]
 fn numbers_of(m: &Monetary, international: bool, negative: bool) -> Numbers
     ensures is { result ≡ numbers_of m.now international negative }
     ensures precedes { result.precedes < 2 ^ 32 }
@@ -109,6 +112,7 @@ fn minus_sign(m: &Monetary) -> &[u8]
     }
 }
 
+#[inline(always)]
 fn sign_of(m: &Monetary, parentheses: bool, negative: bool) -> &[u8]
     ensures { result.now ≡ sign_of m.now parentheses negative }
 {
@@ -129,6 +133,7 @@ fn split_symbol(symbol: &[u8]) -> (&[u8], &[u8])
     symbol.split_at(symbol.len().min(3))
 }
 
+#[inline(always)]
 fn symbol_of<'a>(m: &'a Monetary, c: &Conversion) -> &'a [u8]
     ensures { result.now ≡ symbol_of m.now c.now }
 {
@@ -141,6 +146,7 @@ fn symbol_of<'a>(m: &'a Monetary, c: &Conversion) -> &'a [u8]
     }
 }
 
+#[inline(always)]
 fn space_of<'a>(m: &'a Monetary, c: &Conversion) -> &'a [u8]
     ensures { result.now ≡ space_of m.now c.now }
 {
@@ -151,6 +157,7 @@ fn space_of<'a>(m: &'a Monetary, c: &Conversion) -> &'a [u8]
     }
 }
 
+#[inline(always)]
 fn position_of(parentheses: bool, negative: bool, position: usize) -> usize
     ensures is { result ≡ position_of parentheses negative position }
     ensures small { position < 2 ^ 32 → result < 2 ^ 32 }
@@ -162,6 +169,7 @@ fn position_of(parentheses: bool, negative: bool, position: usize) -> usize
     }
 }
 
+#[inline(always)]
 fn separation_of(symbol: &[u8], sign: &[u8], position: usize, separation: usize) -> usize
     ensures is { result ≡ separation_of symbol.now sign.now position separation }
     ensures small { separation < 2 ^ 32 → result < 2 ^ 32 }
@@ -175,6 +183,7 @@ fn separation_of(symbol: &[u8], sign: &[u8], position: usize, separation: usize)
 
 /// How an amount of this sign looks in a conversion.
 #[tactic(auto, unfolding(crate::specs::Looks::look_of))]
+#[inline(always)]
 pub fn look_of<'a>(m: &'a Monetary, c: &Conversion, negative: bool) -> Look<'a>
     ensures is { seen result ≡ look_of m.now c.now negative }
     ensures before { length result.before.now ≤ 3 }
@@ -197,6 +206,7 @@ pub fn look_of<'a>(m: &'a Monetary, c: &Conversion, negative: bool) -> Look<'a>
 }
 
 impl<'a> Look<'a> {
+    #[inline(always)]
     fn part(&self, part: Part) -> &'a [u8]
         ensures { result.now ≡ part_text (seen self.now) part }
     {

@@ -44,6 +44,7 @@ fn add_repeated(out: &mut Vec<u8>, byte: u8, count: usize) -> Result<(), AllocEr
 }
 
 /// Appends the last digits of a number.
+#[inline(always)]
 fn add_digits(out: &mut Vec<u8>, n: u64, count: usize) -> Result<(), AllocError>
     requires { count ≤ 20 }
     ensures { OnOk result (out.new.items ≡ out.old.items ++ last_digits count n) }
@@ -55,6 +56,7 @@ fn add_digits(out: &mut Vec<u8>, n: u64, count: usize) -> Result<(), AllocError>
 }
 
 /// Appends the digits of a number in groups.
+#[inline(always)]
 fn add_grouped(
     alloc: Global,
     out: &mut Vec<u8>,
@@ -74,6 +76,7 @@ fn add_grouped(
 }
 
 /// Appends the radix and the fraction, where there is one.
+#[inline(always)]
 fn add_fraction(
     out: &mut Vec<u8>,
     m: &Monetary,
@@ -93,6 +96,7 @@ fn add_fraction(
 }
 
 /// Appends the number of an amount.
+#[inline(always)]
 fn add_number(
     alloc: Global,
     out: &mut Vec<u8>,
@@ -132,6 +136,7 @@ fn add_text(
 }
 
 /// Appends the text of an amount in its field.
+#[inline(always)]
 fn add_in_field(
     alloc: Global,
     out: &mut Vec<u8>,
@@ -155,6 +160,7 @@ fn add_in_field(
 }
 
 /// What aligns an amount that is laid out.
+#[inline(always)]
 fn spread_of(laid: &Laid) -> Spread
     requires fits { laid.now.layout.width + laid.now.field < 2 ^ 64 }
     requires within { laid.now.layout.before + laid.now.layout.fill + laid.now.layout.after ≤ laid.now.layout.width }
@@ -172,6 +178,7 @@ fn spread_of(laid: &Laid) -> Spread
 }
 
 /// Appends the text of an amount, if it has at most `room` bytes.
+#[inline(always)]
 pub fn add_conversion(
     alloc: Global,
     out: &mut Vec<u8>,

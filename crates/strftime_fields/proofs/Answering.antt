@@ -2,13 +2,14 @@
 use Rattle.std.proofs.Common.{◌≡◌, ℕ, ◌<◌, ◌≤◌, true, false, leb, List, [], length, Some, None, Ok, Err, refl, sym, ap, ◌∙◌, subst, arith}
 use Rattle.std.proofs.lemmas.Bool.{le-leb, lt-leb}
 use Rattle.strftime_fields.specs.declared.fault.TimeFault.{TimeFault}
-use Rattle.strftime_fields.specs.declared.fault.TimeFault.TheVariants.{BadFormat, TooBig, Memory}
+use Rattle.strftime_fields.specs.declared.fault.TimeFault.TheVariants as faults
 use Rattle.time_cat.specs.Formats.{pieces, bad_place}
 use Rattle.time_cat.specs.Times.{TmValues}
 use Rattle.time_cat.specs.TimeValues.{TimeValues}
 use Rattle.time_cat.specs.Shown.{expanded}
 use Rattle.strftime_fields.specs.Appending.{Appends}
 use Rattle.strftime_fields.specs.Answers.{limited, answer, Answers}
+use Rattle.strftime_fields.specs.Refusals.{BadFormat, TooBig}
 
 fits : (max : ℕ) (text : List ℕ) → length text ≤ max → limited max (Ok text) ≡ Ok text
 fits max text short = let small : leb (length text) max ≡ true = le-leb (length text) max short in rw small refl
@@ -32,6 +33,6 @@ answers_text v t format max new good added =
 
 -- a text that could not be added
 pub answers_fault : (v : TimeValues) (t : TmValues) (format : List ℕ) (max : ℕ) (old new : List ℕ) (e : TimeFault) → bad_place (pieces format) ≡ None → old ≡ [] → Appends max old (expanded 5 v t format) new (Err e) → Answers (Err e) (answer v t format max)
-answers_fault v t format max old new TooBig good empty long = text_of v t format max good ∙ too_big max (expanded 5 v t format) (omega (arith, ap length empty, long))
-answers_fault v t format max old new Memory good empty none = tt
-answers_fault v t format max old new (BadFormat at) good empty none = absurd none
+answers_fault v t format max old new faults.TooBig good empty long = text_of v t format max good ∙ too_big max (expanded 5 v t format) (omega (arith, ap length empty, long))
+answers_fault v t format max old new faults.Memory good empty none = tt
+answers_fault v t format max old new (faults.BadFormat at) good empty none = absurd none

@@ -13,9 +13,8 @@ use Rattle.time_cat.specs.Times.{TmValues}
 use Rattle.time_cat.specs.TimeValues.{TimeValues}
 use Rattle.time_cat.specs.Values.{values_of, posix_values}
 use Rattle.time_cat.specs.Shown.{expanded}
-use Rattle.strftime_fields.specs.declared.fault.TimeFault.{TimeFault}
-use Rattle.strftime_fields.specs.declared.fault.TimeFault.TheVariants.{BadFormat, TooBig}
 use Rattle.strftime_fields.specs.Answers.{answer}
+use Rattle.strftime_fields.specs.Refusals.{TimeRefusal, BadFormat, TooBig}
 use Rattle.strftime_fields.specs.Cost.{cost, reads}
 
 -- a day at 14:05:06, an hour and a half west of UTC
@@ -23,7 +22,7 @@ abbrev day : ℕ → ℕ → ℕ → ℕ → ℕ → TmValues
 day year mon mday wday yday = record { year = year; mon = mon; mday = mday; hour = 14; min = 5; sec = 6; wday = wday; yday = yday; offset = Some (negsuc 89); zone = codes "CET" }
 
 abbrev Answer : Type 0
-Answer = Result (List ℕ) TimeFault
+Answer = Result (List ℕ) TimeRefusal
 
 abbrev posix : ℕ → ℕ → ℕ → ℕ → ℕ → List ℕ → Answer
 posix year mon mday wday yday format = answer posix_values (day year mon mday wday yday) format 4096

@@ -2,3 +2,4 @@ pub mod Appending
 pub mod Answers
 pub mod Calendar
 pub mod Cost
+pub mod Refusals

@@ -11,6 +11,7 @@ use itoa::Buffer;
 use time_cat::Layout;
 
 /// The last decimal digit.
+#[inline(always)]
 pub fn last_digit(n: u32) -> u8
     ensures { result ≡ last_digit n }
 {
@@ -18,6 +19,7 @@ pub fn last_digit(n: u32) -> u8
 }
 
 /// The last two digits.
+#[inline(always)]
 pub fn two(n: u32) -> [u8; 2]
     ensures { result ≡ two n }
 {
@@ -50,6 +52,7 @@ pub fn put_signed(out: &mut Vec<u8>, max: usize, n: i32) -> Result<(), TimeFault
 }
 
 /// Adds a number as it is written.
+#[inline(always)]
 pub fn put_number(out: &mut Vec<u8>, max: usize, layout: Layout, n: u32) -> Result<(), TimeFault>
     requires { length out.old.items ≤ max }
     ensures { Appends max out.old.items (laid_out layout n) out.new.items result }

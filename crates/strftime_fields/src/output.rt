@@ -6,6 +6,7 @@ ghost use Rattle.strftime_fields.specs.Appending.{Appends};
 use crate::fault::TimeFault;
 
 /// Adds bytes, unless the text would be longer than `max`.
+#[inline(always)]
 pub fn put(out: &mut Vec<u8>, max: usize, bytes: &[u8]) -> Result<(), TimeFault>
     requires { length out.old.items ≤ max }
     ensures { Appends max out.old.items bytes.now out.new.items result }
@@ -18,6 +19,7 @@ pub fn put(out: &mut Vec<u8>, max: usize, bytes: &[u8]) -> Result<(), TimeFault>
 }
 
 /// Adds a byte, unless the text would be longer than `max`.
+#[inline(always)]
 pub fn put_byte(out: &mut Vec<u8>, max: usize, byte: u8) -> Result<(), TimeFault>
     requires { length out.old.items ≤ max }
     ensures { Appends max out.old.items (byte ∷ []) out.new.items result }

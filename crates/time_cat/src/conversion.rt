@@ -1,7 +1,7 @@
 //! The conversions of a format (XSH strftime; the ranks are our own).
 
-ghost use Rattle.std.specs.Prelude.{◌≡◌};
-ghost use Rattle.time_cat.specs.Conversions.{first_row, conversion};
+ghost use Rattle.std.specs.Prelude.{◌≡◌, Some};
+ghost use Rattle.time_cat.specs.Conversions.{conversion};
 
 /// A format keyword of `LC_TIME` (XBD 7.3.5.2).
 #[derive(Clone, Copy, Debug, PartialEq, Eq)]
@@ -118,182 +118,114 @@ pub struct Conversion {
     pub shows: Shows,
 }
 
-/// The conversions, each with its modifier (`E`, `O` or 0), its letter, its rank and what it gives.
-const CONVERSIONS: [(u8, u8, u8, Shows); 56] = [
-    (0, b'a', 0, Shows::Name(Named::ShortWeekday)),
-    (0, b'A', 0, Shows::Name(Named::Weekday)),
-    (0, b'b', 0, Shows::Name(Named::ShortMonth)),
-    (0, b'B', 0, Shows::Name(Named::Month)),
-    (0, b'c', 4, Shows::Format(TimeText::DateTime)),
-    (0, b'C', 0, Shows::Number(Quantity::Century, Layout::Two)),
-    (0, b'd', 0, Shows::Number(Quantity::Day, Layout::Two)),
-    (0, b'D', 0, Shows::SlashedDate),
-    (0, b'e', 0, Shows::Number(Quantity::Day, Layout::Spaced)),
-    (0, b'F', 0, Shows::DashedDate),
-    (
-        0,
-        b'g',
-        0,
-        Shows::Number(Quantity::WeekYearOfCentury, Layout::Two),
-    ),
-    (0, b'G', 0, Shows::Number(Quantity::WeekYear, Layout::Bare)),
-    (0, b'h', 0, Shows::Name(Named::ShortMonth)),
-    (0, b'H', 0, Shows::Number(Quantity::Hour, Layout::Two)),
-    (
-        0,
-        b'I',
-        0,
-        Shows::Number(Quantity::HalfDayHour, Layout::Two),
-    ),
-    (0, b'j', 0, Shows::Number(Quantity::YearDay, Layout::Three)),
-    (0, b'm', 0, Shows::Number(Quantity::Month, Layout::Two)),
-    (0, b'M', 0, Shows::Number(Quantity::Minute, Layout::Two)),
-    (0, b'n', 0, Shows::Sign(b'\n')),
-    (0, b'p', 0, Shows::Name(Named::HalfDay)),
-    (0, b'r', 2, Shows::Format(TimeText::HalfDayClock)),
-    (0, b'R', 0, Shows::ShortTime),
-    (0, b'S', 0, Shows::Number(Quantity::Second, Layout::Two)),
-    (0, b't', 0, Shows::Sign(b'\t')),
-    (0, b'T', 0, Shows::FullTime),
-    (
-        0,
-        b'u',
-        0,
-        Shows::Number(Quantity::IsoWeekday, Layout::Bare),
-    ),
-    (0, b'U', 0, Shows::Number(Quantity::SundayWeek, Layout::Two)),
-    (0, b'V', 0, Shows::Number(Quantity::IsoWeek, Layout::Two)),
-    (0, b'w', 0, Shows::Number(Quantity::Weekday, Layout::Bare)),
-    (0, b'W', 0, Shows::Number(Quantity::MondayWeek, Layout::Two)),
-    (0, b'x', 3, Shows::Format(TimeText::Date)),
-    (0, b'X', 3, Shows::Format(TimeText::Clock)),
-    (
-        0,
-        b'y',
-        0,
-        Shows::Number(Quantity::YearOfCentury, Layout::Two),
-    ),
-    (0, b'Y', 0, Shows::Number(Quantity::Year, Layout::Bare)),
-    (0, b'z', 0, Shows::Offset),
-    (0, b'Z', 0, Shows::Zone),
-    (0, b'%', 0, Shows::Sign(b'%')),
-    (
-        b'E',
-        b'c',
-        4,
-        Shows::EraFormat(TimeText::EraDateTime, TimeText::DateTime),
-    ),
-    (b'E', b'C', 0, Shows::EraName),
-    (
-        b'E',
-        b'x',
-        3,
-        Shows::EraFormat(TimeText::EraDate, TimeText::Date),
-    ),
-    (
-        b'E',
-        b'X',
-        3,
-        Shows::EraFormat(TimeText::EraClock, TimeText::Clock),
-    ),
-    (b'E', b'y', 0, Shows::EraYear),
-    (b'E', b'Y', 1, Shows::EraFull),
-    (
-        b'O',
-        b'd',
-        0,
-        Shows::Alternative(Quantity::Day, Layout::Two),
-    ),
-    (
-        b'O',
-        b'e',
-        0,
-        Shows::Alternative(Quantity::Day, Layout::Spaced),
-    ),
-    (
-        b'O',
-        b'H',
-        0,
-        Shows::Alternative(Quantity::Hour, Layout::Two),
-    ),
-    (
-        b'O',
-        b'I',
-        0,
-        Shows::Alternative(Quantity::HalfDayHour, Layout::Two),
-    ),
-    (
-        b'O',
-        b'm',
-        0,
-        Shows::Alternative(Quantity::Month, Layout::Two),
-    ),
-    (
-        b'O',
-        b'M',
-        0,
-        Shows::Alternative(Quantity::Minute, Layout::Two),
-    ),
-    (
-        b'O',
-        b'S',
-        0,
-        Shows::Alternative(Quantity::Second, Layout::Two),
-    ),
-    (
-        b'O',
-        b'u',
-        0,
-        Shows::Alternative(Quantity::IsoWeekday, Layout::Bare),
-    ),
-    (
-        b'O',
-        b'U',
-        0,
-        Shows::Alternative(Quantity::SundayWeek, Layout::Two),
-    ),
-    (
-        b'O',
-        b'V',
-        0,
-        Shows::Alternative(Quantity::IsoWeek, Layout::Two),
-    ),
-    (
-        b'O',
-        b'w',
-        0,
-        Shows::Alternative(Quantity::Weekday, Layout::Bare),
-    ),
-    (
-        b'O',
-        b'W',
-        0,
-        Shows::Alternative(Quantity::MondayWeek, Layout::Two),
-    ),
-    (
-        b'O',
-        b'y',
-        0,
-        Shows::Alternative(Quantity::YearOfCentury, Layout::Two),
-    ),
-];
-
-/// The first row of a modifier and a letter.
-fn first_row(rows: &[(u8, u8, u8, Shows)], modifier: u8, letter: u8) -> Option<(u8, u8, u8, Shows)>
-    ensures { result ≡ first_row rows.now modifier letter }
+/// A conversion of a rank, with what it gives.
+#[inline(always)]
+fn row(rank: u8, shows: Shows) -> Option<Conversion>
+    ensures { result ≡ Some (record { rank = rank; shows = shows }) }
 {
-    rows.iter()
-        .copied()
-        .find(|row| row.0 == modifier && row.1 == letter)
+    Some(Conversion { rank, shows })
+}
+
+/// The conversion of a letter without a modifier.
+#[tactic(auto, unfolding(crate::specs::Conversions::conversion))]
+#[inline(always)]
+fn plain_conversion(letter: u8) -> Option<Conversion>
+    ensures { result ≡ conversion 0 letter }
+{
+    match letter {
+        b'a' => row(0, Shows::Name(Named::ShortWeekday)),
+        b'A' => row(0, Shows::Name(Named::Weekday)),
+        b'b' => row(0, Shows::Name(Named::ShortMonth)),
+        b'B' => row(0, Shows::Name(Named::Month)),
+        b'c' => row(4, Shows::Format(TimeText::DateTime)),
+        b'C' => row(0, Shows::Number(Quantity::Century, Layout::Two)),
+        b'd' => row(0, Shows::Number(Quantity::Day, Layout::Two)),
+        b'D' => row(0, Shows::SlashedDate),
+        b'e' => row(0, Shows::Number(Quantity::Day, Layout::Spaced)),
+        b'F' => row(0, Shows::DashedDate),
+        b'g' => row(0, Shows::Number(Quantity::WeekYearOfCentury, Layout::Two)),
+        b'G' => row(0, Shows::Number(Quantity::WeekYear, Layout::Bare)),
+        b'h' => row(0, Shows::Name(Named::ShortMonth)),
+        b'H' => row(0, Shows::Number(Quantity::Hour, Layout::Two)),
+        b'I' => row(0, Shows::Number(Quantity::HalfDayHour, Layout::Two)),
+        b'j' => row(0, Shows::Number(Quantity::YearDay, Layout::Three)),
+        b'm' => row(0, Shows::Number(Quantity::Month, Layout::Two)),
+        b'M' => row(0, Shows::Number(Quantity::Minute, Layout::Two)),
+        b'n' => row(0, Shows::Sign(b'\n')),
+        b'p' => row(0, Shows::Name(Named::HalfDay)),
+        b'r' => row(2, Shows::Format(TimeText::HalfDayClock)),
+        b'R' => row(0, Shows::ShortTime),
+        b'S' => row(0, Shows::Number(Quantity::Second, Layout::Two)),
+        b't' => row(0, Shows::Sign(b'\t')),
+        b'T' => row(0, Shows::FullTime),
+        b'u' => row(0, Shows::Number(Quantity::IsoWeekday, Layout::Bare)),
+        b'U' => row(0, Shows::Number(Quantity::SundayWeek, Layout::Two)),
+        b'V' => row(0, Shows::Number(Quantity::IsoWeek, Layout::Two)),
+        b'w' => row(0, Shows::Number(Quantity::Weekday, Layout::Bare)),
+        b'W' => row(0, Shows::Number(Quantity::MondayWeek, Layout::Two)),
+        b'x' => row(3, Shows::Format(TimeText::Date)),
+        b'X' => row(3, Shows::Format(TimeText::Clock)),
+        b'y' => row(0, Shows::Number(Quantity::YearOfCentury, Layout::Two)),
+        b'Y' => row(0, Shows::Number(Quantity::Year, Layout::Bare)),
+        b'z' => row(0, Shows::Offset),
+        b'Z' => row(0, Shows::Zone),
+        b'%' => row(0, Shows::Sign(b'%')),
+        _ => None,
+    }
+}
+
+/// The conversion of a letter behind `E`.
+#[tactic(auto, unfolding(crate::specs::Conversions::conversion))]
+fn era_conversion(letter: u8) -> Option<Conversion>
+    ensures { result ≡ conversion 69 letter }
+{
+    match letter {
+        b'c' => row(
+            4,
+            Shows::EraFormat(TimeText::EraDateTime, TimeText::DateTime),
+        ),
+        b'C' => row(0, Shows::EraName),
+        b'x' => row(3, Shows::EraFormat(TimeText::EraDate, TimeText::Date)),
+        b'X' => row(3, Shows::EraFormat(TimeText::EraClock, TimeText::Clock)),
+        b'y' => row(0, Shows::EraYear),
+        b'Y' => row(1, Shows::EraFull),
+        _ => None,
+    }
+}
+
+/// The conversion of a letter behind `O`.
+#[tactic(auto, unfolding(crate::specs::Conversions::conversion))]
+fn digit_conversion(letter: u8) -> Option<Conversion>
+    ensures { result ≡ conversion 79 letter }
+{
+    match letter {
+        b'd' => row(0, Shows::Alternative(Quantity::Day, Layout::Two)),
+        b'e' => row(0, Shows::Alternative(Quantity::Day, Layout::Spaced)),
+        b'H' => row(0, Shows::Alternative(Quantity::Hour, Layout::Two)),
+        b'I' => row(0, Shows::Alternative(Quantity::HalfDayHour, Layout::Two)),
+        b'm' => row(0, Shows::Alternative(Quantity::Month, Layout::Two)),
+        b'M' => row(0, Shows::Alternative(Quantity::Minute, Layout::Two)),
+        b'S' => row(0, Shows::Alternative(Quantity::Second, Layout::Two)),
+        b'u' => row(0, Shows::Alternative(Quantity::IsoWeekday, Layout::Bare)),
+        b'U' => row(0, Shows::Alternative(Quantity::SundayWeek, Layout::Two)),
+        b'V' => row(0, Shows::Alternative(Quantity::IsoWeek, Layout::Two)),
+        b'w' => row(0, Shows::Alternative(Quantity::Weekday, Layout::Bare)),
+        b'W' => row(0, Shows::Alternative(Quantity::MondayWeek, Layout::Two)),
+        b'y' => row(0, Shows::Alternative(Quantity::YearOfCentury, Layout::Two)),
+        _ => None,
+    }
 }
 
 /// The conversion of a letter behind a modifier (`E`, `O` or 0), if there is one.
 #[tactic(auto, unfolding(crate::specs::Conversions::conversion))]
+#[inline(always)]
 pub fn conversion_of(modifier: u8, letter: u8) -> Option<Conversion>
     ensures { result ≡ conversion modifier letter }
 {
-    match first_row(&CONVERSIONS, modifier, letter) {
-        None => None,
-        Some((_, _, rank, shows)) => Some(Conversion { rank, shows }),
+    match modifier {
+        0 => plain_conversion(letter),
+        b'E' => era_conversion(letter),
+        b'O' => digit_conversion(letter),
+        _ => None,
     }
 }

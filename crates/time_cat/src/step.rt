@@ -29,6 +29,7 @@ pub enum Step {
 }
 
 /// The step of a modifier and a letter that end before `next`.
+#[inline(always)]
 fn step_of(modifier: u8, letter: u8, next: usize) -> Step
     ensures { result ≡ step_of modifier letter next (conversion modifier letter) }
 {
@@ -44,6 +45,7 @@ fn step_of(modifier: u8, letter: u8, next: usize) -> Step
 }
 
 /// Whether a conversion may have a letter of its own behind this one.
+#[inline(always)]
 fn is_modifier(letter: u8) -> bool
     ensures { result ≡ is_modifier letter }
 {
@@ -51,6 +53,7 @@ fn is_modifier(letter: u8) -> bool
 }
 
 /// What stands at a place.
+#[inline(always)]
 fn read(format: &[u8], at: usize) -> Step
     requires { at ≤ length format.now }
     ensures { result ≡ step at (drop at format.now) }
@@ -70,6 +73,7 @@ fn read(format: &[u8], at: usize) -> Step
 }
 
 /// What stands at a place, without counting.
+#[inline(always)]
 pub fn step_here(format: &[u8], at: usize) -> Step
     requires { at ≤ length format.now }
     ensures exact { result ≡ step at (drop at format.now) }
@@ -80,6 +84,7 @@ pub fn step_here(format: &[u8], at: usize) -> Step
 
 /// What stands at a place that is not past the format's end. Counts one step exactly where it is
 /// a conversion.
+#[inline(always)]
 pub fn step_at<L: Ledger>(format: &[u8], at: usize, steps: &mut Steps<L>) -> Step
     requires { at ≤ length format.now }
     ensures exact { result ≡ step at (drop at format.now) }

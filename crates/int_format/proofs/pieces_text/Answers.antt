@@ -1,7 +1,7 @@
 use Rattle.std.proofs.Common.{◌≡◌, ◌+◌, ℕ, List, [], ◌++◌, length, Some, None, Result, Ok, append_assoc, arith, ap, sym, ◌∙◌, drop}
 use Rattle.std.proofs.lemmas.List.{length-append}
 use Rattle.int_format.specs.declared.format.Piece.{Piece}
-use Rattle.int_format.specs.declared.fault.IntFault.TheVariants.{BadFormat}
+use Rattle.int_format.specs.Refusals.{BadFormat}
 use Rattle.int_format.specs.Formats.{pieces, followed}
 use Rattle.std.specs.List.{list_all}
 use Rattle.int_format.specs.Ints.{is_number, refusal, good_pieces, pieces_text, piece_text, numbers_behind}

@@ -1,7 +1,7 @@
 use Rattle.std.proofs.Common.{◌≡◌, ◌+◌, ℕ, List, [], ◌++◌, length, Some, None, Result, Ok, append_assoc, arith, ap, sym, ◌∙◌, drop}
 use Rattle.std.proofs.lemmas.List.{length-append}
 use Rattle.strfmon.specs.declared.format.Piece.{Piece}
-use Rattle.strfmon.specs.declared.fault.MoneyFault.TheVariants.{BadFormat}
+use Rattle.strfmon.specs.Refusals.{BadFormat}
 use Rattle.strfmon.specs.Formats.{pieces, followed}
 use Rattle.strfmon.specs.Money.{refusal, good_pieces, pieces_text, piece_text, amounts_behind}
 use Rattle.strfmon.proofs.FormatLemmas.{piece_bad, piece_more, pieces_over}

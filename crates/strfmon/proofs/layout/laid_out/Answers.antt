@@ -15,18 +15,18 @@ returns-clause-rounded c =
 pub returns-clause-text : goal.returns-clause-text
 returns-clause-text c =
     let own : seen c.look_of-own.result ≡ look_of c.args.m.now c.args.c.now (is_negative c.args.amount) = c.look_of-own.ensures.is ∙ ap (λ b. look_of c.args.m.now c.args.c.now b) c.is_negative-negative.ensures in
-    let other : seen c.look_of-other.result ≡ look_of c.args.m.now c.args.c.now (not (is_negative c.args.amount)) = c.look_of-other.ensures.is ∙ ap (λ b. look_of c.args.m.now c.args.c.now (not b)) c.is_negative-negative.ensures in
+    let other : look_of c.args.m.now c.args.c.now (not c.is_negative-negative.result) ≡ look_of c.args.m.now c.args.c.now (not (is_negative c.args.amount)) = ap (λ b. look_of c.args.m.now c.args.c.now (not b)) c.is_negative-negative.ensures in
     let P : ℕ → Type 0 = λ p. IsRounded c.decimal_of-decimal.result p c.args.amount in
     let rounded : IsRounded c.decimal_of-decimal.result (precision_of c.args.m.now c.args.c.now) c.args.amount = subst P c.precision_of.ensures.is c.decimal_of-decimal.ensures.is in
     let count : length (whole_digits (precision_of c.args.m.now c.args.c.now) c.args.amount) ≡ c.digit_count.result = whole_count (precision_of c.args.m.now c.args.c.now) c.args.amount c.decimal_of-decimal.result rounded ∙ sym c.digit_count.ensures.is in
-    laid_text c.args.m.now c.args.c.now c.args.amount (seen c.look_of-own.result) (seen c.look_of-other.result) c.digit_count.result _ _ _ _ _ own other count
+    laid_text c.args.m.now c.args.c.now c.args.amount (seen c.look_of-own.result) (look_of c.args.m.now c.args.c.now (not c.is_negative-negative.result)) c.digit_count.result _ _ _ _ _ own other count
     c.layout_of-layout.ensures.before c.layout_of-layout.ensures.fill c.layout_of-layout.ensures.after (c.layout_of-layout.ensures.width c.args.amount count) c.field_spaces.ensures.is
 
 pub returns-clause-width : goal.returns-clause-width
 returns-clause-width c =
     let own : seen c.look_of-own.result ≡ look_of c.args.m.now c.args.c.now (is_negative c.args.amount) = c.look_of-own.ensures.is ∙ ap (λ b. look_of c.args.m.now c.args.c.now b) c.is_negative-negative.ensures in
-    let other : seen c.look_of-other.result ≡ look_of c.args.m.now c.args.c.now (not (is_negative c.args.amount)) = c.look_of-other.ensures.is ∙ ap (λ b. look_of c.args.m.now c.args.c.now (not b)) c.is_negative-negative.ensures in
+    let other : look_of c.args.m.now c.args.c.now (not c.is_negative-negative.result) ≡ look_of c.args.m.now c.args.c.now (not (is_negative c.args.amount)) = ap (λ b. look_of c.args.m.now c.args.c.now (not b)) c.is_negative-negative.ensures in
     let P : ℕ → Type 0 = λ p. IsRounded c.decimal_of-decimal.result p c.args.amount in
     let rounded : IsRounded c.decimal_of-decimal.result (precision_of c.args.m.now c.args.c.now) c.args.amount = subst P c.precision_of.ensures.is c.decimal_of-decimal.ensures.is in
     let count : length (whole_digits (precision_of c.args.m.now c.args.c.now) c.args.amount) ≡ c.digit_count.result = whole_count (precision_of c.args.m.now c.args.c.now) c.args.amount c.decimal_of-decimal.result rounded ∙ sym c.digit_count.ensures.is in
-    laid_width c.args.m.now c.args.c.now c.args.amount (seen c.look_of-own.result) (seen c.look_of-other.result) _ _ own other (c.layout_of-layout.ensures.width c.args.amount count) c.field_spaces.ensures.is
+    laid_width c.args.m.now c.args.c.now c.args.amount (seen c.look_of-own.result) (look_of c.args.m.now c.args.c.now (not c.is_negative-negative.result)) _ _ own other (c.layout_of-layout.ensures.width c.args.amount count) c.field_spaces.ensures.is
