@@ -48,7 +48,7 @@ FNR == 1 && (mark != "" || bundle != "") { problem("the document before has an o
 FNR == 1 { mark = ""; bundle = ""; part = "" }
 mark != "" && /^```$/ { end_block(); next }
 mark == "lines" && !(excerpt SUBSEP $0 in is_line) { problem("no line of " excerpt ".out") }
-mark == "text" && /^(\.(charmap|end|later|locale|native|round|thread)( |$)|CHARMAP$|LC_[A-Z]+$)/ {
+mark == "text" && /^(\.(catalog|charmap|end|later|locale|native|round|thread)( |$)|CHARMAP$|LC_[A-Z]+$)/ {
   problem("a bundle or a source whose fence does not say so")
 }
 mark != "" { text = text $0 "\n"; next }
@@ -76,6 +76,7 @@ FILENAME ~ /REFUSALS\.md$/ && part != "" && /^\|/ && !/^\|---/ {
     for (rest = cell[4]; match(rest, /`[^`]*`/); rest = substr(rest, RSTART + RLENGTH))
       text = text substr(rest, RSTART + 1, RLENGTH - 2) "\n"
     if (part ~ /charmaps/) text = ".charmap m\n" text ".end\n"
+    if (part ~ /catalogs/) text = ".catalog a C\n" text ".end\n"
     if (part ~ /sources/) text = ".locale a UTF-8\n" text ".end\n"
     if (part ~ /commands/) add_command(text, reason)
     else add_case("check", text, "refused: " cell[5] " " reason "\n", 3)

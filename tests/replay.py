@@ -6,8 +6,9 @@ order; the places are those of one history, each once, going up along a thread, 
 the closing lines; and each reply is the one that a table of locale objects gives at that place, when all calls
 are made again one after another in the order of their places. A read tells what its object says: the radix
 character and the separator of thousands as the source has them, any other read the same for the same object
-and words. A version that a line prints is one that its thread could have read there. Prints the first line
-that is wrong, and ends with 1.
+and words. A version that a line prints is one that its thread could have read there. Calls on message catalogs
+have a history of their own, of which the same holds; a message is the one that a plain source has. Prints the
+first line that is wrong, and ends with 1.
 
 With a program, its `serial` must print the same replies, reads and versions included: for a script of the same
 calls in the order of their places, or, where a bundle has too few rounds for that order, for one that makes each
@@ -17,6 +18,7 @@ import subprocess
 import sys
 
 CATEGORIES = ["LC_CTYPE", "LC_NUMERIC", "LC_MONETARY", "LC_TIME", "LC_MESSAGES"]
+CATALOG_CALLS = ("catopen", "catgets", "catclose")
 READS = ("info", "conv", "class", "upper", "lower", "money", "time", "number", "parse")
 GLOBAL = "GLOBAL"
 # what a bundle may have
@@ -92,6 +94,22 @@ class Source:
                 self.texts[words[0]] = text[1:-1] if simple else None
 
 
+class Catalog:
+    """The source of a message catalog: its name, its locale, and its messages, where it has simple lines alone."""
+
+    def __init__(self, name, locale, lines):
+        self.name, self.locale = name, locale
+        self.messages, self.is_simple, number = {}, True, 1
+        for line in lines:
+            words = line.split(" ", 1)
+            if line.startswith("$set "):
+                number = int(line.split()[1])
+            elif words[0].isdigit() and len(words) == 2 and not set(words[1]) & set('\\"'):
+                self.messages[number, int(words[0])] = words[1]
+            elif line and line != "$" and not line.startswith("$ "):
+                self.is_simple = False
+
+
 POSIX = Source("C", CATEGORIES)
 POSIX.texts = {"decimal_point": ".", "thousands_sep": ""}
 
@@ -100,19 +118,22 @@ class Bundle:
     def __init__(self, text):
         self.threads, self.commands, self.native = [], [], "C"
         self.opening, self.later, self.blocks = {"C": POSIX}, {}, []
+        self.catalogs = []
         self.rounds, thread = 1, None
         lines = iter(text.split("\n"))
         for line in lines:
             words = line.split()
             if not words or words[0].startswith("#"):
                 continue
-            if line.startswith((".locale ", ".later ", ".charmap ")):
+            if line.startswith((".locale ", ".later ", ".charmap ", ".catalog ")):
                 block = list(iter(lambda: next(lines), ".end"))
                 self.blocks += [line, *block, ".end"]
                 if words[0] == ".locale":
                     self.opening[words[1]] = Source(words[1], block)
                 elif words[0] == ".later":
                     self.later[words[1]] = Source(words[2], block, words[1])
+                elif words[0] == ".catalog":
+                    self.catalogs.append(Catalog(words[1], words[2], block))
             elif words[0] == ".native":
                 self.native = words[1]
                 self.blocks.append(line)
@@ -142,23 +163,13 @@ class Bundle:
         return None, each
 
 
-class Table:
-    """The table of locale objects. A handle is a triple, an object a tuple of five sources."""
+class Handles:
+    """Handles that threads get in rows. A handle is a triple."""
 
-    def __init__(self, bundle, rows, generations):
-        self.bundle, self.rows, self.generations = bundle, rows, generations
-        count = len(bundle.threads)
-        self.shelf = dict(bundle.opening)
-        self.globals = [(POSIX,) * 5]
+    def __init__(self, count, rows, generations):
+        self.rows, self.generations = rows, generations
         self.made = [[0] * rows for _ in range(count)]
-        self.live, self.installs = {}, 0
-        self.selected = [GLOBAL] * count
-        self.own = [None] * count
-        self.holds = [{} for _ in range(count)]
-        self.cells = {}
-
-    def pins(self, h):
-        return self.selected.count(h) + sum(h in holds for holds in self.holds)
+        self.live = {}
 
     def was_made(self, h):
         owner, row, generation = h
@@ -169,12 +180,63 @@ class Table:
             return "NeverMade"
         return None if h in self.live else "Stale"
 
+    def pins(self, _):
+        return 0
+
     def free_row(self, who):
         for row in range(self.rows):
             handle = (who, row, self.made[who][row])
             if self.made[who][row] < self.generations and handle not in self.live and not self.pins(handle):
                 return row
         return None
+
+    def make(self, who, what, said):
+        row = self.free_row(who)
+        if row is None:
+            return ("refused", "TooMany")
+        self.made[who][row] += 1
+        handle = (who, row, self.made[who][row])
+        self.live[handle] = what
+        return (said, handle)
+
+
+class Catalogs(Handles):
+    """The catalogs that threads have open."""
+
+    def step(self, who, op, *words):
+        return getattr(self, "step_" + op)(who, *words)
+
+    def step_catopen(self, who, catalog):
+        return self.make(who, catalog, "opened")
+
+    def step_catgets(self, _, h, *__):
+        why = self.stale(h)
+        return ("refused", why) if why else ("catalog", self.live[h])
+
+    def step_catclose(self, _, h):
+        why = self.stale(h)
+        if why:
+            return ("refused", why)
+        del self.live[h]
+        return ("closed",)
+
+
+class Table(Handles):
+    """The table of locale objects. A handle is a triple, an object a tuple of five sources."""
+
+    def __init__(self, bundle, rows, generations):
+        count = len(bundle.threads)
+        super().__init__(count, rows, generations)
+        self.bundle, self.installs = bundle, 0
+        self.shelf = dict(bundle.opening)
+        self.globals = [(POSIX,) * 5]
+        self.selected = [GLOBAL] * count
+        self.own = [None] * count
+        self.holds = [{} for _ in range(count)]
+        self.cells = {}
+
+    def pins(self, h):
+        return self.selected.count(h) + sum(h in holds for holds in self.holds)
 
     def composed(self, mask, names, base):
         """The object, or the first category that its named locale lacks."""
@@ -184,15 +246,6 @@ class Table:
                 return CATEGORIES[i], None
         return None, tuple(self.shelf[names[i]] if mask >> i & 1 else base[i] for i in range(5))
 
-    def make(self, who, parts):
-        row = self.free_row(who)
-        if row is None:
-            return ("refused", "TooMany")
-        self.made[who][row] += 1
-        handle = (who, row, self.made[who][row])
-        self.live[handle] = parts
-        return ("handle", handle)
-
     def step(self, who, op, *words):
         return getattr(self, "step_" + op)(who, *words)
 
@@ -201,7 +254,7 @@ class Table:
         if lacking:
             return ("refused", "NoData " + lacking)
         if base is None:
-            return self.make(who, self.composed(mask, names, self.globals[0])[1])
+            return self.make(who, self.composed(mask, names, self.globals[0])[1], "handle")
         why = "GlobalHandle" if base == GLOBAL else self.stale(base)
         if why:
             return ("refused", why)
@@ -210,7 +263,7 @@ class Table:
 
     def step_dup(self, who, h):
         why = None if h == GLOBAL else self.stale(h)
-        return ("refused", why) if why else self.make(who, self.globals[-1] if h == GLOBAL else self.live[h])
+        return ("refused", why) if why else self.make(who, self.globals[-1] if h == GLOBAL else self.live[h], "handle")
 
     def step_free(self, who, h):
         why = "GlobalHandle" if h == GLOBAL else self.stale(h)
@@ -287,7 +340,9 @@ class Line:
         want(len(fields) == 6, "a line has six fields")
         self.text, self.told = text, tuple(fields[3:])
         self.round, self.thread, self.index = int(fields[0]), fields[1], int(fields[2])
-        self.places = [] if fields[3] == "-" else [int(place) for place in fields[3].split(",")]
+        self.catalog = int(fields[3][1:]) if fields[3].startswith("c") else None
+        has_none = fields[3] == "-" or self.catalog is not None
+        self.places = [] if has_none else [int(place) for place in fields[3].split(",")]
         self.version = None if fields[4] == "-" else int(fields[4][1:])
         self.reply = fields[5]
 
@@ -303,7 +358,10 @@ class Check:
     def __init__(self, bundle, lines, rows, generations):
         self.bundle, self.lines = bundle, lines
         self.table = Table(bundle, rows, generations)
+        self.catalogs = Catalogs(len(bundle.threads), rows, generations)
         self.variables = [{} for _ in bundle.threads]
+        self.catalog_variables = [{} for _ in bundle.threads]
+        self.catalog_calls, self.messages = {}, {}
         self.said, self.sets, self.objects = {}, [0], {}
         self.steps = [[] for _ in bundle.threads]
 
@@ -315,12 +373,13 @@ class Check:
 
     def handle(self, who, word):
         """What a word names; None where it is a variable that nothing bound."""
-        if word == GLOBAL:
-            return GLOBAL
+        return GLOBAL if word == GLOBAL else self.handle_in(self.variables[who], word)
+
+    def handle_in(self, variables, word):
         if "." in word:
             owner, row, generation = word.split(".")
             return (self.bundle.threads.index(owner), int(row), int(generation))
-        return self.variables[who].get(word)
+        return variables.get(word)
 
     def cell(self, word):
         owner, cell = word.split(".")
@@ -357,6 +416,11 @@ class Check:
             return ("selection",)
         if name in READS:
             return ("read", words)
+        if name == "catopen":
+            return (name, words[2])
+        if name in CATALOG_CALLS:
+            named = self.handle_in(self.catalog_variables[who], words[1])
+            return ("refused", "Unset") if named is None else (name, named, *words[2:])
         named = self.handle(who, words[2 if name in ("dup", "post") else 1])
         if named is None:
             return ("refused", "Unset")
@@ -367,6 +431,8 @@ class Check:
     def bind(self, who, words, reply):
         if words[0] in ("new", "dup", "fetch") and reply.startswith("handle "):
             self.variables[who][words[1]] = self.handle(who, reply[7:])
+        if words[0] == "catopen" and reply.startswith("opened "):
+            self.catalog_variables[who][words[1]] = self.handle_in({}, reply[7:])
 
     def tells(self, parts, words, reply):
         """The reply to a read is what the object says."""
@@ -380,8 +446,15 @@ class Check:
     def bare(self, line, who, wish):
         """A line without a place: what the thread knows by its own calls, or a version of the global locale."""
         want(not line.places, "has no place")
+        want(line.catalog is None or wish[0] in CATALOG_CALLS, "is no call on catalogs")
         if wish[0] == "refused":
             want(line.version is None and line.reply == "refused " + wish[1], "is refused " + wish[1])
+        elif wish[0] in ("catgets", "catclose"):
+            want(line.version is None and line.catalog is not None, "has a place among the calls on catalogs")
+            self.catalog_calls[line.catalog] = (line, who, wish)
+        elif wish[0] == "catopen" and self.table.own[who]:
+            want(line.version is None, "goes by its own object")
+            self.opens(line, who, wish[1], self.table.own[who])
         elif wish[0] == "selection":
             is_printed = "is " + self.spelled(self.table.selected[who])
             want(line.version is None and line.reply == is_printed, is_printed)
@@ -390,7 +463,52 @@ class Check:
             self.tells(self.table.own[who], wish[1], line.reply)
         else:
             want(line.version is not None, "tells a version")
-            self.objects[line] = wish
+            self.objects[line] = (who, wish)
+
+    def opens(self, line, who, name, parts):
+        """The catalog of a name for the LC_MESSAGES of an object; without one there is no call."""
+        at = (name, parts[CATEGORIES.index("LC_MESSAGES")].name)
+        found = next((one for one in self.bundle.catalogs if (one.name, one.locale) == at), None)
+        if found is None:
+            return want(line.catalog is None and line.reply == "refused NoCatalog", "is refused NoCatalog")
+        want(line.catalog is not None, "has a place among the calls on catalogs")
+        self.catalog_calls[line.catalog] = (line, who, ("catopen", found))
+        return None
+
+    def catalog_places(self):
+        """The places of calls on catalogs: each once; going up along a thread and from round to round."""
+        lines = [line for line in self.lines if line.catalog is not None]
+        want(sorted(line.catalog for line in lines) == list(range(len(lines))), "each place of a call on catalogs once")
+        before, number, last, top = {}, 0, -1, -1
+        for line in lines:
+            if line.round != number:
+                number, last = line.round, top
+            want_line(line, before.get(line.thread, -1) < line.catalog and last < line.catalog, "a later place")
+            before[line.thread] = line.catalog
+            top = max(top, line.catalog)
+
+    def replay_catalogs(self):
+        """All calls on catalogs again, in the order of their places."""
+        for place in range(len(self.catalog_calls)):
+            line, who, wish = self.catalog_calls[place]
+            reply = self.catalogs.step(who, *wish)
+            if reply[0] == "catalog":
+                judged(line, self.message, 0, reply[1], *wish[2:])
+            else:
+                want_line(line, line.reply == self.printed(reply), self.printed(reply))
+
+    def message(self, line, _, catalog, *words):
+        """The message of a catalog, or the default; the same at each time."""
+        at = (int(words[0]), int(words[1]))
+        told = line.reply[6:-1] if line.reply.startswith('text "') else None
+        want(told is not None, "is a text")
+        default = words[2][1:-1]
+        if catalog.is_simple:
+            text = catalog.messages.get(at, default)
+            want("\\" in text or told == text, "is " + text)
+        else:
+            before = self.messages.setdefault((catalog, at), told)
+            want(told in (before, default) or before == default, "the same message was " + before)
 
     def call(self, line, who, step, wish):
         """One call of a line, of which it is the first or the second."""
@@ -456,6 +574,7 @@ class Check:
         want(len(self.lines) >= len(commands), "a line for each command")
         counts = self.in_order(self.lines, [0] * len(self.bundle.threads))
         self.places()
+        self.catalog_places()
         queues = [[] for _ in self.bundle.threads]
         for line, (_, who, words) in zip(self.lines, commands):
             queues[who].append((line, words))
@@ -471,6 +590,7 @@ class Check:
             judged(line, self.call, who, 0, wish)
             self.sets.append(len(self.table.globals) - 1)
         self.versions()
+        self.replay_catalogs()
 
     def replay(self, queues):
         """All calls of the commands again, in the order of their places; between them the lines without one."""
@@ -498,6 +618,7 @@ class Check:
             line, words = queue.pop(0)
             wish = judged(line, self.wish, who, words)
             judged(line, self.held_read if wish[0] == "read_of" else self.bare, who, wish)
+            self.bind(who, words, line.reply)
             self.steps[who].append(Step(line, words, None, line.told))
 
     def versions(self):
@@ -515,12 +636,14 @@ class Check:
             if line.round != number:
                 number, start, earlier = line.round, sum(ends[r] for r in ends if r < line.round), most
             if line in self.objects:
-                version, wish = line.version, self.objects[line]
+                version, (who, wish) = line.version, self.objects[line]
                 least = max(self.sets[lower.get(line.thread, 0)], self.sets[start], told.get(line.thread, 0), earlier)
                 greatest = min(self.sets[upper[line]], self.sets[start + ends[number]])
                 want_line(line, least <= version <= greatest, "a version from %d to %d" % (least, greatest))
                 parts = self.table.globals[version]
-                if wish[0] == "name":
+                if wish[0] == "catopen":
+                    judged(line, lambda it, *_: self.opens(it, who, wish[1], parts))
+                elif wish[0] == "name":
                     want_line(line, line.reply == "name " + name_of(parts, wish[1]), name_of(parts, wish[1]))
                 else:
                     judged(line, lambda it, *_: self.tells(parts, wish[1], it.reply))
@@ -530,20 +653,34 @@ class Check:
             if line.places:
                 lower[line.thread] = line.places[-1] + 1
 
-
     def in_order_of_places(self):
-        """The steps with their threads in the order of the places; one without a place once its version is made."""
+        """The steps with their threads in the order of the places; one without a place once its version is made,
+        and a call on catalogs behind those of lower places."""
         order, count = [], len(self.steps)
-        for who, steps in enumerate(self.steps):
-            at = -1
-            for number, step in enumerate(steps):
-                if step.place is not None:
-                    at = step.place
-                elif step.line.version:
-                    at = max(at, self.sets.index(step.line.version) - 1)
-                caller = self.bundle.threads.index(self.at[at][0].thread) if at >= 0 else 0
-                order.append((at, step.place is None, (who - caller) % count, number, who, step))
-        return [(who, step) for *_, who, step in sorted(order, key=lambda it: it[:4])]
+        queues = [list(enumerate(steps)) for steps in self.steps]
+        moments, last, following = [(-1, 0)] * count, (-1, 0, 0), 0
+        while any(queues):
+            before = len(order)
+            for who, queue in enumerate(queues):
+                while queue and queue[0][1].line.catalog in (None, following):
+                    number, step = queue.pop(0)
+                    at, stage = moments[who]
+                    if step.place is not None:
+                        at, stage = step.place, 0
+                    elif step.line.version and self.sets.index(step.line.version) - 1 > at:
+                        at, stage = self.sets.index(step.line.version) - 1, 0
+                    if step.line.catalog is not None:
+                        following += 1
+                        at, stage = max((at, stage), last[:2])
+                    caller = self.bundle.threads.index(self.at[at][0].thread) if at >= 0 else 0
+                    rank = (who - caller) % count
+                    if step.line.catalog is not None:
+                        stage += (at, stage) == last[:2] and rank < last[2]
+                        last = (at, stage, rank)
+                    moments[who] = (at, stage)
+                    order.append((at, step.place is None, stage, rank, number, who, step))
+            want(len(order) > before, "the two histories agree with the order along the threads")
+        return [(who, step) for *_, who, step in sorted(order, key=lambda it: it[:5])]
 
 
 def steps_of(line, words):

@@ -2,7 +2,8 @@
 """Prints a bundle whose threads share objects through cells: sharing.py SEED THREADS ROUNDS COMMANDS
 
 Each thread of each round has so many commands. They make, copy, change, free, select, hold and release objects,
-post and fetch handles, set the global locale, install later versions of locales, and read.
+post and fetch handles, set the global locale, install later versions of locales, read, and open, read and close
+message catalogs.
 """
 import random
 import sys
@@ -52,6 +53,18 @@ LC_NUMERIC
 decimal_point ":"
 END LC_NUMERIC
 .end
+.catalog greet us
+1 Hello
+2 Bye
+$set 2
+1 Second
+.end
+.catalog greet fr
+1 Bonjour
+.end
+.catalog greet C
+1 plain
+.end
 .later f2 fr UTF-8
 LC_CTYPE
 END LC_CTYPE
@@ -100,6 +113,11 @@ def main(seed, threads, rounds, commands):
         word, rest = read().split(" ", 1)
         return "%s_l %s %s" % (word, named(), rest)
 
+    def open_catalog():
+        if some.random() < 0.3:
+            return "%s.%d.%d" % (some.choice(names), some.randrange(3), some.randrange(1, 5))
+        return some.choice(variables)
+
     kinds = [
         (24, lambda: "new %s %s %s" % (some.choice(variables), mask(), some.choice(places))),
         (4, lambda: "new %s %s %s %s" % (some.choice(variables), mask(), some.choice(places), named())),
@@ -117,6 +135,9 @@ def main(seed, threads, rounds, commands):
         (4, lambda: "pins %s" % named()),
         (12, read),
         (12, read_of),
+        (6, lambda: "catopen %s %s" % (some.choice(variables), some.choice(["greet", "greet", "other"]))),
+        (8, lambda: 'catgets %s %d %d "?"' % (open_catalog(), some.randrange(1, 3), some.randrange(1, 4))),
+        (3, lambda: "catclose %s" % open_catalog()),
     ]
     weights = [weight for weight, _ in kinds]
     sys.stdout.write(LOCALES)

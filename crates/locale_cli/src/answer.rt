@@ -3,7 +3,7 @@
 ghost use Rattle.std.specs.Prelude.{◌≡◌, ◌<◌, ◌^◌, ◌++◌, length, IfOk, OnOk};
 ghost use Rattle.std.specs.Fmt.{decimal};
 ghost use Rattle.lc_base.specs.Reading.{Gives};
-ghost use Rattle.locale_cli.specs.Answer.{IsAnswer, MayPrint, Outputs, counts_line, counts_text, serial_text};
+ghost use Rattle.locale_cli.specs.Answer.{IsAnswer, MayPrint, Outputs, counts_line, counts_text};
 ghost use Rattle.locale_cli.specs.declared.words.Mode.TheVariants.{Serial, Run};
 ghost use Rattle.locale_cli.specs.StatusCode.{status_code};
 ghost use Rattle.locale_cli.specs.Words.{IsSized};
@@ -13,6 +13,7 @@ use crate::words::Mode;
 use itoa::Buffer;
 use lc_base::{ByteText, Place, Reason, TextFault};
 use script_out::{print, push_refusal};
+use script_print::print_beside;
 use script_run::{Pause, run};
 use script_serial::{Counts, Plan, check, prepare, serial};
 use std::alloc::{AllocError, Global};
@@ -180,7 +181,7 @@ fn serial_text(
     generations: u32,
 ) -> Result<ByteText, AllocError>
     requires { IsSized (Serial rows generations) }
-    ensures { IfOk result (λ text. text ≡ serial_text rows generations plan.now) }
+    ensures { IfOk result (Outputs (Serial rows generations) plan.now) }
 {
     let lines = serial(alloc, plan, rows, generations)?;
     print(alloc, &lines, plan.threads())
@@ -199,7 +200,7 @@ fn run_text<R: Threads + Wait + Sync, P: Pause + Sync>(
     ensures { IfOk result (Outputs (Run rows generations) plan.now) }
 {
     let lines = run(rt, alloc, plan, rows, generations, pause)?;
-    print(alloc, &lines, plan.threads())
+    print_beside(rt, alloc, &lines, plan.threads())
 }
 
 /// The line of a refused bundle.

@@ -61,6 +61,8 @@ reply_word (said.Conv texts numbers) = codes "conv"
 reply_word (said.Class true) = codes "yes"
 reply_word (said.Class false) = codes "no"
 reply_word (said.Value value) = codes "value"
+reply_word (said.Opened h) = codes "opened"
+reply_word said.Closed = codes "closed"
 reply_word said.Ended = codes "ended"
 reply_word (said.Refused why) = codes "refused"
 
@@ -81,6 +83,8 @@ reply_rest names (said.Conv texts numbers) = texts_text texts ++ numbers_text nu
 reply_rest names (said.Class true) = []
 reply_rest names (said.Class false) = []
 reply_rest names (said.Value value) = 32 ∷ decimal value
+reply_rest names (said.Opened h) = 32 ∷ handle_text names h
+reply_rest names said.Closed = []
 reply_rest names said.Ended = []
 reply_rest names (said.Refused why) = 32 ∷ why_text why
 
@@ -101,6 +105,8 @@ reply_kind (said.Conv texts numbers) = replies.Conv
 reply_kind (said.Class true) = replies.Yes
 reply_kind (said.Class false) = replies.No
 reply_kind (said.Value value) = replies.Value
+reply_kind (said.Opened h) = replies.Opened
+reply_kind said.Closed = replies.Closed
 reply_kind said.Ended = replies.Ended
 reply_kind (said.Refused why) = replies.Refused
 
@@ -121,6 +127,8 @@ reply_parts names (said.Conv texts numbers) = refl
 reply_parts names (said.Class true) = refl
 reply_parts names (said.Class false) = refl
 reply_parts names (said.Value value) = refl
+reply_parts names (said.Opened h) = refl
+reply_parts names said.Closed = refl
 reply_parts names said.Ended = refl
 reply_parts names (said.Refused why) = refl
 
@@ -141,6 +149,8 @@ reply_word_lacks (said.Conv texts numbers) = refl
 reply_word_lacks (said.Class true) = refl
 reply_word_lacks (said.Class false) = refl
 reply_word_lacks (said.Value value) = refl
+reply_word_lacks (said.Opened h) = refl
+reply_word_lacks said.Closed = refl
 reply_word_lacks said.Ended = refl
 reply_word_lacks (said.Refused why) = refl
 
@@ -166,6 +176,8 @@ reply_rest_behind names (said.Conv texts numbers) = lists_behind texts numbers
 reply_rest_behind names (said.Class true) = refl
 reply_rest_behind names (said.Class false) = refl
 reply_rest_behind names (said.Value value) = refl
+reply_rest_behind names (said.Opened h) = refl
+reply_rest_behind names said.Closed = refl
 reply_rest_behind names said.Ended = refl
 reply_rest_behind names (said.Refused why) = refl
 
@@ -186,6 +198,8 @@ reply_found (said.Conv texts numbers) = refl
 reply_found (said.Class true) = refl
 reply_found (said.Class false) = refl
 reply_found (said.Value value) = refl
+reply_found (said.Opened h) = refl
+reply_found said.Closed = refl
 reply_found said.Ended = refl
 reply_found (said.Refused why) = refl
 
@@ -207,6 +221,8 @@ ReplyIs names v rest replies.Conv = (texts : List (List ℕ)) × (numbers : List
 ReplyIs names v rest replies.Yes = v ≡ said.Class true
 ReplyIs names v rest replies.No = v ≡ said.Class false
 ReplyIs names v rest replies.Value = (value : ℕ) × (v ≡ said.Value value) × (rest ≡ 32 ∷ decimal value)
+ReplyIs names v rest replies.Opened = (h : Handle) × (v ≡ said.Opened h) × (rest ≡ 32 ∷ handle_text names h)
+ReplyIs names v rest replies.Closed = v ≡ said.Closed
 ReplyIs names v rest replies.Ended = v ≡ said.Ended
 ReplyIs names v rest replies.Refused = (why : Why) × (v ≡ said.Refused why) × (rest ≡ 32 ∷ why_text why)
 
@@ -227,6 +243,8 @@ reply_is names (said.Conv texts numbers) = (texts, numbers, refl, refl)
 reply_is names (said.Class true) = refl
 reply_is names (said.Class false) = refl
 reply_is names (said.Value value) = (value, refl, refl)
+reply_is names (said.Opened h) = (h, refl, refl)
+reply_is names said.Closed = refl
 reply_is names said.Ended = refl
 reply_is names (said.Refused why) = (why, refl, refl)
 
@@ -269,6 +287,7 @@ why_word (whys.MissingAmount at) = codes "MissingAmount"
 why_word (whys.MissingNumber at) = codes "MissingNumber"
 why_word (whys.Mismatch at) = codes "Mismatch"
 why_word whys.TooBig = codes "TooBig"
+why_word whys.NoCatalog = codes "NoCatalog"
 
 abbrev why_rest : Why → List ℕ
 why_rest whys.Unset = []
@@ -288,6 +307,7 @@ why_rest (whys.MissingAmount at) = 32 ∷ decimal at
 why_rest (whys.MissingNumber at) = 32 ∷ decimal at
 why_rest (whys.Mismatch at) = 32 ∷ decimal at
 why_rest whys.TooBig = []
+why_rest whys.NoCatalog = []
 
 abbrev why_kind : Why → WhyForm
 why_kind whys.Unset = forms.Whole whys.Unset
@@ -307,6 +327,7 @@ why_kind (whys.MissingAmount at) = forms.MissingAmount
 why_kind (whys.MissingNumber at) = forms.MissingNumber
 why_kind (whys.Mismatch at) = forms.Mismatch
 why_kind whys.TooBig = forms.Whole whys.TooBig
+why_kind whys.NoCatalog = forms.Whole whys.NoCatalog
 
 why_parts : (v : Why) → why_text v ≡ why_word v ++ why_rest v
 why_parts whys.Unset = refl
@@ -326,6 +347,7 @@ why_parts (whys.MissingAmount at) = refl
 why_parts (whys.MissingNumber at) = refl
 why_parts (whys.Mismatch at) = refl
 why_parts whys.TooBig = refl
+why_parts whys.NoCatalog = refl
 
 why_word_lacks : (v : Why) → Lacks (why_word v) 32
 why_word_lacks whys.Unset = refl
@@ -345,6 +367,7 @@ why_word_lacks (whys.MissingAmount at) = refl
 why_word_lacks (whys.MissingNumber at) = refl
 why_word_lacks (whys.Mismatch at) = refl
 why_word_lacks whys.TooBig = refl
+why_word_lacks whys.NoCatalog = refl
 
 why_rest_behind : (v : Why) → IsBehindWord (why_rest v)
 why_rest_behind whys.Unset = refl
@@ -364,6 +387,7 @@ why_rest_behind (whys.MissingAmount at) = refl
 why_rest_behind (whys.MissingNumber at) = refl
 why_rest_behind (whys.Mismatch at) = refl
 why_rest_behind whys.TooBig = refl
+why_rest_behind whys.NoCatalog = refl
 
 why_found : (v : Why) → first_named (map (λ row. (row.0.now, row.1)) WHYS) (why_word v) ≡ Some (why_kind v)
 why_found whys.Unset = refl
@@ -383,6 +407,7 @@ why_found (whys.MissingAmount at) = refl
 why_found (whys.MissingNumber at) = refl
 why_found (whys.Mismatch at) = refl
 why_found whys.TooBig = refl
+why_found whys.NoCatalog = refl
 
 -- what a reason of a form is, and what stands behind its first word
 abbrev pub WhyIs : Why → List ℕ → WhyForm → Type 0
@@ -412,6 +437,7 @@ why_is (whys.MissingAmount at) = (at, refl, refl)
 why_is (whys.MissingNumber at) = (at, refl, refl)
 why_is (whys.Mismatch at) = (at, refl, refl)
 why_is whys.TooBig = refl
+why_is whys.NoCatalog = refl
 
 why_tells : (v : Why) (bytes word rest : List ℕ) (o : Option WhyForm) → why_text v ≡ bytes → ((w r : List ℕ) → Lacks w 32 → IsBehindWord r → bytes ≡ w ++ r → (word ≡ w) × (rest ≡ r)) → o ≡ first_named (map (λ row. (row.0.now, row.1)) WHYS) word → (o ≡ Some (why_kind v)) × (rest ≡ why_rest v)
 why_tells v bytes word rest o is back found =

@@ -7,7 +7,7 @@ use Rattle.handle_table.specs.declared.handle.Handle.{Handle}
 use Rattle.script_out.specs.Output.{handle_text}
 use Rattle.output_reader.specs.Reading.{Lacks}
 use Rattle.output_reader.proofs.Cuts.{never_lacks}
-use Rattle.output_reader.proofs.Lacking.{decimal_lacks}
+use Rattle.output_reader.proofs.Lacking.{lacks_append, decimal_lacks, decimal_lacks_letter}
 
 pub handle_parts : (names : List (List ℕ)) (h : Handle) → handle_text names h ≡ get_or names h.owner [] ++ 46 ∷ (decimal h.row ++ 46 ∷ decimal h.generation)
 handle_parts names h = simp append_assoc
@@ -47,3 +47,18 @@ pub no_version : (digits : List ℕ) → codes "-" ≡ 103 ∷ digits → ⊥
 no_version digits is =
     let head : ◌≡◌ {A = ℕ} 45 103 = ap (λ l. get_or l 0 0) is in
     omega arith
+
+-- the letter of a catalog's place is no first byte of another form
+pub dash_no_catalog : (digits : List ℕ) → codes "-" ≡ 99 ∷ digits → ⊥
+dash_no_catalog digits is =
+    let head : ◌≡◌ {A = ℕ} 45 99 = ap (λ l. get_or l 0 0) is in
+    omega arith
+
+pub number_no_catalog : (n : ℕ) (digits : List ℕ) → n < 2 ^ 64 → decimal n ≡ 99 ∷ digits → ⊥
+number_no_catalog n digits small is = never_lacks [] digits 99 (subst (λ (t : List ℕ). Lacks t 99) is (decimal_lacks_letter n 99 small (lit< tt)))
+
+pub places_no_catalog : (p q : ℕ) (digits : List ℕ) → p < 2 ^ 64 → q < 2 ^ 64 → (decimal p ++ codes "," ++ decimal q) ≡ 99 ∷ digits → ⊥
+places_no_catalog p q digits small later is =
+    let front : Lacks (decimal p ++ codes ",") 99 = lacks_append (decimal p) (codes ",") 99 (decimal_lacks_letter p 99 small (lit< tt)) refl in
+    let none : Lacks (decimal p ++ codes "," ++ decimal q) 99 = lacks_append (decimal p ++ codes ",") (decimal q) 99 front (decimal_lacks_letter q 99 later (lit< tt)) in
+    never_lacks [] digits 99 (subst (λ (t : List ℕ). Lacks t 99) is none)

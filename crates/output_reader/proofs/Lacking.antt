@@ -26,6 +26,13 @@ decimal_lacks n s small low =
     (λ m ds le h. lacks_append ds ((48 + m % 10) ∷ []) s h (lacks_one (48 + m % 10) s (λ e. omega arith)))
     n small
 
+pub decimal_lacks_letter : (n s : ℕ) → n < 2 ^ 64 → 57 < s → Lacks (decimal n) s
+decimal_lacks_letter n s small high =
+    decimal_by_steps (λ m ds. Lacks ds s)
+    (λ m lt. lacks_one (48 + m) s (λ e. omega arith))
+    (λ m ds le h. lacks_append ds ((48 + m % 10) ∷ []) s h (lacks_one (48 + m % 10) s (λ e. omega arith)))
+    n small
+
 and_parts : (a b : Bool) → (a && b) ≡ true → (a ≡ true) × (b ≡ true)
 and_parts true b e = (refl, e)
 and_parts false b e = cc

@@ -26,6 +26,7 @@ pub places_lack : (p : Places) → ArePlaces p → Lacks (places_text p) 32
 places_lack places.None fits = refl
 places_lack (places.One a) fits = decimal_lacks a 32 fits (lit< tt)
 places_lack (places.Two a b) fits = lacks_append (decimal a ++ codes ",") (decimal b) 32 (lacks_append (decimal a) (codes ",") 32 (decimal_lacks a 32 fits.0 (lit< tt)) refl) (decimal_lacks b 32 fits.1 (lit< tt))
+places_lack (places.Catalog a) fits = lacks_append (codes "c") (decimal a) 32 refl (decimal_lacks a 32 fits (lit< tt))
 
 pub version_lacks : (v : Option ℕ) → IsVersion v → Lacks (version_text v) 32
 version_lacks None fits = refl

@@ -33,6 +33,7 @@ abbrev pub ArePlaces : Places → Type 0
 ArePlaces places.None = Unit {0}
 ArePlaces (places.One p) = p < 2 ^ 64
 ArePlaces (places.Two p q) = (p < 2 ^ 64) × (q < 2 ^ 64)
+ArePlaces (places.Catalog p) = p < 2 ^ 64
 
 abbrev pub IsVersion : Option ℕ → Type 0
 IsVersion version = IfSome version (λ v. v < 2 ^ 32)
@@ -48,6 +49,7 @@ IsWhy (whys.MissingAmount at) = at < 2 ^ 64
 IsWhy (whys.MissingNumber at) = at < 2 ^ 64
 IsWhy (whys.Mismatch at) = at < 2 ^ 64
 IsWhy whys.TooBig = Unit {0}
+IsWhy whys.NoCatalog = Unit {0}
 
 -- a field of one byte, where it is there
 abbrev pub IsSmallField : Option ℕ → Type 0
@@ -79,6 +81,8 @@ IsSaid names (said.Parsed fields rest) = IsParsed fields × (rest < 2 ^ 64)
 IsSaid names (said.Conv texts numbers) = AllByRecursion (λ n. n < 2 ^ 8) numbers
 IsSaid names (said.Class is) = Unit {0}
 IsSaid names (said.Value value) = value < 2 ^ 32
+IsSaid names (said.Opened h) = IsHandle names h
+IsSaid names said.Closed = Unit {0}
 IsSaid names said.Ended = Unit {0}
 IsSaid names (said.Refused why) = IsWhy why
 

@@ -82,6 +82,10 @@ pub fn places(bytes: &[u8]) -> Result<Places, Unread>
     if is_word(bytes, b"-") {
         return Ok(Places::None);
     }
+    if let Some(digits) = behind(bytes, b"c") {
+        let catalog_place = number(digits)?;
+        return Ok(Places::Catalog(catalog_place));
+    }
     match cut(bytes, b',') {
         Ok((hold_digits, release_digits)) => {
             let hold = number(hold_digits)?;

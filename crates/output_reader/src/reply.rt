@@ -40,12 +40,17 @@ pub fn reply(alloc: Global, bytes: &[u8], threads: &List<ByteText>) -> Result<Sa
         ReplyForm::Held => Ok(Said::Held),
         ReplyForm::Released => Ok(Said::Released),
         ReplyForm::Posted => Ok(Said::Posted),
+        ReplyForm::Closed => Ok(Said::Closed),
         ReplyForm::Ended => Ok(Said::Ended),
         ReplyForm::Yes => Ok(Said::Class(true)),
         ReplyForm::No => Ok(Said::Class(false)),
         ReplyForm::Handle => {
             let made = handle(operand, threads)?;
             Ok(Said::Handle(made))
+        }
+        ReplyForm::Opened => {
+            let opened = handle(operand, threads)?;
+            Ok(Said::Opened(opened))
         }
         ReplyForm::Was => {
             let former = named(operand, threads)?;

@@ -31,6 +31,8 @@ pub enum ReplyForm {
     Yes,
     No,
     Value,
+    Opened,
+    Closed,
     Ended,
     Refused,
 }
@@ -48,7 +50,7 @@ pub enum WhyForm {
     Mismatch,
 }
 
-const REPLIES: [(&[u8], ReplyForm); 18] = [
+const REPLIES: [(&[u8], ReplyForm); 20] = [
     (b"handle", ReplyForm::Handle),
     (b"freed", ReplyForm::Freed),
     (b"was", ReplyForm::Was),
@@ -65,11 +67,13 @@ const REPLIES: [(&[u8], ReplyForm); 18] = [
     (b"yes", ReplyForm::Yes),
     (b"no", ReplyForm::No),
     (b"value", ReplyForm::Value),
+    (b"opened", ReplyForm::Opened),
+    (b"closed", ReplyForm::Closed),
     (b"ended", ReplyForm::Ended),
     (b"refused", ReplyForm::Refused),
 ];
 
-const WHYS: [(&[u8], WhyForm); 17] = [
+const WHYS: [(&[u8], WhyForm); 18] = [
     (b"Unset", WhyForm::Whole(Why::Unset)),
     (b"BadMask", WhyForm::Whole(Why::BadMask)),
     (b"NoData", WhyForm::NoData),
@@ -93,6 +97,7 @@ const WHYS: [(&[u8], WhyForm); 17] = [
     (b"MissingNumber", WhyForm::MissingNumber),
     (b"Mismatch", WhyForm::Mismatch),
     (b"TooBig", WhyForm::Whole(Why::TooBig)),
+    (b"NoCatalog", WhyForm::Whole(Why::NoCatalog)),
 ];
 
 const CATEGORY_NAMES: [(&[u8], Category); 5] = [

@@ -13,6 +13,7 @@ use Rattle.handle_table.specs.History.{sets, selection}
 use Rattle.handle_table.specs.Answer.{answer, entry, own}
 use Rattle.handle_table.specs.Isolation.{part_of, IsClosed}
 use Rattle.handle_table.proofs.Isolated.{answer_apart}
+use Rattle.catalog_table.specs.Entry.{History as CatalogHistory}
 use Rattle.script_commands.specs.declared.command.Read.{Read}
 use Rattle.script_out.specs.declared.output.OutLine.{OutLine}
 use Rattle.script_out.specs.declared.output.Places.{Places}
@@ -21,7 +22,7 @@ use Rattle.script_out.specs.declared.output.Said.TheVariants as said
 use Rattle.script_out.specs.declared.output.Why.{Why}
 use Rattle.script_lines.specs.Turns.{Task}
 use Rattle.script_lines.specs.Variables.{Bound, bindings_of, bindings_after, variable_bound}
-use Rattle.script_lines.specs.Wishes.{Wish, Calls, ReadsOf, Reads, AsksSelection, AsksName, wish_of, ops_of}
+use Rattle.script_lines.specs.Wishes.{Wish, Calls, ReadsOf, Reads, AsksSelection, AsksName, OpensCatalog, GetsMessage, ClosesCatalog, wish_of, ops_of}
 use Rattle.script_lines.specs.Lines.{Caller, told_line, placed_line, object_line, global_read_line, global_name_line}
 use Rattle.script_serial.specs.Plan.{PlanData}
 use Rattle.script_serial.specs.Isolation.{SaysTheSameTo}
@@ -50,6 +51,9 @@ after_wish c K t (Ok (ReadsOf n read)) = K
 after_wish c K t (Ok (Reads read)) = K
 after_wish c K t (Ok AsksSelection) = K
 after_wish c K t (Ok (AsksName categories)) = K
+after_wish c K t (Ok (OpensCatalog name)) = K
+after_wish c K t (Ok (GetsMessage h set message default)) = K
+after_wish c K t (Ok (ClosesCatalog h)) = K
 
 -- the line of a read of the thread's own object, or of the global locale, which nobody sets
 abbrev read_alone : Setting → Catalog → Caller → Read → Option Parts → OutLine
@@ -64,6 +68,9 @@ line_alone c library H at (Ok (ReadsOf n read)) = told_line at said.Held
 line_alone c library H at (Ok (Reads read)) = read_alone c library at read (own H at.thread)
 line_alone c library H at (Ok AsksSelection) = told_line at (said.Is (selection H at.thread))
 line_alone c library H at (Ok (AsksName categories)) = global_name_line library at categories 0 (posix c)
+line_alone c library H at (Ok (OpensCatalog name)) = told_line at said.Held
+line_alone c library H at (Ok (GetsMessage h set message default)) = told_line at said.Held
+line_alone c library H at (Ok (ClosesCatalog h)) = told_line at said.Held
 
 -- who asks, and what
 pub record Asked : Type 0 where
@@ -84,10 +91,10 @@ lines_alone c library K bounds (a ∷ more) =
 
 -- ---- lines that are left of a script, where those before them stand
 
-pub record Stands (c : Setting) (plan : PlanData) (lines : List OutLine) (calls : List PlacedCall) (K : Histories) (before after : List Told) : Type 0 where
+pub record Stands (c : Setting) (plan : PlanData) (lines : List OutLine) (M : CatalogHistory) (calls : List PlacedCall) (K : Histories) (before after : List Told) : Type 0 where
   pub done : List PlacedCall
   pub is : calls ≡ done ++ calls_after plan.library before after
-  pub are_told : AreTold c plan lines calls before after
+  pub are_told : AreTold c plan lines M calls before after
   pub keep : All (λ (d : Told). keeps d.task ≡ true) after
   pub own : All IsOwnBound (bound_by before)
   pub part : (t : ℕ) → part_of (t ∷ []) (history_below c calls (next_place t before)) ≡ K t
@@ -99,9 +106,9 @@ abbrev next_with : ℕ → List Told → Bool → Places → ℕ
 next_with s before same at = if same then or_earlier (behind_last (places_in at)) (next_place s before) else next_place s before
 
 -- what is known of the calls of a script whose threads keep to themselves
-module _ (c : Setting) (plan : PlanData) (lines : List OutLine) (calls : List PlacedCall) (once : AreOnce (map place_of calls)) (private : All IsPrivateCall calls) where
+module _ (c : Setting) (plan : PlanData) (lines : List OutLine) (M : CatalogHistory) (calls : List PlacedCall) (once : AreOnce (map place_of calls)) (private : All IsPrivateCall calls) where
   abbrev Left : Histories → List Told → List Told → Type 0
-  Left K before after = Stands c plan lines calls K before after
+  Left K before after = Stands c plan lines M calls K before after
 
   -- ---- a line without a call
 
@@ -255,25 +262,25 @@ module _ (c : Setting) (plan : PlanData) (lines : List OutLine) (calls : List Pl
     left : Left (after_wish c K d.line.thread w) (d ∷ before) after
 
   said_alone : (K : Histories) (before after : List Told) (d : Told) → Left K before (d ∷ after)
-      → SaysTheSameTo c d.line.thread (seen (around c plan lines calls before after) d.line.thread) (part_of (d.line.thread ∷ []) (seen (around c plan lines calls before after) d.line.thread))
+      → SaysTheSameTo c d.line.thread (seen (around c plan lines M calls before after) d.line.thread) (part_of (d.line.thread ∷ []) (seen (around c plan lines M calls before after) d.line.thread))
   said_alone K before after d w =
       let t : ℕ = d.line.thread in
       let n : ℕ = next_place t before in
       part_says_the_same c (t ∷ []) t (its_own t) (history_below c calls n) (below_legal c calls n) (private_closed t (history_below c calls n) (private_below c calls private n))
 
   -- a version is the first, since nobody sets the global locale
-  first_version : (before after : List Told) (at : Caller) (version : ℕ) → IsVersion (around c plan lines calls before after) at version → version ≡ 0
+  first_version : (before after : List Told) (at : Caller) (version : ℕ) → IsVersion (around c plan lines M calls before after) at version → version ≡ 0
   first_version before after at version v =
       let n : ℕ = length (all_places (up_to_round at.round lines)) in
       let none : sets (history_below c calls n) ≡ 0 = no_sets (history_below c calls n) (private_below c calls private n) in
       let le : version ≤ sets (history_below c calls n) = v.round in
       omega (arith, none, le)
 
-  read_is : (before after : List Told) (at : Caller) (l : OutLine) (read : Read) (o : Option Parts) → IsRead (around c plan lines calls before after) at l read o
+  read_is : (before after : List Told) (at : Caller) (l : OutLine) (read : Read) (o : Option Parts) → IsRead (around c plan lines M calls before after) at l read o
       → (placeless l ≡ read_alone c plan.library at read o) × (l.places ≡ places.None)
   read_is before after at l read (Some object) is = (ap placeless is, ap (λ (k : OutLine). k.places) is)
   read_is before after at l read None r =
-      let x : Around = around c plan lines calls before after in (
+      let x : Around = around c plan lines M calls before after in (
         ap placeless r.is
             ∙ ap (λ (v : ℕ). global_read_line plan.library at read v (global_of x v)) (first_version before after at r.version r.bounds)
             ∙ ap (global_read_line plan.library at read 0) (first_global c x.whole),
@@ -281,7 +288,7 @@ module _ (c : Setting) (plan : PlanData) (lines : List OutLine) (calls : List Pl
       )
 
   follows : (K : Histories) (before after : List Told) (d : Told) (w : Result Wish Why) → wish_of plan.library (bindings_of d.line.thread (bound_by before)) d.task ≡ w → Left K before (d ∷ after)
-      → IsGranted (around c plan lines calls before after) (caller_of d.line) d.line w → IsOwnWish d.line.thread (variable_bound d.task) w → All IsOwnBound (bound_by (d ∷ before)) → Follows K before after d w
+      → IsGranted (around c plan lines M calls before after) (caller_of d.line) d.line w → IsOwnWish d.line.thread (variable_bound d.task) w → All IsOwnBound (bound_by (d ∷ before)) → Follows K before after d w
   follows K before after d (Err why) asks w is wished bounds = record { line = ap placeless is; left = silent K before after d w bounds (ap (λ (k : OutLine). k.places) is) }
   follows K before after d (Ok (Calls categories op)) asks w r wished bounds =
       let t : ℕ = d.line.thread in
@@ -302,21 +309,24 @@ module _ (c : Setting) (plan : PlanData) (lines : List OutLine) (calls : List Pl
         left = calling K before after d call m bounds;
       }
   follows K before after d (Ok (ReadsOf n read)) asks w is wished bounds = absurd wished
+  follows K before after d (Ok (OpensCatalog name)) asks w is wished bounds = absurd wished
+  follows K before after d (Ok (GetsMessage h set message default)) asks w is wished bounds = absurd wished
+  follows K before after d (Ok (ClosesCatalog h)) asks w is wished bounds = absurd wished
   follows K before after d (Ok (Reads read)) asks w is wished bounds =
       let t : ℕ = d.line.thread in
-      let x : Around = around c plan lines calls before after in
+      let x : Around = around c plan lines M calls before after in
       let same : own (seen x t) t ≡ own (K t) t = (said_alone K before after d w).own ∙ ap (λ (G : History). own G t) (w.part t) in
       let told = read_is before after (caller_of d.line) d.line read (own (K t) t) (subst (IsRead x (caller_of d.line) d.line read) same is) in
       record { line = told.0; left = silent K before after d w bounds told.1 }
   follows K before after d (Ok AsksSelection) asks w is wished bounds =
       let t : ℕ = d.line.thread in
-      let same : selection (seen (around c plan lines calls before after) t) t ≡ selection (K t) t = (said_alone K before after d w).selection ∙ ap (λ (G : History). selection G t) (w.part t) in
+      let same : selection (seen (around c plan lines M calls before after) t) t ≡ selection (K t) t = (said_alone K before after d w).selection ∙ ap (λ (G : History). selection G t) (w.part t) in
       record {
         line = ap placeless is ∙ ap (λ (n : Named). told_line (caller_of d.line) (said.Is n)) same;
         left = silent K before after d w bounds (ap (λ (k : OutLine). k.places) is);
       }
   follows K before after d (Ok (AsksName categories)) asks w r wished bounds =
-      let x : Around = around c plan lines calls before after in
+      let x : Around = around c plan lines M calls before after in
       record {
         line =
             ap placeless r.is
@@ -332,7 +342,7 @@ module _ (c : Setting) (plan : PlanData) (lines : List OutLine) (calls : List Pl
       let t : ℕ = d.line.thread in
       let library : Catalog = plan.library in
       let asks : Result Wish Why = wish_of library (bindings_of t (bound_by before)) d.task in
-      let x : Around = around c plan lines calls before after in
+      let x : Around = around c plan lines M calls before after in
       let wished : IsOwnWish t (variable_bound d.task) asks = task_own library t (bound_by before) d.task w.own (All-head (λ (e : Told). keeps e.task ≡ true) d after w.keep) in
       let own : All IsOwnBound (bound_by (d ∷ before)) = own_next x (caller_of d.line) d.line (bound_by before) (variable_bound d.task) asks w.are_told.0 wished w.own in
       let f : Follows K before after d asks = follows K before after d asks refl w w.are_told.0 wished own in

@@ -26,6 +26,7 @@ use Rattle.private_threads.proofs.Lists.{each, each_flat, same_flat, all_pass, c
 use Rattle.private_threads.proofs.Parts.{IsPrivateCall, no_holds, private_below}
 use Rattle.private_threads.proofs.Wishes.{IsOwnBound, IsOwnWish, keeps, task_own, own_next, private_calls, line_places}
 use Rattle.private_threads.proofs.Alone.{Histories, Asked, asked, lines_alone, Stands, all_alone}
+use Rattle.catalog_table.specs.Entry.{History as CatalogHistory}
 
 -- ---- the tasks of a script
 
@@ -71,17 +72,17 @@ told_append (x ∷ xs) ys (l ∷ lines) = ap (λ (ds : List Told). record { task
 
 -- ---- all calls are private
 
-calls_private : (c : Setting) (plan : PlanData) (lines : List OutLine) (calls : List PlacedCall) (before first rest : List Told) → AreTold c plan lines calls before (first ++ rest) → All KeepsTold first → All IsOwnBound (bound_by before)
+calls_private : (c : Setting) (plan : PlanData) (lines : List OutLine) (M : CatalogHistory) (calls : List PlacedCall) (before first rest : List Told) → AreTold c plan lines M calls before (first ++ rest) → All KeepsTold first → All IsOwnBound (bound_by before)
     → All IsPrivateCall (calls_after plan.library before first)
-calls_private c plan lines calls before [] rest are_told keep own = All-nil IsPrivateCall
-calls_private c plan lines calls before (d ∷ first) rest are_told keep own =
+calls_private c plan lines M calls before [] rest are_told keep own = All-nil IsPrivateCall
+calls_private c plan lines M calls before (d ∷ first) rest are_told keep own =
     let t : ℕ = d.line.thread in
-    let x = around c plan lines calls before (first ++ rest) in
+    let x = around c plan lines M calls before (first ++ rest) in
     let w : Result Wish Why = wish_of plan.library (bindings_of t (bound_by before)) d.task in
     let wished : IsOwnWish t (variable_bound d.task) w = task_own plan.library t (bound_by before) d.task own (All-head KeepsTold d first keep) in
     All-append IsPrivateCall (calls_of plan.library (bound_by before) d) (calls_after plan.library (d ∷ before) first)
     (private_calls t (variable_bound d.task) (places_in d.line.places) w wished)
-    (calls_private c plan lines calls (d ∷ before) first rest are_told.1 (All-tail KeepsTold d first keep)
+    (calls_private c plan lines M calls (d ∷ before) first rest are_told.1 (All-tail KeepsTold d first keep)
     (own_next x (caller_of d.line) d.line (bound_by before) (variable_bound d.task) w are_told.0 wished own))
 
 -- so no hold is open when the commands are done
@@ -92,8 +93,8 @@ turns_are c plan lines keep w =
     let commands : List Turn = command_turns plan.bundle in
     let more : List Told = told (closing_turns plan.bundle H) (drop (length commands) lines) in
     let private : All IsPrivateCall calls =
-    calls_private c plan lines (all_calls c plan lines) [] (told commands lines) more
-    (subst (AreTold c plan lines (all_calls c plan lines) []) (told_append commands (closing_turns plan.bundle H) lines) w.told)
+    calls_private c plan lines w.catalogs (all_calls c plan lines) [] (told commands lines) more
+    (subst (AreTold c plan lines w.catalogs (all_calls c plan lines) []) (told_append commands (closing_turns plan.bundle H) lines) w.told)
     (told_keep commands lines (commands_keep plan.bundle keep)) (All-nil IsOwnBound)
     in
     ap (λ (turns : List Turn). commands ++ turns)
@@ -116,12 +117,12 @@ with_line here others l lines true first rest =
     map-append place_of here others ∙ ap (λ (ps : List ℕ). ps ++ map place_of others) first ∙ ap (λ (ps : List ℕ). places_in l.places ++ ps) rest
 with_line here others l lines false first rest = rest
 
-places_by_thread : (c : Setting) (plan : PlanData) (lines : List OutLine) (calls : List PlacedCall) (t : ℕ) (before after : List Told) → AreTold c plan lines calls before after → All KeepsTold after → All IsOwnBound (bound_by before)
+places_by_thread : (c : Setting) (plan : PlanData) (lines : List OutLine) (M : CatalogHistory) (calls : List PlacedCall) (t : ℕ) (before after : List Told) → AreTold c plan lines M calls before after → All KeepsTold after → All IsOwnBound (bound_by before)
     → map place_of (calls_by t (calls_after plan.library before after)) ≡ all_places (of_thread t (lines_of after))
-places_by_thread c plan lines calls t before [] are_told keep own = refl
-places_by_thread c plan lines calls t before (d ∷ after) are_told keep own =
+places_by_thread c plan lines M calls t before [] are_told keep own = refl
+places_by_thread c plan lines M calls t before (d ∷ after) are_told keep own =
     let s : ℕ = d.line.thread in
-    let x = around c plan lines calls before after in
+    let x = around c plan lines M calls before after in
     let w : Result Wish Why = wish_of plan.library (bindings_of s (bound_by before)) d.task in
     let wished : IsOwnWish s (variable_bound d.task) w = task_own plan.library s (bound_by before) d.task own (All-head KeepsTold d after keep) in
     let here : List PlacedCall = calls_of plan.library (bound_by before) d in
@@ -129,7 +130,7 @@ places_by_thread c plan lines calls t before (d ∷ after) are_told keep own =
     ap (map place_of) (filter-append (λ (call : PlacedCall). call.thread == t) here rest)
     ∙ ap (λ (ks : List PlacedCall). map place_of (ks ++ calls_by t rest)) (by_thread_if t s (s == t) (zip (places_in d.line.places) (ops_of w)) refl)
     ∙ with_line here (calls_by t rest) d.line (of_thread t (lines_of after)) (s == t) (line_places x (caller_of d.line) d.line (variable_bound d.task) w are_told.0 wished)
-    (places_by_thread c plan lines calls t (d ∷ before) after are_told.1 (All-tail KeepsTold d after keep)
+    (places_by_thread c plan lines M calls t (d ∷ before) after are_told.1 (All-tail KeepsTold d after keep)
     (own_next x (caller_of d.line) d.line (bound_by before) (variable_bound d.task) w are_told.0 wished own))
 
 -- ---- the lines of one list
@@ -158,7 +159,7 @@ module _ (c : Setting) (plan : PlanData) (lines : List OutLine) (keep : all_keep
 
   private : All IsPrivateCall calls
   private =
-      calls_private c plan lines calls [] ds [] (subst (AreTold c plan lines calls []) (sym (append-nil ds)) w.told) all_keep (All-nil IsOwnBound)
+      calls_private c plan lines w.catalogs calls [] ds [] (subst (AreTold c plan lines w.catalogs calls []) (sym (append-nil ds)) w.told) all_keep (All-nil IsOwnBound)
 
   line_list : lines_of ds ≡ lines
   line_list = lines_told [] (all_turns c plan lines) lines w.callers
@@ -166,11 +167,11 @@ module _ (c : Setting) (plan : PlanData) (lines : List OutLine) (keep : all_keep
   up : (t : ℕ) → GoUp (map place_of (calls_by t calls))
   up t =
       let places : map place_of (calls_by t calls) ≡ all_places (of_thread t lines) =
-      places_by_thread c plan lines calls t [] ds w.told all_keep (All-nil IsOwnBound) ∙ ap (λ (ls : List OutLine). all_places (of_thread t ls)) line_list
+      places_by_thread c plan lines w.catalogs calls t [] ds w.told all_keep (All-nil IsOwnBound) ∙ ap (λ (ls : List OutLine). all_places (of_thread t ls)) line_list
       in
       subst GoUp (sym places) (goes_up (all_places (of_thread t lines)) (AllPairs-from_increasing (all_places (of_thread t lines)) (w.placed.threads t)))
 
-  begins : Stands c plan lines calls none_yet [] ds
+  begins : Stands c plan lines w.catalogs calls none_yet [] ds
   begins = record {
     done = [];
     is = refl;
@@ -188,7 +189,7 @@ module _ (c : Setting) (plan : PlanData) (lines : List OutLine) (keep : all_keep
   lines_are =
       let once : AreOnce (map place_of calls) = subst AreOnce (sym (places_of_calls c plan lines w)) w.placed.once in
       ap (map placeless) (sym line_list)
-      ∙ all_alone c plan lines calls once private none_yet [] ds begins
+      ∙ all_alone c plan lines w.catalogs calls once private none_yet [] ds begins
       ∙ ap (λ (turns : List Turn). lines_alone c plan.library none_yet [] (map asked (told turns lines))) (turns_are c plan lines keep w)
 
 -- ---- two lists

@@ -3,7 +3,7 @@ use Rattle.std.specs.Prelude.{◌≡◌, Bool, true, false, List, map, Option, S
 use Rattle.std.specs.List.{list_all}
 use Rattle.handle_table.specs.Entry.{Setting}
 use Rattle.script_commands.specs.declared.command.Command.{Command}
-use Rattle.script_commands.specs.declared.command.Command.TheVariants.{New, Dup, Free, Use, Selected, Hold, Release, Setlocale, LocaleName, Install, Post, Fetch, Pins, Read, ReadOf}
+use Rattle.script_commands.specs.declared.command.Command.TheVariants.{New, Dup, Free, Use, Selected, Hold, Release, Setlocale, LocaleName, Install, Post, Fetch, Pins, Read, ReadOf, CatOpen, CatGets, CatClose}
 use Rattle.script_commands.specs.declared.command.Placed.{Placed}
 use Rattle.script_commands.specs.declared.command.Target.{Target}
 use Rattle.script_commands.specs.declared.command.Target.TheVariants.{Global, Variable, Handle}
@@ -44,6 +44,9 @@ keeps_to_itself (Fetch variable owner cell) = false
 keeps_to_itself (Pins named) = is_own_target named
 keeps_to_itself (Read read) = true
 keeps_to_itself (ReadOf object read) = false
+keeps_to_itself (CatOpen variable name) = false
+keeps_to_itself (CatGets catalog set message default) = false
+keeps_to_itself (CatClose catalog) = false
 
 -- whether all commands of a bundle do
 abbrev pub all_keep_to_themselves : Bundle → Bool

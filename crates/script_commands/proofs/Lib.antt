@@ -2,3 +2,4 @@ pub mod ArgumentLemmas
 mod CommandExamples
 mod ReadExamples
 mod HandleExamples
+mod CatalogExamples

@@ -1,6 +1,7 @@
 -- Commands, from their words (our own).
 use Rattle.std.specs.Prelude.{ℕ, zero, suc, ℤ, Bool, true, false, List, [], ◌∷◌, codes, Option, Some, None, Ok, Err, if◌then◌else◌}
 use Rattle.std.specs.Str.{bytes_eq}
+use Rattle.handle_table.specs.declared.handle.Handle.{Handle as HandleNumbers}
 use Rattle.lc_base.specs.declared.reason.Reason.TheVariants.{BadLine, OverLimit, NoThread, NoLater}
 use Rattle.lc_base.specs.declared.reason.Limit.{Limit}
 use Rattle.lc_base.specs.declared.reason.Limit.TheVariants as limits
@@ -8,7 +9,9 @@ use Rattle.lc_base.specs.declared.reason.LinePart.TheVariants.{Command as Comman
 use Rattle.lc_base.specs.Reading.{Reads, ◌>>=◌}
 use Rattle.script_commands.specs.declared.command.Command.{Command}
 use Rattle.script_commands.specs.declared.command.Command.TheVariants as commands
-use Rattle.script_commands.specs.declared.command.Command.TheVariants.{New, Dup, Free, Use, Selected, Hold, Release, Setlocale, LocaleName, Install, Post, Fetch, Pins, ReadOf}
+use Rattle.script_commands.specs.declared.command.Command.TheVariants.{New, Dup, Free, Use, Selected, Hold, Release, Setlocale, LocaleName, Install, Post, Fetch, Pins, ReadOf, CatOpen, CatGets, CatClose}
+use Rattle.script_commands.specs.declared.command.OpenCatalog.{OpenCatalog}
+use Rattle.script_commands.specs.declared.command.OpenCatalog.TheVariants as catalogs
 use Rattle.script_commands.specs.declared.command.Read.{Read}
 use Rattle.script_commands.specs.declared.command.Read.TheVariants.{Info, Conv, Class, Upper, Lower, Money, Time, Number, Parse}
 use Rattle.script_commands.specs.declared.command.Target.{Target}
@@ -51,18 +54,22 @@ unfoldable pub is_over : Span → Bool
 is_over s = elim (next_word s) [ None ↦ true | Some x ↦ false ]
 
 -- the handle that is written so
-abbrev pub handle : Option Known → List (List ℕ) → Span → WrittenHandle → Reads Target
+abbrev pub handle : Option Known → List (List ℕ) → Span → WrittenHandle → Reads HandleNumbers
 handle known threads w h = elim (thread_number known threads h.thread) [
   | None ↦ Err (w.place, NoThread)
-  | Some n ↦ Ok (Handle (record { owner = n; row = h.row; generation = h.generation }))
+  | Some n ↦ Ok (record { owner = n; row = h.row; generation = h.generation })
 ]
+
+-- the handle that a word is
+abbrev pub handle_word : Option Known → List (List ℕ) → Span → Reads HandleNumbers
+handle_word known threads w = or_wrong w (handle_of_word w.bytes) >>= handle known threads w
 
 -- what a word names: `GLOBAL`, a variable or a handle
 unfoldable pub target : Option Known → List (List ℕ) → Span → Reads Target
 target known threads w =
     if bytes_eq w.bytes (codes "GLOBAL") then Ok Global else
     if is_thread_name w.bytes then Ok (Variable w.bytes) else
-    (or_wrong w (handle_of_word w.bytes) >>= handle known threads w)
+    (handle_word known threads w >>= λ h. Ok (Handle h))
 
 -- what the next word names, and what follows it
 unfoldable pub target_word : Option Known → List (List ℕ) → Span → Reads (Target × Span)
@@ -71,6 +78,16 @@ target_word known threads s = argument s >>= λ x. target known threads x.0 >>= 
 -- just one word, which names something
 unfoldable pub lone_target : Option Known → List (List ℕ) → Span → Reads Target
 lone_target known threads s = target_word known threads s >>= λ named. no_more named.1 >>= λ over. Ok named.0
+
+-- what a word names: a variable of a catalog or the handle of one
+unfoldable pub catalog : Option Known → List (List ℕ) → Span → Reads OpenCatalog
+catalog known threads w =
+    if is_thread_name w.bytes then Ok (catalogs.Variable w.bytes) else
+    (handle_word known threads w >>= λ h. Ok (catalogs.Handle h))
+
+-- the catalog that the next word names, and what follows it
+unfoldable pub catalog_word : Option Known → List (List ℕ) → Span → Reads (OpenCatalog × Span)
+catalog_word known threads s = argument s >>= λ x. catalog known threads x.0 >>= λ named. Ok (named, x.1)
 
 -- the number of a thread and of its cell, which is written so
 abbrev pub thread_cell : Option Known → List (List ℕ) → Span → WrittenCell → Reads (ℕ × ℕ)
@@ -108,7 +125,7 @@ quoted_within most limit s = argument s >>= λ x. or_wrong x.0 (quoted_of_word x
 unfoldable pub format : Span → Reads (List ℕ × Span)
 format s = quoted_within FORMAT_LIMIT limits.Format s
 
--- a text that is scanned, and what follows it
+-- a text that is scanned, or that stands for a message that is not there, and what follows it
 unfoldable pub command_text : Span → Reads (List ℕ × Span)
 command_text s = quoted_within TEXT_LIMIT limits.CommandText s
 
@@ -310,6 +327,31 @@ read_of_command known threads question s = do
   read ← read_words question object.1
   Ok (ReadOf object.0 read)
 
+-- `catopen N NAME`
+unfoldable pub catopen_command : Span → Reads Command
+catopen_command s = do
+  variable ← read_as variable_of_word s
+  name ← read_as key_of_word variable.1
+  over ← no_more name.1
+  Ok (CatOpen variable.0 name.0)
+
+-- `catgets C SET MSG "DEFAULT"`
+unfoldable pub catgets_command : Option Known → List (List ℕ) → Span → Reads Command
+catgets_command known threads s = do
+  catalog ← catalog_word known threads s
+  set ← read_as decimal_number catalog.1
+  message ← read_as decimal_number set.1
+  default ← command_text message.1
+  over ← no_more default.1
+  Ok (CatGets catalog.0 set.0 message.0 default.0)
+
+-- `catclose C`
+unfoldable pub catclose_command : Option Known → List (List ℕ) → Span → Reads Command
+catclose_command known threads s = do
+  catalog ← catalog_word known threads s
+  over ← no_more catalog.1
+  Ok (CatClose catalog.0)
+
 -- the command of a verb
 abbrev pub command_of : Option Known → List (List ℕ) → Verb → Span → Reads Command
 command_of known threads verbs.New s = new_command known threads s
@@ -325,6 +367,9 @@ command_of known threads verbs.Fetch s = fetch_command known threads s
 command_of known threads verbs.Pins s = lone_target known threads s >>= λ named. Ok (Pins named)
 command_of known threads (verbs.Read question) s = read_command question s
 command_of known threads (verbs.ReadOf question) s = read_of_command known threads question s
+command_of known threads verbs.CatOpen s = catopen_command s
+command_of known threads verbs.CatGets s = catgets_command known threads s
+command_of known threads verbs.CatClose s = catclose_command known threads s
 
 -- the command whose first word is w, with what follows it, where the threads named so far are these
 unfoldable pub command : Option Known → List (List ℕ) → Span → Span → Reads Command

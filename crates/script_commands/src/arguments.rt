@@ -7,14 +7,14 @@ ghost use Rattle.lc_base.specs.declared.reason.Reason.TheVariants.{BadLine};
 ghost use Rattle.lc_base.specs.declared.reason.LinePart.TheVariants.{Argument};
 ghost use Rattle.lc_base.specs.Reading.{Gives};
 ghost use Rattle.script_words.specs.Seen.{seen_handle, seen_cell};
-ghost use Rattle.script_commands.specs.InRange.{IsOwned};
+ghost use Rattle.script_commands.specs.InRange.{IsOwned, IsCatalogOwned};
 ghost use Rattle.script_words.specs.Spans.{span, spans};
-ghost use Rattle.script_words.specs.Words.{text_of_word, categories_of_word, mask_of_word, variable_of_word, class_of_word, cell_number, decimal_number};
+ghost use Rattle.script_words.specs.Words.{text_of_word, categories_of_word, mask_of_word, variable_of_word, class_of_word, key_of_word, cell_number, decimal_number};
 ghost use Rattle.script_words.specs.Numbers.{short_number, three_numbers};
 ghost use Rattle.script_words.specs.Tables.{first_named, items_table};
-ghost use Rattle.script_commands.specs.Commands.{argument, read_as, no_more, is_over, handle, target, target_word, lone_target, thread_cell, cell, key, max_bytes, format, command_text, amounts, whole_numbers, offset, zone, moment};
+ghost use Rattle.script_commands.specs.Commands.{argument, read_as, no_more, is_over, handle, handle_word, target, target_word, lone_target, catalog, catalog_word, thread_cell, cell, key, max_bytes, format, command_text, amounts, whole_numbers, offset, zone, moment};
 
-use crate::command::Target;
+use crate::command::{OpenCatalog, Target};
 use crate::known::{Known, THREAD_LIMIT, lacks_key, thread_number};
 use handle_table::Handle;
 use lc_base::{ByteText, CELLS, Item, Limit, LinePart, List, Place, Reason, TextFault};
@@ -110,26 +110,43 @@ pub fn categories(rest: Piece<'_>) -> Result<(Categories, Piece<'_>), TextFault>
     }
 }
 
-/// The handle that a word is.
+/// The handle that is written so.
 fn handle(
     known: Option<&Known>,
     threads: &List<ByteText>,
     word: Piece<'_>,
     written: WrittenHandle<'_>,
-) -> Result<Target, TextFault>
+) -> Result<Handle, TextFault>
     requires some { 0 < length threads.now }
     requires few { length threads.now ≤ THREAD_LIMIT }
     ensures is { Gives (λ x. x) result (handle (option_copied known.entry) threads.now (span word.entry) (seen_handle written.entry)) }
-    ensures owned { IfOk result (IsOwned (length threads.now)) }
+    ensures owned { IfOk result (λ h. h.owner < length threads.now) }
 {
     let Some(owner) = thread_number(known, threads, written.thread) else {
         return Err(TextFault::At(word.place, Reason::NoThread));
     };
-    Ok(Target::Handle(Handle {
+    Ok(Handle {
         owner,
         row: written.row,
         generation: written.generation,
-    }))
+    })
+}
+
+/// The handle that a word is.
+fn handle_word(
+    known: Option<&Known>,
+    threads: &List<ByteText>,
+    word: Piece<'_>,
+) -> Result<Handle, TextFault>
+    requires some { 0 < length threads.now }
+    requires few { length threads.now ≤ THREAD_LIMIT }
+    ensures is { Gives (λ x. x) result (handle_word (option_copied known.entry) threads.now (span word.entry)) }
+    ensures owned { IfOk result (λ h. h.owner < length threads.now) }
+{
+    match handle_of_word(word.bytes) {
+        Some(written) => handle(known, threads, word, written),
+        None => Err(wrong_word(word.place)),
+    }
 }
 
 /// What a word names: `GLOBAL`, a variable or a handle.
@@ -151,10 +168,7 @@ pub fn target(
     if is_thread_name(word.bytes) {
         return Ok(Target::Variable(ByteText::of(alloc, word.bytes)?));
     }
-    match handle_of_word(word.bytes) {
-        Some(written) => handle(known, threads, word, written),
-        None => Err(wrong_word(word.place)),
-    }
+    Ok(Target::Handle(handle_word(known, threads, word)?))
 }
 
 /// What the next word names, and what follows it.
@@ -191,6 +205,55 @@ pub fn lone_target(
     let (named, rest) = target_word(alloc, known, threads, rest)?;
     no_more(rest)?;
     Ok(named)
+}
+
+/// What a word names: a variable of a catalog or the handle of one.
+#[tactic(auto, unfolding(crate::specs::Commands::catalog))]
+fn catalog(
+    alloc: Global,
+    known: Option<&Known>,
+    threads: &List<ByteText>,
+    word: Piece<'_>,
+) -> Result<OpenCatalog, TextFault>
+    requires some { 0 < length threads.now }
+    requires few { length threads.now ≤ THREAD_LIMIT }
+    ensures is { Gives (λ x. x) result (catalog (option_copied known.entry) threads.now (span word.entry)) }
+    ensures owned { IfOk result (IsCatalogOwned (length threads.now)) }
+{
+    if is_thread_name(word.bytes) {
+        return Ok(OpenCatalog::Variable(ByteText::of(alloc, word.bytes)?));
+    }
+    Ok(OpenCatalog::Handle(handle_word(known, threads, word)?))
+}
+
+/// The catalog that the next word names, and what follows it.
+#[tactic(auto, unfolding(crate::specs::Commands::catalog_word))]
+pub fn catalog_word<'a>(
+    alloc: Global,
+    known: Option<&Known>,
+    threads: &List<ByteText>,
+    rest: Piece<'a>,
+) -> Result<(OpenCatalog, Piece<'a>), TextFault>
+    requires some { 0 < length threads.now }
+    requires few { length threads.now ≤ THREAD_LIMIT }
+    ensures is { Gives (λ x. (x.0, span x.1)) result (catalog_word (option_copied known.entry) threads.now (span rest.entry)) }
+    ensures owned { IfOk result (λ x. IsCatalogOwned (length threads.now) x.0) }
+{
+    let (word, rest) = argument(rest)?;
+    let named = catalog(alloc, known, threads, word)?;
+    Ok((named, rest))
+}
+
+/// The name of a catalog, and what follows it.
+#[tactic(auto, unfolding(crate::specs::Commands::read_as))]
+pub fn catalog_name(alloc: Global, rest: Piece<'_>) -> Result<(ByteText, Piece<'_>), TextFault>
+    ensures { Gives (λ x. (x.0, span x.1)) result (read_as key_of_word (span rest.entry)) }
+{
+    let (word, rest) = argument(rest)?;
+    match key_of_word(alloc, word.bytes)? {
+        Some(name) => Ok((name, rest)),
+        None => Err(wrong_word(word.place)),
+    }
 }
 
 /// The numbers of a thread and of its cell.
@@ -281,7 +344,7 @@ pub fn class(alloc: Global, rest: Piece<'_>) -> Result<(ByteText, Piece<'_>), Te
     }
 }
 
-/// A wide value, and what follows it.
+/// A number of 32 bits, as a wide value is one, and what follows it.
 #[tactic(auto, unfolding(crate::specs::Commands::read_as))]
 pub fn value(rest: Piece<'_>) -> Result<(u32, Piece<'_>), TextFault>
     ensures { Gives (λ x. (x.0, span x.1)) result (read_as decimal_number (span rest.entry)) }

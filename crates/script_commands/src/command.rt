@@ -15,6 +15,16 @@ pub enum Target {
     Handle(Handle),
 }
 
+/// A message catalog that a command names. The variables of catalogs have names of their own: one of
+/// locales may have the same name.
+#[derive(Debug, Drop)]
+pub enum OpenCatalog {
+    /// What the variable of this name stands for.
+    Variable(ByteText),
+    /// `THREAD.ROW.GENERATION`, with the number of the thread.
+    Handle(Handle),
+}
+
 /// What a command reads from an object. The forms with a handle have the same words behind it; for
 /// localeconv there is none (XSH localeconv).
 #[derive(Debug, Drop)]
@@ -131,6 +141,25 @@ pub enum Command {
         object: Target,
         read: Read,
     },
+    /// `catopen N NAME`: catopen.
+    CatOpen {
+        /// The variable that is bound to the handle, among those of catalogs.
+        variable: ByteText,
+        /// The name of the catalog.
+        name: ByteText,
+    },
+    /// `catgets C SET MSG "DEFAULT"`: catgets.
+    CatGets {
+        catalog: OpenCatalog,
+        /// The number of the set.
+        set: u32,
+        /// The number of the message in its set.
+        message: u32,
+        /// What is printed where the catalog has no such message, at most 1024 bytes.
+        default: ByteText,
+    },
+    /// `catclose C`: catclose.
+    CatClose(OpenCatalog),
 }
 
 /// A command with its place in the script.

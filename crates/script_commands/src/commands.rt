@@ -5,12 +5,12 @@ ghost use Rattle.std.specs.Option.{option_copied};
 ghost use Rattle.lc_base.specs.Reading.{Gives};
 ghost use Rattle.script_commands.specs.InRange.{IsBaseOwned, IsInRange};
 ghost use Rattle.script_words.specs.Spans.{span};
-ghost use Rattle.script_commands.specs.Commands.{info_words, conv_words, class_words, lone_value, money_words, time_words, number_words, parse_words, read_words, base, new_command, dup_command, selection, use_command, setlocale_command, install_command, post_command, fetch_command, read_command, read_of_command, command_of, command};
+ghost use Rattle.script_commands.specs.Commands.{info_words, conv_words, class_words, lone_value, money_words, time_words, number_words, parse_words, read_words, base, new_command, dup_command, selection, use_command, setlocale_command, install_command, post_command, fetch_command, read_command, read_of_command, catopen_command, catgets_command, catclose_command, command_of, command};
 
 use crate::arguments::{
-    amounts, argument, categories, cell, cell_word, class, command_text, format, is_over, item,
-    key, locale, lone_target, mask, max_bytes, moment, no_more, target, target_word, value,
-    variable, whole_numbers,
+    amounts, argument, catalog_name, catalog_word, categories, cell, cell_word, class,
+    command_text, format, is_over, item, key, locale, lone_target, mask, max_bytes, moment,
+    no_more, target, target_word, value, variable, whole_numbers,
 };
 use crate::command::{Command, Read, Target};
 use crate::known::{Known, THREAD_LIMIT};
@@ -327,6 +327,62 @@ fn read_of_command(
     Ok(Command::ReadOf { object, read })
 }
 
+/// `catopen N NAME`.
+#[tactic(auto, unfolding(crate::specs::Commands::catopen_command))]
+fn catopen_command(alloc: Global, rest: Piece<'_>) -> Result<Command, TextFault>
+    ensures is { Gives (λ x. x) result (catopen_command (span rest.entry)) }
+    ensures in_range { (n : ℕ) → IfOk result (IsInRange n) }
+{
+    let (variable, rest) = variable(alloc, rest)?;
+    let (name, rest) = catalog_name(alloc, rest)?;
+    no_more(rest)?;
+    Ok(Command::CatOpen { variable, name })
+}
+
+/// `catgets C SET MSG "DEFAULT"`.
+#[tactic(auto, unfolding(crate::specs::Commands::catgets_command))]
+fn catgets_command(
+    alloc: Global,
+    known: Option<&Known>,
+    threads: &List<ByteText>,
+    rest: Piece<'_>,
+) -> Result<Command, TextFault>
+    requires some { 0 < length threads.now }
+    requires few { length threads.now ≤ THREAD_LIMIT }
+    ensures is { Gives (λ x. x) result (catgets_command (option_copied known.entry) threads.now (span rest.entry)) }
+    ensures in_range { IfOk result (IsInRange (length threads.now)) }
+{
+    let (catalog, rest) = catalog_word(alloc, known, threads, rest)?;
+    let (set, rest) = value(rest)?;
+    let (message, rest) = value(rest)?;
+    let (default, rest) = command_text(alloc, rest)?;
+    no_more(rest)?;
+    Ok(Command::CatGets {
+        catalog,
+        set,
+        message,
+        default: default.into_text(),
+    })
+}
+
+/// `catclose C`.
+#[tactic(auto, unfolding(crate::specs::Commands::catclose_command))]
+fn catclose_command(
+    alloc: Global,
+    known: Option<&Known>,
+    threads: &List<ByteText>,
+    rest: Piece<'_>,
+) -> Result<Command, TextFault>
+    requires some { 0 < length threads.now }
+    requires few { length threads.now ≤ THREAD_LIMIT }
+    ensures is { Gives (λ x. x) result (catclose_command (option_copied known.entry) threads.now (span rest.entry)) }
+    ensures in_range { IfOk result (IsInRange (length threads.now)) }
+{
+    let (catalog, rest) = catalog_word(alloc, known, threads, rest)?;
+    no_more(rest)?;
+    Ok(Command::CatClose(catalog))
+}
+
 /// The command of a verb.
 fn command_of(
     alloc: Global,
@@ -354,6 +410,9 @@ fn command_of(
         Verb::Pins => Ok(Command::Pins(lone_target(alloc, known, threads, rest)?)),
         Verb::Read(question) => read_command(alloc, question, rest),
         Verb::ReadOf(question) => read_of_command(alloc, known, threads, question, rest),
+        Verb::CatOpen => catopen_command(alloc, rest),
+        Verb::CatGets => catgets_command(alloc, known, threads, rest),
+        Verb::CatClose => catclose_command(alloc, known, threads, rest),
     }
 }
 

@@ -8,7 +8,7 @@ mod known;
 mod lists;
 
 pub use arguments::is_over;
-pub use command::{Command, Placed, Read, Target};
+pub use command::{Command, OpenCatalog, Placed, Read, Target};
 pub use commands::command_of_line;
 pub use known::{Known, THREAD_LIMIT, lacks_charset, lacks_locale};
 pub use lists::{has_block, has_key, number_of};

@@ -8,18 +8,18 @@ use Rattle.lc_base.specs.declared.reason.Limit.TheVariants as limits
 use Rattle.lc_base.specs.declared.block.Block.{Block}
 use Rattle.lc_base.specs.Reading.{Reads}
 use Rattle.script_lang.specs.declared.bundle.Bundle.{Bundle}
-use Rattle.script_lang.specs.declared.bundle.TheConstants.{CHARMAP_LIMIT, LOCALE_LIMIT, LATER_LIMIT, ROUND_LIMIT, COMMAND_LIMIT}
+use Rattle.script_lang.specs.declared.bundle.TheConstants.{CHARMAP_LIMIT, LOCALE_LIMIT, LATER_LIMIT, CATALOG_LIMIT, ROUND_LIMIT, COMMAND_LIMIT}
 use Rattle.script_commands.specs.declared.known.TheConstants.{THREAD_LIMIT}
 use Rattle.script_commands.specs.declared.command.Target.TheVariants as targets
 use Rattle.script_commands.specs.declared.command.Command.TheVariants.{Free, Selected, Install, Fetch}
 use Rattle.script_lang.specs.declared.reading.BlockKind.TheVariants as kinds
 use Rattle.script_lang.specs.declared.reading.Reading.{Reading}
-use Rattle.script_words.specs.Names.{is_formed, is_locale_name, is_charmap_name, is_thread_name}
+use Rattle.script_words.specs.Names.{is_formed, is_locale_name, is_part_name, is_charmap_name, is_thread_name}
 use Rattle.script_words.specs.Spans.{whole_line, next_word}
 use Rattle.script_words.specs.Tables.{directives_table, commands_table}
 use Rattle.script_words.specs.Words.{text_of_word, decimal_number, mask_of_word, variable_of_word, key_of_word, cell_number, cut_at, handle_of_word, cell_of_word}
 use Rattle.script_commands.specs.Commands.{argument, read_as, no_more, is_over, command, target, target_word, lone_target, cell, key, base, new_command, use_command, install_command, fetch_command}
-use Rattle.script_lang.specs.Reading.{at_first, with_open, new_thread, one_word, two_words, three_words, charmap_line, locale_line, later_line, native_line, thread_line, round_line, directive_line, command_line, outside, line_read}
+use Rattle.script_lang.specs.Reading.{at_first, with_open, new_thread, one_word, two_words, three_words, charmap_line, locale_line, later_line, catalog_line, native_line, thread_line, round_line, directive_line, command_line, outside, line_read}
 use Rattle.script_lang.specs.Accepted.{bundle_with, bundle_of, IsPlaced, IsAccepted}
 
 -- ---- limits
@@ -32,6 +32,9 @@ most_locales = refl
 
 most_later : LATER_LIMIT ≡ 64
 most_later = refl
+
+most_catalogs : CATALOG_LIMIT ≡ 64
+most_catalogs = refl
 
 most_threads : THREAD_LIMIT ≡ 16
 most_threads = refl
@@ -48,7 +51,7 @@ too_many_threads = refl
 
 -- so many rounds have begun
 abbrev in_round : ℕ → Reading
-in_round n = record { bundle = record { charmaps = []; locales = []; later = []; native = None; threads = []; rounds = n; commands = [] }; current = None; begun = None }
+in_round n = record { bundle = record { charmaps = []; locales = []; later = []; catalogs = []; native = None; threads = []; rounds = n; commands = [] }; current = None; begun = None }
 
 last_round : round_line (in_round 63) 7 (whole_line 7 []) ≡ Ok (in_round 64)
 unfolding round_line is_over next_word
@@ -68,6 +71,7 @@ with_blocks n = record {
     charmaps = replicate n (block (codes "m") [] 2 []);
     locales = replicate n (block (codes "a") (codes "m") 2 []);
     later = replicate n (record { key = codes "k"; block = block (codes "a") (codes "m") 2 [] });
+    catalogs = replicate n (block (codes "g") (codes "a") 2 []);
     native = None;
     threads = [];
     rounds = 1;
@@ -111,6 +115,36 @@ wrong_key : later_line None (with_blocks 0) 7 (whole_line 7 (codes "C a m")) ≡
 unfolding later_line three_words two_words one_word is_over next_word is_locale_name is_formed
 wrong_key = refl
 
+last_catalog : catalog_line None (with_blocks 63) 7 (whole_line 7 (codes "g a")) ≡ Ok (with_open (with_blocks 63) kinds.Catalog (codes "g") (codes "a") 7)
+unfolding catalog_line two_words one_word is_over next_word is_locale_name is_part_name is_formed
+last_catalog = refl
+
+too_many_catalogs : catalog_line None (with_blocks 64) 7 (whole_line 7 (codes "g a")) ≡ Err (record { line = 7; column = 1 }, reasons.OverLimit limits.Catalogs)
+unfolding catalog_line two_words one_word is_over next_word is_locale_name is_part_name is_formed
+too_many_catalogs = refl
+
+-- a catalog of the POSIX locale is one of `C`
+catalog_of_the_posix_locale : catalog_line None (with_blocks 0) 7 (whole_line 7 (codes "g C")) ≡ Ok (with_open (with_blocks 0) kinds.Catalog (codes "g") (codes "C") 7)
+unfolding catalog_line two_words one_word is_over next_word is_locale_name is_part_name is_formed
+catalog_of_the_posix_locale = refl
+
+-- and not of `POSIX`, which is the name of no category
+wrong_catalog_locale : catalog_line None (with_blocks 64) 7 (whole_line 7 (codes "g POSIX")) ≡ Err (record { line = 7; column = 1 }, reasons.BadLine parts.Directive)
+unfolding catalog_line two_words one_word is_over next_word is_locale_name is_part_name is_formed
+wrong_catalog_locale = refl
+
+wrong_catalog_name : catalog_line None (with_blocks 0) 7 (whole_line 7 (codes "C a")) ≡ Err (record { line = 7; column = 1 }, reasons.BadLine parts.Directive)
+unfolding catalog_line two_words one_word is_over next_word is_locale_name is_part_name is_formed
+wrong_catalog_name = refl
+
+catalog_without_locale : catalog_line None (with_blocks 0) 7 (whole_line 7 (codes "g")) ≡ Err (record { line = 7; column = 1 }, reasons.BadLine parts.Directive)
+unfolding catalog_line two_words one_word is_over next_word is_locale_name is_part_name is_formed
+catalog_without_locale = refl
+
+catalog_and_more : catalog_line None (with_blocks 0) 7 (whole_line 7 (codes "g a a")) ≡ Err (record { line = 7; column = 1 }, reasons.BadLine parts.Directive)
+unfolding catalog_line two_words one_word is_over next_word is_locale_name is_part_name is_formed
+catalog_and_more = refl
+
 -- ---- what holds of each accepted bundle
 
 -- the last command of the second of two threads in the last of three rounds
@@ -143,6 +177,7 @@ whole : bundle_of (codes ".thread A\n.locale a c\n#y\n\n .end\n.end\nfree A.0.1\
   charmaps = block (codes "c") [] 10 (codes "x\n") ∷ [];
   locales = block (codes "a") (codes "c") 3 (codes "#y\n\n .end\n") ∷ [];
   later = record { key = codes "k"; block = block (codes "b") (codes "POSIX") 13 [] } ∷ [];
+  catalogs = [];
   native = Some (codes "a");
   threads = codes "A" ∷ [];
   rounds = 1;
@@ -151,7 +186,7 @@ whole : bundle_of (codes ".thread A\n.locale a c\n#y\n\n .end\n.end\nfree A.0.1\
 unfolding bundle_of bundle_with line_read outside directive_line command_line charmap_line locale_line later_line native_line thread_line round_line one_word two_words three_words command new_command base use_command install_command fetch_command lone_target target_word target cell key next_word argument no_more read_as is_over text_of_word variable_of_word key_of_word cell_number decimal_number cut_at handle_of_word cell_of_word is_formed is_locale_name is_charmap_name is_thread_name directives_table commands_table
 whole = refl
 
-empty : bundle_of [] ≡ Ok (record { charmaps = []; locales = []; later = []; native = None; threads = []; rounds = 1; commands = [] })
+empty : bundle_of [] ≡ Ok (record { charmaps = []; locales = []; later = []; catalogs = []; native = None; threads = []; rounds = 1; commands = [] })
 unfolding bundle_of bundle_with line_read outside directive_line command_line charmap_line locale_line later_line native_line thread_line round_line one_word two_words three_words command new_command base use_command install_command fetch_command lone_target target_word target cell key next_word argument no_more read_as is_over text_of_word variable_of_word key_of_word cell_number decimal_number cut_at handle_of_word cell_of_word is_formed is_locale_name is_charmap_name is_thread_name directives_table commands_table
 empty = refl
 
@@ -215,6 +250,7 @@ interleaved : bundle_of (codes ".thread B\nfree A.0.1\n.round\n.thread A\nfree x
   charmaps = [];
   locales = [];
   later = [];
+  catalogs = [];
   native = None;
   threads = codes "B" ∷ codes "A" ∷ [];
   rounds = 2;
@@ -237,6 +273,7 @@ installed : bundle_of (codes ".thread A\ninstall k\nfetch x A.7\n.later k a POSI
   charmaps = [];
   locales = [];
   later = record { key = codes "k"; block = block (codes "a") (codes "POSIX") 5 [] } ∷ [];
+  catalogs = [];
   native = None;
   threads = codes "A" ∷ [];
   rounds = 1;
@@ -267,3 +304,34 @@ no_thread_of_base = refl
 comments : bundle_of (codes "# a\n\t#b\n \t\n\nx") ≡ refused 5 1 (reasons.BadLine parts.Thread)
 unfolding bundle_of bundle_with line_read outside directive_line command_line charmap_line locale_line later_line native_line thread_line round_line one_word two_words three_words command new_command base use_command install_command fetch_command lone_target target_word target cell key next_word argument no_more read_as is_over text_of_word variable_of_word key_of_word cell_number decimal_number cut_at handle_of_word cell_of_word is_formed is_locale_name is_charmap_name is_thread_name directives_table commands_table
 comments = refl
+
+-- ---- message catalogs
+
+-- one name in two locales, of which no block need be there, and two names in one
+catalogs_apart : bundle_of (codes ".catalog g us\n$set 2\n1 a\n.end\n.catalog g C\n.end\n.catalog us g\n.end\n") ≡ Ok (record {
+  charmaps = [];
+  locales = [];
+  later = [];
+  catalogs = block (codes "g") (codes "us") 2 (codes "$set 2\n1 a\n") ∷ block (codes "g") (codes "C") 6 [] ∷ block (codes "us") (codes "g") 8 [] ∷ [];
+  native = None;
+  threads = [];
+  rounds = 1;
+  commands = [];
+})
+unfolding bundle_of bundle_with line_read outside directive_line command_line charmap_line catalog_line thread_line two_words one_word command lone_target target_word target next_word argument no_more read_as is_over decimal_number cut_at handle_of_word is_formed is_locale_name is_part_name is_charmap_name is_thread_name directives_table commands_table
+catalogs_apart = refl
+
+-- a pair that was given before; it goes before a thread behind it
+pair_twice : bundle_of (codes ".catalog g us\n.end\n.catalog  g us\n.end\n.thread A\nfree B.0.1\n") ≡ refused 3 11 reasons.NameTwice
+unfolding bundle_of bundle_with line_read outside directive_line command_line charmap_line catalog_line thread_line two_words one_word command lone_target target_word target next_word argument no_more read_as is_over decimal_number cut_at handle_of_word is_formed is_locale_name is_part_name is_charmap_name is_thread_name directives_table commands_table
+pair_twice = refl
+
+-- a catalog may have the name of another block
+named_as_a_charmap : bundle_of (codes ".charmap g\n.end\n.catalog g g\n.end\n.catalog h g\n") ≡ refused 5 1 reasons.NoEnd
+unfolding bundle_of bundle_with line_read outside directive_line command_line charmap_line catalog_line thread_line two_words one_word command lone_target target_word target next_word argument no_more read_as is_over decimal_number cut_at handle_of_word is_formed is_locale_name is_part_name is_charmap_name is_thread_name directives_table commands_table
+named_as_a_charmap = refl
+
+-- the pair is looked for once all lines are right
+line_before_pair : bundle_of (codes ".catalog g us\n.end\n.catalog g us\n.end\n.end\n") ≡ refused 5 1 (reasons.BadLine parts.Directive)
+unfolding bundle_of bundle_with line_read outside directive_line command_line charmap_line catalog_line thread_line two_words one_word command lone_target target_word target next_word argument no_more read_as is_over decimal_number cut_at handle_of_word is_formed is_locale_name is_part_name is_charmap_name is_thread_name directives_table commands_table
+line_before_pair = refl

@@ -8,17 +8,19 @@ use Rattle.script_commands.specs.declared.known.TheConstants.{THREAD_LIMIT}
 use Rattle.script_lang.specs.declared.bundle.TheConstants.{ROUND_LIMIT, COMMAND_LIMIT}
 use Rattle.script_lang.specs.declared.bundle.Bundle.{Bundle}
 use Rattle.script_commands.specs.declared.command.Command.{Command}
-use Rattle.script_commands.specs.declared.command.Command.TheVariants.{New, Dup, Free, Use, Selected, Hold, Release, Setlocale, LocaleName, Install, Post, Fetch, Pins, Read, ReadOf}
+use Rattle.script_commands.specs.declared.command.Command.TheVariants.{New, Dup, Free, Use, Selected, Hold, Release, Setlocale, LocaleName, Install, Post, Fetch, Pins, Read, ReadOf, CatOpen, CatGets, CatClose}
+use Rattle.script_commands.specs.declared.command.OpenCatalog.{OpenCatalog}
+use Rattle.script_commands.specs.declared.command.OpenCatalog.TheVariants as catalogs
 use Rattle.script_commands.specs.declared.command.Placed.{Placed}
 use Rattle.script_commands.specs.declared.command.Target.{Target}
 use Rattle.script_commands.specs.declared.command.Target.TheVariants.{Global, Variable, Handle}
 use Rattle.script_lang.specs.declared.reading.BlockKind.{BlockKind}
-use Rattle.script_lang.specs.declared.reading.BlockKind.TheVariants.{Charmap, Locale, Later as LaterKind}
+use Rattle.script_lang.specs.declared.reading.BlockKind.TheVariants.{Charmap, Locale, Later as LaterKind, Catalog as CatalogKind}
 use Rattle.script_lang.specs.declared.reading.Opened.{Opened}
 use Rattle.script_lang.specs.declared.reading.Reading.{Reading}
 use Rattle.script_lang.specs.Reading.{at_first, with_open, with_native, with_current, with_thread, with_round, with_command, with_block, with_line}
 use Rattle.script_lang.specs.Accepted.{IsSized, IsPlaced, IsAccepted}
-use Rattle.script_commands.specs.InRange.{IsOwned, IsBaseOwned, IsInRange}
+use Rattle.script_commands.specs.InRange.{IsOwned, IsBaseOwned, IsCatalogOwned, IsInRange}
 use Rattle.script_lang.specs.Kept.{HasRoomFor, IsBegun, IsCurrent, IsReading}
 
 pub kept_at_first : (threads : List (List ℕ)) → length threads ≤ THREAD_LIMIT → IsReading 0 (at_first threads)
@@ -27,6 +29,7 @@ kept_at_first threads few = record {
     few_charmaps = omega arith;
     few_locales = omega arith;
     few_later = omega arith;
+    few_catalogs = omega arith;
     few_threads = few;
     some_round = omega arith;
     few_rounds = omega arith;
@@ -34,6 +37,7 @@ kept_at_first threads few = record {
     charmaps = All-nil _;
     locales = All-nil _;
     later = All-nil _;
+    catalogs = All-nil _;
     commands = All-nil _;
   };
   current = tt;
@@ -50,6 +54,7 @@ kept_with_native r name k = record {
     few_charmaps = k.accepted.few_charmaps;
     few_locales = k.accepted.few_locales;
     few_later = k.accepted.few_later;
+    few_catalogs = k.accepted.few_catalogs;
     few_threads = k.accepted.few_threads;
     some_round = k.accepted.some_round;
     few_rounds = k.accepted.few_rounds;
@@ -57,6 +62,7 @@ kept_with_native r name k = record {
     charmaps = k.accepted.charmaps;
     locales = k.accepted.locales;
     later = k.accepted.later;
+    catalogs = k.accepted.catalogs;
     commands = k.accepted.commands;
   };
   current = still r.current k.current;
@@ -71,6 +77,7 @@ kept_with_native r name k = record {
   room Charmap h = h
   room Locale h = h
   room (LaterKind key) h = h
+  room CatalogKind h = h
 
   same : (begun : Option Opened) → IsBegun begun r.bundle → IsBegun begun (with_native r name).bundle
   same None h = tt
@@ -89,6 +96,10 @@ base_owned_more : (n m : ℕ) → n ≤ m → (base : Option Target) → IsBaseO
 base_owned_more n m le None h = tt
 base_owned_more n m le (Some t) h = owned_more n m le t h
 
+catalog_owned_more : (n m : ℕ) → n ≤ m → (c : OpenCatalog) → IsCatalogOwned n c → IsCatalogOwned m c
+catalog_owned_more n m le (catalogs.Variable name) h = tt
+catalog_owned_more n m le (catalogs.Handle x) h = omega arith
+
 in_range_more : (n m : ℕ) → n ≤ m → (c : Command) → IsInRange n c → IsInRange m c
 in_range_more n m le (New variable mask locale base) h = base_owned_more n m le base h
 in_range_more n m le (Dup variable t) h = owned_more n m le t h
@@ -105,6 +116,9 @@ in_range_more n m le (Fetch variable owner cell) h = (omega (arith, h.0), h.1)
 in_range_more n m le (Pins t) h = owned_more n m le t h
 in_range_more n m le (Read read) h = tt
 in_range_more n m le (ReadOf t read) h = owned_more n m le t h
+in_range_more n m le (CatOpen variable name) h = tt
+in_range_more n m le (CatGets catalog set message default) h = catalog_owned_more n m le catalog h
+in_range_more n m le (CatClose catalog) h = catalog_owned_more n m le catalog h
 
 -- commands among some threads are among more, too
 more_threads : (n m rounds : ℕ) → n ≤ m → (ps : List Placed) → All (IsPlaced n rounds) ps → All (IsPlaced m rounds) ps
@@ -120,6 +134,7 @@ kept_with_thread r name lt k = record {
     few_charmaps = k.accepted.few_charmaps;
     few_locales = k.accepted.few_locales;
     few_later = k.accepted.few_later;
+    few_catalogs = k.accepted.few_catalogs;
     few_threads = simp length-append (omega arith);
     some_round = k.accepted.some_round;
     few_rounds = k.accepted.few_rounds;
@@ -127,6 +142,7 @@ kept_with_thread r name lt k = record {
     charmaps = k.accepted.charmaps;
     locales = k.accepted.locales;
     later = k.accepted.later;
+    catalogs = k.accepted.catalogs;
     commands = more_threads (length r.bundle.threads) (length (r.bundle.threads ++ name ∷ [])) r.bundle.rounds (simp length-append (omega arith)) r.bundle.commands k.accepted.commands;
   };
   current = simp length-append (omega arith);
@@ -137,6 +153,7 @@ kept_with_thread r name lt k = record {
   room Charmap h = h
   room Locale h = h
   room (LaterKind key) h = h
+  room CatalogKind h = h
 
   same : (begun : Option Opened) → IsBegun begun r.bundle → IsBegun begun (with_thread r name).bundle
   same None h = tt
@@ -148,6 +165,7 @@ kept_with_round r lt k = record {
     few_charmaps = k.accepted.few_charmaps;
     few_locales = k.accepted.few_locales;
     few_later = k.accepted.few_later;
+    few_catalogs = k.accepted.few_catalogs;
     few_threads = k.accepted.few_threads;
     some_round = omega arith;
     few_rounds = omega arith;
@@ -155,6 +173,7 @@ kept_with_round r lt k = record {
     charmaps = k.accepted.charmaps;
     locales = k.accepted.locales;
     later = k.accepted.later;
+    catalogs = k.accepted.catalogs;
     commands = more_rounds (length r.bundle.threads) r.bundle.rounds (r.bundle.rounds + 1) (omega arith) r.bundle.commands k.accepted.commands;
   };
   current = tt;
@@ -165,6 +184,7 @@ kept_with_round r lt k = record {
   room Charmap h = h
   room Locale h = h
   room (LaterKind key) h = h
+  room CatalogKind h = h
 
   same : (begun : Option Opened) → IsBegun begun r.bundle → IsBegun begun (with_round r).bundle
   same None h = tt
@@ -176,6 +196,7 @@ kept_with_command r t c lt thread in_range k = record {
     few_charmaps = k.accepted.few_charmaps;
     few_locales = k.accepted.few_locales;
     few_later = k.accepted.few_later;
+    few_catalogs = k.accepted.few_catalogs;
     few_threads = k.accepted.few_threads;
     some_round = k.accepted.some_round;
     few_rounds = k.accepted.few_rounds;
@@ -183,6 +204,7 @@ kept_with_command r t c lt thread in_range k = record {
     charmaps = k.accepted.charmaps;
     locales = k.accepted.locales;
     later = k.accepted.later;
+    catalogs = k.accepted.catalogs;
     commands = All-push (IsPlaced (length r.bundle.threads) r.bundle.rounds) r.bundle.commands (record { round = r.bundle.rounds; thread = t; command = c }) k.accepted.commands (record { thread = thread; round = (k.accepted.some_round, omega arith); in_range = in_range });
   };
   current = still r.current k.current;
@@ -197,6 +219,7 @@ kept_with_command r t c lt thread in_range k = record {
   room Charmap h = h
   room Locale h = h
   room (LaterKind key) h = h
+  room CatalogKind h = h
 
   same : (begun : Option Opened) → IsBegun begun r.bundle → IsBegun begun (with_command r t c).bundle
   same None h = tt
@@ -208,6 +231,7 @@ more_charmaps b block a room sized = record {
   few_charmaps = simp length-append (omega arith);
   few_locales = a.few_locales;
   few_later = a.few_later;
+  few_catalogs = a.few_catalogs;
   few_threads = a.few_threads;
   some_round = a.some_round;
   few_rounds = a.few_rounds;
@@ -215,6 +239,7 @@ more_charmaps b block a room sized = record {
   charmaps = All-push IsSized b.charmaps block a.charmaps sized;
   locales = a.locales;
   later = a.later;
+  catalogs = a.catalogs;
   commands = a.commands;
 }
 
@@ -223,6 +248,7 @@ more_locales b block a room sized = record {
   few_charmaps = a.few_charmaps;
   few_locales = simp length-append (omega arith);
   few_later = a.few_later;
+  few_catalogs = a.few_catalogs;
   few_threads = a.few_threads;
   some_round = a.some_round;
   few_rounds = a.few_rounds;
@@ -230,6 +256,7 @@ more_locales b block a room sized = record {
   charmaps = a.charmaps;
   locales = All-push IsSized b.locales block a.locales sized;
   later = a.later;
+  catalogs = a.catalogs;
   commands = a.commands;
 }
 
@@ -238,6 +265,7 @@ more_later b key block a room sized = record {
   few_charmaps = a.few_charmaps;
   few_locales = a.few_locales;
   few_later = simp length-append (omega arith);
+  few_catalogs = a.few_catalogs;
   few_threads = a.few_threads;
   some_round = a.some_round;
   few_rounds = a.few_rounds;
@@ -245,6 +273,24 @@ more_later b key block a room sized = record {
   charmaps = a.charmaps;
   locales = a.locales;
   later = All-push (λ (l : Later). IsSized l.block) b.later (record { key = key; block = block }) a.later sized;
+  catalogs = a.catalogs;
+  commands = a.commands;
+}
+
+more_catalogs : (b : Bundle) (block : Block) → IsAccepted b → HasRoomFor CatalogKind b → IsSized block → IsAccepted (record b { catalogs = b.catalogs ++ block ∷ [] })
+more_catalogs b block a room sized = record {
+  few_charmaps = a.few_charmaps;
+  few_locales = a.few_locales;
+  few_later = a.few_later;
+  few_catalogs = simp length-append (omega arith);
+  few_threads = a.few_threads;
+  some_round = a.some_round;
+  few_rounds = a.few_rounds;
+  few_commands = a.few_commands;
+  charmaps = a.charmaps;
+  locales = a.locales;
+  later = a.later;
+  catalogs = All-push IsSized b.catalogs block a.catalogs sized;
   commands = a.commands;
 }
 
@@ -255,6 +301,8 @@ kept_with_block b None Locale block a h room sized = record { accepted = more_lo
 kept_with_block b (Some t) Locale block a h room sized = record { accepted = more_locales b block a room sized; current = h; begun = tt; size = omega arith }
 kept_with_block b None (LaterKind key) block a h room sized = record { accepted = more_later b key block a room sized; current = tt; begun = tt; size = omega arith }
 kept_with_block b (Some t) (LaterKind key) block a h room sized = record { accepted = more_later b key block a room sized; current = h; begun = tt; size = omega arith }
+kept_with_block b None CatalogKind block a h room sized = record { accepted = more_catalogs b block a room sized; current = tt; begun = tt; size = omega arith }
+kept_with_block b (Some t) CatalogKind block a h room sized = record { accepted = more_catalogs b block a room sized; current = h; begun = tt; size = omega arith }
 
 pub kept_with_line : (b : Bundle) (current : Option ℕ) (o : Opened) (line : List ℕ) → IsAccepted b → IsCurrent current b → HasRoomFor o.kind b → (0 < o.block.first_line) × (o.block.first_line < 2 ^ 31) → IsReading (length o.block.text + length line + 1) (with_line b current o line)
 kept_with_line b current o line a h room first = record { accepted = a; current = h; begun = (room, first.0, first.1); size = simp length-append (omega arith) }

@@ -6,7 +6,7 @@ use Rattle.lc_base.specs.declared.block.Later.{Later}
 use Rattle.lc_base.specs.declared.reason.Reason.TheVariants.{NoEnd}
 use Rattle.lc_base.specs.Lines.{lines_of}
 use Rattle.lc_base.specs.Reading.{Reads, ◌>>=◌}
-use Rattle.script_lang.specs.declared.bundle.TheConstants.{CHARMAP_LIMIT, LOCALE_LIMIT, LATER_LIMIT, ROUND_LIMIT, COMMAND_LIMIT}
+use Rattle.script_lang.specs.declared.bundle.TheConstants.{CHARMAP_LIMIT, LOCALE_LIMIT, LATER_LIMIT, CATALOG_LIMIT, ROUND_LIMIT, COMMAND_LIMIT}
 use Rattle.script_commands.specs.declared.known.TheConstants.{THREAD_LIMIT}
 use Rattle.script_lang.specs.declared.bundle.Bundle.{Bundle}
 use Rattle.script_commands.specs.declared.command.Placed.{Placed}
@@ -52,6 +52,7 @@ pub record IsAccepted (b : Bundle) : Type 0 where
   pub few_charmaps : length b.charmaps ≤ CHARMAP_LIMIT
   pub few_locales : length b.locales ≤ LOCALE_LIMIT
   pub few_later : length b.later ≤ LATER_LIMIT
+  pub few_catalogs : length b.catalogs ≤ CATALOG_LIMIT
   pub few_threads : length b.threads ≤ THREAD_LIMIT
   pub some_round : 0 < b.rounds
   pub few_rounds : b.rounds ≤ ROUND_LIMIT
@@ -59,4 +60,5 @@ pub record IsAccepted (b : Bundle) : Type 0 where
   pub charmaps : All IsSized b.charmaps
   pub locales : All IsSized b.locales
   pub later : All (λ (l : Later). IsSized l.block) b.later
+  pub catalogs : All IsSized b.catalogs
   pub commands : All (IsPlaced (length b.threads) b.rounds) b.commands

@@ -1,9 +1,9 @@
 -- What holds while a bundle is read (our own).
 use Rattle.std.specs.Prelude.{ℕ, ◌<◌, ◌≤◌, ◌^◌, length, Option, Some, None}
-use Rattle.script_lang.specs.declared.bundle.TheConstants.{CHARMAP_LIMIT, LOCALE_LIMIT, LATER_LIMIT}
+use Rattle.script_lang.specs.declared.bundle.TheConstants.{CHARMAP_LIMIT, LOCALE_LIMIT, LATER_LIMIT, CATALOG_LIMIT}
 use Rattle.script_lang.specs.declared.bundle.Bundle.{Bundle}
 use Rattle.script_lang.specs.declared.reading.BlockKind.{BlockKind}
-use Rattle.script_lang.specs.declared.reading.BlockKind.TheVariants.{Charmap, Locale, Later}
+use Rattle.script_lang.specs.declared.reading.BlockKind.TheVariants.{Charmap, Locale, Later, Catalog}
 use Rattle.script_lang.specs.declared.reading.Opened.{Opened}
 use Rattle.script_lang.specs.declared.reading.Reading.{Reading}
 use Rattle.script_lang.specs.Accepted.{IsAccepted}
@@ -13,6 +13,7 @@ abbrev pub HasRoomFor : BlockKind → Bundle → Type 0
 HasRoomFor Charmap b = length b.charmaps < CHARMAP_LIMIT
 HasRoomFor Locale b = length b.locales < LOCALE_LIMIT
 HasRoomFor (Later key) b = length b.later < LATER_LIMIT
+HasRoomFor Catalog b = length b.catalogs < CATALOG_LIMIT
 
 -- the block that was begun has its room, and begins behind a line, at one of 31 bits
 abbrev pub IsBegun : Option Opened → Bundle → Type 0

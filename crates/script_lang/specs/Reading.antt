@@ -1,5 +1,6 @@
 -- What a bundle's lines give, line after line (our own).
 use Rattle.std.specs.Prelude.{ℕ, ◌+◌, ◌==◌, nat_le, Bool, false, not, ◌&&◌, List, [], ◌∷◌, ◌++◌, length, position, codes, Option, Some, None, is_some, option_map, option_and_then, Ok, Err, if◌then◌else◌}
+use Rattle.std.specs.List.{list_any}
 use Rattle.std.specs.Str.{bytes_eq}
 use Rattle.lc_base.specs.declared.block.Block.{Block}
 use Rattle.lc_base.specs.declared.reason.Reason.TheVariants.{BadLine, OverLimit, NameTwice, NoCharmap, NoNative}
@@ -7,7 +8,7 @@ use Rattle.lc_base.specs.declared.reason.LinePart.TheVariants as parts
 use Rattle.lc_base.specs.declared.reason.Limit.TheVariants as limits
 use Rattle.lc_base.specs.Lines.{ended}
 use Rattle.lc_base.specs.Reading.{Reads, ◌>>=◌}
-use Rattle.script_lang.specs.declared.bundle.TheConstants.{CHARMAP_LIMIT, LOCALE_LIMIT, LATER_LIMIT, ROUND_LIMIT, COMMAND_LIMIT}
+use Rattle.script_lang.specs.declared.bundle.TheConstants.{CHARMAP_LIMIT, LOCALE_LIMIT, LATER_LIMIT, CATALOG_LIMIT, ROUND_LIMIT, COMMAND_LIMIT}
 use Rattle.script_commands.specs.declared.known.TheConstants.{THREAD_LIMIT}
 use Rattle.script_lang.specs.declared.bundle.Bundle.{Bundle}
 use Rattle.script_commands.specs.declared.command.Command.{Command}
@@ -20,7 +21,7 @@ use Rattle.script_words.specs.declared.table.Directive.{Directive}
 use Rattle.script_words.specs.declared.table.Directive.TheVariants as directives
 use Rattle.script_commands.specs.Commands.{command, is_over}
 use Rattle.script_commands.specs.Known.{has_block, has_key, lacks_charset, lacks_locale}
-use Rattle.script_words.specs.Names.{is_formed, is_locale_name, is_charmap_name, is_thread_name}
+use Rattle.script_words.specs.Names.{is_formed, is_locale_name, is_part_name, is_charmap_name, is_thread_name}
 use Rattle.script_words.specs.Spans.{Span, start, whole_line, next_word}
 use Rattle.script_words.specs.Tables.{first_named, directives_table}
 
@@ -29,7 +30,7 @@ use Rattle.script_words.specs.Tables.{first_named, directives_table}
 -- before the first line: nothing but the threads that are known, in one round
 abbrev pub at_first : List (List ℕ) → Reading
 at_first threads = record {
-  bundle = record { charmaps = []; locales = []; later = []; native = None; threads = threads; rounds = 1; commands = [] };
+  bundle = record { charmaps = []; locales = []; later = []; catalogs = []; native = None; threads = threads; rounds = 1; commands = [] };
   current = None;
   begun = None;
 }
@@ -83,6 +84,18 @@ later_line known r n s = or_no_directive n (three_words s) >>= λ words.
     if lacks_charset known words.2.bytes then Err (words.2.place, NoCharmap) else
     Ok (with_open r (kinds.Later words.0.bytes) words.1.bytes words.2.bytes n)
 
+-- whether one of the catalogs has this name for this locale
+abbrev pub has_catalog : List Block → List ℕ → List ℕ → Bool
+has_catalog catalogs name locale = list_any (λ (b : Block). bytes_eq b.name name && bytes_eq b.charset locale) catalogs
+
+-- `.catalog NAME LOCALE`: the catalog that catopen opens by NAME where the LC_MESSAGES category has the name LOCALE
+unfoldable pub catalog_line : Option Known → Reading → ℕ → Span → Reads Reading
+catalog_line known r n s = or_no_directive n (two_words s) >>= λ words.
+    if not (is_locale_name words.0.bytes && is_part_name words.1.bytes) then Err (start n, BadLine parts.Directive) else
+    if nat_le CATALOG_LIMIT (length r.bundle.catalogs) then Err (start n, OverLimit limits.Catalogs) else
+    if is_some known && has_catalog r.bundle.catalogs words.0.bytes words.1.bytes then Err (words.0.place, NameTwice) else
+    Ok (with_open r kinds.Catalog words.0.bytes words.1.bytes n)
+
 -- this name is the native locale's
 abbrev pub with_native : Reading → List ℕ → Reading
 with_native r name = record r { bundle = record r.bundle { native = Some name } }
@@ -135,6 +148,7 @@ abbrev pub line_of_directive : Option Known → Reading → ℕ → Directive �
 line_of_directive known r n directives.Charmap s = charmap_line known r n s
 line_of_directive known r n directives.Locale s = locale_line known r n s
 line_of_directive known r n directives.Later s = later_line known r n s
+line_of_directive known r n directives.Catalog s = catalog_line known r n s
 line_of_directive known r n directives.Native s = native_line known r n s
 line_of_directive known r n directives.Thread s = thread_line r n s
 line_of_directive known r n directives.Round s = round_line r n s
@@ -183,6 +197,7 @@ abbrev pub more_blocks : Bundle → BlockKind → Block → Bundle
 more_blocks b kinds.Charmap block = record b { charmaps = b.charmaps ++ block ∷ [] }
 more_blocks b kinds.Locale block = record b { locales = b.locales ++ block ∷ [] }
 more_blocks b (kinds.Later key) block = record b { later = b.later ++ (record { key = key; block = block }) ∷ [] }
+more_blocks b kinds.Catalog block = record b { catalogs = b.catalogs ++ block ∷ [] }
 
 -- a block that is closed
 abbrev pub with_block : Bundle → Option ℕ → BlockKind → Block → Reading

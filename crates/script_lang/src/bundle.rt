@@ -14,13 +14,16 @@ pub const LOCALE_LIMIT: usize = 64;
 /// The most later versions of locales in a bundle.
 pub const LATER_LIMIT: usize = 64;
 
+/// The most message catalogs of a bundle.
+pub const CATALOG_LIMIT: usize = 64;
+
 /// The most rounds of a bundle.
 pub const ROUND_LIMIT: u32 = 64;
 
 /// The most commands of a bundle.
 pub const COMMAND_LIMIT: usize = 20000;
 
-/// A bundle: charmaps, locale sources, and a script for threads.
+/// A bundle: charmaps, locale sources, message catalogs, and a script for threads.
 #[derive(Debug, Drop)]
 pub struct Bundle {
     /// The charmaps, in order.
@@ -29,6 +32,9 @@ pub struct Bundle {
     pub locales: List<Block>,
     /// The later versions of locales, in order.
     pub later: List<Later>,
+    /// The message catalogs, in order; in `charset` stands the name that the `LC_MESSAGES` category
+    /// of an object has which they are opened by.
+    pub catalogs: List<Block>,
     /// The name of the locale that an empty name means.
     pub native: Option<ByteText>,
     /// The names of the threads, by their numbers.

@@ -6,14 +6,14 @@ ghost use Rattle.lc_base.specs.declared.fault.TextFault.TheVariants.{At};
 ghost use Rattle.lc_base.specs.declared.reason.Reason.TheVariants.{BadLine};
 ghost use Rattle.lc_base.specs.declared.reason.LinePart.TheVariants.{Directive as DirectivePart};
 ghost use Rattle.lc_base.specs.Reading.{Gives};
-ghost use Rattle.script_lang.specs.declared.reading.BlockKind.TheVariants.{Charmap as CharmapKind, Locale as LocaleKind, Later as LaterKind};
+ghost use Rattle.script_lang.specs.declared.reading.BlockKind.TheVariants.{Charmap as CharmapKind, Locale as LocaleKind, Later as LaterKind, Catalog as CatalogKind};
 ghost use Rattle.script_lang.specs.Kept.{IsReading};
 ghost use Rattle.script_commands.specs.Known.{has_block, has_key};
-ghost use Rattle.script_words.specs.Names.{is_formed, is_locale_name};
+ghost use Rattle.script_words.specs.Names.{is_formed, is_locale_name, is_part_name};
 ghost use Rattle.script_words.specs.Spans.{start, span, spans, whole_line};
-ghost use Rattle.script_lang.specs.Reading.{one_word, two_words, three_words, with_open, with_native, with_thread, with_round, charmap_line, locale_line, later_line, native_line, new_thread, thread_named, thread_line, round_line, line_of_directive, directive_line};
+ghost use Rattle.script_lang.specs.Reading.{one_word, two_words, three_words, has_catalog, with_open, with_native, with_thread, with_round, charmap_line, locale_line, later_line, catalog_line, native_line, new_thread, thread_named, thread_line, round_line, line_of_directive, directive_line};
 
-use crate::bundle::{CHARMAP_LIMIT, LATER_LIMIT, LOCALE_LIMIT, ROUND_LIMIT};
+use crate::bundle::{CATALOG_LIMIT, CHARMAP_LIMIT, LATER_LIMIT, LOCALE_LIMIT, ROUND_LIMIT};
 use crate::reading::{BlockKind, Reading};
 use crate::steps::{with_current, with_native, with_open, with_round, with_thread};
 use lc_base::{Block, ByteText, Later, Limit, LinePart, List, Place, Reason, TextFault};
@@ -21,7 +21,8 @@ use script_commands::{
     Known, THREAD_LIMIT, has_block, has_key, is_over, lacks_charset, lacks_locale,
 };
 use script_words::{
-    Directive, Piece, directive_named, is_charmap_name, is_formed, is_locale_name, is_thread_name,
+    Directive, Piece, directive_named, is_charmap_name, is_formed, is_locale_name, is_part_name,
+    is_thread_name,
 };
 use std::alloc::Global;
 
@@ -57,6 +58,28 @@ fn is_key_taken(known: Option<&Known>, later: &List<Later>, key: &[u8]) -> bool
     ensures { result ≡ (is_some (option_copied known.entry) && has_key later.now key.now) }
 {
     known.is_some() && has_key(later, key)
+}
+
+/// Whether one of the catalogs has this name for this locale.
+fn has_catalog(catalogs: &List<Block>, name: &[u8], locale: &[u8]) -> bool
+    ensures { result ≡ has_catalog catalogs.now name.now locale.now }
+{
+    catalogs.as_slice().iter().any(|block| block.name.as_bytes() == name
+        && block.charset.as_bytes() == locale)
+}
+
+/// Whether a catalog has this name for this locale already, where names are looked for.
+fn is_pair_taken(known: Option<&Known>, catalogs: &List<Block>, name: &[u8], locale: &[u8]) -> bool
+    ensures { result ≡ (is_some (option_copied known.entry) && has_catalog catalogs.now name.now locale.now) }
+{
+    known.is_some() && has_catalog(catalogs, name, locale)
+}
+
+/// Whether these can name a catalog and its locale.
+fn are_catalog_words(name: &[u8], locale: &[u8]) -> bool
+    ensures { result ≡ (is_locale_name name.now && is_part_name locale.now) }
+{
+    is_locale_name(name) && is_part_name(locale)
 }
 
 /// Whether these can name a locale and its charset.
@@ -250,6 +273,57 @@ fn later_line(
     Ok(with_open(alloc, reading, kind, name.bytes, charset.bytes, number)?)
 }
 
+/// The words of `.catalog NAME LOCALE`, where its block may begin.
+#[tactic(auto, unfolding(crate::specs::Reading::catalog_line))]
+fn catalog_words<'a>(
+    known: Option<&Known>,
+    reading: &Reading,
+    number: u32,
+    rest: Piece<'a>,
+) -> Result<(Piece<'a>, Piece<'a>), TextFault>
+    ensures is { Gives (λ words. with_open reading.now CatalogKind words.0.bytes.now words.1.bytes.now number) result (catalog_line (option_copied known.entry) reading.now number (span rest.entry)) }
+    ensures room { IfOk result (λ words. length reading.now.bundle.catalogs < CATALOG_LIMIT) }
+    ensures some { IfOk result (λ words. 0 < length rest.entry.bytes.now) }
+{
+    let Some((name, locale)) = two_words(rest) else {
+        return Err(wrong_directive(number));
+    };
+    if !are_catalog_words(name.bytes, locale.bytes) {
+        return Err(wrong_directive(number));
+    }
+    if reading.bundle.catalogs.len() >= CATALOG_LIMIT {
+        return Err(at_start(number, Reason::OverLimit(Limit::Catalogs)));
+    }
+    if is_pair_taken(known, &reading.bundle.catalogs, name.bytes, locale.bytes) {
+        return Err(TextFault::At(name.place, Reason::NameTwice));
+    }
+    Ok((name, locale))
+}
+
+/// `.catalog NAME LOCALE`.
+fn catalog_line(
+    alloc: Global,
+    known: Option<&Known>,
+    reading: Reading,
+    number: u32,
+    rest: Piece<'_>,
+) -> Result<Reading, TextFault>
+    requires number { number + length rest.bytes.now < 2 ^ 31 }
+    requires kept { IsReading 0 reading }
+    ensures is { Gives (λ r. r) result (catalog_line (option_copied known.entry) reading number (span rest.entry)) }
+    ensures kept { IfOk result (IsReading 0) }
+{
+    let (name, locale) = catalog_words(known, &reading, number, rest)?;
+    Ok(with_open(
+        alloc,
+        reading,
+        BlockKind::Catalog,
+        name.bytes,
+        locale.bytes,
+        number,
+    )?)
+}
+
 /// The name in `.native NAME`, where it may be the native locale's.
 #[tactic(auto, unfolding(crate::specs::Reading::native_line))]
 fn native_word<'a>(
@@ -398,6 +472,7 @@ fn line_of_directive(
         Directive::Charmap => charmap_line(alloc, known, reading, number, rest),
         Directive::Locale => locale_line(alloc, known, reading, number, rest),
         Directive::Later => later_line(alloc, known, reading, number, rest),
+        Directive::Catalog => catalog_line(alloc, known, reading, number, rest),
         Directive::Native => native_line(alloc, known, reading, number, rest),
         Directive::Thread => thread_line(alloc, reading, number, rest),
         Directive::Round => round_line(reading, number, rest),

@@ -7,4 +7,6 @@ mod lines;
 mod reading;
 mod steps;
 
-pub use bundle::{Bundle, CHARMAP_LIMIT, COMMAND_LIMIT, LATER_LIMIT, LOCALE_LIMIT, ROUND_LIMIT};
+pub use bundle::{
+    Bundle, CATALOG_LIMIT, CHARMAP_LIMIT, COMMAND_LIMIT, LATER_LIMIT, LOCALE_LIMIT, ROUND_LIMIT,
+};

@@ -104,6 +104,7 @@ fn more_blocks(bundle: Bundle, kind: BlockKind, block: Block) -> Result<Bundle, 
         BlockKind::Charmap => bundle.charmaps = with_value(bundle.charmaps, block)?,
         BlockKind::Locale => bundle.locales = with_value(bundle.locales, block)?,
         BlockKind::Later(key) => bundle.later = with_value(bundle.later, Later { key, block })?,
+        BlockKind::Catalog => bundle.catalogs = with_value(bundle.catalogs, block)?,
     }
     Ok(bundle)
 }
@@ -301,6 +302,7 @@ pub fn known_of(bundle: Bundle) -> (Known, List<ByteText>)
         charmaps,
         locales,
         later,
+        catalogs: _,
         native: _,
         threads,
         rounds: _,

@@ -10,6 +10,7 @@ pub enum BlockKind {
     Locale,
     /// A later version of a locale, with its key.
     Later(ByteText),
+    Catalog,
 }
 
 /// A block whose end was not read yet.

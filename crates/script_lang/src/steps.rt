@@ -32,6 +32,7 @@ pub fn at_first(alloc: Global, threads: List<ByteText>) -> Reading
             charmaps: List::of(Vec::new(alloc)),
             locales: List::of(Vec::new(alloc)),
             later: List::of(Vec::new(alloc)),
+            catalogs: List::of(Vec::new(alloc)),
             native: None,
             threads,
             rounds: 1,

@@ -12,7 +12,7 @@ use Rattle.std.proofs.lemmas.Map.Text.{is_eq-slice_cmp}
 use Rattle.std.proofs.lemmas.Slice.Eq.{bytes_eq-Decides}
 use Rattle.std.proofs.lemmas.Cmp.{nat_list_eq_equiv}
 use Rattle.handle_table.specs.declared.handle.Handle.{Handle}
-use Rattle.script_lines.specs.Variables.{bound, binding_of}
+use Rattle.script_lines.specs.Variables.{bound_name, binding_of}
 
 abbrev name_cmp : {A : Type 0} → List ℕ → Vec ℕ A → Ordering
 name_cmp name key = slice_cmp nat_cmp name key.items
@@ -69,7 +69,7 @@ eq_sym : (xs ys : List ℕ) → bytes_eq xs ys ≡ bytes_eq ys xs
 eq_sym xs ys = nat_list_eq_equiv.symm xs ys
 
 -- what a map has for a name is what its entries bind it to
-pub bound_lookup : {A : Type 0} (name : List ℕ) (es : List (Vec ℕ A × Handle)) → lookup (is_at (name_cmp name)) es ≡ bound (map binding_of es) name
+pub bound_lookup : {A : Type 0} (name : List ℕ) (es : List (Vec ℕ A × Handle)) → lookup (is_at (name_cmp name)) es ≡ bound_name (map binding_of es) name
 bound_lookup name [] = refl
 bound_lookup {A} name (e ∷ es) =
     ap (λ (b : Bool). cond b (Some e.1) (lookup (is_at (name_cmp name)) es)) (is_eq-slice_cmp name e.0.items ∙ eq_sym name e.0.items)
@@ -78,9 +78,9 @@ bound_lookup {A} name (e ∷ es) =
 -- one more binding
 pub bound_insert : {A : Type 0} (key : Vec ℕ A) (variable : List ℕ) (h : Handle) (es after : List (Vec ℕ A × Handle))
     → key.items ≡ variable → after ≡ insert_entry key_cmp es key h
-    → (name : List ℕ) → bound (map binding_of after) name ≡ bound ((variable, h) ∷ map binding_of es) name
+    → (name : List ℕ) → bound_name (map binding_of after) name ≡ bound_name ((variable, h) ∷ map binding_of es) name
 bound_insert {A} key variable h es after own grown name =
-    ap (λ (xs : List (Vec ℕ A × Handle)). bound (map binding_of xs) name) grown
+    ap (λ (xs : List (Vec ℕ A × Handle)). bound_name (map binding_of xs) name) grown
     ∙ sym (bound_lookup name (insert_entry key_cmp es key h))
     ∙ lookup_insert name key h es
     ∙ ap (λ (bs : List ℕ). cond (bytes_eq name bs) (Some h) (lookup (is_at (name_cmp name)) es)) own

@@ -5,6 +5,7 @@ use Rattle.lc_base.specs.declared.category.Category.{Category}
 use Rattle.mask_compose.specs.Offer.{Offered}
 use Rattle.category_store.specs.Catalog.{Catalog}
 use Rattle.category_store.specs.Library.{numbers, opening, later}
+use Rattle.handle_table.specs.declared.handle.Handle.{Handle}
 use Rattle.handle_table.specs.declared.handle.Named.{Named}
 use Rattle.handle_table.specs.Entry as table
 use Rattle.handle_table.specs.Entry.{Setting}
@@ -13,6 +14,8 @@ use Rattle.script_words.specs.declared.categories.Categories.{Categories}
 use Rattle.script_words.specs.declared.categories.Categories.TheVariants as categories
 use Rattle.script_commands.specs.declared.command.Command.{Command}
 use Rattle.script_commands.specs.declared.command.Command.TheVariants as commands
+use Rattle.script_commands.specs.declared.command.OpenCatalog.{OpenCatalog}
+use Rattle.script_commands.specs.declared.command.OpenCatalog.TheVariants as open_catalogs
 use Rattle.script_commands.specs.declared.command.Target.{Target}
 use Rattle.script_commands.specs.declared.command.Target.TheVariants as targets
 use Rattle.script_out.specs.declared.output.Why.{Why}
@@ -21,18 +24,22 @@ use Rattle.category_store.specs.Shelf.{AreOnShelf, IsNumbered, IsInstallable}
 use Rattle.script_lines.specs.Board.{Fitting, TaskMay}
 use Rattle.script_lines.specs.Seen.{TaskFits}
 use Rattle.script_lines.specs.Turns.{Task, Runs, Releases, Ends}
-use Rattle.script_lines.specs.Variables.{Bindings, bound}
-use Rattle.script_lines.specs.Wishes.{Asks, ReadsOf, ◌>>=◌, handle_or_unset, named, base_named, mask_of, named_numbers, numbers_or_no_data, new_op, set_op, categories_mask, setlocale_op, install_of, install_op, op_on, called, wish, wish_of}
+use Rattle.script_lines.specs.Variables.{Variable, Bindings, bound, locale_variable, catalog_variable}
+use Rattle.script_lines.specs.Wishes.{Asks, Wish, ReadsOf, GetsMessage, ClosesCatalog, ◌>>=◌, handle_or_unset, catalog_or_unset, catalog_named, named, base_named, mask_of, named_numbers, numbers_or_no_data, new_op, set_op, categories_mask, setlocale_op, install_of, install_op, op_on, called, wish, wish_of}
 
 -- ---- a wish depends on what variables stand for alone
 
 abbrev Same : Bindings → Bindings → Type 0
-Same b d = (variable : List ℕ) → bound b variable ≡ bound d variable
+Same b d = (variable : Variable) → bound b variable ≡ bound d variable
 
 named_same : (b d : Bindings) (target : Target) → Same b d → named b target ≡ named d target
 named_same b d targets.Global same = refl
-named_same b d (targets.Variable variable) same = ap handle_or_unset (same variable)
+named_same b d (targets.Variable variable) same = ap handle_or_unset (same (locale_variable variable))
 named_same b d (targets.Handle h) same = refl
+
+catalog_same : (b d : Bindings) (catalog : OpenCatalog) → Same b d → catalog_named b catalog ≡ catalog_named d catalog
+catalog_same b d (open_catalogs.Variable variable) same = ap catalog_or_unset (same (catalog_variable variable))
+catalog_same b d (open_catalogs.Handle h) same = refl
 
 base_same : (b d : Bindings) (base : Option Target) → Same b d → base_named b base ≡ base_named d base
 base_same b d None same = refl
@@ -58,6 +65,10 @@ command_same library b d (commands.Fetch variable owner cell) same = refl
 command_same library b d (commands.Pins target) same = on_same b d table.Pins target same
 command_same library b d (commands.Read read) same = refl
 command_same library b d (commands.ReadOf target read) same = ap (λ (r : Result Named Why). r >>= λ n. Ok (ReadsOf n read)) (named_same b d target same)
+command_same library b d (commands.CatOpen variable name) same = refl
+command_same library b d (commands.CatGets catalog set message default) same =
+    ap (λ (r : Result Handle Why). r >>= λ h. Ok (GetsMessage h set message default)) (catalog_same b d catalog same)
+command_same library b d (commands.CatClose catalog) same = ap (λ (r : Result Handle Why). r >>= λ h. Ok (ClosesCatalog h)) (catalog_same b d catalog same)
 
 pub wish_same : (library : Catalog) (b d : Bindings) (task : Task) → Same b d → wish_of library b task ≡ wish_of library d task
 wish_same library b d (Runs command) same = command_same library b d command same
@@ -110,6 +121,11 @@ version_may c may admits library None own within = tt
 version_may c may admits library (Some version) own within =
     admits (table.Install version.0 version.1) (within.0, subst (λ (offers : List Offered). version.0 < length offers) (sym own) within.1) (λ e. absurd (cc e))
 
+-- what is asked of the catalogs is no op of the table
+catalog_may : (may : table.Op → Type 0) (r : Result Handle Why) (f : Handle → Wish) → ((h : Handle) → Fitting may (f h)) → IfOk (r >>= λ h. Ok (f h)) (Fitting may)
+catalog_may may (Ok h) f fits = fits h
+catalog_may may (Err why) f fits = tt
+
 pub command_may : (c : Setting) (may : table.Op → Type 0) → Admits c may → (library : Catalog) (b : Bindings) (command : Command) → IsNumbered library → IsInstallable library → c.opening ≡ opening library → IsInRange c.threads command → IfOk (wish library b command) (Fitting may)
 command_may c may admits library b (commands.New variable bits locale base) numbered installable own range = call_may may categories.All (new_op library b bits locale base) (new_may c may admits library b bits locale base numbered own)
 command_may c may admits library b (commands.Dup variable from) numbered installable own range = on_may may table.Dup (named b from) (λ n. admits (table.Dup n) tt (λ e. absurd (cc e)))
@@ -127,6 +143,10 @@ command_may c may admits library b (commands.Pins target) numbered installable o
 command_may c may admits library b (commands.Read read) numbered installable own range = tt
 command_may c may admits library b (commands.ReadOf target read) numbered installable own range =
     after_step (Fitting may) (named b target) (λ n. Ok (ReadsOf n read)) (λ n e. (admits (table.Hold n) tt (λ h. absurd (cc h)), admits (table.Release n) tt (λ r. absurd (cc r))))
+command_may c may admits library b (commands.CatOpen variable name) numbered installable own range = tt
+command_may c may admits library b (commands.CatGets catalog set message default) numbered installable own range =
+    catalog_may may (catalog_named b catalog) (λ h. GetsMessage h set message default) (λ h. tt)
+command_may c may admits library b (commands.CatClose catalog) numbered installable own range = catalog_may may (catalog_named b catalog) ClosesCatalog (λ h. tt)
 
 -- a table that its runner has alone answers whatever fits
 pub task_fits : (c : Setting) (library : Catalog) (task : Task) → IsNumbered library → IsInstallable library → c.opening ≡ opening library → TaskFits c.threads task → TaskMay library (Fits c) task

@@ -1,8 +1,11 @@
 -- What a line of a thread is, where others may have called since the thread's last call (our own).
--- The history that the thread has seen, and what the history may have become before its next call, are given. Where nobody else
--- calls they are the same, and the lines are those of `serial`.
-use Rattle.std.specs.Prelude.{◌≡◌, ℕ, ◌+◌, List, length, Option, Some, None, Result, Ok, Err, IfOk}
+-- The history that the thread has seen, and what the history may have become before its next call, are given, of the table and of
+-- the catalogs. Where nobody else calls they are the same, and the lines are those of `serial`.
+use Rattle.std.specs.Prelude.{◌≡◌, ℕ, ◌+◌, List, ◌∷◌, length, Option, Some, None, Result, Ok, Err, IfOk}
 use Rattle.mask_compose.specs.Parts.{Parts}
+use Rattle.catalog_table.specs.declared.setting.CatalogSetting.{CatalogSetting}
+use Rattle.catalog_table.specs.Entry as catalogs
+use Rattle.catalog_table.specs.Answer as catalog_answers
 use Rattle.category_store.specs.Catalog.{Catalog}
 use Rattle.handle_table.specs.declared.handle.Named.{Named}
 use Rattle.handle_table.specs.Entry as table
@@ -18,8 +21,9 @@ use Rattle.script_out.specs.declared.output.Said.TheVariants as said
 use Rattle.script_lines.specs.Holds.{object_held, open_holds, held_as}
 use Rattle.script_lines.specs.Turns.{Task, Turn}
 use Rattle.script_lines.specs.Variables.{Bindings, Bound, bindings_of}
-use Rattle.script_lines.specs.Wishes.{Wish, Calls, ReadsOf, Reads, AsksSelection, AsksName, wish_of}
+use Rattle.script_lines.specs.Wishes.{Wish, Calls, ReadsOf, Reads, AsksSelection, AsksName, OpensCatalog, GetsMessage, ClosesCatalog, wish_of}
 use Rattle.script_lines.specs.Lines.{Caller, told_line, object_line, held_line}
+use Rattle.script_lines.specs.Catalogs.{Books, Asked, not_asked, book_for, catalog_setting, object_used, catalog_op_by, open_line, message_line, close_line}
 use Rattle.script_lines.specs.Outcome.{Outcome, tells, with_call, calls, read_line, name_line}
 
 -- ---- the calls that are answered
@@ -41,22 +45,34 @@ pub record Finds (c : Setting) (later : History → History → Type 0) (at : Hi
   pub object_is : object ≡ global c before
   pub now_at : at before
 
+-- What a call of the catalogs leaves of a thread that had seen their history M, as above
+pub record AnswersCatalog (c : CatalogSetting) (later : catalogs.History → catalogs.History → Type 0) (at : catalogs.History → Type 0) (thread : ℕ) (M : catalogs.History) (op : catalogs.Op) (place : ℕ) (reply : catalogs.Reply) : Type 0 where
+  pub before : catalogs.History
+  pub is_later : later before M
+  pub place_is : place ≡ length before
+  pub reply_is : reply ≡ catalog_answers.answer c before thread op
+  pub now_at : at (catalog_answers.entry c before thread op ∷ before)
+
 -- ---- the histories that a line goes by
 
 -- what its thread had seen, what stood before its first call or at its read of the global locale, and what stood before the
--- Release of a read between
+-- Release of a read between; and what the catalogs have answered
 pub record Moments : Type 0 where
   pub seen : History
   pub first : History
   pub second : History
+  pub asked : Asked
 
 -- the moments of a line where nobody else calls
-abbrev pub moments_alone : Setting → ℕ → History → Wish → Moments
-moments_alone c thread H (ReadsOf n read) = record { seen = H; first = H; second = with_call c H thread (table.Hold n) }
-moments_alone c thread H (Calls categories op) = record { seen = H; first = H; second = H }
-moments_alone c thread H (Reads read) = record { seen = H; first = H; second = H }
-moments_alone c thread H AsksSelection = record { seen = H; first = H; second = H }
-moments_alone c thread H (AsksName categories) = record { seen = H; first = H; second = H }
+abbrev pub moments_alone : Setting → ℕ → History → Asked → Wish → Moments
+moments_alone c thread H asked (ReadsOf n read) = record { seen = H; first = H; second = with_call c H thread (table.Hold n); asked = asked }
+moments_alone c thread H asked (Calls categories op) = record { seen = H; first = H; second = H; asked = asked }
+moments_alone c thread H asked (Reads read) = record { seen = H; first = H; second = H; asked = asked }
+moments_alone c thread H asked AsksSelection = record { seen = H; first = H; second = H; asked = asked }
+moments_alone c thread H asked (AsksName categories) = record { seen = H; first = H; second = H; asked = asked }
+moments_alone c thread H asked (OpensCatalog name) = record { seen = H; first = H; second = H; asked = asked }
+moments_alone c thread H asked (GetsMessage h set message default) = record { seen = H; first = H; second = H; asked = asked }
+moments_alone c thread H asked (ClosesCatalog h) = record { seen = H; first = H; second = H; asked = asked }
 
 -- ---- what a wish leaves
 
@@ -85,14 +101,26 @@ reads c library m at read None = tells m.first (read_line c library m.first at r
 abbrev pub asks_name : Setting → Catalog → Moments → Caller → Categories → Outcome
 asks_name c library m at categories = tells m.first (name_line c library m.first at categories)
 
+-- what a wish asks of the catalogs: a catopen goes by the thread's own object, or by the global locale
+abbrev pub catalog_op : Setting → Catalog → Books → Moments → ℕ → Result Wish Why → Option catalogs.Op
+catalog_op c library books m thread wish = catalog_op_by library books (object_used (own m.seen thread) (global c m.first)) wish
+
+-- a catopen by the thread's own object, or by the global locale with its version
+abbrev pub opens : Setting → Catalog → Books → Moments → Caller → List ℕ → Option Parts → Outcome
+opens c library books m at name (Some object) = tells m.seen (open_line at None m.asked (book_for library books object name))
+opens c library books m at name None = tells m.first (open_line at (Some (sets m.first)) m.asked (book_for library books (global c m.first) name))
+
 -- what a wish leaves: a thread's selection, its own object and its Holds are those that it had seen
-abbrev pub granted_at : Setting → Catalog → Moments → Caller → Result Wish Why → Outcome
-granted_at c library m at (Err why) = tells m.seen (told_line at (said.Refused why))
-granted_at c library m at (Ok (Calls categories op)) = calls c library m.first at categories op
-granted_at c library m at (Ok (ReadsOf n read)) = reads_of c library m at n read (held_as (open_holds m.seen at.thread) n)
-granted_at c library m at (Ok (Reads read)) = reads c library m at read (own m.seen at.thread)
-granted_at c library m at (Ok AsksSelection) = tells m.seen (told_line at (said.Is (selection m.seen at.thread)))
-granted_at c library m at (Ok (AsksName categories)) = asks_name c library m at categories
+abbrev pub granted_at : Setting → Catalog → Books → Moments → Caller → Result Wish Why → Outcome
+granted_at c library books m at (Err why) = tells m.seen (told_line at (said.Refused why))
+granted_at c library books m at (Ok (Calls categories op)) = calls c library m.first at categories op
+granted_at c library books m at (Ok (ReadsOf n read)) = reads_of c library m at n read (held_as (open_holds m.seen at.thread) n)
+granted_at c library books m at (Ok (Reads read)) = reads c library m at read (own m.seen at.thread)
+granted_at c library books m at (Ok AsksSelection) = tells m.seen (told_line at (said.Is (selection m.seen at.thread)))
+granted_at c library books m at (Ok (AsksName categories)) = asks_name c library m at categories
+granted_at c library books m at (Ok (OpensCatalog name)) = opens c library books m at name (own m.seen at.thread)
+granted_at c library books m at (Ok (GetsMessage h set message default)) = tells m.seen (message_line books at set message default m.asked)
+granted_at c library books m at (Ok (ClosesCatalog h)) = tells m.seen (close_line at m.asked)
 
 -- the moments of a line of a thread that had seen H: each history may have come of the one that the thread was at before
 pub record AreMoments (c : Setting) (later : History → History → Type 0) (thread : ℕ) (H : History) (m : Moments) : Type 0 where
@@ -111,6 +139,9 @@ AreMomentsOf c later thread H (Ok (Calls categories op)) m = AreMoments c later 
 AreMomentsOf c later thread H (Ok (Reads read)) m = AreMoments c later thread H m
 AreMomentsOf c later thread H (Ok AsksSelection) m = AreMoments c later thread H m
 AreMomentsOf c later thread H (Ok (AsksName categories)) m = AreMoments c later thread H m
+AreMomentsOf c later thread H (Ok (OpensCatalog name)) m = AreMoments c later thread H m
+AreMomentsOf c later thread H (Ok (GetsMessage h set message default)) m = AreMoments c later thread H m
+AreMomentsOf c later thread H (Ok (ClosesCatalog h)) m = AreMoments c later thread H m
 AreMomentsOf c later thread H (Err why) m = AreMoments c later thread H m
 
 -- ---- what a function of one line leaves
@@ -120,21 +151,40 @@ pub record Left (at : History → Type 0) (done : Outcome) (l : OutLine) : Type 
   pub line : l ≡ done.line
   pub now_at : at done.history
 
-abbrev pub Leaves : Setting → Catalog → (History → History → Type 0) → (History → Type 0) → History → Caller → Result Wish Why → OutLine → Type 0
-Leaves c library later at H caller wish l = (m : Moments) × AreMomentsOf c later caller.thread H wish m × Left at (granted_at c library m caller wish) l
+-- the thread is at the catalogs' history that it was at, where it asked nothing of them; else they have answered it
+abbrev pub LeftCatalogs : CatalogSetting → (catalogs.History → catalogs.History → Type 0) → (catalogs.History → Type 0) → ℕ → catalogs.History → Option catalogs.Op → Asked → Type 0
+LeftCatalogs c later at thread M None asked = at M
+LeftCatalogs c later at thread M (Some op) asked = AnswersCatalog c later at thread M op asked.place asked.reply
+
+-- what they have answered to an op, if there is one, by which the line is this one
+abbrev pub LeavesAsked : CatalogSetting → (catalogs.History → catalogs.History → Type 0) → (catalogs.History → Type 0) → ℕ → catalogs.History → Option catalogs.Op → (Asked → OutLine) → OutLine → Type 0
+LeavesAsked c later at thread M op printed l = (asked : Asked) × (l ≡ printed asked) × LeftCatalogs c later at thread M op asked
+
+-- moments by which the line is that of the wish, and the thread has gone on in the history of the table
+abbrev pub LeavesLine : Setting → Catalog → Books → (History → History → Type 0) → (History → Type 0) → History → Caller → Result Wish Why → OutLine → Type 0
+LeavesLine c library books later at H caller wish l =
+    (m : Moments) × AreMomentsOf c later caller.thread H wish m × Left at (granted_at c library books m caller wish) l
 
 -- the same of a read of what is named, of which the thread has no open Hold
 abbrev pub LeavesReadBetween : Setting → Catalog → (History → History → Type 0) → (History → Type 0) → History → Caller → Named → Read → OutLine → Type 0
 LeavesReadBetween c library later at H caller n read l =
     (m : Moments) × AreMomentsBetween c later caller.thread H n m × Left at (held_or_refused c library m caller n read) l
 
+-- moments by which the line is that of the wish, and the thread has gone on in the history of the table and in that of the catalogs
+abbrev pub Leaves : Setting → Catalog → Books → (History → History → Type 0) → (catalogs.History → catalogs.History → Type 0) → (History → Type 0) → (catalogs.History → Type 0)
+    → History → catalogs.History → Caller → Result Wish Why → OutLine → Type 0
+Leaves c library books later catalogs_later at catalogs_at H M caller wish l =
+    (m : Moments) × AreMomentsOf c later caller.thread H wish m × Left at (granted_at c library books m caller wish) l
+    × LeftCatalogs (catalog_setting c) catalogs_later catalogs_at caller.thread M (catalog_op c library books m caller.thread wish) m.asked
+
 -- the same of a turn of a thread that has so many lines, where these bindings hold
 abbrev pub turn_caller : ℕ → Turn → Caller
 turn_caller lines turn = record { round = turn.round; thread = turn.thread; index = lines + 1 }
 
-abbrev pub LeavesTurn : Setting → Catalog → (History → History → Type 0) → (History → Type 0) → History → List Bound → ℕ → Turn → OutLine → Type 0
-LeavesTurn c library later at H bounds lines turn l =
-    Leaves c library later at H (turn_caller lines turn) (wish_of library (bindings_of turn.thread bounds) turn.task) l
+abbrev pub LeavesTurn : Setting → Catalog → Books → (History → History → Type 0) → (catalogs.History → catalogs.History → Type 0) → (History → Type 0) → (catalogs.History → Type 0)
+    → History → catalogs.History → List Bound → ℕ → Turn → OutLine → Type 0
+LeavesTurn c library books later catalogs_later at catalogs_at H M bounds lines turn l =
+    Leaves c library books later catalogs_later at catalogs_at H M (turn_caller lines turn) (wish_of library (bindings_of turn.thread bounds) turn.task) l
 
 -- ---- ops that may be asked for
 
@@ -145,6 +195,9 @@ Fitting may (ReadsOf n read) = may (table.Hold n) × may (table.Release n)
 Fitting may (Reads read) = Unit {0}
 Fitting may AsksSelection = Unit {0}
 Fitting may (AsksName categories) = Unit {0}
+Fitting may (OpensCatalog name) = Unit {0}
+Fitting may (GetsMessage h set message default) = Unit {0}
+Fitting may (ClosesCatalog h) = Unit {0}
 
 -- what a task asks for, whatever its variables stand for, is such
 abbrev pub TaskMay : Catalog → (table.Op → Type 0) → Task → Type 0

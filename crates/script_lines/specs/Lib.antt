@@ -5,6 +5,7 @@ pub mod Turns
 pub mod Variables
 pub mod Wishes
 pub mod Lines
+pub mod Catalogs
 pub mod Outcome
 pub mod Thread
 pub mod Board

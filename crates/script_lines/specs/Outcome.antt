@@ -1,5 +1,5 @@
--- What a line of a thread is, by the history of the calls of a table that nobody else calls meanwhile (our own).
-use Rattle.std.specs.Prelude.{ℕ, ◌∷◌, length, Option, Some, None, Result, Ok, Err}
+-- What a line of a thread is, by the histories of the calls of a table and of catalogs that nobody else calls meanwhile (our own).
+use Rattle.std.specs.Prelude.{ℕ, List, ◌∷◌, length, Option, Some, None, Result, Ok, Err}
 use Rattle.mask_compose.specs.Parts.{Parts}
 use Rattle.category_store.specs.Catalog.{Catalog}
 use Rattle.handle_table.specs.declared.handle.Named.{Named}
@@ -7,6 +7,7 @@ use Rattle.handle_table.specs.Entry as table
 use Rattle.handle_table.specs.Entry.{History, Setting}
 use Rattle.handle_table.specs.History.{sets, global, selection}
 use Rattle.handle_table.specs.Answer.{answer, entry, own}
+use Rattle.catalog_table.specs.Entry as catalogs
 use Rattle.script_commands.specs.declared.command.Read.{Read}
 use Rattle.script_words.specs.declared.categories.Categories.{Categories}
 use Rattle.script_words.specs.declared.categories.Categories.TheVariants.{All}
@@ -14,10 +15,11 @@ use Rattle.script_out.specs.declared.output.OutLine.{OutLine}
 use Rattle.script_out.specs.declared.output.Why.{Why}
 use Rattle.script_out.specs.declared.output.Said.TheVariants as said
 use Rattle.script_lines.specs.Holds.{object_held, open_holds, held_as}
-use Rattle.script_lines.specs.Wishes.{Wish, Calls, ReadsOf, Reads, AsksSelection, AsksName}
+use Rattle.script_lines.specs.Wishes.{Wish, Calls, ReadsOf, Reads, AsksSelection, AsksName, OpensCatalog, GetsMessage, ClosesCatalog}
 use Rattle.script_lines.specs.Lines.{Caller, told_line, entry_line, object_line, held_line, global_read_line, global_name_line}
+use Rattle.script_lines.specs.Catalogs.{Books, Asked, book_for, catalog_setting, object_used, catalog_op_by, asked_after, catalogs_after, open_line, message_line, close_line}
 
--- what a task leaves: the history, and its line
+-- what a task leaves: the history of the table, and its line
 pub record Outcome : Type 0 where
   pub history : History
   pub line : OutLine
@@ -61,11 +63,33 @@ read_line c library H at read None = global_read_line library at read (sets H) (
 abbrev pub name_line : Setting → Catalog → History → Caller → Categories → OutLine
 name_line c library H at categories = global_name_line library at categories (sets H) (global c H)
 
--- what a wish leaves after a history; a refusal without an entry is printed alone
-abbrev pub granted : Setting → Catalog → History → Caller → Result Wish Why → Outcome
-granted c library H at (Err why) = tells H (told_line at (said.Refused why))
-granted c library H at (Ok (Calls categories op)) = calls c library H at categories op
-granted c library H at (Ok (ReadsOf n read)) = reads_of c library H at n read (held_as (open_holds H at.thread) n)
-granted c library H at (Ok (Reads read)) = tells H (read_line c library H at read (own H at.thread))
-granted c library H at (Ok AsksSelection) = tells H (told_line at (said.Is (selection H at.thread)))
-granted c library H at (Ok (AsksName categories)) = tells H (name_line c library H at categories)
+-- what a wish asks of the catalogs, what they answer after their history, and their history then
+abbrev pub catalog_op_of : Setting → Catalog → Books → History → ℕ → Result Wish Why → Option catalogs.Op
+catalog_op_of c library books H thread wish = catalog_op_by library books (object_used (own H thread) (global c H)) wish
+
+abbrev pub asked_of : Setting → Catalog → Books → History → catalogs.History → ℕ → Result Wish Why → Asked
+asked_of c library books H M thread wish = asked_after (catalog_setting c) M thread (catalog_op_of c library books H thread wish)
+
+abbrev pub catalogs_left : Setting → Catalog → Books → History → catalogs.History → ℕ → Result Wish Why → catalogs.History
+catalogs_left c library books H M thread wish = catalogs_after (catalog_setting c) M thread (catalog_op_of c library books H thread wish)
+
+-- a catopen by the thread's own object, or by the global locale with its version
+abbrev pub opens_line : Setting → Catalog → Books → History → Caller → List ℕ → Asked → Option Parts → OutLine
+opens_line c library books H at name asked (Some object) = open_line at None asked (book_for library books object name)
+opens_line c library books H at name asked None = open_line at (Some (sets H)) asked (book_for library books (global c H) name)
+
+-- what a wish leaves after a history, where the catalogs have answered this; a refusal without an entry is printed alone
+abbrev pub granted_as : Setting → Catalog → Books → History → Asked → Caller → Result Wish Why → Outcome
+granted_as c library books H asked at (Err why) = tells H (told_line at (said.Refused why))
+granted_as c library books H asked at (Ok (Calls categories op)) = calls c library H at categories op
+granted_as c library books H asked at (Ok (ReadsOf n read)) = reads_of c library H at n read (held_as (open_holds H at.thread) n)
+granted_as c library books H asked at (Ok (Reads read)) = tells H (read_line c library H at read (own H at.thread))
+granted_as c library books H asked at (Ok AsksSelection) = tells H (told_line at (said.Is (selection H at.thread)))
+granted_as c library books H asked at (Ok (AsksName categories)) = tells H (name_line c library H at categories)
+granted_as c library books H asked at (Ok (OpensCatalog name)) = tells H (opens_line c library books H at name asked (own H at.thread))
+granted_as c library books H asked at (Ok (GetsMessage h set message default)) = tells H (message_line books at set message default asked)
+granted_as c library books H asked at (Ok (ClosesCatalog h)) = tells H (close_line at asked)
+
+-- what a wish leaves after a history of the table and one of the catalogs
+abbrev pub granted : Setting → Catalog → Books → History → catalogs.History → Caller → Result Wish Why → Outcome
+granted c library books H M at wish = granted_as c library books H (asked_of c library books H M at.thread wish) at wish

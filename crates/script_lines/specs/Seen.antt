@@ -10,10 +10,12 @@ use Rattle.script_lines.specs.declared.lines.Caller.{Caller as Calling}
 use Rattle.script_lines.specs.declared.turns.Task.{Task as LentTask}
 use Rattle.script_lines.specs.declared.turns.Task.TheVariants as tasks
 use Rattle.script_lines.specs.declared.turns.Turn.{Turn as LentTurn}
+use Rattle.script_lines.specs.declared.variables.Variable.{Variable as LentVariable}
 use Rattle.script_lines.specs.declared.wishes.Wish.{Wish as LentWish}
 use Rattle.script_lines.specs.declared.wishes.Wish.TheVariants as wishes
 use Rattle.script_lines.specs.Turns.{Task, Runs, Releases, Ends, Turn}
-use Rattle.script_lines.specs.Wishes.{Asks, Wish, Calls, ReadsOf, Reads, AsksSelection, AsksName}
+use Rattle.script_lines.specs.Variables.{Variable}
+use Rattle.script_lines.specs.Wishes.{Asks, Wish, Calls, ReadsOf, Reads, AsksSelection, AsksName, OpensCatalog, GetsMessage, ClosesCatalog}
 use Rattle.script_lines.specs.Lines.{Caller}
 
 -- an op, or why there is none, as data
@@ -34,6 +36,10 @@ turn_seen t = record { round = t.round; thread = t.thread; task = task_seen t.ta
 abbrev pub placed_seen : Bor Placed → Placed
 placed_seen p = p.now
 
+-- a variable whose name is lent
+abbrev pub variable_seen : LentVariable → Variable
+variable_seen v = record { space = v.space; name = v.name.now }
+
 -- a wish, or why there is none
 abbrev pub wish_seen : LentWish → Wish
 wish_seen (wishes.Call categories op) = Calls categories (op_of op)
@@ -41,6 +47,9 @@ wish_seen (wishes.ReadOf named read) = ReadsOf named read.now
 wish_seen (wishes.Read read) = Reads read.now
 wish_seen wishes.Selection = AsksSelection
 wish_seen (wishes.Name categories) = AsksName categories
+wish_seen (wishes.OpenCatalog name) = OpensCatalog name.now
+wish_seen (wishes.GetMessage handle wanted) = GetsMessage handle wanted.set wanted.message wanted.default.now
+wish_seen (wishes.CloseCatalog handle) = ClosesCatalog handle
 
 abbrev pub wished : Result LentWish Why → Result Wish Why
 wished (Ok w) = Ok (wish_seen w)

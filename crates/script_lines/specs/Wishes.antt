@@ -1,4 +1,4 @@
--- What a command asks for: a call of the table, or something that is read (our own; XSH newlocale, duplocale, freelocale, uselocale and setlocale for the calls).
+-- What a command asks for: a call of the table or of the catalogs, or something that is read (our own; XSH newlocale, duplocale, freelocale, uselocale, setlocale, catopen, catgets and catclose for the calls).
 use Rattle.std.specs.Prelude.{ℕ, nat_lt, List, [], ◌∷◌, Option, Some, None, Result, Ok, Err, if◌then◌else◌}
 use Rattle.lc_base.specs.declared.category.Category.{Category}
 use Rattle.lc_base.specs.Mask.{category_bit}
@@ -15,12 +15,14 @@ use Rattle.script_words.specs.declared.categories.Categories.{Categories}
 use Rattle.script_words.specs.declared.categories.Categories.TheVariants.{All, One}
 use Rattle.script_commands.specs.declared.command.Target.{Target}
 use Rattle.script_commands.specs.declared.command.Target.TheVariants as targets
+use Rattle.script_commands.specs.declared.command.OpenCatalog.{OpenCatalog}
+use Rattle.script_commands.specs.declared.command.OpenCatalog.TheVariants as open_catalogs
 use Rattle.script_commands.specs.declared.command.Command.{Command}
 use Rattle.script_commands.specs.declared.command.Command.TheVariants as commands
 use Rattle.script_out.specs.declared.output.Why.{Why}
 use Rattle.script_out.specs.declared.output.Why.TheVariants as whys
 use Rattle.script_lines.specs.Turns.{Task, Runs, Releases, Ends}
-use Rattle.script_lines.specs.Variables.{Bindings, bound}
+use Rattle.script_lines.specs.Variables.{Bindings, bound, locale_variable, catalog_variable}
 
 -- ---- the op of a call, or why there is none: such a refusal makes no entry
 
@@ -39,7 +41,7 @@ handle_or_unset (Some h) = Ok (names.Of h)
 
 abbrev pub named : Bindings → Target → Result Named Why
 named bindings targets.Global = Ok names.Global
-named bindings (targets.Variable variable) = handle_or_unset (bound bindings variable)
+named bindings (targets.Variable variable) = handle_or_unset (bound bindings (locale_variable variable))
 named bindings (targets.Handle h) = Ok (names.Of h)
 
 -- a base, which may be left out
@@ -84,6 +86,15 @@ install_of (Some version) = Ok (table.Install version.0 version.1)
 abbrev pub install_op : Catalog → List ℕ → Asks
 install_op library key = install_of (later library key)
 
+-- the handle of a catalog that a command names: a variable that nothing bound is Unset
+abbrev pub catalog_or_unset : Option Handle → Result Handle Why
+catalog_or_unset None = Err whys.Unset
+catalog_or_unset (Some h) = Ok h
+
+abbrev pub catalog_named : Bindings → OpenCatalog → Result Handle Why
+catalog_named bindings (open_catalogs.Variable variable) = catalog_or_unset (bound bindings (catalog_variable variable))
+catalog_named bindings (open_catalogs.Handle h) = Ok h
+
 -- an op of what is named
 abbrev pub op_on : (Named → table.Op) → Result Named Why → Asks
 op_on op named = named >>= λ n. Ok (op n)
@@ -91,13 +102,17 @@ op_on op named = named >>= λ n. Ok (op n)
 -- ---- what a command asks for
 
 -- a call, with the categories whose name an accepted setlocale tells; a read of what is named; a read of the thread's own
--- object or else of the global locale; what is selected; the name of the global locale
+-- object or else of the global locale; what is selected; the name of the global locale; a catalog to be opened by its name; the
+-- message of a set and a number in an open catalog, or else the default; a catalog to be closed
 pub data Wish : Type 0 where
   Calls : Categories → table.Op → Wish
   ReadsOf : Named → Read → Wish
   Reads : Read → Wish
   AsksSelection : Wish
   AsksName : Categories → Wish
+  OpensCatalog : List ℕ → Wish
+  GetsMessage : Handle → ℕ → ℕ → List ℕ → Wish
+  ClosesCatalog : Handle → Wish
 
 abbrev pub called : Categories → Asks → Result Wish Why
 called categories asks = asks >>= λ op. Ok (Calls categories op)
@@ -105,6 +120,13 @@ called categories asks = asks >>= λ op. Ok (Calls categories op)
 -- a read of what is named
 abbrev pub read_of : Bindings → Target → Read → Result Wish Why
 read_of bindings target read = named bindings target >>= λ n. Ok (ReadsOf n read)
+
+-- a message, and the end, of an open catalog
+abbrev pub message_of : Bindings → OpenCatalog → ℕ → ℕ → List ℕ → Result Wish Why
+message_of bindings catalog set message default = catalog_named bindings catalog >>= λ h. Ok (GetsMessage h set message default)
+
+abbrev pub close_of : Bindings → OpenCatalog → Result Wish Why
+close_of bindings catalog = catalog_named bindings catalog >>= λ h. Ok (ClosesCatalog h)
 
 -- what each command asks for, or why it is refused without an entry
 abbrev pub wish : Catalog → Bindings → Command → Result Wish Why
@@ -123,6 +145,9 @@ wish library b (commands.Fetch variable owner cell) = called All (Ok (table.Fetc
 wish library b (commands.Pins target) = called All (op_on table.Pins (named b target))
 wish library b (commands.Read read) = Ok (Reads read)
 wish library b (commands.ReadOf target read) = read_of b target read
+wish library b (commands.CatOpen variable name) = Ok (OpensCatalog name)
+wish library b (commands.CatGets catalog set message default) = message_of b catalog set message default
+wish library b (commands.CatClose catalog) = close_of b catalog
 
 -- what a task asks for
 abbrev pub wish_of : Catalog → Bindings → Task → Result Wish Why
@@ -132,13 +157,16 @@ wish_of library b Ends = Ok (Calls All table.End)
 
 -- ---- the ops of a line, in order of its places
 
--- what a task makes entries of: a read of what is named makes a Hold, and where that is accepted a Release
+-- what a task makes entries of in the history of the table: a read of what is named makes a Hold, and where that is accepted a Release
 abbrev pub wished_ops : Wish → List table.Op
 wished_ops (Calls categories op) = op ∷ []
 wished_ops (ReadsOf n read) = table.Hold n ∷ table.Release n ∷ []
 wished_ops (Reads read) = []
 wished_ops AsksSelection = []
 wished_ops (AsksName categories) = []
+wished_ops (OpensCatalog name) = []
+wished_ops (GetsMessage h set message default) = []
+wished_ops (ClosesCatalog h) = []
 
 abbrev pub ops_of : Result Wish Why → List table.Op
 ops_of (Ok wish) = wished_ops wish

@@ -1,5 +1,6 @@
 //! Who answers the calls of the script's threads.
 
+use catalog_table::{BookShare, CatalogOp, CatalogReply};
 use category_store::Share;
 use handle_table::{Named, Op, Reply};
 use mask_compose::Object;
@@ -37,13 +38,16 @@ pub trait Side: Drop {
         ensures { (H : History) → knows self.now H → option_copied result ≡ held_as (open_holds H (number_of self.now)) named };
 }
 
-/// A table of locale objects that answers its threads' calls: one that the caller has alone, or one
-/// that threads share.
+/// A table of locale objects, with the catalogs that its threads have open, that answers their calls:
+/// one that the caller has alone, or one that threads share.
 pub trait Board: Drop {
     ghost use Rattle.std.specs.Prelude.{◌≡◌, ◌+◌, ℕ, IfOk, OnOk};
     ghost use Rattle.handle_table.specs.Entry.{History, Setting, Op as TableOp};
     ghost use Rattle.handle_table.specs.Seen.{op_of, reply_of};
-    ghost use Rattle.script_lines.specs.Board.{Answers, Finds};
+    ghost use Rattle.catalog_table.specs.Entry.{History as Catalogs};
+    ghost use Rattle.catalog_table.specs.Seen.{op_of as catalog_op_of, reply_of as catalog_reply_of};
+    ghost use Rattle.script_lines.specs.Board.{Answers, Finds, AnswersCatalog};
+    ghost use Rattle.script_lines.specs.Catalogs.{number_of as book_number, catalog_setting};
 
     /// What a thread keeps.
     type Side: Side;
@@ -59,7 +63,13 @@ pub trait Board: Drop {
     /// with this number that was at the second one.
     ghost later: { Setting → ℕ → History → History → Type 0 };
 
-    /// The thread may make so many calls more.
+    /// The catalogs and the thread are at this history of theirs.
+    ghost catalogs_at: { Self → Self.Side → Catalogs → Type 0 };
+
+    /// What the first history of the catalogs may be before the next call of the thread, as above.
+    ghost catalogs_later: { Setting → ℕ → Catalogs → Catalogs → Type 0 };
+
+    /// The thread may make so many calls more, of the table and of the catalogs.
     ghost ready: { ℕ → Self → Self.Side → Type 0 };
 
     /// A table of this setting answers the op.
@@ -75,6 +85,7 @@ pub trait Board: Drop {
         requires may { may (setting_of self.old) (op_of op) }
         ensures answers { IfOk result (λ r. (H : History) → at self.old side.old H
             → Answers (setting_of self.old) (later (setting_of self.old) (Self.Side.number_of side.old)) (at self.new side.new) (Self.Side.number_of side.old) H (op_of op) r.0 (reply_of r.1)) }
+        ensures catalogs { OnOk result ((M : Catalogs) → catalogs_at self.old side.old M → catalogs_at self.new side.new M) }
         ensures number { OnOk result (Self.Side.number_of side.new ≡ Self.Side.number_of side.old) }
         ensures setting { OnOk result (setting_of self.new ≡ setting_of self.old) }
         ensures ready { OnOk result ((n : ℕ) → ready (n + 1) self.old side.old → ready n self.new side.new) };
@@ -84,9 +95,26 @@ pub trait Board: Drop {
         requires ready { ready 0 self.old side.old }
         ensures finds { (H : History) → at self.old side.old H
             → Finds (setting_of self.old) (later (setting_of self.old) (Self.Side.number_of side.old)) (at self.new side.new) H result.0 result.1 }
+        ensures catalogs { (M : Catalogs) → catalogs_at self.old side.old M → catalogs_at self.new side.new M }
         ensures number { Self.Side.number_of side.new ≡ Self.Side.number_of side.old }
         ensures setting { setting_of self.new ≡ setting_of self.old }
         ensures ready { (n : ℕ) → ready n self.old side.old → ready n self.new side.new };
+
+    /// Answers an op of the thread at its catalogs: the place of its entry in their history, and the
+    /// reply.
+    fn catalog(
+        &mut self,
+        side: &mut Self::Side,
+        op: CatalogOp<BookShare>,
+    ) -> (u64, CatalogReply<BookShare>)
+        requires ready { ready 1 self.old side.old }
+        ensures answers { (M : Catalogs) → catalogs_at self.old side.old M
+            → AnswersCatalog (catalog_setting (setting_of self.old)) (catalogs_later (setting_of self.old) (Self.Side.number_of side.old)) (catalogs_at self.new side.new) (Self.Side.number_of side.old) M
+            (catalog_op_of book_number op) result.0 (catalog_reply_of book_number result.1) }
+        ensures table { (H : History) → at self.old side.old H → at self.new side.new H }
+        ensures number { Self.Side.number_of side.new ≡ Self.Side.number_of side.old }
+        ensures setting { setting_of self.new ≡ setting_of self.old }
+        ensures ready { (n : ℕ) → ready (n + 1) self.old side.old → ready n self.new side.new };
 
     /// A thread keeps what the history says of it that it is at.
     ghost known: { (b : Self) (s : Self.Side) (H : History) → at b s H → Self.Side.knows s H };

@@ -1,29 +1,33 @@
 //! The line of a turn, whoever answers the calls.
 
 ghost use Rattle.std.specs.Prelude.{◌≡◌, ◌+◌, ◌<◌, ◌^◌, ℕ, List, Ok, IfOk, OnOk};
-ghost use Rattle.std.specs.Option.{option_copied};
+ghost use Rattle.std.specs.Option.{option_map};
 ghost use Rattle.handle_table.specs.Entry.{History};
 ghost use Rattle.handle_table.specs.Seen.{op_of};
+ghost use Rattle.catalog_table.specs.Entry as catalogs;
 ghost use Rattle.category_store.specs.Library.{opening};
 ghost use Rattle.category_store.specs.Shelf.{IsNumbered, IsInstallable};
-ghost use Rattle.script_lines.specs.Board.{Fitting, TaskMay, Leaves, LeavesReadBetween, LeavesTurn};
+ghost use Rattle.script_lines.specs.Board.{Fitting, TaskMay, Leaves, LeavesLine, LeavesReadBetween, LeavesTurn};
+ghost use Rattle.script_lines.specs.Catalogs.{Books as CatalogBooks};
 ghost use Rattle.script_lines.specs.Lines.{object_line};
-ghost use Rattle.script_lines.specs.Seen.{caller, task_seen, turn_seen, wished};
+ghost use Rattle.script_lines.specs.Seen.{caller, task_seen, turn_seen, variable_seen, wished};
 ghost use Rattle.script_lines.specs.Thread.{BindsAs};
 ghost use Rattle.script_lines.specs.Variables.{Bound, variable_of, variable_bound, bindings_after};
 ghost use Rattle.script_lines.specs.Wishes.{Calls, ReadsOf, Reads, AsksName};
 
 use crate::board::{Board, Side};
+use crate::catalog_lines::{close_line, message_line, open_line};
+use crate::catalogs::Books;
 use crate::holds::object_held;
 use crate::lines::{Caller, handle_said, line, placed_line, told_line};
 use crate::names::object_name;
 use crate::reads::local;
 use crate::thread::Thread;
 use crate::turns::{Task, Turn};
+use crate::variables::{Variable, catalog_variable, locale_variable};
 use crate::wishes::{Wish, wish_of};
 use category_store::{Library, Share};
 use handle_table::{Named, Op};
-use lc_base::ByteText;
 use mask_compose::Object;
 use script_commands::{Command, Read};
 use script_out::{OutLine, Places, Said, Why};
@@ -34,6 +38,7 @@ use std::alloc::{AllocError, Global};
 pub fn turn_line<B: Board>(
     alloc: Global,
     library: &Library,
+    books: &Books<'_>,
     board: &mut B,
     thread: &mut Thread<B::Side>,
     turn: Turn<'_>,
@@ -45,8 +50,10 @@ pub fn turn_line<B: Board>(
     requires thread { turn.thread ≡ B.Side.number_of thread.old.side }
     requires fits { TaskMay library.now (B.may (B.setting_of board.old)) (task_seen turn.task) }
     requires few { thread.old.lines + 1 < 2 ^ 32 }
-    ensures leaves { IfOk result (λ l. (H : History) (bounds : List Bound) → B.at board.old thread.old.side H → BindsAs (B.Side.number_of thread.old.side) thread.old.variables bounds
-        → LeavesTurn (B.setting_of board.old) library.now (B.later (B.setting_of board.old) (B.Side.number_of thread.old.side)) (B.at board.new thread.new.side) H bounds thread.old.lines (turn_seen turn.entry) l) }
+    ensures leaves { IfOk result (λ l. (H : History) (M : catalogs.History) (bounds : List Bound) → B.at board.old thread.old.side H → B.catalogs_at board.old thread.old.side M
+        → BindsAs (B.Side.number_of thread.old.side) thread.old.variables bounds
+        → LeavesTurn (B.setting_of board.old) library.now books.now (B.later (B.setting_of board.old) (B.Side.number_of thread.old.side)) (B.catalogs_later (B.setting_of board.old) (B.Side.number_of thread.old.side))
+        (B.at board.new thread.new.side) (B.catalogs_at board.new thread.new.side) H M bounds thread.old.lines (turn_seen turn.entry) l) }
     ensures variables { IfOk result (λ l. (bounds : List Bound) → BindsAs (B.Side.number_of thread.old.side) thread.old.variables bounds
         → BindsAs (B.Side.number_of thread.old.side) thread.new.variables (bindings_after (B.Side.number_of thread.old.side) bounds (task_seen turn.entry.task) l.reply)) }
     ensures number { OnOk result (B.Side.number_of thread.new.side ≡ B.Side.number_of thread.old.side) }
@@ -56,7 +63,7 @@ pub fn turn_line<B: Board>(
 {
     let at = thread.next_caller(turn.round);
     let wish = wish_of(library, &thread.variables, turn.task);
-    let line = granted(alloc, library, board, &mut thread.side, at, wish)?;
+    let line = granted(alloc, library, books, board, &mut thread.side, at, wish)?;
     bind_said(alloc, thread, turn.task, &line.reply)?;
     Ok(line)
 }
@@ -77,14 +84,14 @@ fn bind_said<S: Side>(
         return Ok(());
     };
     match handle_said(reply) {
-        Some(handle) => thread.bind(alloc, variable.as_bytes(), handle),
+        Some(handle) => thread.bind(alloc, variable, handle),
         None => Ok(()),
     }
 }
 
 /// The variable that a task binds.
-fn variable_bound(task: Task<'_>) -> Option<&ByteText>
-    ensures { option_copied result ≡ variable_bound (task_seen task.entry) }
+fn variable_bound(task: Task<'_>) -> Option<Variable<'_>>
+    ensures { option_map variable_seen result ≡ variable_bound (task_seen task.entry) }
 {
     match task {
         Task::Command(command) => variable_of(command),
@@ -93,13 +100,14 @@ fn variable_bound(task: Task<'_>) -> Option<&ByteText>
 }
 
 /// The variable that a command binds.
-fn variable_of(command: &Command) -> Option<&ByteText>
-    ensures { option_copied result ≡ variable_of command.now }
+fn variable_of(command: &Command) -> Option<Variable<'_>>
+    ensures { option_map variable_seen result ≡ variable_of command.now }
 {
     match command {
         Command::New { variable, .. }
         | Command::Dup { variable, .. }
-        | Command::Fetch { variable, .. } => Some(variable),
+        | Command::Fetch { variable, .. } => Some(locale_variable(variable)),
+        Command::CatOpen { variable, .. } => Some(catalog_variable(variable)),
         Command::Free(_)
         | Command::Use(_)
         | Command::Selected
@@ -111,7 +119,9 @@ fn variable_of(command: &Command) -> Option<&ByteText>
         | Command::Post { .. }
         | Command::Pins(_)
         | Command::Read(_)
-        | Command::ReadOf { .. } => None,
+        | Command::ReadOf { .. }
+        | Command::CatGets { .. }
+        | Command::CatClose(_) => None,
     }
 }
 
@@ -119,6 +129,7 @@ fn variable_of(command: &Command) -> Option<&ByteText>
 pub fn granted<B: Board>(
     alloc: Global,
     library: &Library,
+    books: &Books<'_>,
     board: &mut B,
     side: &mut B::Side,
     at: Caller,
@@ -127,7 +138,8 @@ pub fn granted<B: Board>(
     requires ready { B.ready 2 board.old side.old }
     requires caller { at.thread ≡ B.Side.number_of side.old }
     requires fits { IfOk (wished wish) (Fitting (B.may (B.setting_of board.old))) }
-    ensures leaves { IfOk result (λ l. (H : History) → B.at board.old side.old H → Leaves (B.setting_of board.old) library.now (B.later (B.setting_of board.old) (B.Side.number_of side.old)) (B.at board.new side.new) H (caller at) (wished wish.entry) l) }
+    ensures leaves { IfOk result (λ l. (H : History) (M : catalogs.History) → B.at board.old side.old H → B.catalogs_at board.old side.old M
+        → Leaves (B.setting_of board.old) library.now books.now (B.later (B.setting_of board.old) (B.Side.number_of side.old)) (B.catalogs_later (B.setting_of board.old) (B.Side.number_of side.old)) (B.at board.new side.new) (B.catalogs_at board.new side.new) H M (caller at) (wished wish.entry) l) }
     ensures number { OnOk result (B.Side.number_of side.new ≡ B.Side.number_of side.old) }
     ensures setting { OnOk result (B.setting_of board.new ≡ B.setting_of board.old) }
     ensures ready { OnOk result ((n : ℕ) → B.ready (n + 2) board.old side.old → B.ready n board.new side.new) }
@@ -141,6 +153,11 @@ pub fn granted<B: Board>(
         Ok(Wish::Read(read)) => read_line(alloc, library, board, side, at, read),
         Ok(Wish::Selection) => Ok(told_line(at, Said::Is(side.selected()))),
         Ok(Wish::Name(categories)) => name_line(alloc, library, board, side, at, categories),
+        Ok(Wish::OpenCatalog(name)) => Ok(open_line(alloc, library, books, board, side, at, name)),
+        Ok(Wish::GetMessage(handle, wanted)) => {
+            message_line(alloc, books, board, side, at, handle, wanted)
+        }
+        Ok(Wish::CloseCatalog(handle)) => Ok(close_line(alloc, board, side, at, handle)),
     }
 }
 
@@ -157,7 +174,8 @@ fn call_line<B: Board>(
     requires ready { B.ready 1 board.old side.old }
     requires caller { at.thread ≡ B.Side.number_of side.old }
     requires fits { B.may (B.setting_of board.old) (op_of op) }
-    ensures leaves { IfOk result (λ l. (H : History) → B.at board.old side.old H → Leaves (B.setting_of board.old) library.now (B.later (B.setting_of board.old) (B.Side.number_of side.old)) (B.at board.new side.new) H (caller at) (Ok (Calls categories (op_of op))) l) }
+    ensures leaves { IfOk result (λ l. (books : CatalogBooks) (H : History) → B.at board.old side.old H → LeavesLine (B.setting_of board.old) library.now books (B.later (B.setting_of board.old) (B.Side.number_of side.old)) (B.at board.new side.new) H (caller at) (Ok (Calls categories (op_of op))) l) }
+    ensures catalogs { OnOk result ((M : catalogs.History) → B.catalogs_at board.old side.old M → B.catalogs_at board.new side.new M) }
     ensures number { OnOk result (B.Side.number_of side.new ≡ B.Side.number_of side.old) }
     ensures setting { OnOk result (B.setting_of board.new ≡ B.setting_of board.old) }
     ensures ready { OnOk result ((n : ℕ) → B.ready (n + 1) board.old side.old → B.ready n board.new side.new) }
@@ -180,7 +198,8 @@ fn read_of_line<B: Board>(
     requires ready { B.ready 2 board.old side.old }
     requires caller { at.thread ≡ B.Side.number_of side.old }
     requires fits { Fitting (B.may (B.setting_of board.old)) (ReadsOf named read.now) }
-    ensures leaves { IfOk result (λ l. (H : History) → B.at board.old side.old H → Leaves (B.setting_of board.old) library.now (B.later (B.setting_of board.old) (B.Side.number_of side.old)) (B.at board.new side.new) H (caller at) (Ok (ReadsOf named read.now)) l) }
+    ensures leaves { IfOk result (λ l. (books : CatalogBooks) (H : History) → B.at board.old side.old H → LeavesLine (B.setting_of board.old) library.now books (B.later (B.setting_of board.old) (B.Side.number_of side.old)) (B.at board.new side.new) H (caller at) (Ok (ReadsOf named read.now)) l) }
+    ensures catalogs { OnOk result ((M : catalogs.History) → B.catalogs_at board.old side.old M → B.catalogs_at board.new side.new M) }
     ensures number { OnOk result (B.Side.number_of side.new ≡ B.Side.number_of side.old) }
     ensures setting { OnOk result (B.setting_of board.new ≡ B.setting_of board.old) }
     ensures ready { OnOk result ((n : ℕ) → B.ready (n + 2) board.old side.old → B.ready n board.new side.new) }
@@ -205,6 +224,7 @@ fn read_between<B: Board>(
     requires caller { at.thread ≡ B.Side.number_of side.old }
     requires fits { Fitting (B.may (B.setting_of board.old)) (ReadsOf named read.now) }
     ensures leaves { IfOk result (λ l. (H : History) → B.at board.old side.old H → LeavesReadBetween (B.setting_of board.old) library.now (B.later (B.setting_of board.old) (B.Side.number_of side.old)) (B.at board.new side.new) H (caller at) named read.now l) }
+    ensures catalogs { OnOk result ((M : catalogs.History) → B.catalogs_at board.old side.old M → B.catalogs_at board.new side.new M) }
     ensures number { OnOk result (B.Side.number_of side.new ≡ B.Side.number_of side.old) }
     ensures setting { OnOk result (B.setting_of board.new ≡ B.setting_of board.old) }
     ensures ready { OnOk result ((n : ℕ) → B.ready (n + 2) board.old side.old → B.ready n board.new side.new) }
@@ -245,7 +265,8 @@ fn read_line<B: Board>(
 ) -> Result<OutLine, AllocError>
     requires ready { B.ready 0 board.old side.old }
     requires caller { at.thread ≡ B.Side.number_of side.old }
-    ensures leaves { IfOk result (λ l. (H : History) → B.at board.old side.old H → Leaves (B.setting_of board.old) library.now (B.later (B.setting_of board.old) (B.Side.number_of side.old)) (B.at board.new side.new) H (caller at) (Ok (Reads read.now)) l) }
+    ensures leaves { IfOk result (λ l. (books : CatalogBooks) (H : History) → B.at board.old side.old H → LeavesLine (B.setting_of board.old) library.now books (B.later (B.setting_of board.old) (B.Side.number_of side.old)) (B.at board.new side.new) H (caller at) (Ok (Reads read.now)) l) }
+    ensures catalogs { OnOk result ((M : catalogs.History) → B.catalogs_at board.old side.old M → B.catalogs_at board.new side.new M) }
     ensures number { OnOk result (B.Side.number_of side.new ≡ B.Side.number_of side.old) }
     ensures setting { OnOk result (B.setting_of board.new ≡ B.setting_of board.old) }
     ensures ready { OnOk result ((n : ℕ) → B.ready n board.old side.old → B.ready n board.new side.new) }
@@ -271,7 +292,8 @@ fn name_line<B: Board>(
 ) -> Result<OutLine, AllocError>
     requires ready { B.ready 0 board.old side.old }
     requires caller { at.thread ≡ B.Side.number_of side.old }
-    ensures leaves { IfOk result (λ l. (H : History) → B.at board.old side.old H → Leaves (B.setting_of board.old) library.now (B.later (B.setting_of board.old) (B.Side.number_of side.old)) (B.at board.new side.new) H (caller at) (Ok (AsksName categories)) l) }
+    ensures leaves { IfOk result (λ l. (books : CatalogBooks) (H : History) → B.at board.old side.old H → LeavesLine (B.setting_of board.old) library.now books (B.later (B.setting_of board.old) (B.Side.number_of side.old)) (B.at board.new side.new) H (caller at) (Ok (AsksName categories)) l) }
+    ensures catalogs { OnOk result ((M : catalogs.History) → B.catalogs_at board.old side.old M → B.catalogs_at board.new side.new M) }
     ensures number { OnOk result (B.Side.number_of side.new ≡ B.Side.number_of side.old) }
     ensures setting { OnOk result (B.setting_of board.new ≡ B.setting_of board.old) }
     ensures ready { OnOk result ((n : ℕ) → B.ready n board.old side.old → B.ready n board.new side.new) }

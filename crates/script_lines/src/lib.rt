@@ -2,6 +2,8 @@
 #![tactic(auto)]
 
 pub mod board;
+mod catalog_lines;
+pub mod catalogs;
 pub mod granted;
 pub mod holds;
 pub mod lines;

@@ -108,7 +108,7 @@ pub fn handle_said(reply: &Said) -> Option<Handle>
     ensures { result ≡ handle_said reply.now }
 {
     match reply {
-        Said::Handle(handle) => Some(*handle),
+        Said::Handle(handle) | Said::Opened(handle) => Some(*handle),
         Said::Freed
         | Said::Was(_)
         | Said::Is(_)
@@ -123,6 +123,7 @@ pub fn handle_said(reply: &Said) -> Option<Handle>
         | Said::Conv(..)
         | Said::Class(_)
         | Said::Value(_)
+        | Said::Closed
         | Said::Ended
         | Said::Refused(_) => None,
     }

@@ -32,7 +32,7 @@ pub fn object_name(
 }
 
 /// The name of the locale that an object has for a category.
-fn part_name<'a>(library: &'a Library, object: &Object<Share>, category: Category) -> &'a [u8]
+pub fn part_name<'a>(library: &'a Library, object: &Object<Share>, category: Category) -> &'a [u8]
     ensures { result.now ≡ part_name library.now object.now category }
 {
     library.compiled(*object.part(category)).name()

@@ -1,12 +1,12 @@
 //! A thread of the script.
 
-ghost use Rattle.std.specs.Prelude.{◌≡◌, ◌∷◌, ◌+◌, ◌<◌, ◌^◌, [], ℕ, List, OnOk};
-ghost use Rattle.script_lines.specs.Seen.{caller};
+ghost use Rattle.std.specs.Prelude.{◌≡◌, ◌∷◌, ◌+◌, ◌<◌, ◌^◌, [], OnOk};
+ghost use Rattle.script_lines.specs.Seen.{caller, variable_seen};
 ghost use Rattle.script_lines.specs.Variables.{bound};
 
 use crate::board::Side;
 use crate::lines::Caller;
-use crate::variables::Variables;
+use crate::variables::{Variable, Variables};
 use handle_table::Handle;
 use std::alloc::{AllocError, Global};
 
@@ -55,8 +55,13 @@ impl<S: Side> Thread<S> {
     }
 
     /// Binds a variable to a handle.
-    pub fn bind(&mut self, alloc: Global, variable: &[u8], handle: Handle) -> Result<(), AllocError>
-        ensures bound { OnOk result ((v : List ℕ) → bound self.new.variables v ≡ bound ((variable.now, handle) ∷ self.old.variables) v) }
+    pub fn bind(
+        &mut self,
+        alloc: Global,
+        variable: Variable<'_>,
+        handle: Handle,
+    ) -> Result<(), AllocError>
+        ensures bound { OnOk result ((v : _) → bound self.new.variables v ≡ bound ((variable_seen variable.entry, handle) ∷ self.old.variables) v) }
         ensures others { OnOk result ((self.new.side ≡ self.old.side) × (self.new.lines ≡ self.old.lines)) }
     {
         self.variables.bind(alloc, variable, handle)

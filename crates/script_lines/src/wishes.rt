@@ -4,14 +4,15 @@ ghost use Rattle.std.specs.Prelude.{◌≡◌};
 ghost use Rattle.handle_table.specs.Seen.{op_of};
 ghost use Rattle.handle_table.specs.Entry as table;
 ghost use Rattle.script_lines.specs.Seen.{asked, task_seen, wished};
-ghost use Rattle.script_lines.specs.Wishes.{named, base_named, mask_of, categories_mask, named_numbers, new_op, set_op, setlocale_op, install_op, op_on, called, read_of, wish, wish_of};
+ghost use Rattle.script_lines.specs.Wishes.{named, base_named, mask_of, categories_mask, named_numbers, new_op, set_op, setlocale_op, install_op, op_on, called, read_of, catalog_named, message_of, close_of, wish, wish_of};
 
+use crate::catalogs::Wanted;
 use crate::turns::Task;
-use crate::variables::Variables;
+use crate::variables::{Variables, catalog_variable, locale_variable};
 use category_store::{Library, Share};
-use handle_table::{Named, Op, Refusal};
+use handle_table::{Handle, Named, Op, Refusal};
 use lc_base::{ByteText, Mask};
-use script_commands::{Command, Read, Target};
+use script_commands::{Command, OpenCatalog, Read, Target};
 use script_out::Why;
 use script_words::Categories;
 
@@ -28,6 +29,12 @@ pub enum Wish<'a> {
     Selection,
     /// The name of the global locale.
     Name(Categories),
+    /// A catalog to be opened by its name.
+    OpenCatalog(&'a ByteText),
+    /// A message of an open catalog.
+    GetMessage(Handle, Wanted<'a>),
+    /// A catalog to be closed.
+    CloseCatalog(Handle),
 }
 
 /// What a task of the thread asks for, or why it is refused without an entry.
@@ -87,6 +94,14 @@ fn wish_of_command<'a>(
         Command::Pins(target) => called(Categories::All, pins_op(variables, target)),
         Command::Read(read) => Ok(Wish::Read(read)),
         Command::ReadOf { object, read } => read_of(variables, object, read),
+        Command::CatOpen { name, .. } => Ok(Wish::OpenCatalog(name)),
+        Command::CatGets {
+            catalog,
+            set,
+            message,
+            default,
+        } => message_of(variables, catalog, *set, *message, default),
+        Command::CatClose(catalog) => close_of(variables, catalog),
     }
 }
 
@@ -102,6 +117,34 @@ fn read_of<'a>(variables: &Variables, object: &Target, read: &'a Read) -> Result
     ensures { wished result ≡ read_of variables.now object.now read.now }
 {
     Ok(Wish::ReadOf(named(variables, object)?, read))
+}
+
+/// The wish of a catgets.
+fn message_of<'a>(
+    variables: &Variables,
+    catalog: &OpenCatalog,
+    set: u32,
+    message: u32,
+    default: &'a ByteText,
+) -> Result<Wish<'a>, Why>
+    ensures { wished result ≡ message_of variables.now catalog.now set message default.now }
+{
+    let handle = catalog_named(variables, catalog)?;
+    Ok(Wish::GetMessage(
+        handle,
+        Wanted {
+            set,
+            message,
+            default,
+        },
+    ))
+}
+
+/// The wish of a catclose.
+fn close_of<'a>(variables: &Variables, catalog: &OpenCatalog) -> Result<Wish<'a>, Why>
+    ensures { wished result ≡ close_of variables.now catalog.now }
+{
+    Ok(Wish::CloseCatalog(catalog_named(variables, catalog)?))
 }
 
 /// The op of a duplocale.
@@ -219,10 +262,24 @@ fn named(variables: &Variables, target: &Target) -> Result<Named, Why>
     match target {
         Target::Global => Ok(Named::Global),
         Target::Handle(handle) => Ok(Named::Of(*handle)),
-        Target::Variable(variable) => match variables.get(variable.as_bytes()) {
-            Some(handle) => Ok(Named::Of(handle)),
-            None => Err(Why::Unset),
-        },
+        Target::Variable(variable) => {
+            match variables.get(locale_variable(variable)) {
+                Some(handle) => Ok(Named::Of(handle)),
+                None => Err(Why::Unset),
+            }
+        }
+    }
+}
+
+/// The handle of a catalog that a command names; `Unset` where it is a variable that nothing bound.
+fn catalog_named(variables: &Variables, catalog: &OpenCatalog) -> Result<Handle, Why>
+    ensures { result ≡ catalog_named variables.now catalog.now }
+{
+    match catalog {
+        OpenCatalog::Handle(handle) => Ok(*handle),
+        OpenCatalog::Variable(variable) => variables
+            .get(catalog_variable(variable))
+            .ok_or(Why::Unset),
     }
 }
 

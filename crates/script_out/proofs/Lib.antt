@@ -1,2 +1,3 @@
 mod ReplyExamples
 mod RefusalExamples
+pub mod PlainTexts

@@ -31,6 +31,16 @@ lines_printed : printed (
 unfolding digits
 lines_printed = refl
 
+-- a line of the catalogs has its place in their history; an opening has the version too where it is by the global locale
+catalog_lines_printed : printed (
+    record { round = 1; thread = 0; index = 4; places = places.Catalog 0; global = None; reply = said.Opened (record { owner = 0; row = 0; generation = 1 }) } ∷
+    record { round = 1; thread = 1; index = 1; places = places.Catalog 12; global = Some 0; reply = said.Opened (record { owner = 1; row = 0; generation = 1 }) } ∷
+    record { round = 1; thread = 0; index = 5; places = places.Catalog 13; global = None; reply = said.Text (codes "Hi") } ∷
+    record { round = 1; thread = 0; index = 6; places = places.None; global = Some 3; reply = said.Refused whys.NoCatalog } ∷
+    []) names ≡ codes "1 A 4 c0 - opened A.0.1\n1 Bo 1 c12 g0 opened Bo.0.1\n1 A 5 c13 - text \"Hi\"\n1 A 6 - g3 refused NoCatalog\n"
+unfolding digits
+catalog_lines_printed = refl
+
 -- ---- replies
 
 handle_of_second : reply_text names (said.Handle (record { owner = 1; row = 0; generation = 1 })) ≡ codes "handle Bo.0.1"
@@ -125,6 +135,13 @@ value_printed : reply_text [] (said.Value 33280) ≡ codes "value 33280"
 unfolding digits
 value_printed = refl
 
+opened : reply_text names (said.Opened made) ≡ codes "opened A.2.4"
+unfolding digits
+opened = refl
+
+closed : reply_text names said.Closed ≡ codes "closed"
+closed = refl
+
 -- ---- refusals of commands
 
 unset : reply_text [] (said.Refused whys.Unset) ≡ codes "refused Unset"
@@ -182,3 +199,6 @@ mismatch = refl
 
 too_big : reply_text [] (said.Refused whys.TooBig) ≡ codes "refused TooBig"
 too_big = refl
+
+no_catalog : reply_text [] (said.Refused whys.NoCatalog) ≡ codes "refused NoCatalog"
+no_catalog = refl

@@ -42,11 +42,12 @@ escaped c =
 abbrev pub quoted : List ℕ → List ℕ
 quoted text = 34 ∷ [] ++ flat_map escaped text ++ 34 ∷ []
 
--- the places of a line's entries in the history
+-- the places of a line's entries in the history, or `c` and the place in the history of the catalogs
 abbrev pub places_text : Places → List ℕ
 places_text places.None = codes "-"
 places_text (places.One p) = decimal p
 places_text (places.Two p q) = decimal p ++ codes "," ++ decimal q
+places_text (places.Catalog p) = codes "c" ++ decimal p
 
 -- the version of the global locale that a line prints
 abbrev pub version_text : Option ℕ → List ℕ
@@ -97,6 +98,7 @@ why_text (whys.MissingAmount at) = codes "MissingAmount " ++ decimal at
 why_text (whys.MissingNumber at) = codes "MissingNumber " ++ decimal at
 why_text (whys.Mismatch at) = codes "Mismatch " ++ decimal at
 why_text whys.TooBig = codes "TooBig"
+why_text whys.NoCatalog = codes "NoCatalog"
 
 -- a year, and `-` where there is none
 abbrev pub year_text : Option ℤ → List ℕ
@@ -149,6 +151,8 @@ reply_text names (said.Parsed fields rest) = parsed_text fields rest
 reply_text names (said.Conv texts numbers) = codes "conv" ++ texts_text texts ++ numbers_text numbers
 reply_text names (said.Class is) = class_text is
 reply_text names (said.Value value) = codes "value " ++ decimal value
+reply_text names (said.Opened h) = codes "opened " ++ handle_text names h
+reply_text names said.Closed = codes "closed"
 reply_text names said.Ended = codes "ended"
 reply_text names (said.Refused why) = codes "refused " ++ why_text why
 

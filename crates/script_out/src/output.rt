@@ -20,6 +20,8 @@ pub enum Places {
     One(u64),
     /// A Hold and the Release of it.
     Two(u64, u64),
+    /// The entry in the history of the catalogs.
+    Catalog(u64),
 }
 
 /// Why a command is refused.
@@ -46,6 +48,8 @@ pub enum Why {
     Mismatch(usize),
     /// The text is longer than it may be.
     TooBig,
+    /// No catalog has this name for the locale of the object's LC_MESSAGES category.
+    NoCatalog,
 }
 
 /// A printed reply.
@@ -72,7 +76,7 @@ pub enum Said {
     Posted,
     /// pins: their number.
     Pins(u32),
-    /// nl_langinfo, strfmon, strftime and the text of whole numbers.
+    /// nl_langinfo, strfmon, strftime, the text of whole numbers and catgets.
     Text(ByteText),
     /// strptime: the fields that were read, and the index of the first byte that was not read.
     Parsed(Parsed, usize),
@@ -82,6 +86,10 @@ pub enum Said {
     Class(bool),
     /// towupper and towlower.
     Value(u32),
+    /// catopen: the handle of the catalog.
+    Opened(Handle),
+    /// catclose.
+    Closed,
     /// The end of a thread.
     Ended,
     Refused(Why),
@@ -181,6 +189,10 @@ fn push_places(out: &mut Vec<u8>, places: Places) -> Result<(), AllocError>
             out.push(b',')?;
             push_number(out, release)
         }
+        Places::Catalog(place) => {
+            out.push(b'c')?;
+            push_number(out, place)
+        }
     }
 }
 
@@ -248,6 +260,11 @@ pub fn push_reply(
             out.extend_from_slice(b"pins ")?;
             push_number(out, u64::from(*count))
         }
+        Said::Opened(handle) => {
+            out.extend_from_slice(b"opened ")?;
+            push_handle(out, *handle, threads)
+        }
+        Said::Closed => out.extend_from_slice(b"closed"),
         Said::Ended => out.extend_from_slice(b"ended"),
         Said::Refused(why) => {
             out.extend_from_slice(b"refused ")?;
@@ -396,6 +413,7 @@ fn push_why(out: &mut Vec<u8>, why: Why) -> Result<(), AllocError>
         Why::MissingNumber(at) => push_at(out, b"MissingNumber ", at),
         Why::Mismatch(at) => push_at(out, b"Mismatch ", at),
         Why::TooBig => out.extend_from_slice(b"TooBig"),
+        Why::NoCatalog => out.extend_from_slice(b"NoCatalog"),
     }
 }
 

@@ -1,39 +1,42 @@
 //! Texts in quotes.
 
-ghost use Rattle.std.specs.Prelude.{◌≡◌, ◌++◌, ◌<◌, ◌≤◌, ◌==◌, ◌||◌, nat_lt, take, length, [], ◌∷◌, IsTrue, OnOk};
+ghost use Rattle.std.specs.Prelude.{◌≡◌, ◌++◌, ◌<◌, ◌≤◌, ◌==◌, ◌||◌, nat_lt, take, length, [], ◌∷◌, slice_index_or, false, IsTrue, OnOk};
 ghost use Rattle.std.specs.List.{flat_map};
 ghost use Rattle.script_out.specs.Output.{hex_digit, escaped, quoted};
 
 use std::alloc::AllocError;
 
-/// Adds a text in quotes.
+/// Whether each byte, by its number, stands in quotes as it is.
+const PLAIN: [bool; 256] = [
+    false, false, false, false, false, false, false, false, false, false, false, false, false,
+    false, false, false, false, false, false, false, false, false, false, false, false, false,
+    false, false, false, false, false, false, true, true, false, true, true, true, true, true,
+    true, true, true, true, true, true, true, true, true, true, true, true, true, true, true, true,
+    true, true, true, true, true, true, true, true, true, true, true, true, true, true, true, true,
+    true, true, true, true, true, true, true, true, true, true, true, true, true, true, true, true,
+    true, true, true, true, false, true, true, true, true, true, true, true, true, true, true,
+    true, true, true, true, true, true, true, true, true, true, true, true, true, true, true, true,
+    true, true, true, true, true, true, true, true, false, true, true, true, true, true, true,
+    true, true, true, true, true, true, true, true, true, true, true, true, true, true, true, true,
+    true, true, true, true, true, true, true, true, true, true, true, true, true, true, true, true,
+    true, true, true, true, true, true, true, true, true, true, true, true, true, true, true, true,
+    true, true, true, true, true, true, true, true, true, true, true, true, true, true, true, true,
+    true, true, true, true, true, true, true, true, true, true, true, true, true, true, true, true,
+    true, true, true, true, true, true, true, true, true, true, true, true, true, true, true, true,
+    true, true, true, true, true, true, true, true, true, true, true, true, true, true, true, true,
+    true, true, true, true, true, true, true, true, true, true,
+];
+
+/// Adds a text in quotes, with the bytes between those that are escaped at once.
 pub fn push_quoted(out: &mut Vec<u8>, text: &[u8]) -> Result<(), AllocError>
     ensures { OnOk result (out.new.items ≡ out.old.items ++ quoted text.now) }
 {
     out.push(b'"')?;
-    if is_plain_text(text) {
-        out.extend_from_slice(text)?;
-    } else {
-        push_escaped_text(out, text)?;
-    }
+    push_escaped_text(out, text)?;
     out.push(b'"')?;
     Ok(())
 }
 
-/// Whether a text stands in quotes as it is. Reads to the end of it, many bytes at once.
-fn is_plain_text(text: &[u8]) -> bool
-    ensures { IsTrue result → flat_map escaped text.now ≡ text.now }
-{
-    let mut plain = true;
-    for c in text {
-        if !is_plain(*c) {
-            plain = false;
-        }
-    }
-    plain
-}
-
-/// Adds a text, with the bytes between those that are escaped at once.
 fn push_escaped_text(out: &mut Vec<u8>, text: &[u8]) -> Result<(), AllocError>
     ensures { OnOk result (out.new.items ≡ out.old.items ++ flat_map escaped text.now) }
 {
@@ -56,6 +59,50 @@ fn plain_length(text: &[u8]) -> usize
     ensures within { result ≤ length text.now }
     ensures plain { flat_map escaped (take result text.now) ≡ take result text.now }
 {
+    let eights = plain_eights(text);
+    let (_, behind) = text.split_at(eights);
+    eights + plain_singles(behind)
+}
+
+/// How many bytes stand in the eights at the front of a text that stand in quotes as they are.
+fn plain_eights(text: &[u8]) -> usize
+    ensures within { result ≤ length text.now }
+    ensures plain { flat_map escaped (take result text.now) ≡ take result text.now }
+{
+    let mut eights = 0;
+    let mut left = text;
+    while begins_plain(left) {
+        let (_, behind) = left.split_at(8);
+        eights += 8;
+        left = behind;
+    }
+    eights
+}
+
+/// Whether a text begins with eight bytes that stand in quotes as they are. Asks all without a branch.
+fn begins_plain(text: &[u8]) -> bool
+    ensures { IsTrue result → (8 ≤ length text.now) × (flat_map escaped (take 8 text.now) ≡ take 8 text.now) }
+{
+    match text {
+        [a, b, c, d, e, f, g, h, ..] => {
+            is_plain(*a)
+                & is_plain(*b)
+                & is_plain(*c)
+                & is_plain(*d)
+                & is_plain(*e)
+                & is_plain(*f)
+                & is_plain(*g)
+                & is_plain(*h)
+        }
+        _ => false,
+    }
+}
+
+/// How many bytes at the front of a text stand in quotes as they are, asked one by one.
+fn plain_singles(text: &[u8]) -> usize
+    ensures within { result ≤ length text.now }
+    ensures plain { flat_map escaped (take result text.now) ≡ take result text.now }
+{
     for (i, c) in text.iter().enumerate() {
         if !is_plain(*c) {
             return i;
@@ -64,12 +111,18 @@ fn plain_length(text: &[u8]) -> usize
     text.len()
 }
 
-/// Whether a byte stands in quotes as it is. Asks both without a branch, so that many bytes are asked
-/// at once.
+/// Whether a byte stands in quotes as it is.
 fn is_plain(c: u8) -> bool
     ensures { IsTrue result → escaped c ≡ c ∷ [] }
 {
-    !is_quote(c) & !is_control(c)
+    is_set(&PLAIN, c)
+}
+
+/// The row of a byte.
+fn is_set(table: &[bool; 256], c: u8) -> bool
+    ensures { result ≡ slice_index_or table.now c false }
+{
+    table[usize::from(c)]
 }
 
 /// Whether a byte has a backslash before it in quotes.

@@ -12,11 +12,12 @@ use Rattle.handle_table.specs.Answer.{own_after, own}
 use Rattle.thread_current.specs.Thread.{entries_by}
 use Rattle.script_out.specs.declared.output.OutLine.{OutLine}
 use Rattle.script_lines.specs.declared.holds.OpenHold.{OpenHold}
-use Rattle.script_lines.specs.Board.{Moments, granted_at}
+use Rattle.catalog_table.specs.Entry as catalogs
+use Rattle.script_lines.specs.Board.{Moments, catalog_op, granted_at}
 use Rattle.script_lines.specs.Holds.{holds_after, open_holds}
-use Rattle.script_lines.specs.Variables.{Bindings, Bound, bindings_of, with_binding, variable_bound, handle_said}
+use Rattle.script_lines.specs.Variables.{Variable, Bindings, Bound, bindings_of, with_binding, variable_bound, handle_said}
 use Rattle.script_lines.specs.Wishes.{wish_of, ops_of}
-use Rattle.script_serial.specs.Plan.{PlanData}
+use Rattle.script_serial.specs.Plan.{PlanData, books_of}
 use Rattle.script_serial.specs.Prints.{Told, PlacedCall, call_of, bound_by, caller_of, places_in, behind_last, or_earlier, next_place}
 use Rattle.script_run.specs.Timed.{oldest, places_by, Timed, tellings, own_lines, second_moment, IsEntryOf, IsRight, AreRight}
 
@@ -132,7 +133,7 @@ bindings_if b thread one bs =
     map (λ (x : Bound). (x.variable, x.handle)) (if b then one ∷ others else others)
 
 -- a binding of the thread goes on from what its variables stood for, and one of another thread changes nothing
-bound_here : (thread who : ℕ) (bs cs : List Bound) (v : Option (List ℕ)) (h : Option Handle) → bindings_of thread bs ≡ bindings_of thread cs
+bound_here : (thread who : ℕ) (bs cs : List Bound) (v : Option Variable) (h : Option Handle) → bindings_of thread bs ≡ bindings_of thread cs
     → bindings_of thread (with_binding who bs v h) ≡ bindings_of thread (with_binding who cs v h)
 bound_here thread who bs cs None h same = same
 bound_here thread who bs cs (Some variable) None same = same
@@ -148,7 +149,7 @@ bound_here thread who bs cs (Some variable) (Some h) same =
           ∙ sym (ap (λ (b : Bool). bindings_if b thread (record { thread = who; variable = variable; handle = h }) cs) apart.0)
     ]
 
-bound_elsewhere : (thread who : ℕ) (bs : List Bound) (v : Option (List ℕ)) (h : Option Handle) → (who == thread) ≡ false → bindings_of thread (with_binding who bs v h) ≡ bindings_of thread bs
+bound_elsewhere : (thread who : ℕ) (bs : List Bound) (v : Option Variable) (h : Option Handle) → (who == thread) ≡ false → bindings_of thread (with_binding who bs v h) ≡ bindings_of thread bs
 bound_elsewhere thread who bs None h apart = refl
 bound_elsewhere thread who bs (Some variable) None apart = refl
 bound_elsewhere thread who bs (Some variable) (Some h) apart =
@@ -158,7 +159,7 @@ bound_of_own : (thread : ℕ) (ds : List Told) → bindings_of thread (bound_by 
 bound_of_own thread [] = refl
 bound_of_own thread (d ∷ ds) =
     let ours : List Told = own_told thread ds in
-    let v : Option (List ℕ) = variable_bound d.task in
+    let v : Option Variable = variable_bound d.task in
     let h : Option Handle = handle_said d.line.reply in
     elim (eqb_tells d.line.thread thread) [
       | inl here ↦
@@ -177,7 +178,10 @@ pub bound_apart : (thread : ℕ) (ds es : List Told) → own_told thread ds ≡ 
 bound_apart thread ds es same = bound_of_own thread ds ∙ ap (λ (ks : List Told). bindings_of thread (bound_by ks)) same ∙ sym (bound_of_own thread es)
 
 abbrev line_for : Setting → PlanData → Timed → Moments → Bindings → OutLine
-line_for c plan t m bs = (granted_at c plan.library m (caller_of t.told.line) (wish_of plan.library bs t.told.task)).line
+line_for c plan t m bs = (granted_at c plan.library (books_of plan) m (caller_of t.told.line) (wish_of plan.library bs t.told.task)).line
+
+abbrev op_for : Setting → PlanData → Timed → Moments → Bindings → Option catalogs.Op
+op_for c plan t m bs = catalog_op c plan.library (books_of plan) m t.told.line.thread (wish_of plan.library bs t.told.task)
 
 abbrev calls_for : PlanData → Timed → Bindings → List PlacedCall
 calls_for plan t bs = map (call_of t.told.line.thread) (zip (places_in t.told.line.places) (ops_of (wish_of plan.library bs t.told.task)))
@@ -187,6 +191,7 @@ moments_from W next t = record {
   seen = oldest next W;
   first = oldest t.moment W;
   second = oldest (second_moment (places_in t.told.line.places) t.moment) W;
+  asked = t.asked;
 }
 
 pub right_apart : (c : Setting) (plan : PlanData) (W : History) (before before' : List Told) (t : Timed) → own_told t.told.line.thread before ≡ own_told t.told.line.thread before'
@@ -203,6 +208,10 @@ right_apart c plan W before before' t same r =
           ∙ ap (λ (n : ℕ). line_for c plan t (moments_from W n t) (bindings_of t.told.line.thread (bound_by before))) next
           ∙ ap (line_for c plan t (moments_from W (next_place t.told.line.thread before') t)) bound;
       entries = subst (λ (bs : Bindings). All (IsEntryOf c W) (calls_for plan t bs)) bound r.entries;
+      op =
+          r.op
+          ∙ ap (λ (n : ℕ). op_for c plan t (moments_from W n t) (bindings_of t.told.line.thread (bound_by before))) next
+          ∙ ap (op_for c plan t (moments_from W (next_place t.told.line.thread before') t)) bound;
     }
 
 -- ---- lines of one thread behind those of all

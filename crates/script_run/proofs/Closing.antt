@@ -10,29 +10,36 @@ use Rattle.handle_table.specs.Entry.{Entry, History, Setting}
 use Rattle.handle_table.specs.Answer.{IsLegal}
 use Rattle.handle_table.specs.Kept.{AreThreads}
 use Rattle.handle_table.specs.Table.{TableData, StandsFor}
-use Rattle.turn_gate.specs.Callers.{Gate, IsSeatOf}
+use Rattle.turn_gate.specs.Callers.{IsSeatOf}
+use Rattle.catalog_table.specs.declared.setting.CatalogSetting.{CatalogSetting}
+use Rattle.catalog_table.specs.Entry.{History as CatalogHistory}
+use Rattle.catalog_seats.proofs.Meeting as reading
+use Rattle.script_lines.specs.Catalogs.{catalog_setting}
 use Rattle.turn_gate.specs.Ends.{SomeCaller}
 use Rattle.thread_current.specs.Thread.{Thread, thread_of, IsThreadOf, IsInOrder, SawMore, GoesOnFrom, IsPart, entries_by}
 use Rattle.thread_current.specs.Mine.{HeldData}
 use Rattle.script_out.specs.declared.output.OutLine.{OutLine}
 use Rattle.script_lines.specs.declared.holds.OpenHold.{OpenHold}
 use Rattle.script_lines.specs.declared.thread.Thread.{Thread as ScriptThread}
-use Rattle.script_lines.specs.Holds.{open_holds}
+use Rattle.script_lines.specs.Holds.{open_holds, holds_after}
 use Rattle.script_lines.specs.Turns.{Turn, Ends, Releases, closing_turn, releases, closing, closing_turns}
 use Rattle.script_serial.specs.Plan.{PlanData, IsSound}
 use Rattle.script_serial.specs.Prints.{Prints}
 use Rattle.script_serial.proofs.LineLists.{all_left}
 use Rattle.script_run.specs.declared.seated.Seated.{Seated}
 use Rattle.script_run.specs.declared.worker.Worker.{Worker}
-use Rattle.script_run.specs.Seated.{held_data}
-use Rattle.script_run.specs.Timed.{Timed, AreTimed, IsWhole, own_lines, lines_in, turns_made, turn_made, last_end, end_of, places_by, placed_back, stacked}
-use Rattle.script_run.specs.Beside.{IsWorker, CanClose, Closes}
-use Rattle.script_run.specs.Rounds.{Each, EachTwo, IsFor, mine_of, turns_to, IsReady, AreBetween, SeatData, SeatSeesMore, IsCloser, AreClosing}
+use Rattle.script_run.specs.Seated.{held_data, Gates}
+use Rattle.script_run.specs.Timed.{Timed, AreTimed, IsWhole, AreAsked, own_lines, lines_in, turns_made, turn_made, last_end, end_of, places_by, placed_back, stacked}
+use Rattle.script_run.specs.Beside.{stock_of, IsWorker, CanClose, Closes}
+use Rattle.script_run.specs.Rounds.{Each, EachTwo, IsFor, IsForAsked, mine_of, reader_at, turns_to, IsReady, AreBetween, SeatData, SeatSeesMore, IsCloser, AreClosing}
 use Rattle.script_run.proofs.Growth.{are_right_grow}
 use Rattle.script_run.proofs.Apart.{holds_says}
 use Rattle.script_run.proofs.Stacked.{HasAdded, stacked_onto, whole_stacked}
 use Rattle.script_run.proofs.Stacking.{IsOf, IsBefore, right_within, stacked_same, stacked_back, flat_same, and_at, at_here, at_other}
-use Rattle.script_run.proofs.Seeing.{goes_on, as_long, entries_of_both, no_entry, same_places, made_kept, worker_kept, thread_with}
+use Rattle.script_run.proofs.Seeing.{goes_on, as_long, entries_of_both, no_entry, same_places, made_kept, thread_with}
+use Rattle.script_run.proofs.Keeping.{worker_kept}
+use Rattle.script_run.proofs.AskedSeen.{asked_few}
+use Rattle.script_run.proofs.LineSteps.{one_more_hold}
 use Rattle.script_run.proofs.Rounding.{made_of}
 use Rattle.script_run.proofs.Taking.{lines_few, filter_short}
 use Rattle.script_run.proofs.Counting.{few_turns_to}
@@ -40,15 +47,17 @@ use Rattle.script_run.proofs.Whole.{prints}
 
 -- ---- before the first one closes
 
-pub closing_begun : (gate : Gate Setting) (plan : PlanData) (lines : List OutLine) (ws : List Worker) → AreBetween gate plan plan.bundle.rounds lines ws → AreClosing gate plan [] ws lines
+pub closing_begun : (gate : Gates) (plan : PlanData) (lines : List OutLine) (ws : List Worker) → AreBetween gate plan plan.bundle.rounds lines ws → AreClosing gate plan [] ws lines
 closing_begun gate plan lines ws was = record {
   met = was.met;
   made = was.made;
   whole = was.whole;
+  asked = was.asked;
+  asked_whole = was.asked_whole;
   in_rounds = was.in_rounds;
   turns = was.turns;
   count = let same = was.count in omega (arith, same);
-  ready = λ i d lt. subst (λ (k : ℕ). IsReady gate plan was.met was.made k (slice_index_or ws i d)) (omega arith) (was.ready i d lt);
+  ready = λ i d lt. subst (λ (k : ℕ). IsReady gate plan was.met was.asked was.made k (slice_index_or ws i d)) (omega arith) (was.ready i d lt);
   closers = record { more = λ _. []; closers = λ i d lt. absurd (omega (arith, lt)); timed = tt; last = λ i d lt. absurd (omega (arith, lt)) };
   lines_are = was.lines_are;
 }
@@ -71,8 +80,8 @@ same_by_number t S T later same =
     both ∙ ap (λ (H : History). H ++ entries_by t S) none
 
 -- a worker that is ready has seen no more of its own calls than there are in the common history
-ready_calls : (gate : Gate Setting) (plan : PlanData) (M : History) (made : List Timed) (i : ℕ) (w : Worker) → IsReady gate plan M made i w → places_by i M ≡ placed_back (own_lines i made) → entries_by i (mine_of w).seen ≡ entries_by i M
-ready_calls gate plan M made i w ready places =
+ready_calls : (gate : Gates) (plan : PlanData) (M : History) (V : CatalogHistory) (made : List Timed) (i : ℕ) (w : Worker) → IsReady gate plan M V made i w → places_by i M ≡ placed_back (own_lines i made) → entries_by i (mine_of w).seen ≡ entries_by i M
+ready_calls gate plan M V made i w ready places =
     let own : (mine_of w).number ≡ i = ready.worker.seated.knows.number ∙ ready.number in
     let there : places_by i (mine_of w).seen ≡ placed_back (own_lines i made) = ap (λ (n : ℕ). places_by n (mine_of w).seen) (sym own) ∙ ready.worker.made.places in
     let same : length (places_by i (mine_of w).seen) ≡ length (places_by i M) = ap (λ (ps : List ℕ). length ps) (there ∙ sym places) in
@@ -104,37 +113,46 @@ last_before (s ∷ ss) mine more met last =
 -- ---- one more thread closes
 
 -- a seat that saw more closed as it did
-closer_kept : (gate : Gate Setting) (plan : PlanData) (round : ℕ) (M : History) (made : List Timed) (i : ℕ) (more : List Timed) (old new : SeatData) → IsCloser gate plan round M made i more old → SeatSeesMore gate old new
+closer_kept : (gate : Gates) (plan : PlanData) (round : ℕ) (M : History) (made : List Timed) (i : ℕ) (more : List Timed) (old new : SeatData) → IsCloser gate plan round M made i more old → SeatSeesMore gate.locales old new
     → IsCloser gate plan round M made i more new
 closer_kept gate plan round M made i more old new was saw = record {
   seat = saw.seat was.seat;
   number = saw.saw.same.number ∙ was.number;
-  has = made_kept gate.terms plan (thread_of 0 old) (thread_of 0 new) (more ++ own_lines i made) was.has saw.saw (saw.in_order was.has.in_order);
+  has = made_kept gate.locales.terms plan (thread_of 0 old) (thread_of 0 new) (more ++ own_lines i made) was.has saw.saw (saw.in_order was.has.in_order);
   turns = was.turns;
   since = was.since;
   later = goes_on (thread_of 0 old).seen M (thread_of 0 new).seen saw.saw.later was.later;
 }
 
 -- what is known when a worker closes: it has met the seat before it, and its lines and its seat are these
-pub record ClosesNext (gate : Gate Setting) (plan : PlanData) (seats others : List SeatData) (w : Worker) (mine : Thread) (lines : List OutLine) (seat : SeatData) : Type 0 where
+pub record ClosesNext (gate : Gates) (plan : PlanData) (seats others : List SeatData) (w : Worker) (mine : Thread) (lines : List OutLine) (seat : SeatData) : Type 0 where
   pub saw : SawMore (mine_of w) mine
-  pub in_order : IsInOrder gate.terms (mine_of w) → IsInOrder gate.terms mine
+  pub in_order : IsInOrder gate.locales.terms (mine_of w) → IsInOrder gate.locales.terms mine
   pub long : length others ≡ length seats
-  pub more : EachTwo seats others (λ i old new. SeatSeesMore gate old new)
+  pub more : EachTwo seats others (λ i old new. SeatSeesMore gate.locales old new)
   pub last : Each seats (λ i s. i + 1 ≡ length seats → GoesOnFrom mine.seen (thread_of 0 s).seen)
   pub closes : (made : List Timed) → IsWorker gate plan (thread_with w.thread mine) made → Closes gate plan (plan.bundle.rounds + 1) (thread_with w.thread mine) seat made w.lines.items lines
-  pub seat_of : IsSeatOf gate seat
+  pub seat_of : IsSeatOf gate.locales seat
   pub number : seat.number ≡ w.thread.side.number
 
+-- a thread holds no more than it has called
+few_if : (e : Entry) (es : History) (os : List OpenHold) (b : Bool) → length os ≤ length es → length (cond b (holds_after os e.op e.reply) os) ≤ length (cond b (e ∷ es) es)
+few_if e es os true le = let one = one_more_hold os e.op e.reply in omega (arith, one, le)
+few_if e es os false le = le
+
+holds_few : (t : ℕ) (H : History) → length (open_holds H t) ≤ length (entries_by t H)
+holds_few t [] = omega arith
+holds_few t (e ∷ H) = few_if e (entries_by t H) (open_holds H t) (e.who == t) (holds_few t H)
+
 -- a worker that has met the seats before it can be closed
-pub can_close : (gate : Gate Setting) (plan : PlanData) (seats : List SeatData) (w : Worker) (ws : List Worker) (mine : Thread) (lines : List OutLine) → AreClosing gate plan seats (w ∷ ws) lines → IsSound plan → IsFor plan gate.terms
-    → SawMore (mine_of w) mine → (IsInOrder gate.terms (mine_of w) → IsInOrder gate.terms mine) → CanClose gate plan.library (thread_with w.thread mine)
-can_close gate plan seats w ws mine lines was sound for saw orders =
+pub can_close : (gate : Gates) (plan : PlanData) (seats : List SeatData) (w : Worker) (ws : List Worker) (mine : Thread) (lines : List OutLine) → AreClosing gate plan seats (w ∷ ws) lines → IsSound plan → IsFor plan gate.locales.terms → IsForAsked gate.locales.terms gate.catalogs.terms
+    → SawMore (mine_of w) mine → (IsInOrder gate.locales.terms (mine_of w) → IsInOrder gate.locales.terms mine) → CanClose gate (stock_of plan) (thread_with w.thread mine)
+can_close gate plan seats w ws mine lines was sound for for_asked saw orders =
     let k : ℕ = length seats in
     let made : List Timed = was.made in
-    let ready : IsReady gate plan was.met made k w = subst (λ (j : ℕ). IsReady gate plan was.met made j w) (omega arith) (was.ready 0 w (omega arith)) in
-    let order : IsInOrder gate.terms mine = orders ready.worker.made.in_order in
-    let worker : IsWorker gate plan (thread_with w.thread mine) (own_lines k made) = worker_kept gate plan w.thread mine (own_lines k made) ready.worker saw order in
+    let ready : IsReady gate plan was.met was.asked made k w = subst (λ (j : ℕ). IsReady gate plan was.met was.asked made j w) (omega arith) (was.ready 0 w (omega arith)) in
+    let order : IsInOrder gate.locales.terms mine = orders ready.worker.made.in_order in
+    let worker : IsWorker gate plan (thread_with w.thread mine) (own_lines k made) = worker_kept gate plan w.thread mine (reader_at w) (own_lines k made) ready.worker saw order (reading.saw_same (reader_at w)) ready.worker.asked.in_order in
     let made_long : length made ≡ length (turns_to plan.bundle plan.bundle.rounds) = lines_few plan plan.bundle.rounds made was.turns in
     let own_few : length (own_lines k made) ≤ length made = filter_short (λ (t : Timed). t.told.line.thread == k) made in
     let most : length (turns_to plan.bundle plan.bundle.rounds) ≤ length plan.bundle.commands = few_turns_to plan.bundle plan.bundle.rounds in
@@ -145,34 +163,45 @@ can_close gate plan seats w ws mine lines was sound for saw orders =
     let few = worker.few in
     let counted = worker.lines in
     let quota = for.quota in
+    let asked_quota = for_asked.quota in
+    let asked : length (reader_at w).calls ≤ length (own_lines k made) = asked_few gate.catalogs.terms (reader_at w) (own_lines k made) worker.asked in
+    let held : length (open_holds mine.seen w.thread.side.number) ≤ length (entries_by w.thread.side.number mine.seen) = holds_few w.thread.side.number mine.seen in
+    let calls : length (entries_by w.thread.side.number mine.seen) ≡ length mine.calls =
+    ap (λ (n : ℕ). length (entries_by n mine.seen)) (sym worker.seated.knows.number) ∙ ap (λ (H : History). length H) worker.seated.in_order.calls
+    in
     record {
       numbered = sound.numbered;
       installable = sound.installable;
       opening = for.opening;
-      calls = record { seated = worker.seated; quota = omega (arith, few, holds, own_few, made_long, most, quota) };
+      calls = record {
+        calls = record { seated = worker.seated; quota = omega (arith, few, holds, own_few, made_long, most, quota) };
+        asks = record { seated = worker.asking; quota = omega (arith, asked, asked_quota, few, held, calls, holds, own_few, made_long, most, quota) };
+        agree = worker.agree;
+      };
       few = omega (arith, counted, few, holds, own_few, made_long, most, commands);
     }
 
 -- each seat so far is one of the table
-pub seats_of : (gate : Gate Setting) (plan : PlanData) (seats : List SeatData) (ws : List Worker) (lines : List OutLine) → AreClosing gate plan seats ws lines → Each seats (λ i seat. IsSeatOf gate seat)
+pub seats_of : (gate : Gates) (plan : PlanData) (seats : List SeatData) (ws : List Worker) (lines : List OutLine) → AreClosing gate plan seats ws lines → Each seats (λ i seat. IsSeatOf gate.locales seat)
 seats_of gate plan seats ws lines was = λ i d lt. (was.closers.closers i d lt).seat
 
 -- and a worker that is left is a thread of it
-pub next_thread : (gate : Gate Setting) (plan : PlanData) (seats : List SeatData) (w : Worker) (ws : List Worker) (lines : List OutLine) → AreClosing gate plan seats (w ∷ ws) lines → IsThreadOf gate (mine_of w)
+pub next_thread : (gate : Gates) (plan : PlanData) (seats : List SeatData) (w : Worker) (ws : List Worker) (lines : List OutLine) → AreClosing gate plan seats (w ∷ ws) lines → IsThreadOf gate.locales (mine_of w)
 next_thread gate plan seats w ws lines was = (was.ready 0 w (omega arith)).worker.seated.thread
 
-pub closing_next : (gate : Gate Setting) (plan : PlanData) (seats others all : List SeatData) (w : Worker) (ws : List Worker) (mine : Thread) (lines closed lines' : List OutLine) (seat : SeatData)
+pub closing_next : (gate : Gates) (plan : PlanData) (seats others all : List SeatData) (w : Worker) (ws : List Worker) (mine : Thread) (lines closed lines' : List OutLine) (seat : SeatData)
     → AreClosing gate plan seats (w ∷ ws) lines → ClosesNext gate plan seats others w mine closed seat → all ≡ others ++ seat ∷ [] → lines' ≡ lines ++ closed → AreClosing gate plan all ws lines'
 closing_next gate plan seats others all w ws mine lines closed lines' seat was next all_is lines_is =
-    let n : ℕ = gate.terms.setting.threads in
+    let n : ℕ = gate.locales.terms.setting.threads in
     let k : ℕ = length seats in
     let round : ℕ = plan.bundle.rounds + 1 in
     let M : History = was.met in
+    let V : CatalogHistory = was.asked in
     let made : List Timed = was.made in
     let count : k + length (w ∷ ws) ≡ n = was.count in
-    let ready : IsReady gate plan M made k w = subst (λ (j : ℕ). IsReady gate plan M made j w) (omega arith) (was.ready 0 w (omega arith)) in
-    let order : IsInOrder gate.terms mine = next.in_order ready.worker.made.in_order in
-    let worker : IsWorker gate plan (thread_with w.thread mine) (own_lines k made) = worker_kept gate plan w.thread mine (own_lines k made) ready.worker next.saw order in
+    let ready : IsReady gate plan M V made k w = subst (λ (j : ℕ). IsReady gate plan M V made j w) (omega arith) (was.ready 0 w (omega arith)) in
+    let order : IsInOrder gate.locales.terms mine = next.in_order ready.worker.made.in_order in
+    let worker : IsWorker gate plan (thread_with w.thread mine) (own_lines k made) = worker_kept gate plan w.thread mine (reader_at w) (own_lines k made) ready.worker next.saw order (reading.saw_same (reader_at w)) ready.worker.asked.in_order in
     let closes : Closes gate plan round (thread_with w.thread mine) seat (own_lines k made) w.lines.items closed = next.closes (own_lines k made) worker in
     let new : List Timed = closes.more in
     let old : ℕ → List Timed = was.closers.more in
@@ -181,7 +210,7 @@ closing_next gate plan seats others all w ws mine lines closed lines' seat was n
     let before : (made : List Timed) → stacked more made k ≡ stacked old made k = λ earlier. stacked_same more old earlier k (λ j lt. at_other old k new j lt) in
     let own : seat.number ≡ k = next.number ∙ ready.number in
     let own_mine : mine.number ≡ k = next.saw.same.number ∙ ready.worker.seated.knows.number ∙ ready.number in
-    let calls_w : entries_by k (mine_of w).seen ≡ entries_by k M = ready_calls gate plan M made k w ready (was.whole.places k (omega (arith, count))) in
+    let calls_w : entries_by k (mine_of w).seen ≡ entries_by k M = ready_calls gate plan M V made k w ready (was.whole.places k (omega (arith, count))) in
     let own_w : (mine_of w).number ≡ k = ready.worker.seated.knows.number ∙ ready.number in
     let calls : entries_by k mine.seen ≡ entries_by k M =
     ap (λ (j : ℕ). entries_by j mine.seen) (sym own_mine) ∙ order.calls ∙ next.saw.calls ∙ sym ready.worker.made.in_order.calls ∙ ap (λ (j : ℕ). entries_by j (mine_of w).seen) own_w ∙ calls_w
@@ -219,16 +248,18 @@ closing_next gate plan seats others all w ws mine lines closed lines' seat was n
     let last_new : last_end (stacked more [] (suc k)) ≤ length (thread_of 0 seat).seen =
     subst (λ (ts : List Timed). last_end ts ≤ length (thread_of 0 seat).seen) (sym stack)
     (last_within new (stacked old [] k) (length (thread_of 0 seat).seen)
-    (right_within gate.terms.setting plan (thread_of 0 seat).seen new (own_lines k made) closes.made.right) (omega (arith, last_old, long_seat)))
+    (right_within gate.locales.terms.setting plan (thread_of 0 seat).seen new (own_lines k made) closes.made.right) (omega (arith, last_old, long_seat)))
     in
     record {
       met = M;
       made = made;
       whole = was.whole;
+      asked = V;
+      asked_whole = was.asked_whole;
       in_rounds = was.in_rounds;
       turns = was.turns;
       count = omega (arith, count, all_long);
-      ready = λ i d lt. subst (λ (j : ℕ). IsReady gate plan M made j (slice_index_or ws i d)) (omega (arith, all_long)) (was.ready (suc i) d (omega (arith, lt)));
+      ready = λ i d lt. subst (λ (j : ℕ). IsReady gate plan M V made j (slice_index_or ws i d)) (omega (arith, all_long)) (was.ready (suc i) d (omega (arith, lt)));
       closers = record {
         more = more;
         closers = λ i d lt. elim (eqb_tells i k) [
@@ -268,8 +299,8 @@ closing_round round thread holds =
     (All-cons (λ (t : Turn). t.round ≡ round) (closing_turn round thread Ends) [] refl (All-nil (λ (t : Turn). t.round ≡ round)))
 
 -- the lines of a thread that has closed, where all entries are this history
-share_of : (gate : Gate Setting) (plan : PlanData) (round : ℕ) (M H : History) (made : List Timed) (i : ℕ) (more : List Timed) (seat : SeatData) → IsCloser gate plan round M made i more seat → IsPart H seat
-    → HasAdded gate.terms.setting plan M H round made i more
+share_of : (gate : Gates) (plan : PlanData) (round : ℕ) (M H : History) (made : List Timed) (i : ℕ) (more : List Timed) (seat : SeatData) → IsCloser gate plan round M made i more seat → IsPart H seat
+    → HasAdded gate.locales.terms.setting plan M H round made i more
 share_of gate plan round M H made i more seat closer part =
     let own : seat.number ≡ i = closer.number in
     let seen : History = (thread_of 0 seat).seen in
@@ -279,7 +310,7 @@ share_of gate plan round M H made i more seat closer part =
     record {
       own = all_left (IsOf i) more (own_lines i made) (All-weaker (λ (m : Timed). m.told.line.thread ≡ seat.number) (IsOf i) (λ m e. e ∙ own) (more ++ own_lines i made) closer.has.own);
       of_round = made_of (λ (t : Turn). t.round ≡ round) more (closing round i (open_holds M i)) closer.turns (closing_round round i (open_holds M i));
-      right = are_right_grow gate.terms.setting plan H seen (more ++ own_lines i made) part.0 closer.has.right;
+      right = are_right_grow gate.locales.terms.setting plan H seen (more ++ own_lines i made) part.0 closer.has.right;
       timed = closer.has.timed;
       places = same_places i seen H part.0 same ∙ ap (λ (j : ℕ). places_by j seen) (sym own) ∙ closer.has.places;
       since = closer.since;
@@ -290,10 +321,10 @@ first_of [] some = absurd (omega (arith, some))
 first_of (s ∷ ss) some = s
 
 -- the lines of a script whose threads have closed are such as it may print
-pub closed_prints : (gate : Gate Setting) (plan : PlanData) (seats : List SeatData) (lines : List OutLine) (table : TableData) (H : History) → AreClosing gate plan seats [] lines → IsFor plan gate.terms
-    → StandsFor table H → table.setting ≡ gate.terms.setting → All (IsPart H) seats → Prints gate.terms.setting plan lines
-closed_prints gate plan seats lines table H was for stands same parts =
-    let c : Setting = gate.terms.setting in
+pub closed_prints : (gate : Gates) (plan : PlanData) (seats : List SeatData) (lines : List OutLine) (table : TableData) (H : History) → AreClosing gate plan seats [] lines → IsFor plan gate.locales.terms → catalog_setting gate.locales.terms.setting ≡ gate.catalogs.terms.setting
+    → StandsFor table H → table.setting ≡ gate.locales.terms.setting → All (IsPart H) seats → Prints gate.locales.terms.setting plan lines
+closed_prints gate plan seats lines table H was for agree stands same parts =
+    let c : Setting = gate.locales.terms.setting in
     let n : ℕ = c.threads in
     let M : History = was.met in
     let made : List Timed = was.made in
@@ -322,7 +353,8 @@ closed_prints gate plan seats lines table H was for stands same parts =
     subst (Prints c plan) (sym (was.lines_are ∙ ap (λ (k : ℕ). reverse (lines_in (stacked more made k))) all ∙ ap (λ (ts : List Timed). reverse (lines_in ts)) upon))
     (prints c plan M H (stacked more [] n) made was.whole was.turns (subst (IsWhole c plan H) upon whole)
     (sym (reverse-reverse (turns_made (stacked more [] n))) ∙ ap (λ (ts : List Turn). reverse ts) back)
-    (subst (λ (k : ℕ). AreTimed (stacked more [] k)) all was.closers.timed))
+    (subst (λ (k : ℕ). AreTimed (stacked more [] k)) all was.closers.timed)
+    was.asked (subst (λ (s : CatalogSetting). AreAsked s was.asked made) (sym agree) was.asked_whole))
 
 -- ---- the seats that go back
 
@@ -331,7 +363,7 @@ some_at n [] i d lt is = absurd (omega (arith, lt))
 some_at n (s ∷ ss) zero d lt is = inl is
 some_at n (s ∷ ss) (suc i) d lt is = inr (some_at n ss i d (omega (arith, lt)) is)
 
-pub numbers_of : (gate : Gate Setting) (plan : PlanData) (seats all : List SeatData) (lines : List OutLine) → AreClosing gate plan seats [] lines → IsFor plan gate.terms → all ≡ seats → (n : ℕ) → n < gate.terms.seats → SomeCaller n all
+pub numbers_of : (gate : Gates) (plan : PlanData) (seats all : List SeatData) (lines : List OutLine) → AreClosing gate plan seats [] lines → IsFor plan gate.locales.terms → all ≡ seats → (n : ℕ) → n < gate.locales.terms.seats → SomeCaller n all
 numbers_of gate plan seats all lines was for same n lt =
     let count = was.count in
     let many = for.seats in
@@ -340,10 +372,10 @@ numbers_of gate plan seats all lines was for same n lt =
     subst (SomeCaller n) (sym same) (some_at n seats n d below (was.closers.closers n d below).number)
 
 -- the same, where the worker that closes is given as the thread that has met the seats
-pub closing_step : (gate : Gate Setting) (plan : PlanData) (seats others all : List SeatData) (w : Worker) (ws : List Worker) (t : ScriptThread Seated) (lines closed lines' : List OutLine) (seat : SeatData)
-    → AreClosing gate plan seats (w ∷ ws) lines → t ≡ thread_with w.thread t.side.mine → SawMore (mine_of w) t.side.mine → (IsInOrder gate.terms (mine_of w) → IsInOrder gate.terms t.side.mine)
-    → length others ≡ length seats → EachTwo seats others (λ i old new. SeatSeesMore gate old new) → Each seats (λ i s. i + 1 ≡ length seats → GoesOnFrom t.side.mine.seen (thread_of 0 s).seen)
-    → ((made : List Timed) → IsWorker gate plan t made → Closes gate plan (plan.bundle.rounds + 1) t seat made w.lines.items closed) → IsSeatOf gate seat → seat.number ≡ t.side.number
+pub closing_step : (gate : Gates) (plan : PlanData) (seats others all : List SeatData) (w : Worker) (ws : List Worker) (t : ScriptThread Seated) (lines closed lines' : List OutLine) (seat : SeatData)
+    → AreClosing gate plan seats (w ∷ ws) lines → t ≡ thread_with w.thread t.side.mine → SawMore (mine_of w) t.side.mine → (IsInOrder gate.locales.terms (mine_of w) → IsInOrder gate.locales.terms t.side.mine)
+    → length others ≡ length seats → EachTwo seats others (λ i old new. SeatSeesMore gate.locales old new) → Each seats (λ i s. i + 1 ≡ length seats → GoesOnFrom t.side.mine.seen (thread_of 0 s).seen)
+    → ((made : List Timed) → IsWorker gate plan t made → Closes gate plan (plan.bundle.rounds + 1) t seat made w.lines.items closed) → IsSeatOf gate.locales seat → seat.number ≡ t.side.number
     → all ≡ others ++ seat ∷ [] → lines' ≡ lines ++ closed → AreClosing gate plan all ws lines'
 closing_step gate plan seats others all w ws t lines closed lines' seat was same saw order long more last closes seat_of number all_is lines_is =
     closing_next gate plan seats others all w ws t.side.mine lines closed lines' seat was

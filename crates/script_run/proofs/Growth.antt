@@ -6,11 +6,12 @@ use Rattle.std.proofs.lemmas.List.Elements.{All-weaker}
 use Rattle.handle_table.specs.Entry.{Entry, History, Setting}
 use Rattle.handle_table.specs.Answer.{IsLegal}
 use Rattle.thread_current.specs.Thread.{GoesOnFrom}
-use Rattle.script_lines.specs.Board.{Moments, granted_at}
+use Rattle.script_lines.specs.Board.{Moments, catalog_op, granted_at}
+use Rattle.script_lines.specs.Catalogs.{Asked}
 use Rattle.script_lines.specs.Outcome.{with_call}
 use Rattle.script_lines.specs.Variables.{bindings_of}
 use Rattle.script_lines.specs.Wishes.{wish_of}
-use Rattle.script_serial.specs.Plan.{PlanData}
+use Rattle.script_serial.specs.Plan.{PlanData, books_of}
 use Rattle.script_serial.specs.Prints.{Told, PlacedCall, bound_by, caller_of, places_in, behind_last, or_earlier, next_place, calls_of}
 use Rattle.script_run.specs.Timed.{oldest, Timed, end_of, tellings, second_moment, moments_in, IsEntryOf, IsRight, AreRight}
 
@@ -115,17 +116,17 @@ next_within c plan W thread (t ∷ ts) right =
     (end_within ps t.moment (next_place thread (tellings ts)) (length W) right.0.within before)
     before
 
-abbrev moments_of : History → History → History → Moments
-moments_of seen first second = record { seen = seen; first = first; second = second }
+abbrev moments_of : History → History → History → Asked → Moments
+moments_of seen first second asked = record { seen = seen; first = first; second = second; asked = asked }
 
 moments_grow : (more W : History) (before : List Told) (t : Timed) → next_place t.told.line.thread before ≤ length W → t.moment ≤ length W
     → second_moment (places_in t.told.line.places) t.moment ≤ length W → moments_in (more ++ W) before t ≡ moments_in W before t
 moments_grow more W before t seen first second =
     let next : ℕ = next_place t.told.line.thread before in
     let last : ℕ = second_moment (places_in t.told.line.places) t.moment in
-    ap (λ (H : History). moments_of H (oldest t.moment (more ++ W)) (oldest last (more ++ W))) (oldest_grows next more W seen)
-    ∙ ap (λ (H : History). moments_of (oldest next W) H (oldest last (more ++ W))) (oldest_grows t.moment more W first)
-    ∙ ap (λ (H : History). moments_of (oldest next W) (oldest t.moment W) H) (oldest_grows last more W second)
+    ap (λ (H : History). moments_of H (oldest t.moment (more ++ W)) (oldest last (more ++ W)) t.asked) (oldest_grows next more W seen)
+    ∙ ap (λ (H : History). moments_of (oldest next W) H (oldest last (more ++ W)) t.asked) (oldest_grows t.moment more W first)
+    ∙ ap (λ (H : History). moments_of (oldest next W) (oldest t.moment W) H t.asked) (oldest_grows last more W second)
 
 entry_grows : (c : Setting) (more W : History) (call : PlacedCall) → IsEntryOf c W call → IsEntryOf c (more ++ W) call
 entry_grows c more W call is =
@@ -153,8 +154,11 @@ right_more c plan more W before t seen r =
       index = r.index;
       line =
           r.line
-          ∙ ap (λ (m : Moments). (granted_at c plan.library m (caller_of t.told.line) (wish_of plan.library (bindings_of t.told.line.thread (bound_by before)) t.told.task)).line) (sym same);
+          ∙ ap (λ (m : Moments). (granted_at c plan.library (books_of plan) m (caller_of t.told.line) (wish_of plan.library (bindings_of t.told.line.thread (bound_by before)) t.told.task)).line) (sym same);
       entries = All-weaker (IsEntryOf c W) (IsEntryOf c (more ++ W)) (entry_grows c more W) (calls_of plan.library (bound_by before) t.told) r.entries;
+      op =
+          r.op
+          ∙ ap (λ (m : Moments). catalog_op c plan.library (books_of plan) m t.told.line.thread (wish_of plan.library (bindings_of t.told.line.thread (bound_by before)) t.told.task)) (sym same);
     }
 
 -- a line that is right for a history is right for what goes on from it

@@ -9,18 +9,20 @@ use Rattle.category_store.specs.Catalog.{Catalog}
 use Rattle.handle_table.specs.declared.handle.Named.{Named}
 use Rattle.handle_table.specs.Entry as table
 use Rattle.handle_table.specs.Entry.{History, Setting}
+use Rattle.handle_table.specs.History.{sets, global}
 use Rattle.handle_table.specs.Answer.{answer, own}
 use Rattle.script_commands.specs.declared.command.Read.{Read}
 use Rattle.script_out.specs.declared.output.OutLine.{OutLine}
 use Rattle.script_out.specs.declared.output.Places.{Places}
 use Rattle.script_out.specs.declared.output.Why.{Why}
-use Rattle.script_lines.specs.Board.{Moments, granted_at, reads_between, reads_of, reads}
+use Rattle.script_lines.specs.Catalogs.{Books, Asked, book_for, open_line}
+use Rattle.script_lines.specs.Board.{Moments, granted_at, reads_between, reads_of, reads, opens}
 use Rattle.script_lines.specs.Holds.{object_held, open_holds, held_as}
 use Rattle.script_lines.specs.Lines.{Caller}
 use Rattle.script_lines.specs.Outcome.{with_call}
 use Rattle.script_lines.specs.Variables.{bindings_of}
-use Rattle.script_lines.specs.Wishes.{Wish, Calls, ReadsOf, Reads, AsksSelection, AsksName, wish_of}
-use Rattle.script_serial.specs.Plan.{PlanData}
+use Rattle.script_lines.specs.Wishes.{Wish, Calls, ReadsOf, Reads, AsksSelection, AsksName, OpensCatalog, GetsMessage, ClosesCatalog, wish_of}
+use Rattle.script_serial.specs.Plan.{PlanData, books_of}
 use Rattle.script_serial.specs.Prints.{Told, bound_by, places_in, PlacedCall, calls_of, calls_after, with_placed, history_below, caller_of}
 use Rattle.script_serial.proofs.LineLists.{all_left, all_right}
 use Rattle.script_serial.proofs.SerialCalls.{is_at, wished_calls}
@@ -48,19 +50,30 @@ read_kept : (c : Setting) (library : Catalog) (m : Moments) (at : Caller) (read 
 read_kept c library m at read (Some object) = refl
 read_kept c library m at read None = refl
 
-granted_kept : (c : Setting) (library : Catalog) (m : Moments) (at : Caller) (w : Result Wish Why) → Kept at.thread w (granted_at c library m at w).line.places
-granted_kept c library m at (Err why) = refl
-granted_kept c library m at (Ok (Calls categories op)) = refl
-granted_kept c library m at (Ok (ReadsOf n read)) = of_kept c library m at n read (held_as (open_holds m.seen at.thread) n)
-granted_kept c library m at (Ok (Reads read)) = read_kept c library m at read (own m.seen at.thread)
-granted_kept c library m at (Ok AsksSelection) = refl
-granted_kept c library m at (Ok (AsksName categories)) = refl
+open_kept : (at : Caller) (name : List ℕ) (version : Option ℕ) (asked : Asked) (n : Option ℕ) → Kept at.thread (Ok (OpensCatalog name)) (open_line at version asked n).places
+open_kept at name version asked None = refl
+open_kept at name version asked (Some n) = refl
+
+opens_kept : (c : Setting) (library : Catalog) (books : Books) (m : Moments) (at : Caller) (name : List ℕ) (object : Option Parts) → Kept at.thread (Ok (OpensCatalog name)) (opens c library books m at name object).line.places
+opens_kept c library books m at name (Some object) = open_kept at name None m.asked (book_for library books object name)
+opens_kept c library books m at name None = open_kept at name (Some (sets m.first)) m.asked (book_for library books (global c m.first) name)
+
+granted_kept : (c : Setting) (library : Catalog) (books : Books) (m : Moments) (at : Caller) (w : Result Wish Why) → Kept at.thread w (granted_at c library books m at w).line.places
+granted_kept c library books m at (Err why) = refl
+granted_kept c library books m at (Ok (Calls categories op)) = refl
+granted_kept c library books m at (Ok (ReadsOf n read)) = of_kept c library m at n read (held_as (open_holds m.seen at.thread) n)
+granted_kept c library books m at (Ok (Reads read)) = read_kept c library m at read (own m.seen at.thread)
+granted_kept c library books m at (Ok AsksSelection) = refl
+granted_kept c library books m at (Ok (AsksName categories)) = refl
+granted_kept c library books m at (Ok (OpensCatalog name)) = opens_kept c library books m at name (own m.seen at.thread)
+granted_kept c library books m at (Ok (GetsMessage h set message default)) = refl
+granted_kept c library books m at (Ok (ClosesCatalog h)) = refl
 
 line_kept : (c : Setting) (plan : PlanData) (W : History) (before : List Told) (u : Timed) → IsRight c plan W before u → map place_of (calls_of plan.library (bound_by before) u.told) ≡ places_in u.told.line.places
 line_kept c plan W before u right =
     let thread : ℕ = u.told.line.thread in
     let w : Result Wish Why = wish_of plan.library (bindings_of thread (bound_by before)) u.told.task in
-    subst (λ (l : OutLine). Kept thread w l.places) (sym right.line) (granted_kept c plan.library (moments_in W before u) (caller_of u.told.line) w)
+    subst (λ (l : OutLine). Kept thread w l.places) (sym right.line) (granted_kept c plan.library (books_of plan) (moments_in W before u) (caller_of u.told.line) w)
 
 -- ---- the calls of lines, of which the newest stand behind
 

@@ -1,4 +1,8 @@
 pub mod Apart
+pub mod AskedExamples
+pub mod AskedPlaces
+pub mod AskedRounds
+pub mod AskedSeen
 pub mod Before
 pub mod Beginning
 pub mod Closing
@@ -7,6 +11,7 @@ pub mod Counting
 pub mod Growth
 pub mod History
 pub mod HoldLists
+pub mod Keeping
 pub mod LineSteps
 pub mod MadeLines
 pub mod Meeting

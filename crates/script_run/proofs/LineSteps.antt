@@ -1,6 +1,6 @@
 -- How a line leads from what its thread had seen to what it has seen then.
 use Rattle.std.proofs.Common.{◌≡◌, ℕ, ◌+◌, ◌≤◌, Bool, true, false, cond, not, List, [], ◌∷◌, ◌++◌, length, map, Option, Some, None, Result, Ok, Err, refl, sym, ap, ◌∙◌, subst, arith, eq-eqb, append_assoc}
-use Rattle.std.specs.Prelude.{◌||◌, if◌then◌else◌, filter, reverse, zip, All, unwrap_or}
+use Rattle.std.specs.Prelude.{◌||◌, if◌then◌else◌, filter, reverse, zip, All, unwrap_or, option_map}
 use Rattle.std.specs.List.{list_any}
 use Rattle.std.proofs.lemmas.Bool.{lt-ltb, le-ltb}
 use Rattle.std.proofs.lemmas.List.{length-append}
@@ -25,16 +25,19 @@ use Rattle.script_out.specs.declared.output.Places.TheVariants as places
 use Rattle.script_out.specs.declared.output.Said.{Said}
 use Rattle.script_out.specs.declared.output.Said.TheVariants as said
 use Rattle.script_out.specs.declared.output.Why.{Why}
+use Rattle.script_out.specs.declared.output.Why.TheVariants as whys
 use Rattle.script_lines.specs.declared.holds.OpenHold.{OpenHold}
 use Rattle.script_lines.specs.declared.holds.HoldChange.{HoldChange}
 use Rattle.script_lines.specs.declared.holds.HoldChange.TheVariants as changes
 use Rattle.script_lines.specs.Holds.{object_held, with_hold, without, hold_change, changed, holds_after, open_holds, held_as, is_of}
-use Rattle.script_lines.specs.Wishes.{Wish, Calls, ReadsOf, Reads, AsksSelection, AsksName, ops_of}
+use Rattle.catalog_table.specs.Entry as catalogs
+use Rattle.script_lines.specs.Wishes.{Wish, Calls, ReadsOf, Reads, AsksSelection, AsksName, OpensCatalog, GetsMessage, ClosesCatalog, ops_of}
 use Rattle.script_lines.specs.Lines.{Caller, version_made, shown, line, told_line, entry_line, object_line, held_line}
 use Rattle.script_lines.specs.Names.{object_name}
 use Rattle.script_lines.specs.Reads.{local}
 use Rattle.script_lines.specs.Outcome.{Outcome, tells, with_call, calls, read_line, name_line}
-use Rattle.script_lines.specs.Board.{Moments, reads_between, reads_of, reads, granted_at, AreMomentsOf}
+use Rattle.script_lines.specs.Catalogs.{Books, Asked, object_used, book_for, open_line, handle_reply_shown, message_shown, handle_meant}
+use Rattle.script_lines.specs.Board.{Moments, reads_between, reads_of, reads, opens, catalog_op, granted_at, AreMomentsOf}
 use Rattle.script_serial.specs.Prints.{PlacedCall, call_of, caller_of, places_in, behind_last}
 use Rattle.script_run.specs.Seated.{MayFollow}
 use Rattle.script_run.specs.Timed.{oldest, places_by, second_moment, IsEntryOf}
@@ -49,11 +52,12 @@ abbrev pub ended : OutLine → ℕ → ℕ
 ended l moment = unwrap_or (behind_last (places_in l.places)) moment
 
 -- the histories of a line, by what its thread has seen behind it
-abbrev pub moments_by : History → History → OutLine → ℕ → Moments
-moments_by W seen l moment = record { seen = seen; first = oldest moment W; second = oldest (second_moment (places_in l.places) moment) W }
+abbrev pub moments_by : History → History → OutLine → ℕ → Asked → Moments
+moments_by W seen l moment asked = record { seen = seen; first = oldest moment W; second = oldest (second_moment (places_in l.places) moment) W; asked = asked }
 
--- the line of a wish of a thread that had seen S leads to the history of an outcome
-pub record IsStep (c : Setting) (library : Catalog) (at : Caller) (wish : Result Wish Why) (S : History) (done : Outcome) (moment : ℕ) : Type 0 where
+-- the line of a wish of a thread that had seen S leads to the history of an outcome, where the catalogs are asked for the op and
+-- answer this
+pub record IsStep (c : Setting) (library : Catalog) (books : Books) (at : Caller) (wish : Result Wish Why) (S : History) (done : Outcome) (moment : ℕ) (op : Option catalogs.Op) (asked : Asked) : Type 0 where
   pub later : GoesOnFrom done.history S
   pub since : length S ≤ moment
   pub until : moment ≤ ended done.line moment
@@ -62,7 +66,8 @@ pub record IsStep (c : Setting) (library : Catalog) (at : Caller) (wish : Result
   pub caller : caller_of done.line ≡ at
   pub entries : All (IsEntryOf c done.history) (map (call_of at.thread) (zip (places_in done.line.places) (ops_of wish)))
   pub line : (seen : History) → entries_by at.thread seen ≡ entries_by at.thread S
-      → done.line ≡ (granted_at c library (moments_by done.history seen done.line moment) at wish).line
+      → done.line ≡ (granted_at c library books (moments_by done.history seen done.line moment asked) at wish).line
+  pub asks : (seen : History) → entries_by at.thread seen ≡ entries_by at.thread S → op ≡ catalog_op c library books (moments_by done.history seen done.line moment asked) at.thread wish
   pub few : length (entries_by at.thread done.history) + length (open_holds done.history at.thread) ≤ length (entries_by at.thread S) + length (open_holds S at.thread) + 2
 
 -- ---- histories that go on
@@ -143,7 +148,7 @@ one_change os x (changes.Open n) = one_hold os n x
 one_change os x (changes.Close n) = let few = fewer_left (λ (o : OpenHold). not (names n o.handle)) os in omega arith
 one_change os x changes.CloseAll = omega arith
 
-one_more_hold : (os : List OpenHold) (op : Op) (reply : Reply) → length (holds_after os op reply) ≤ length os + 1
+pub one_more_hold : (os : List OpenHold) (op : Op) (reply : Reply) → length (holds_after os op reply) ≤ length os + 1
 one_more_hold os op reply =
     elim (is_accepted reply) as (λ (b : Bool). length (cond b (changed os (object_held reply) (hold_change op)) os) ≤ length os + 1) [
       | true ↦ one_change os (object_held reply) (hold_change op)
@@ -153,11 +158,12 @@ one_more_hold os op reply =
 -- ---- the shapes of a line
 
 -- a line without a place, of what its thread had seen
-stays : (c : Setting) (library : Catalog) (at : Caller) (wish : Result Wish Why) (S : History) (version : Option ℕ) (reply : Said)
+stays : (c : Setting) (library : Catalog) (books : Books) (at : Caller) (wish : Result Wish Why) (S : History) (version : Option ℕ) (reply : Said) (op : Option catalogs.Op) (asked : Asked)
     → ((seen : History) → entries_by at.thread seen ≡ entries_by at.thread S
-    → line at places.None version reply ≡ (granted_at c library (moments_by S seen (line at places.None version reply) (length S)) at wish).line)
-    → IsStep c library at wish S (tells S (line at places.None version reply)) (length S)
-stays c library at wish S version reply same = record {
+    → line at places.None version reply ≡ (granted_at c library books (moments_by S seen (line at places.None version reply) (length S) asked) at wish).line)
+    → ((seen : History) → entries_by at.thread seen ≡ entries_by at.thread S → op ≡ catalog_op c library books (moments_by S seen (line at places.None version reply) (length S) asked) at.thread wish)
+    → IsStep c library books at wish S (tells S (line at places.None version reply)) (length S) op asked
+stays c library books at wish S version reply op asked same asks = record {
   later = ([], refl);
   since = omega arith;
   until = omega arith;
@@ -166,15 +172,36 @@ stays c library at wish S version reply same = record {
   caller = refl;
   entries = All-nil (IsEntryOf c S);
   line = same;
+  asks = asks;
+  few = omega arith;
+}
+
+-- the same of a line of the catalogs
+stays_asked : (c : Setting) (library : Catalog) (books : Books) (at : Caller) (wish : Result Wish Why) (S : History) (place : ℕ) (version : Option ℕ) (reply : Said) (op : Option catalogs.Op) (asked : Asked)
+    → ((seen : History) → entries_by at.thread seen ≡ entries_by at.thread S
+    → line at (places.Catalog place) version reply ≡ (granted_at c library books (moments_by S seen (line at (places.Catalog place) version reply) (length S) asked) at wish).line)
+    → ((seen : History) → entries_by at.thread seen ≡ entries_by at.thread S → op ≡ catalog_op c library books (moments_by S seen (line at (places.Catalog place) version reply) (length S) asked) at.thread wish)
+    → IsStep c library books at wish S (tells S (line at (places.Catalog place) version reply)) (length S) op asked
+stays_asked c library books at wish S place version reply op asked same asks = record {
+  later = ([], refl);
+  since = omega arith;
+  until = omega arith;
+  within = omega arith;
+  places = refl;
+  caller = refl;
+  entries = All-nil (IsEntryOf c S);
+  line = same;
+  asks = asks;
   few = omega arith;
 }
 
 -- a line without a place, of what stands now
-looks : (c : Setting) (library : Catalog) (at : Caller) (wish : Result Wish Why) (S first : History) (version : Option ℕ) (reply : Said) → MayFollow c at.thread first S
+looks : (c : Setting) (library : Catalog) (books : Books) (at : Caller) (wish : Result Wish Why) (S first : History) (version : Option ℕ) (reply : Said) (op : Option catalogs.Op) (asked : Asked) → MayFollow c at.thread first S
     → ((seen : History) → entries_by at.thread seen ≡ entries_by at.thread S
-    → line at places.None version reply ≡ (granted_at c library (moments_by first seen (line at places.None version reply) (length first)) at wish).line)
-    → IsStep c library at wish S (tells first (line at places.None version reply)) (length first)
-looks c library at wish S first version reply f same =
+    → line at places.None version reply ≡ (granted_at c library books (moments_by first seen (line at places.None version reply) (length first) asked) at wish).line)
+    → ((seen : History) → entries_by at.thread seen ≡ entries_by at.thread S → op ≡ catalog_op c library books (moments_by first seen (line at places.None version reply) (length first) asked) at.thread wish)
+    → IsStep c library books at wish S (tells first (line at places.None version reply)) (length first) op asked
+looks c library books at wish S first version reply op asked f same asks =
     let entries = ap (λ (H : History). length H) f.others in
     let holds = ap (λ (os : List OpenHold). length os) (follow_holds c at.thread first S f) in
     record {
@@ -186,17 +213,41 @@ looks c library at wish S first version reply f same =
       caller = refl;
       entries = All-nil (IsEntryOf c first);
       line = same;
+      asks = asks;
+      few = omega arith;
+    }
+
+-- the same of a line of the catalogs
+looks_asked : (c : Setting) (library : Catalog) (books : Books) (at : Caller) (wish : Result Wish Why) (S first : History) (place : ℕ) (version : Option ℕ) (reply : Said) (op : Option catalogs.Op) (asked : Asked) → MayFollow c at.thread first S
+    → ((seen : History) → entries_by at.thread seen ≡ entries_by at.thread S
+    → line at (places.Catalog place) version reply ≡ (granted_at c library books (moments_by first seen (line at (places.Catalog place) version reply) (length first) asked) at wish).line)
+    → ((seen : History) → entries_by at.thread seen ≡ entries_by at.thread S → op ≡ catalog_op c library books (moments_by first seen (line at (places.Catalog place) version reply) (length first) asked) at.thread wish)
+    → IsStep c library books at wish S (tells first (line at (places.Catalog place) version reply)) (length first) op asked
+looks_asked c library books at wish S first place version reply op asked f same asks =
+    let entries = ap (λ (H : History). length H) f.others in
+    let holds = ap (λ (os : List OpenHold). length os) (follow_holds c at.thread first S f) in
+    record {
+      later = f.later;
+      since = longer first S f.later;
+      until = omega arith;
+      within = omega arith;
+      places = follow_places c at.thread first S f;
+      caller = refl;
+      entries = All-nil (IsEntryOf c first);
+      line = same;
+      asks = asks;
       few = omega arith;
     }
 
 -- a line with a place
-enters : (c : Setting) (library : Catalog) (at : Caller) (wish : Result Wish Why) (S first : History) (op : Op) (rest : List Op) (version : Option ℕ) (reply : Said)
+enters : (c : Setting) (library : Catalog) (books : Books) (at : Caller) (wish : Result Wish Why) (S first : History) (op : Op) (rest : List Op) (version : Option ℕ) (reply : Said) (asked : Asked)
     → MayFollow c at.thread first S → ops_of wish ≡ op ∷ rest
     → ((seen : History) → entries_by at.thread seen ≡ entries_by at.thread S
     → line at (places.One (length first)) version reply
-    ≡ (granted_at c library (moments_by (with_call c first at.thread op) seen (line at (places.One (length first)) version reply) (length first)) at wish).line)
-    → IsStep c library at wish S (record { history = with_call c first at.thread op; line = line at (places.One (length first)) version reply }) (length first)
-enters c library at wish S first op rest version reply f ops same =
+    ≡ (granted_at c library books (moments_by (with_call c first at.thread op) seen (line at (places.One (length first)) version reply) (length first) asked) at wish).line)
+    → ((m : Moments) → None ≡ catalog_op c library books m at.thread wish)
+    → IsStep c library books at wish S (record { history = with_call c first at.thread op; line = line at (places.One (length first)) version reply }) (length first) None asked
+enters c library books at wish S first op rest version reply asked f ops same asks =
     let t : ℕ = at.thread in
     let W : History = with_call c first t op in
     let entries : length (entries_by t W) ≡ length (entries_by t S) + 1 = ap (λ (H : History). length H) (own_entry c first t op ∙ ap (λ (H : History). record { who = t; op = op; reply = answer c first t op } ∷ H) f.others) ∙ (omega arith) in
@@ -214,6 +265,7 @@ enters c library at wish S first op rest version reply f ops same =
       entries = subst (λ (os : List Op). All (IsEntryOf c W) (map (call_of t) (zip (length first ∷ []) os))) (sym ops)
           (All-cons (IsEntryOf c W) (record { place = length first; thread = t; op = op }) [] (newest_entry c first t op) (All-nil (IsEntryOf c W)));
       line = same;
+      asks = λ seen e. asks (moments_by W seen (line at (places.One (length first)) version reply) (length first) asked);
       few = omega arith;
     }
 
@@ -270,14 +322,14 @@ between_holds c t (Of h) first second o is g =
     ∙ ap (λ (r : Reply). holds_after (os ++ last ∷ []) (Release (Of h)) r) (released_between c t h second os o g.legal standing) in
     subst (λ (xs : List OpenHold). length xs ≤ length os) (sym left) (without_last h os o)
 
-between : (c : Setting) (library : Catalog) (at : Caller) (S first second : History) (n : Named) (read : Read) (o : Parts)
+between : (c : Setting) (library : Catalog) (books : Books) (at : Caller) (S first second : History) (n : Named) (read : Read) (o : Parts) (asked : Asked)
     → MayFollow c at.thread first S → MayFollow c at.thread second (with_call c first at.thread (Hold n)) → object_held (answer c first at.thread (Hold n)) ≡ Some o
     → ((seen : History) → entries_by at.thread seen ≡ entries_by at.thread S
     → held_line library (length first) (length second) at read o
-    ≡ (granted_at c library (moments_by (with_call c second at.thread (Release n)) seen (held_line library (length first) (length second) at read o) (length first)) at (Ok (ReadsOf n read))).line)
-    → IsStep c library at (Ok (ReadsOf n read)) S
-    (record { history = with_call c second at.thread (Release n); line = held_line library (length first) (length second) at read o }) (length first)
-between c library at S first second n read o f g is same =
+    ≡ (granted_at c library books (moments_by (with_call c second at.thread (Release n)) seen (held_line library (length first) (length second) at read o) (length first) asked) at (Ok (ReadsOf n read))).line)
+    → IsStep c library books at (Ok (ReadsOf n read)) S
+    (record { history = with_call c second at.thread (Release n); line = held_line library (length first) (length second) at read o }) (length first) None asked
+between c library books at S first second n read o asked f g is same =
     let t : ℕ = at.thread in
     let H : History = with_call c first t (Hold n) in
     let W : History = with_call c second t (Release n) in
@@ -305,6 +357,7 @@ between c library at S first second n read o f g is same =
           (subst (λ (F : History). IsEntryOf c F hold) (sym whole) (entry_grows c more H hold (newest_entry c first t (Hold n))))
           (All-cons (IsEntryOf c W) release [] (newest_entry c second t (Release n)) (All-nil (IsEntryOf c W)));
       line = same;
+      asks = λ seen e. refl;
       few = omega arith;
     }
 
@@ -322,43 +375,101 @@ moment_of m at (Ok (ReadsOf n read)) = read_moment m (held_as (open_holds m.seen
 moment_of m at (Ok (Reads read)) = read_moment m (own m.seen at.thread)
 moment_of m at (Ok AsksSelection) = length m.seen
 moment_of m at (Ok (AsksName chosen)) = length m.first
+moment_of m at (Ok (OpensCatalog name)) = read_moment m (own m.seen at.thread)
+moment_of m at (Ok (GetsMessage h set message default)) = length m.seen
+moment_of m at (Ok (ClosesCatalog h)) = length m.seen
 
-pub call_step : (c : Setting) (library : Catalog) (at : Caller) (m : Moments) (chosen : Categories) (op : Op) → MayFollow c at.thread m.first m.seen
-    → IsStep c library at (Ok (Calls chosen op)) m.seen (calls c library m.first at chosen op) (length m.first)
-call_step c library at m chosen op f =
+pub call_step : (c : Setting) (library : Catalog) (books : Books) (at : Caller) (m : Moments) (chosen : Categories) (op : Op) → MayFollow c at.thread m.first m.seen
+    → IsStep c library books at (Ok (Calls chosen op)) m.seen (calls c library m.first at chosen op) (length m.first) None m.asked
+call_step c library books at m chosen op f =
     let r : Reply = answer c m.first at.thread op in
-    enters c library at (Ok (Calls chosen op)) m.seen m.first op [] (version_made r) (shown library chosen r) f refl
+    enters c library books at (Ok (Calls chosen op)) m.seen m.first op [] (version_made r) (shown library chosen r) m.asked f refl
     (λ seen same. ap (λ (F : History). (calls c library F at chosen op).line) (sym (below_newest (record { who = at.thread; op = op; reply = r }) m.first)))
+    (λ n. refl)
 
-own_step : (c : Setting) (library : Catalog) (at : Caller) (m : Moments) (read : Read) (x : Option Parts) → own m.seen at.thread ≡ x → MayFollow c at.thread m.first m.seen
-    → IsStep c library at (Ok (Reads read)) m.seen (reads c library m at read x) (read_moment m x)
-own_step c library at m read (Some o) is f =
-    stays c library at (Ok (Reads read)) m.seen None (local library o read)
+own_step : (c : Setting) (library : Catalog) (books : Books) (at : Caller) (m : Moments) (read : Read) (x : Option Parts) → own m.seen at.thread ≡ x → MayFollow c at.thread m.first m.seen
+    → IsStep c library books at (Ok (Reads read)) m.seen (reads c library m at read x) (read_moment m x) None m.asked
+own_step c library books at m read (Some o) is f =
+    stays c library books at (Ok (Reads read)) m.seen None (local library o read) None m.asked
     (λ seen same.
-    ap (λ (x : Option Parts). (reads c library (moments_by m.seen seen (object_line library at read o) (length m.seen)) at read x).line)
+    ap (λ (x : Option Parts). (reads c library (moments_by m.seen seen (object_line library at read o) (length m.seen) m.asked) at read x).line)
     (sym (own_says at.thread seen m.seen same ∙ is)))
-own_step c library at m read None is f =
+    (λ seen same. refl)
+own_step c library books at m read None is f =
     let l : OutLine = read_line c library m.first at read None in
-    looks c library at (Ok (Reads read)) m.seen m.first (Some (sets m.first)) (local library (global c m.first) read) f
+    looks c library books at (Ok (Reads read)) m.seen m.first (Some (sets m.first)) (local library (global c m.first) read) None m.asked f
     (λ seen same.
     ap (λ (F : History). read_line c library F at read None) (sym (oldest_all m.first))
-    ∙ ap (λ (x : Option Parts). (reads c library (moments_by m.first seen l (length m.first)) at read x).line) (sym (own_says at.thread seen m.seen same ∙ is)))
+    ∙ ap (λ (x : Option Parts). (reads c library (moments_by m.first seen l (length m.first) m.asked) at read x).line) (sym (own_says at.thread seen m.seen same ∙ is)))
+    (λ seen same. refl)
 
-between_step : (c : Setting) (library : Catalog) (at : Caller) (m : Moments) (n : Named) (read : Read) (y : Option Parts) → object_held (answer c m.first at.thread (Hold n)) ≡ y
+-- a catopen: by the thread's own object, or by the global locale, of a catalog that there is or not
+open_own_step : (c : Setting) (library : Catalog) (books : Books) (at : Caller) (m : Moments) (name : List ℕ) (o : Parts) (n : Option ℕ) → own m.seen at.thread ≡ Some o → book_for library books o name ≡ n
+    → IsStep c library books at (Ok (OpensCatalog name)) m.seen (tells m.seen (open_line at None m.asked n)) (length m.seen) (option_map catalogs.Open n) m.asked
+open_own_step c library books at m name o None is found =
+    stays c library books at (Ok (OpensCatalog name)) m.seen None (said.Refused whys.NoCatalog) None m.asked
+    (λ seen same.
+    ap (λ (k : Option ℕ). open_line at None m.asked k) (sym found)
+    ∙ ap (λ (x : Option Parts). (opens c library books (moments_by m.seen seen (open_line at None m.asked None) (length m.seen) m.asked) at name x).line) (sym (own_says at.thread seen m.seen same ∙ is)))
+    (λ seen same.
+    ap (option_map catalogs.Open) (sym found)
+    ∙ ap (λ (x : Option Parts). option_map catalogs.Open (book_for library books (object_used x (global c (oldest (length m.seen) m.seen))) name)) (sym (own_says at.thread seen m.seen same ∙ is)))
+open_own_step c library books at m name o (Some k) is found =
+    stays_asked c library books at (Ok (OpensCatalog name)) m.seen m.asked.place None (handle_reply_shown m.asked.reply) (Some (catalogs.Open k)) m.asked
+    (λ seen same.
+    ap (λ (j : Option ℕ). open_line at None m.asked j) (sym found)
+    ∙ ap (λ (x : Option Parts). (opens c library books (moments_by m.seen seen (open_line at None m.asked (Some k)) (length m.seen) m.asked) at name x).line) (sym (own_says at.thread seen m.seen same ∙ is)))
+    (λ seen same.
+    ap (option_map catalogs.Open) (sym found)
+    ∙ ap (λ (x : Option Parts). option_map catalogs.Open (book_for library books (object_used x (global c (oldest (length m.seen) m.seen))) name)) (sym (own_says at.thread seen m.seen same ∙ is)))
+
+open_global_step : (c : Setting) (library : Catalog) (books : Books) (at : Caller) (m : Moments) (name : List ℕ) (n : Option ℕ) → own m.seen at.thread ≡ None → MayFollow c at.thread m.first m.seen
+    → book_for library books (global c m.first) name ≡ n
+    → IsStep c library books at (Ok (OpensCatalog name)) m.seen (tells m.first (open_line at (Some (sets m.first)) m.asked n)) (length m.first) (option_map catalogs.Open n) m.asked
+open_global_step c library books at m name None is f found =
+    let l : OutLine = open_line at (Some (sets m.first)) m.asked None in
+    looks c library books at (Ok (OpensCatalog name)) m.seen m.first (Some (sets m.first)) (said.Refused whys.NoCatalog) None m.asked f
+    (λ seen same.
+    ap (λ (k : Option ℕ). open_line at (Some (sets m.first)) m.asked k) (sym found)
+    ∙ ap (λ (F : History). open_line at (Some (sets F)) m.asked (book_for library books (global c F) name)) (sym (oldest_all m.first))
+    ∙ ap (λ (x : Option Parts). (opens c library books (moments_by m.first seen l (length m.first) m.asked) at name x).line) (sym (own_says at.thread seen m.seen same ∙ is)))
+    (λ seen same.
+    ap (option_map catalogs.Open) (sym found)
+    ∙ ap (λ (F : History). option_map catalogs.Open (book_for library books (global c F) name)) (sym (oldest_all m.first))
+    ∙ ap (λ (x : Option Parts). option_map catalogs.Open (book_for library books (object_used x (global c (oldest (length m.first) m.first))) name)) (sym (own_says at.thread seen m.seen same ∙ is)))
+open_global_step c library books at m name (Some k) is f found =
+    let l : OutLine = open_line at (Some (sets m.first)) m.asked (Some k) in
+    looks_asked c library books at (Ok (OpensCatalog name)) m.seen m.first m.asked.place (Some (sets m.first)) (handle_reply_shown m.asked.reply) (Some (catalogs.Open k)) m.asked f
+    (λ seen same.
+    ap (λ (j : Option ℕ). open_line at (Some (sets m.first)) m.asked j) (sym found)
+    ∙ ap (λ (F : History). open_line at (Some (sets F)) m.asked (book_for library books (global c F) name)) (sym (oldest_all m.first))
+    ∙ ap (λ (x : Option Parts). (opens c library books (moments_by m.first seen l (length m.first) m.asked) at name x).line) (sym (own_says at.thread seen m.seen same ∙ is)))
+    (λ seen same.
+    ap (option_map catalogs.Open) (sym found)
+    ∙ ap (λ (F : History). option_map catalogs.Open (book_for library books (global c F) name)) (sym (oldest_all m.first))
+    ∙ ap (λ (x : Option Parts). option_map catalogs.Open (book_for library books (object_used x (global c (oldest (length m.first) m.first))) name)) (sym (own_says at.thread seen m.seen same ∙ is)))
+
+open_step : (c : Setting) (library : Catalog) (books : Books) (at : Caller) (m : Moments) (name : List ℕ) (x : Option Parts) → own m.seen at.thread ≡ x → MayFollow c at.thread m.first m.seen
+    → IsStep c library books at (Ok (OpensCatalog name)) m.seen (opens c library books m at name x) (read_moment m x) (option_map catalogs.Open (book_for library books (object_used x (global c m.first)) name)) m.asked
+open_step c library books at m name (Some o) is f = open_own_step c library books at m name o (book_for library books o name) is refl
+open_step c library books at m name None is f = open_global_step c library books at m name (book_for library books (global c m.first) name) is f refl
+
+between_step : (c : Setting) (library : Catalog) (books : Books) (at : Caller) (m : Moments) (n : Named) (read : Read) (y : Option Parts) → object_held (answer c m.first at.thread (Hold n)) ≡ y
     → held_as (open_holds m.seen at.thread) n ≡ None → MayFollow c at.thread m.first m.seen → MayFollow c at.thread m.second (with_call c m.first at.thread (Hold n))
-    → IsStep c library at (Ok (ReadsOf n read)) m.seen (reads_between c library m at n read y) (length m.first)
-between_step c library at m n read None held free f g =
+    → IsStep c library books at (Ok (ReadsOf n read)) m.seen (reads_between c library m at n read y) (length m.first) None m.asked
+between_step c library books at m n read None held free f g =
     let r : Reply = answer c m.first at.thread (Hold n) in
     let l : OutLine = entry_line library m.first at categories.All r in
     let W : History = with_call c m.first at.thread (Hold n) in
     let first : m.first ≡ oldest (length m.first) W = sym (below_newest (record { who = at.thread; op = Hold n; reply = r }) m.first) in
-    enters c library at (Ok (ReadsOf n read)) m.seen m.first (Hold n) (Release n ∷ []) (version_made r) (shown library categories.All r) f refl
+    enters c library books at (Ok (ReadsOf n read)) m.seen m.first (Hold n) (Release n ∷ []) (version_made r) (shown library categories.All r) m.asked f refl
     (λ seen same.
-    let now : Moments = moments_by W seen l (length m.first) in
+    let now : Moments = moments_by W seen l (length m.first) m.asked in
     ap (λ (F : History). (calls c library F at categories.All (Hold n)).line) first
     ∙ ap (λ (x : Option Parts). (reads_between c library now at n read x).line) (sym (ap (λ (F : History). object_held (answer c F at.thread (Hold n))) (sym first) ∙ held))
     ∙ ap (λ (x : Option Parts). (reads_of c library now at n read x).line) (sym (ap (λ (os : List OpenHold). held_as os n) (holds_says at.thread seen m.seen same) ∙ free)))
-between_step c library at m n read (Some o) held free f g =
+    (λ k. refl)
+between_step c library books at m n read (Some o) held free f g =
     let l : OutLine = held_line library (length m.first) (length m.second) at read o in
     let H : History = with_call c m.first at.thread (Hold n) in
     let W : History = with_call c m.second at.thread (Release n) in
@@ -368,34 +479,44 @@ between_step c library at m n read (Some o) held free f g =
     let first : m.first ≡ oldest (length m.first) W =
     sym (ap (oldest (length m.first)) (ap (λ (F : History). e ∷ F) g.later.1) ∙ oldest_grows (length m.first) more H (omega arith)
     ∙ below_newest (record { who = at.thread; op = Hold n; reply = answer c m.first at.thread (Hold n) }) m.first) in
-    between c library at m.seen m.first m.second n read o f g held
+    between c library books at m.seen m.first m.second n read o m.asked f g held
     (λ seen same.
-    let now : Moments = moments_by W seen l (length m.first) in
+    let now : Moments = moments_by W seen l (length m.first) m.asked in
     ap (λ (F : History). held_line library (length F) (length m.second) at read o) first
     ∙ ap (λ (F : History). held_line library (length now.first) (length F) at read o) second
     ∙ ap (λ (x : Option Parts). (reads_between c library now at n read x).line) (sym (ap (λ (F : History). object_held (answer c F at.thread (Hold n))) (sym first) ∙ held))
     ∙ ap (λ (x : Option Parts). (reads_of c library now at n read x).line) (sym (ap (λ (os : List OpenHold). held_as os n) (holds_says at.thread seen m.seen same) ∙ free)))
 
-held_step : (c : Setting) (library : Catalog) (at : Caller) (m : Moments) (n : Named) (read : Read) (x : Option Parts) → held_as (open_holds m.seen at.thread) n ≡ x
+held_step : (c : Setting) (library : Catalog) (books : Books) (at : Caller) (m : Moments) (n : Named) (read : Read) (x : Option Parts) → held_as (open_holds m.seen at.thread) n ≡ x
     → MayFollow c at.thread m.first m.seen → (held_as (open_holds m.seen at.thread) n ≡ None → MayFollow c at.thread m.second (with_call c m.first at.thread (Hold n)))
-    → IsStep c library at (Ok (ReadsOf n read)) m.seen (reads_of c library m at n read x) (read_moment m x)
-held_step c library at m n read (Some o) is f g =
-    stays c library at (Ok (ReadsOf n read)) m.seen None (local library o read)
+    → IsStep c library books at (Ok (ReadsOf n read)) m.seen (reads_of c library m at n read x) (read_moment m x) None m.asked
+held_step c library books at m n read (Some o) is f g =
+    stays c library books at (Ok (ReadsOf n read)) m.seen None (local library o read) None m.asked
     (λ seen same.
-    ap (λ (x : Option Parts). (reads_of c library (moments_by m.seen seen (object_line library at read o) (length m.seen)) at n read x).line)
+    ap (λ (x : Option Parts). (reads_of c library (moments_by m.seen seen (object_line library at read o) (length m.seen) m.asked) at n read x).line)
     (sym (ap (λ (os : List OpenHold). held_as os n) (holds_says at.thread seen m.seen same) ∙ is)))
-held_step c library at m n read None is f g =
-    between_step c library at m n read (object_held (answer c m.first at.thread (Hold n))) refl is f (g is)
+    (λ seen same. refl)
+held_step c library books at m n read None is f g =
+    between_step c library books at m n read (object_held (answer c m.first at.thread (Hold n))) refl is f (g is)
 
-pub granted_step : (c : Setting) (library : Catalog) (at : Caller) (m : Moments) (wish : Result Wish Why) (S : History) → AreMomentsOf c (MayFollow c at.thread) at.thread S wish m
-    → IsStep c library at wish m.seen (granted_at c library m at wish) (moment_of m at wish)
-granted_step c library at m (Err why) S of = stays c library at (Err why) m.seen None (said.Refused why) (λ seen same. refl)
-granted_step c library at m (Ok (Calls chosen op)) S of = call_step c library at m chosen op of.first
-granted_step c library at m (Ok (ReadsOf n read)) S of = held_step c library at m n read (held_as (open_holds m.seen at.thread) n) refl of.moments.first of.second
-granted_step c library at m (Ok (Reads read)) S of = own_step c library at m read (own m.seen at.thread) refl of.first
-granted_step c library at m (Ok AsksSelection) S of =
-    stays c library at (Ok AsksSelection) m.seen None (said.Is (selection m.seen at.thread))
+pub granted_step : (c : Setting) (library : Catalog) (books : Books) (at : Caller) (m : Moments) (wish : Result Wish Why) (S : History) → AreMomentsOf c (MayFollow c at.thread) at.thread S wish m
+    → IsStep c library books at wish m.seen (granted_at c library books m at wish) (moment_of m at wish) (catalog_op c library books m at.thread wish) m.asked
+granted_step c library books at m (Err why) S of = stays c library books at (Err why) m.seen None (said.Refused why) None m.asked (λ seen same. refl) (λ seen same. refl)
+granted_step c library books at m (Ok (Calls chosen op)) S of = call_step c library books at m chosen op of.first
+granted_step c library books at m (Ok (ReadsOf n read)) S of = held_step c library books at m n read (held_as (open_holds m.seen at.thread) n) refl of.moments.first of.second
+granted_step c library books at m (Ok (Reads read)) S of = own_step c library books at m read (own m.seen at.thread) refl of.first
+granted_step c library books at m (Ok AsksSelection) S of =
+    stays c library books at (Ok AsksSelection) m.seen None (said.Is (selection m.seen at.thread)) None m.asked
     (λ seen same. ap (λ (n : Named). told_line at (said.Is n)) (sym (selection_says at.thread seen m.seen same)))
-granted_step c library at m (Ok (AsksName chosen)) S of =
-    looks c library at (Ok (AsksName chosen)) m.seen m.first (Some (sets m.first)) (said.Name (object_name library (global c m.first) chosen)) of.first
+    (λ seen same. refl)
+granted_step c library books at m (Ok (AsksName chosen)) S of =
+    looks c library books at (Ok (AsksName chosen)) m.seen m.first (Some (sets m.first)) (said.Name (object_name library (global c m.first) chosen)) None m.asked of.first
     (λ seen same. ap (λ (F : History). name_line c library F at chosen) (sym (oldest_all m.first)))
+    (λ seen same. refl)
+granted_step c library books at m (Ok (OpensCatalog name)) S of = open_step c library books at m name (own m.seen at.thread) refl of.first
+granted_step c library books at m (Ok (GetsMessage h set message default)) S of =
+    stays_asked c library books at (Ok (GetsMessage h set message default)) m.seen m.asked.place None (message_shown books set message default m.asked.reply) (Some (catalogs.Get (handle_meant h))) m.asked
+    (λ seen same. refl) (λ seen same. refl)
+granted_step c library books at m (Ok (ClosesCatalog h)) S of =
+    stays_asked c library books at (Ok (ClosesCatalog h)) m.seen m.asked.place None (handle_reply_shown m.asked.reply) (Some (catalogs.Close (handle_meant h))) m.asked
+    (λ seen same. refl) (λ seen same. refl)

@@ -1,9 +1,8 @@
 -- One more line of a thread is right behind its earlier lines.
-use Rattle.std.proofs.Common.{◌≡◌, inl, inr, ℕ, suc, ◌+◌, ◌≤◌, Bool, true, false, cond, List, [], ◌∷◌, ◌++◌, length, map, Result, refl, sym, ap, ◌∙◌, subst, arith, eq-eqb}
+use Rattle.std.proofs.Common.{◌≡◌, inl, inr, ℕ, suc, ◌+◌, ◌≤◌, Bool, true, false, cond, List, [], ◌∷◌, ◌++◌, length, map, Option, Result, refl, sym, ap, ◌∙◌, subst, arith, eq-eqb}
 use Rattle.std.specs.Prelude.{◌==◌, nat_lt, filter, reverse, zip, All}
 use Rattle.std.proofs.lemmas.Bool.{lt-ltb, cases_Bool, false≢true}
 use Rattle.std.proofs.lemmas.List.Elements.{All-cons, All-head, All-tail}
-use Rattle.category_store.specs.Catalog.{Catalog}
 use Rattle.handle_table.specs.Entry.{History, Setting}
 use Rattle.thread_current.specs.Thread.{entries_by}
 use Rattle.script_out.specs.declared.output.OutLine.{OutLine}
@@ -15,8 +14,10 @@ use Rattle.script_lines.specs.Lines.{Caller}
 use Rattle.script_lines.specs.Outcome.{Outcome}
 use Rattle.script_lines.specs.Variables.{bindings_of}
 use Rattle.script_lines.specs.Wishes.{Wish, wish_of, ops_of}
-use Rattle.script_lines.specs.Board.{granted_at}
-use Rattle.script_serial.specs.Plan.{PlanData}
+use Rattle.catalog_table.specs.Entry as catalogs
+use Rattle.script_lines.specs.Board.{catalog_op, granted_at}
+use Rattle.script_lines.specs.Catalogs.{Asked}
+use Rattle.script_serial.specs.Plan.{PlanData, books_of}
 use Rattle.script_serial.specs.Prints.{Told, bound_by, caller_of, call_of, places_in, behind_last, or_earlier, next_place}
 use Rattle.script_run.specs.Timed.{oldest, places_by, Timed, last_end, AreTimed, tellings, placed_back, IsEntryOf, IsRight, AreRight}
 use Rattle.script_run.proofs.Growth.{oldest_grows, are_right_grow}
@@ -58,6 +59,7 @@ next_step : (p : Places) (ms : List ℕ) (n : ℕ) → n ≡ behind ms → or_ea
 next_step places.None ms n is = is
 next_step (places.One place) ms n is = refl
 next_step (places.Two hold release) ms n is = refl
+next_step (places.Catalog place) ms n is = is
 
 -- the next place of a thread that has made these lines
 next_is : (t : ℕ) (made : List Timed) → All (λ (m : Timed). m.told.line.thread ≡ t) made → next_place t (tellings made) ≡ behind (placed_back made)
@@ -90,14 +92,14 @@ pub record HasLines (c : Setting) (plan : PlanData) (t : ℕ) (S : History) (mad
   pub timed : AreTimed made
   pub places : places_by t S ≡ placed_back made
 
-abbrev pub made_line : Task → OutLine → ℕ → Timed
-made_line task l moment = record { told = record { task = task; line = l }; moment = moment }
+abbrev pub made_line : Task → OutLine → ℕ → Option catalogs.Op → Asked → Timed
+made_line task l moment op asked = record { told = record { task = task; line = l }; moment = moment; op = op; asked = asked }
 
 -- the histories that the line goes by
-seen_same : (c : Setting) (plan : PlanData) (library : Catalog) (at : Caller) (wish : Result Wish Why) (S : History) (done : Outcome) (moment : ℕ) (made : List Timed)
-    → HasLines c plan at.thread S made → IsStep c library at wish S done moment
+seen_same : (c : Setting) (plan : PlanData) (at : Caller) (wish : Result Wish Why) (S : History) (done : Outcome) (moment : ℕ) (op : Option catalogs.Op) (asked : Asked) (made : List Timed)
+    → HasLines c plan at.thread S made → IsStep c plan.library (books_of plan) at wish S done moment op asked
     → entries_by at.thread (oldest (next_place at.thread (tellings made)) done.history) ≡ entries_by at.thread S
-seen_same c plan library at wish S done moment made has step =
+seen_same c plan at wish S done moment op asked made has step =
     let t : ℕ = at.thread in
     let p : ℕ = next_place t (tellings made) in
     let here : p ≡ behind (places_by t S) = next_is t made has.own ∙ ap behind (sym has.places) in
@@ -108,39 +110,41 @@ seen_same c plan library at wish S done moment made has step =
     ∙ ap (entries_by t) (oldest_grows p step.later.0 S low)
     ∙ all_before t p S high
 
-right_line : (c : Setting) (plan : PlanData) (at : Caller) (S : History) (done : Outcome) (moment : ℕ) (made : List Timed) (task : Task)
+right_line : (c : Setting) (plan : PlanData) (at : Caller) (S : History) (done : Outcome) (moment : ℕ) (op : Option catalogs.Op) (asked : Asked) (made : List Timed) (task : Task)
     → HasLines c plan at.thread S made → at.index ≡ length made + 1
-    → IsStep c plan.library at (wish_of plan.library (bindings_of at.thread (bound_by (tellings made))) task) S done moment → caller_of done.line ≡ at
-    → IsRight c plan done.history (tellings made) (made_line task done.line moment)
-right_line c plan at S done moment made task has index step caller =
+    → IsStep c plan.library (books_of plan) at (wish_of plan.library (bindings_of at.thread (bound_by (tellings made))) task) S done moment op asked → caller_of done.line ≡ at
+    → IsRight c plan done.history (tellings made) (made_line task done.line moment op asked)
+right_line c plan at S done moment op asked made task has index step caller =
     let t : ℕ = at.thread in
     let bounds = bound_by (tellings made) in
     let W : History = done.history in
     let l : OutLine = done.line in
     let thread : t ≡ l.thread = sym (ap (λ (x : Caller). x.thread) caller) in
-    let seen = seen_same c plan plan.library at (wish_of plan.library (bindings_of t bounds) task) S done moment made has step in
+    let seen = seen_same c plan at (wish_of plan.library (bindings_of t bounds) task) S done moment op asked made has step in
     record {
       within = step.within;
       since = step.until;
       index = ap (λ (x : Caller). x.index) caller ∙ index ∙ ap (λ (n : ℕ). n + 1) (sym (all_own t made has.own))
           ∙ ap (λ (k : ℕ). length (filter (λ (d : Told). d.line.thread == k) (tellings made)) + 1) thread;
       line = step.line (oldest (next_place t (tellings made)) W) seen
-          ∙ ap (λ (k : ℕ). (granted_at c plan.library (moments_by W (oldest (next_place k (tellings made)) W) l moment) at (wish_of plan.library (bindings_of k bounds) task)).line) thread
-          ∙ ap (λ (x : Caller). (granted_at c plan.library (moments_by W (oldest (next_place l.thread (tellings made)) W) l moment) x (wish_of plan.library (bindings_of l.thread bounds) task)).line) (sym caller);
+          ∙ ap (λ (k : ℕ). (granted_at c plan.library (books_of plan) (moments_by W (oldest (next_place k (tellings made)) W) l moment asked) at (wish_of plan.library (bindings_of k bounds) task)).line) thread
+          ∙ ap (λ (x : Caller). (granted_at c plan.library (books_of plan) (moments_by W (oldest (next_place l.thread (tellings made)) W) l moment asked) x (wish_of plan.library (bindings_of l.thread bounds) task)).line) (sym caller);
       entries = subst (λ (k : ℕ). All (IsEntryOf c W) (map (call_of k) (zip (places_in l.places) (ops_of (wish_of plan.library (bindings_of k bounds) task))))) thread step.entries;
+      op = step.asks (oldest (next_place t (tellings made)) W) seen
+          ∙ ap (λ (k : ℕ). catalog_op c plan.library (books_of plan) (moments_by W (oldest (next_place k (tellings made)) W) l moment asked) k (wish_of plan.library (bindings_of k bounds) task)) thread;
     }
 
-pub more_lines : (c : Setting) (plan : PlanData) (at : Caller) (S : History) (done : Outcome) (moment : ℕ) (made : List Timed) (task : Task)
+pub more_lines : (c : Setting) (plan : PlanData) (at : Caller) (S : History) (done : Outcome) (moment : ℕ) (op : Option catalogs.Op) (asked : Asked) (made : List Timed) (task : Task)
     → HasLines c plan at.thread S made → at.index ≡ length made + 1
-    → IsStep c plan.library at (wish_of plan.library (bindings_of at.thread (bound_by (tellings made))) task) S done moment
-    → HasLines c plan at.thread done.history (made_line task done.line moment ∷ made)
-more_lines c plan at S done moment made task has index step =
-    let m : Timed = made_line task done.line moment in
+    → IsStep c plan.library (books_of plan) at (wish_of plan.library (bindings_of at.thread (bound_by (tellings made))) task) S done moment op asked
+    → HasLines c plan at.thread done.history (made_line task done.line moment op asked ∷ made)
+more_lines c plan at S done moment op asked made task has index step =
+    let m : Timed = made_line task done.line moment op asked in
     let last = last_within c plan S made has.right in
     let since = step.since in
     record {
       own = All-cons (λ (x : Timed). x.told.line.thread ≡ at.thread) m made (ap (λ (x : Caller). x.thread) step.caller) has.own;
-      right = (right_line c plan at S done moment made task has index step step.caller, are_right_grow c plan done.history S made step.later has.right);
+      right = (right_line c plan at S done moment op asked made task has index step step.caller, are_right_grow c plan done.history S made step.later has.right);
       timed = (omega arith, has.timed);
       places = step.places ∙ ap (λ (ps : List ℕ). reverse (places_in done.line.places) ++ ps) has.places;
     }

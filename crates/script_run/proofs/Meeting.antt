@@ -5,12 +5,16 @@ use Rattle.std.proofs.Math.ListN.{set}
 use Rattle.std.proofs.lemmas.Bool.Decides.{eqb_tells}
 use Rattle.std.proofs.Math.Seq.{get_or-append_seam}
 use Rattle.std.proofs.lemmas.List.{get_or_default, get_or_append_left}
-use Rattle.turn_gate.specs.declared.entry.Terms.{Terms}
-use Rattle.turn_gate.specs.Callers.{Gate}
-use Rattle.handle_table.specs.Entry.{History, Setting}
-use Rattle.thread_current.specs.Thread.{Thread, IsThreadOf, IsInOrder, SawMore, GoesOnFrom}
+use Rattle.handle_table.specs.Entry.{History}
+use Rattle.catalog_table.specs.Entry.{History as CatalogHistory}
+use Rattle.catalog_seats.specs.Reader as readers
+use Rattle.catalog_seats.specs.Reader.{ReaderData}
+use Rattle.catalog_seats.proofs.Meeting as reading
+use Rattle.thread_current.specs.Thread.{Thread, IsInOrder, SawMore, GoesOnFrom}
+use Rattle.script_run.specs.declared.seated.Seated.{Seated}
 use Rattle.script_run.specs.declared.worker.Worker.{Worker}
-use Rattle.script_run.specs.Rounds.{Each, EachTwo, mine_of, with_mine, SeesMore, HasMet, AllMet}
+use Rattle.script_run.specs.Seated.{Gates}
+use Rattle.script_run.specs.Rounds.{Each, EachTwo, mine_of, reader_at, IsOfBoth, IsOrderly, HasSeenOf, with_both, SeesMore, HasMet, AllMet}
 use Rattle.script_run.proofs.Seeing.{goes_on, goes_same}
 
 -- ---- a worker that sees more, and more again
@@ -26,71 +30,100 @@ saw_again t u v first then = record {
   calls = then.calls ∙ first.calls;
 }
 
-pub sees_again : (terms : Terms Setting) (t u v : Worker) → SeesMore terms t u → SeesMore terms u v → SeesMore terms t v
-sees_again terms t u v first then = record {
-  same = then.same ∙ ap (λ (w : Worker). with_mine w (mine_of v)) first.same;
+pub sees_again : (gate : Gates) (t u v : Worker) → SeesMore gate t u → SeesMore gate u v → SeesMore gate t v
+sees_again gate t u v first then = record {
+  same = then.same ∙ ap (λ (w : Worker). with_both w (mine_of v) (reader_at v)) first.same;
   saw = saw_again (mine_of t) (mine_of u) (mine_of v) first.saw then.saw;
   in_order = λ order. then.in_order (first.in_order order);
+  asked_saw = reading.saw_again (reader_at t) (reader_at u) (reader_at v) first.asked_saw then.asked_saw;
+  asked_order = λ order. then.asked_order (first.asked_order order);
 }
 
-pub sees_same : (terms : Terms Setting) (w : Worker) → SeesMore terms w w
-sees_same terms w = record {
+pub sees_same : (gate : Gates) (w : Worker) → SeesMore gate w w
+sees_same gate w = record {
   same = refl;
   saw = record { same = record { table = refl; terms = refl; number = refl }; later = goes_same (mine_of w).seen; calls = refl };
   in_order = λ order. order;
+  asked_saw = reading.saw_same (reader_at w);
+  asked_order = λ order. order;
 }
 
-sees_by : (terms : Terms Setting) (w : Worker) (mine : Thread) → SawMore (mine_of w) mine → IsInOrder terms mine → SeesMore terms w (with_mine w mine)
-sees_by terms w mine saw order = record { same = refl; saw = saw; in_order = λ before. order }
+-- what two that meet leave of one of them
+pub record MeetsBoth (gate : Gates) (w other : Worker) (mine : Thread) (reader : ReaderData) : Type 0 where
+  pub saw : SawMore (mine_of w) mine
+  pub seen : GoesOnFrom mine.seen (mine_of other).seen
+  pub order : IsInOrder gate.locales.terms mine
+  pub asked_saw : readers.SawMore (reader_at w) reader
+  pub asked_seen : readers.GoesOnFrom reader.seen (reader_at other).seen
+  pub asked_order : readers.IsInOrder gate.catalogs.terms reader
+
+sees_by : (gate : Gates) (w other : Worker) (mine : Thread) (reader : ReaderData) → MeetsBoth gate w other mine reader → SeesMore gate w (with_both w mine reader)
+sees_by gate w other mine reader m = record { same = refl; saw = m.saw; in_order = λ before. m.order; asked_saw = m.asked_saw; asked_order = λ before. m.asked_order }
 
 -- ---- the first worker has met so many of the others
 
-pub record MeetsTo (terms : Terms Setting) (first0 first : Worker) (others0 others : List Worker) (k : ℕ) : Type 0 where
-  pub sees : SeesMore terms first0 first
-  pub met : (i : ℕ) (d : Worker) → i < k → HasMet terms (mine_of first0).seen (slice_index_or others0 i d) (slice_index_or others i d)
-  pub seen : (i : ℕ) (d : Worker) → i < k → GoesOnFrom (mine_of first).seen (mine_of (slice_index_or others0 i d)).seen
+pub record MeetsTo (gate : Gates) (first0 first : Worker) (others0 others : List Worker) (k : ℕ) : Type 0 where
+  pub sees : SeesMore gate first0 first
+  pub met : (i : ℕ) (d : Worker) → i < k → HasMet gate (mine_of first0).seen (reader_at first0).seen (slice_index_or others0 i d) (slice_index_or others i d)
+  pub seen : (i : ℕ) (d : Worker) → i < k → HasSeenOf (slice_index_or others0 i d) first
   pub left : (i : ℕ) (d : Worker) → k ≤ i → slice_index_or others i d ≡ slice_index_or others0 i d
 
-pub meets_none : (terms : Terms Setting) (first : Worker) (others : List Worker) → MeetsTo terms first first others others 0
-meets_none terms first others = record {
-  sees = sees_same terms first;
+pub meets_none : (gate : Gates) (first : Worker) (others : List Worker) → MeetsTo gate first first others others 0
+meets_none gate first others = record {
+  sees = sees_same gate first;
   met = λ i d lt. absurd (omega (arith, lt));
   seen = λ i d lt. absurd (omega (arith, lt));
   left = λ i d le. refl;
 }
 
-pub meets_next : (terms : Terms Setting) (first0 first : Worker) (others0 others : List Worker) (k : ℕ) (other : Worker) (mine others_mine : Thread) → MeetsTo terms first0 first others0 others k → k < length others
-    → other ≡ slice_index_or others k other
-    → SawMore (mine_of first) mine → GoesOnFrom mine.seen (mine_of other).seen → SawMore (mine_of other) others_mine → GoesOnFrom others_mine.seen (mine_of first).seen
-    → IsInOrder terms mine → IsInOrder terms others_mine → MeetsTo terms first0 (with_mine first mine) others0 (set others k (with_mine other others_mine)) (k + 1)
-meets_next terms first0 first others0 others k other mine others_mine was within at saw sees others_saw others_sees order others_order =
-    let new : Worker = with_mine other others_mine in
+pub meets_next : (gate : Gates) (first0 first : Worker) (others0 others : List Worker) (k : ℕ) (other : Worker) (mine others_mine : Thread) (reader others_reader : ReaderData)
+    → MeetsTo gate first0 first others0 others k → k < length others → other ≡ slice_index_or others k other → MeetsBoth gate first other mine reader → MeetsBoth gate other first others_mine others_reader
+    → MeetsTo gate first0 (with_both first mine reader) others0 (set others k (with_both other others_mine others_reader)) (k + 1)
+meets_next gate first0 first others0 others k other mine others_mine reader others_reader was within at one two =
+    let new : Worker = with_both other others_mine others_reader in
     let here : (d : Worker) → slice_index_or others0 k d ≡ other = λ d. sym (was.left k d (omega arith)) ∙ get_or_default others k d other within ∙ sym at in
     let there : (d : Worker) → slice_index_or (set others k new) k d ≡ new = λ d. get_or-set_same others k new d within in
     let elsewhere : (i : ℕ) (d : Worker) → (i ≡ k → ⊥) → slice_index_or (set others k new) i d ≡ slice_index_or others i d = λ i d apart. get_or-set_other others k i new d apart in
-    let met_here : HasMet terms (mine_of first0).seen other new = record {
-      more = sees_by terms other others_mine others_saw others_order;
-      other = goes_on (mine_of first).seen (mine_of first0).seen others_mine.seen others_sees was.sees.saw.later;
+    let met_here : HasMet gate (mine_of first0).seen (reader_at first0).seen other new = record {
+      more = sees_by gate other first others_mine others_reader two;
+      other = goes_on (mine_of first).seen (mine_of first0).seen others_mine.seen two.seen was.sees.saw.later;
+      asked_other = reading.goes_on (reader_at first).seen (reader_at first0).seen others_reader.seen two.asked_seen was.sees.asked_saw.later;
     } in
+    let Met : Worker → Worker → Type 0 = HasMet gate (mine_of first0).seen (reader_at first0).seen in
+    let seen_here : HasSeenOf other (with_both first mine reader) = record { seen = one.seen; asked = one.asked_seen } in
     record {
-      sees = sees_again terms first0 first (with_mine first mine) was.sees (sees_by terms first mine saw order);
+      sees = sees_again gate first0 first (with_both first mine reader) was.sees (sees_by gate first other mine reader one);
       met = λ i d lt. elim (eqb_tells i k) [
         | inl same ↦
-            subst (λ (j : ℕ). HasMet terms (mine_of first0).seen (slice_index_or others0 j d) (slice_index_or (set others k new) j d)) (sym same.1)
-            (subst (λ (w : Worker). HasMet terms (mine_of first0).seen w (slice_index_or (set others k new) k d)) (sym (here d))
-            (subst (HasMet terms (mine_of first0).seen other) (sym (there d)) met_here))
-        | inr apart ↦
-            subst (HasMet terms (mine_of first0).seen (slice_index_or others0 i d)) (sym (elsewhere i d apart.1)) (was.met i d (let differs = apart.1 in omega (arith, lt, differs)))
+            subst (λ (j : ℕ). Met (slice_index_or others0 j d) (slice_index_or (set others k new) j d)) (sym same.1)
+            (subst (λ (w : Worker). Met w (slice_index_or (set others k new) k d)) (sym (here d)) (subst (Met other) (sym (there d)) met_here))
+        | inr apart ↦ subst (Met (slice_index_or others0 i d)) (sym (elsewhere i d apart.1)) (was.met i d (let differs = apart.1 in omega (arith, lt, differs)))
       ];
       seen = λ i d lt. elim (eqb_tells i k) [
         | inl same ↦
-            subst (λ (j : ℕ). GoesOnFrom mine.seen (mine_of (slice_index_or others0 j d)).seen) (sym same.1)
-            (subst (λ (w : Worker). GoesOnFrom mine.seen (mine_of w).seen) (sym (here d)) sees)
+            subst (λ (j : ℕ). HasSeenOf (slice_index_or others0 j d) (with_both first mine reader)) (sym same.1) (subst (λ (w : Worker). HasSeenOf w (with_both first mine reader)) (sym (here d)) seen_here)
         | inr apart ↦
-            goes_on (mine_of first).seen (mine_of (slice_index_or others0 i d)).seen mine.seen saw.later (was.seen i d (let differs = apart.1 in omega (arith, lt, differs)))
+            let earlier : HasSeenOf (slice_index_or others0 i d) first = was.seen i d (let differs = apart.1 in omega (arith, lt, differs)) in
+            record {
+              seen = goes_on (mine_of first).seen (mine_of (slice_index_or others0 i d)).seen mine.seen one.saw.later earlier.seen;
+              asked = reading.goes_on (reader_at first).seen (reader_at (slice_index_or others0 i d)).seen reader.seen one.asked_saw.later earlier.asked;
+            }
       ];
       left = λ i d le. elsewhere i d (λ same. omega (arith, same, le)) ∙ was.left i d (omega (arith, le));
     }
+
+-- a worker with another side
+abbrev pub with_side : Worker → Seated → Worker
+with_side w side = record w { thread = record w.thread { side = side } }
+
+-- the same, where the sides of the two that met are given
+pub meets_step : (gate : Gates) (first0 first : Worker) (others0 others : List Worker) (k : ℕ) (other : Worker) (one two : Seated) → MeetsTo gate first0 first others0 others k → k < length others → other ≡ slice_index_or others k other
+    → one ≡ record first.thread.side { mine = one.mine; reader = one.reader } → two ≡ record other.thread.side { mine = two.mine; reader = two.reader }
+    → MeetsBoth gate first other one.mine one.reader → MeetsBoth gate other first two.mine two.reader → MeetsTo gate first0 (with_side first one) others0 (set others k (with_side other two)) (k + 1)
+meets_step gate first0 first others0 others k other one two was within at same_one same_two met_one met_two =
+    subst (λ (w : Worker). MeetsTo gate first0 w others0 (set others k (with_side other two)) (k + 1)) (sym (ap (with_side first) same_one))
+    (subst (λ (w : Worker). MeetsTo gate first0 (with_both first one.mine one.reader) others0 (set others k w) (k + 1)) (sym (ap (with_side other) same_two))
+    (meets_next gate first0 first others0 others k other one.mine two.mine one.reader two.reader was within at met_one met_two))
 
 -- ---- all have met, where the last one has met each other twice
 
@@ -128,39 +161,47 @@ two_end P xs ys x y long each here = λ i d lt.
           subst (λ (v : Worker). P v (slice_index_or (ys ++ y ∷ []) i d)) (sym last.1) (subst (P x) (sym there) here)
     ]
 
-pub all_met : (terms : Terms Setting) (f0 f1 f2 : Worker) (os0 os1 os2 : List Worker) → SeesMore terms f0 f1 → SeesMore terms f1 f2
-    → EachTwo os0 os1 (λ i old new. HasMet terms (mine_of f0).seen old new) → EachTwo os1 os2 (λ i old new. HasMet terms (mine_of f1).seen old new)
-    → Each os0 (λ i w. GoesOnFrom (mine_of f1).seen (mine_of w).seen) → length os1 ≡ length os0 → length os2 ≡ length os1 → IsInOrder terms (mine_of f0) → AllMet terms (os0 ++ f0 ∷ []) (os2 ++ f2 ∷ [])
-all_met terms f0 f1 f2 os0 os1 os2 first second one two seen long longer order = record {
+pub all_met : (gate : Gates) (f0 f1 f2 : Worker) (os0 os1 os2 : List Worker) → SeesMore gate f0 f1 → SeesMore gate f1 f2
+    → EachTwo os0 os1 (λ i old new. HasMet gate (mine_of f0).seen (reader_at f0).seen old new) → EachTwo os1 os2 (λ i old new. HasMet gate (mine_of f1).seen (reader_at f1).seen old new)
+    → Each os0 (λ i w. HasSeenOf w f1) → length os1 ≡ length os0 → length os2 ≡ length os1 → IsOrderly gate f0 → AllMet gate (os0 ++ f0 ∷ []) (os2 ++ f2 ∷ [])
+all_met gate f0 f1 f2 os0 os1 os2 first second one two seen long longer order = record {
   met = (mine_of f1).seen;
-  legal = (first.in_order order).legal;
-  callers = (first.in_order order).callers;
-  more = two_end (λ (old new : Worker). SeesMore terms old new) os0 os2 f0 f2 (longer ∙ long)
-      (λ i d lt. sees_again terms (slice_index_or os0 i d) (slice_index_or os1 i d) (slice_index_or os2 i d) (one i d lt).more (two i d (omega (arith, lt, long))).more)
-      (sees_again terms f0 f1 f2 first second);
-  from = each_end (λ (w : Worker). GoesOnFrom (mine_of f1).seen (mine_of w).seen) os0 f0 seen first.saw.later;
+  legal = (first.in_order order.0).legal;
+  callers = (first.in_order order.0).callers;
+  more = two_end (λ (old new : Worker). SeesMore gate old new) os0 os2 f0 f2 (longer ∙ long)
+      (λ i d lt. sees_again gate (slice_index_or os0 i d) (slice_index_or os1 i d) (slice_index_or os2 i d) (one i d lt).more (two i d (omega (arith, lt, long))).more)
+      (sees_again gate f0 f1 f2 first second);
+  from = each_end (λ (w : Worker). GoesOnFrom (mine_of f1).seen (mine_of w).seen) os0 f0 (λ i d lt. (seen i d lt).seen) first.saw.later;
   on = each_end (λ (w : Worker). GoesOnFrom (mine_of w).seen (mine_of f1).seen) os2 f2 (λ i d lt. (two i d (omega (arith, lt, longer))).other) second.saw.later;
+  asked = (reader_at f1).seen;
+  asked_legal = (first.asked_order order.1).legal;
+  asked_callers = (first.asked_order order.1).callers;
+  asked_from = each_end (λ (w : Worker). readers.GoesOnFrom (reader_at f1).seen (reader_at w).seen) os0 f0 (λ i d lt. (seen i d lt).asked) first.asked_saw.later;
+  asked_on = each_end (λ (w : Worker). readers.GoesOnFrom (reader_at w).seen (reader_at f1).seen) os2 f2 (λ i d lt. (two i d (omega (arith, lt, longer))).asked_other) second.asked_saw.later;
 }
 
--- ---- threads of the table
+-- ---- threads of the table and of the catalogs
 
-pub thread_kept : (gate : Gate Setting) (t u : Thread) → IsThreadOf gate t → SawMore t u → IsThreadOf gate u
-thread_kept gate t u is saw = (saw.same.table ∙ is.0, saw.same.terms ∙ is.1)
+pub of_both_kept : (gate : Gates) (t u : Worker) → IsOfBoth gate t → SeesMore gate t u → IsOfBoth gate u
+of_both_kept gate t u is sees = (
+  (sees.saw.same.table ∙ is.0.0, sees.saw.same.terms ∙ is.0.1),
+  (sees.asked_saw.same.table ∙ is.1.0, sees.asked_saw.same.terms ∙ is.1.1),
+)
 
-pub first_thread_of : (gate : Gate Setting) (first0 first : Worker) (others0 others : List Worker) (k : ℕ) → MeetsTo gate.terms first0 first others0 others k → IsThreadOf gate (mine_of first0) → IsThreadOf gate (mine_of first)
-first_thread_of gate first0 first others0 others k was is = thread_kept gate (mine_of first0) (mine_of first) is was.sees.saw
+pub first_thread_of : (gate : Gates) (first0 first : Worker) (others0 others : List Worker) (k : ℕ) → MeetsTo gate first0 first others0 others k → IsOfBoth gate first0 → IsOfBoth gate first
+first_thread_of gate first0 first others0 others k was is = of_both_kept gate first0 first is was.sees
 
-pub left_thread : (gate : Gate Setting) (first0 first : Worker) (others0 others : List Worker) (k : ℕ) (other : Worker) → MeetsTo gate.terms first0 first others0 others k → k < length others0 → other ≡ slice_index_or others k other
-    → Each others0 (λ i w. IsThreadOf gate (mine_of w)) → IsThreadOf gate (mine_of other)
+pub left_thread : (gate : Gates) (first0 first : Worker) (others0 others : List Worker) (k : ℕ) (other : Worker) → MeetsTo gate first0 first others0 others k → k < length others0 → other ≡ slice_index_or others k other
+    → Each others0 (λ i w. IsOfBoth gate w) → IsOfBoth gate other
 left_thread gate first0 first others0 others k other was within at are =
-    subst (λ (w : Worker). IsThreadOf gate (mine_of w)) (sym (at ∙ was.left k other (omega arith))) (are k other within)
+    subst (IsOfBoth gate) (sym (at ∙ was.left k other (omega arith))) (are k other within)
 
--- those that have met are threads of the table as before
-pub met_threads : (gate : Gate Setting) (seen : History) (olds news : List Worker) → length news ≡ length olds → EachTwo olds news (λ i old new. HasMet gate.terms seen old new) → Each olds (λ i w. IsThreadOf gate (mine_of w))
-    → Each news (λ i w. IsThreadOf gate (mine_of w))
-met_threads gate seen olds news long met are = λ i d lt.
+-- those that have met are threads of both as before
+pub met_threads : (gate : Gates) (seen : History) (asked : CatalogHistory) (olds news : List Worker) → length news ≡ length olds → EachTwo olds news (λ i old new. HasMet gate seen asked old new)
+    → Each olds (λ i w. IsOfBoth gate w) → Each news (λ i w. IsOfBoth gate w)
+met_threads gate seen asked olds news long met are = λ i d lt.
     let below : i < length olds = omega (arith, lt, long) in
-    thread_kept gate (mine_of (slice_index_or olds i d)) (mine_of (slice_index_or news i d)) (are i d below) (met i d below).more.saw
+    of_both_kept gate (slice_index_or olds i d) (slice_index_or news i d) (are i d below) (met i d below).more
 
 -- the workers but the last one, and that one
 pub others_of : (P : Worker → Type 0) (all others : List Worker) (one : Worker) → all ≡ others ++ one ∷ [] → Each all (λ i w. P w) → Each others (λ i w. P w)

@@ -11,18 +11,20 @@ use Rattle.category_store.specs.Catalog.{Catalog}
 use Rattle.handle_table.specs.declared.handle.Named.{Named}
 use Rattle.handle_table.specs.Entry as table
 use Rattle.handle_table.specs.Entry.{History, Setting}
+use Rattle.handle_table.specs.History.{sets, global}
 use Rattle.handle_table.specs.Answer.{answer, own}
 use Rattle.script_commands.specs.declared.command.Read.{Read}
 use Rattle.script_out.specs.declared.output.OutLine.{OutLine}
 use Rattle.script_out.specs.declared.output.Places.{Places}
 use Rattle.script_out.specs.declared.output.Places.TheVariants as places
 use Rattle.script_out.specs.declared.output.Why.{Why}
-use Rattle.script_lines.specs.Board.{Moments, reads_between, reads_of, reads, granted_at}
+use Rattle.script_lines.specs.Catalogs.{Books, Asked, book_for, open_line}
+use Rattle.script_lines.specs.Board.{Moments, reads_between, reads_of, reads, opens, granted_at}
 use Rattle.script_lines.specs.Holds.{object_held, open_holds, held_as}
 use Rattle.script_lines.specs.Lines.{Caller}
 use Rattle.script_lines.specs.Variables.{bindings_of}
-use Rattle.script_lines.specs.Wishes.{Wish, Calls, ReadsOf, Reads, AsksSelection, AsksName, wish_of}
-use Rattle.script_serial.specs.Plan.{PlanData}
+use Rattle.script_lines.specs.Wishes.{Wish, Calls, ReadsOf, Reads, AsksSelection, AsksName, OpensCatalog, GetsMessage, ClosesCatalog, wish_of}
+use Rattle.script_serial.specs.Plan.{PlanData, books_of}
 use Rattle.script_serial.specs.Prints.{Told, bound_by, places_in, all_places, before_round, from_round, behind_last, caller_of, ArePlaced}
 use Rattle.script_serial.proofs.LineLists.{GoUp, increasing, bit_of, filter_all, filter_none}
 use Rattle.script_run.specs.Timed.{oldest, Timed, end_of, last_end, AreTimed, lines_in, tellings, placed_back, own_lines, moments_in, IsRight, AreRight, in_rounds_before, in_rounds_to, IsInRound, IsWhole}
@@ -47,13 +49,25 @@ read_starts : (c : Setting) (library : Catalog) (m : Moments) (at : Caller) (rea
 read_starts c library m at read (Some object) = tt
 read_starts c library m at read None = tt
 
-granted_starts : (c : Setting) (library : Catalog) (m : Moments) (at : Caller) (w : Result Wish Why) → StartsAt (length m.first) (places_in (granted_at c library m at w).line.places)
-granted_starts c library m at (Err why) = tt
-granted_starts c library m at (Ok (Calls categories op)) = refl
-granted_starts c library m at (Ok (ReadsOf n read)) = of_starts c library m at n read (held_as (open_holds m.seen at.thread) n)
-granted_starts c library m at (Ok (Reads read)) = read_starts c library m at read (own m.seen at.thread)
-granted_starts c library m at (Ok AsksSelection) = tt
-granted_starts c library m at (Ok (AsksName categories)) = tt
+-- a line of the catalogs makes no entry in the history of the table
+open_starts : (n : ℕ) (at : Caller) (version : Option ℕ) (asked : Asked) (k : Option ℕ) → StartsAt n (places_in (open_line at version asked k).places)
+open_starts n at version asked None = tt
+open_starts n at version asked (Some k) = tt
+
+opens_starts : (c : Setting) (library : Catalog) (books : Books) (m : Moments) (at : Caller) (name : List ℕ) (object : Option Parts) → StartsAt (length m.first) (places_in (opens c library books m at name object).line.places)
+opens_starts c library books m at name (Some object) = open_starts (length m.first) at None m.asked (book_for library books object name)
+opens_starts c library books m at name None = open_starts (length m.first) at (Some (sets m.first)) m.asked (book_for library books (global c m.first) name)
+
+granted_starts : (c : Setting) (library : Catalog) (books : Books) (m : Moments) (at : Caller) (w : Result Wish Why) → StartsAt (length m.first) (places_in (granted_at c library books m at w).line.places)
+granted_starts c library books m at (Err why) = tt
+granted_starts c library books m at (Ok (Calls categories op)) = refl
+granted_starts c library books m at (Ok (ReadsOf n read)) = of_starts c library m at n read (held_as (open_holds m.seen at.thread) n)
+granted_starts c library books m at (Ok (Reads read)) = read_starts c library m at read (own m.seen at.thread)
+granted_starts c library books m at (Ok AsksSelection) = tt
+granted_starts c library books m at (Ok (AsksName categories)) = tt
+granted_starts c library books m at (Ok (OpensCatalog name)) = opens_starts c library books m at name (own m.seen at.thread)
+granted_starts c library books m at (Ok (GetsMessage h set message default)) = tt
+granted_starts c library books m at (Ok (ClosesCatalog h)) = tt
 
 pub line_starts : (c : Setting) (plan : PlanData) (W : History) (before : List Told) (t : Timed) → IsRight c plan W before t → StartsAt t.moment (places_in t.told.line.places)
 line_starts c plan W before t r =
@@ -64,7 +78,7 @@ line_starts c plan W before t r =
     let within : end_of t ≤ length W = r.within in
     let long : length (oldest t.moment W) ≡ t.moment = oldest_length t.moment W (omega (arith, since, within)) in
     subst (λ (n : ℕ). StartsAt n (places_in t.told.line.places)) long
-    (subst (λ (l : OutLine). StartsAt (length m.first) (places_in l.places)) (sym r.line) (granted_starts c plan.library m at w))
+    (subst (λ (l : OutLine). StartsAt (length m.first) (places_in l.places)) (sym r.line) (granted_starts c plan.library (books_of plan) m at w))
 
 -- ---- the places of a line stand between its moment and its end
 
@@ -78,6 +92,7 @@ AreBetween moment end ps = All (IsBetween moment end) ps
 
 places_between : (at : Places) (moment : ℕ) → StartsAt moment (places_in at) → GoDown (reverse (places_in at)) → AreBetween moment (unwrap_or (behind_last (places_in at)) moment) (reverse (places_in at))
 places_between places.None moment starts down = All-nil (IsBetween moment moment)
+places_between (places.Catalog place) moment starts down = All-nil (IsBetween moment moment)
 places_between (places.One place) moment starts down =
     All-cons (IsBetween moment (place + 1)) place [] (record { since = omega (arith, starts); until = omega arith }) (All-nil (IsBetween moment (place + 1)))
 places_between (places.Two hold release) moment starts down =
@@ -145,7 +160,7 @@ timed_down (t ∷ ts) timed span =
 
 -- ---- the rounds
 
-abbrev Implies : {X : Type 0} → (X → Bool) → (X → Bool) → Type 0
+abbrev pub Implies : {X : Type 0} → (X → Bool) → (X → Bool) → Type 0
 Implies {X} keep more = (x : X) → keep x ≡ true → more x ≡ true
 
 fewer_if : {X : Type 0} (g : X → List ℕ) (x : X) (ks ls : List X) (a b : Bool) → (a ≡ true → b ≡ true) → length (flat_map g ks) ≤ length (flat_map g ls) → length (flat_map g (if a then x ∷ ks else ks)) ≤ length (flat_map g (if b then x ∷ ls else ls))
@@ -157,7 +172,7 @@ fewer_if g x ks ls true false implies le = let no : false ≡ true = implies ref
 fewer_if g x ks ls false true implies le = let other = length-append (g x) (flat_map g ls) in omega (arith, other, le)
 fewer_if g x ks ls false false implies le = le
 
-fewer_of : {X : Type 0} (g : X → List ℕ) (keep more : X → Bool) (xs : List X) → Implies keep more → length (flat_map g (filter keep xs)) ≤ length (flat_map g (filter more xs))
+pub fewer_of : {X : Type 0} (g : X → List ℕ) (keep more : X → Bool) (xs : List X) → Implies keep more → length (flat_map g (filter keep xs)) ≤ length (flat_map g (filter more xs))
 fewer_of g keep more [] implies = omega arith
 fewer_of g keep more (x ∷ xs) implies = fewer_if g x (filter keep xs) (filter more xs) (keep x) (more x) (implies x) (fewer_of g keep more xs implies)
 
@@ -180,7 +195,7 @@ with_if P Q x ks true here implies more = All-cons Q x ks (implies refl here) mo
 with_if P Q x ks false here implies more = more
 
 -- what holds of all and is implied by the test holds of those that are kept
-kept_with : {X : Type 0} (P Q : X → Type 0) (keep : X → Bool) (xs : List X) → All P xs → ((x : X) → keep x ≡ true → P x → Q x) → All Q (filter keep xs)
+pub kept_with : {X : Type 0} (P Q : X → Type 0) (keep : X → Bool) (xs : List X) → All P xs → ((x : X) → keep x ≡ true → P x → Q x) → All Q (filter keep xs)
 kept_with P Q keep [] all each = All-nil Q
 kept_with P Q keep (x ∷ xs) all each = with_if P Q x (filter keep xs) (keep x) (All-head P x xs all) (each x) (kept_with P Q keep xs (All-tail P x xs all) each)
 

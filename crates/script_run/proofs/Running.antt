@@ -8,27 +8,42 @@ use Rattle.category_store.specs.Catalog.{Catalog}
 use Rattle.category_store.specs.Library.{opening}
 use Rattle.turn_gate.specs.declared.entry.Terms.{Terms}
 use Rattle.turn_gate.specs.Callers.{Gate}
+use Rattle.catalog_table.specs.declared.setting.CatalogSetting.{CatalogSetting}
+use Rattle.catalog_seats.specs.Reader.{ReaderData, first_reader}
+use Rattle.script_lines.specs.Catalogs.{Books, catalog_setting}
 use Rattle.handle_table.specs.Entry.{History, Setting}
 use Rattle.handle_table.specs.Table.{TableData, StandsFor}
 use Rattle.thread_current.specs.Thread.{Thread, first_thread, IsPart}
 use Rattle.script_lang.specs.declared.bundle.Bundle.{Bundle}
 use Rattle.script_out.specs.declared.output.OutLine.{OutLine}
-use Rattle.script_serial.specs.Isolation.{IsIsolated}
-use Rattle.script_serial.specs.Plan.{PlanData}
+use Rattle.script_serial.specs.Isolation.{IsIsolated, AreCatalogsIsolated}
+use Rattle.script_serial.specs.Plan.{PlanData, books_of}
 use Rattle.script_serial.specs.Prints.{Prints}
 use Rattle.script_serial.specs.Serial.{setting}
 use Rattle.script_serial.proofs.PlayLemmas.{no_lines}
 use Rattle.script_serial.proofs.SerialNewest.{printed_in_order}
-use Rattle.script_serial.proofs.ToldApart.{isolated}
-use Rattle.script_run.specs.Rounds.{IsFor, SeatData, AreClosing}
+use Rattle.script_serial.proofs.ToldApart.{isolated, catalogs_isolated}
+use Rattle.lc_base.specs.declared.block.Block.{Block}
+use Rattle.script_run.specs.Seated.{Gates}
+use Rattle.script_run.specs.Beside.{stock, stock_of}
+use Rattle.script_run.specs.Rounds.{IsFor, IsForAsked, plan_made, SeatData, AreClosing}
 use Rattle.script_run.proofs.Closing.{closed_prints}
 
--- what a plan is made of
-abbrev pub made_plan : Bundle → Catalog → PlanData
-made_plan bundle library = record { bundle = bundle; library = library }
+plan_is : (plan : PlanData) (bundle : Bundle) (library : Catalog) (books : Books) → bundle ≡ plan.bundle → library ≡ plan.library → books ≡ books_of plan → plan_made bundle library books ≡ plan
+plan_is plan bundle library books same of shelf =
+    ap (λ (b : Bundle). plan_made b library books) same ∙ ap (λ (l : Catalog). plan_made plan.bundle l books) of ∙ ap (λ (b : Books). plan_made plan.bundle plan.library b) shelf
 
-plan_is : (plan : PlanData) (bundle : Bundle) (library : Catalog) → bundle ≡ plan.bundle → library ≡ plan.library → made_plan bundle library ≡ plan
-plan_is plan bundle library same of = ap (λ (b : Bundle). made_plan b library) same ∙ ap (λ (l : Catalog). made_plan plan.bundle l) of
+-- the catalogs are those of the bundle
+pub blocks_are : (plan : PlanData) (bundle : Bundle) (books : Books) → bundle ≡ plan.bundle → books ≡ books_of plan → books.blocks ≡ bundle.catalogs
+blocks_are plan bundle books same shelf = ap (λ (b : Books). b.blocks) shelf ∙ ap (λ (b : Bundle). b.catalogs) (sym same)
+
+-- the library and the catalogs of a plan that is made of them
+pub stock_made : (bundle : Bundle) (library : Catalog) (books : Books) → books.blocks ≡ bundle.catalogs → stock_of (plan_made bundle library books) ≡ stock library books
+stock_made bundle library books same = ap (λ (blocks : List Block). stock library (record { blocks = blocks; books = books.books })) (sym same)
+
+-- what is agreed with the catalogs
+abbrev pub asked_terms : ℕ → ℕ → ℕ → ℕ → Terms CatalogSetting
+asked_terms threads rows generations quota = record { setting = record { threads = threads; rows = rows; generations = generations }; seats = threads; quota = quota }
 
 -- what is agreed for so many threads with such tables
 abbrev pub made_terms : ℕ → ℕ → ℕ → List Offered → ℕ → Terms Setting
@@ -45,6 +60,14 @@ terms_for plan terms count rows generations quota offers are many some shelf cal
   quota = ap (λ (t : Terms Setting). t.quota) are ∙ calls;
 }
 
+pub asked_for : (terms : Terms Setting) (asked : Terms CatalogSetting) (count rows generations quota : ℕ) (offers : List Offered) → terms ≡ made_terms count rows generations offers quota → asked ≡ asked_terms count rows generations quota
+    → IsForAsked terms asked
+asked_for terms asked count rows generations quota offers are asked_are = record {
+  seats = ap (λ (t : Terms CatalogSetting). t.seats) asked_are ∙ sym (ap (λ (t : Terms Setting). t.seats) are);
+  agree = ap (λ (t : Terms CatalogSetting). t.setting) asked_are ∙ sym (ap (λ (t : Terms Setting). catalog_setting t.setting) are);
+  quota = ap (λ (t : Terms CatalogSetting). t.quota) asked_are ∙ sym (ap (λ (t : Terms Setting). t.quota) are);
+}
+
 setting_is : (plan : PlanData) (terms : Terms Setting) (count rows generations quota : ℕ) (offers : List Offered) → terms ≡ made_terms count rows generations offers quota → count ≡ length plan.bundle.threads
     → offers ≡ opening plan.library → terms.setting ≡ setting plan rows generations
 setting_is plan terms count rows generations quota offers are many shelf =
@@ -53,16 +76,18 @@ setting_is plan terms count rows generations quota offers are many shelf =
     ∙ ap (λ (os : List Offered). (made_terms (length plan.bundle.threads) rows generations os quota).setting) shelf
 
 -- the lines of a run are such as the plan may print
-pub run_prints : (plan : PlanData) (bundle : Bundle) (library : Catalog) (gate : Gate Setting) (count rows generations quota : ℕ) (offers : List Offered) (seats : List SeatData) (lines : List OutLine) (table : TableData)
-    → bundle ≡ plan.bundle → library ≡ plan.library → gate.terms ≡ made_terms count rows generations offers quota → count ≡ length bundle.threads → 0 < length bundle.threads → offers ≡ opening library
-    → quota ≡ 2 * length bundle.commands + 1 → AreClosing gate (made_plan bundle library) seats [] lines
-    → (H : History) × StandsFor table H × (table.setting ≡ gate.terms.setting) × All (IsPart H) seats → Prints (setting plan rows generations) plan lines
-run_prints plan bundle library gate count rows generations quota offers seats lines table same of are many some shelf calls closing (H, stands, set, parts) =
-    let told : PlanData = made_plan bundle library in
-    let for : IsFor told gate.terms = terms_for told gate.terms count rows generations quota offers are many some shelf calls in
-    let is : gate.terms.setting ≡ setting told rows generations = setting_is told gate.terms count rows generations quota offers are many shelf in
-    subst (λ (p : PlanData). Prints (setting p rows generations) p lines) (plan_is plan bundle library same of)
-    (subst (λ (c : Setting). Prints c told lines) is (closed_prints gate told seats lines table H closing for stands set parts))
+pub run_prints : (plan : PlanData) (bundle : Bundle) (library : Catalog) (books : Books) (gate : Gates) (count rows generations quota : ℕ) (offers : List Offered) (seats : List SeatData) (lines : List OutLine) (table : TableData)
+    → bundle ≡ plan.bundle → library ≡ plan.library → books ≡ books_of plan → gate.locales.terms ≡ made_terms count rows generations offers quota → gate.catalogs.terms ≡ asked_terms count rows generations quota
+    → count ≡ length bundle.threads → 0 < length bundle.threads → offers ≡ opening library
+    → quota ≡ 2 * length bundle.commands + 1 → AreClosing gate (plan_made bundle library books) seats [] lines
+    → (H : History) × StandsFor table H × (table.setting ≡ gate.locales.terms.setting) × All (IsPart H) seats → Prints (setting plan rows generations) plan lines
+run_prints plan bundle library books gate count rows generations quota offers seats lines table same of shelves are asked_are many some shelf calls closing (H, stands, set, parts) =
+    let told : PlanData = plan_made bundle library books in
+    let for : IsFor told gate.locales.terms = terms_for told gate.locales.terms count rows generations quota offers are many some shelf calls in
+    let agree = (asked_for gate.locales.terms gate.catalogs.terms count rows generations quota offers are asked_are).agree in
+    let is : gate.locales.terms.setting ≡ setting told rows generations = setting_is told gate.locales.terms count rows generations quota offers are many shelf in
+    subst (λ (p : PlanData). Prints (setting p rows generations) p lines) (plan_is plan bundle library books same of shelves)
+    (subst (λ (c : Setting). Prints c told lines) is (closed_prints gate told seats lines table H closing for (sym agree) stands set parts))
 
 -- so is no line, where there is no thread
 pub none_prints : (plan : PlanData) (rows generations : ℕ) → plan.bundle.threads ≡ [] → Prints (setting plan rows generations) plan []
@@ -70,6 +95,9 @@ none_prints plan rows generations none = (printed_in_order plan rows generations
 
 pub prints_isolated : (plan : PlanData) (rows generations : ℕ) (lines : List OutLine) → Prints (setting plan rows generations) plan lines → IsIsolated (setting plan rows generations) plan lines
 prints_isolated plan rows generations lines prints = isolated (setting plan rows generations) plan lines prints
+
+pub prints_catalogs_isolated : (plan : PlanData) (rows generations : ℕ) (lines : List OutLine) → AreCatalogsIsolated (setting plan rows generations) plan lines
+prints_catalogs_isolated plan rows generations lines = catalogs_isolated (setting plan rows generations) plan lines
 
 -- a list that is not empty
 pub some_of : {X : Type 0} (xs : List X) (b : Bool) → (xs ≡ [] → b ≡ true) → b ≡ false → 0 < length xs
@@ -81,3 +109,9 @@ pub threads_are : (gate : Gate Setting) (mines : List Thread) (count rows genera
     → mines ≡ map (first_thread gate) (range_with_len 0 count) → mines ≡ map (first_thread gate) (range_with_len 0 gate.terms.setting.threads)
 threads_are gate mines count rows generations quota offers are threads =
     threads ∙ ap (λ (n : ℕ). map (first_thread gate) (range_with_len 0 n)) (sym (ap (λ (t : Terms Setting). t.setting.threads) are))
+
+-- and the readers of catalogs
+pub readers_are : (gate : Gate CatalogSetting) (terms : Terms Setting) (all : List ReaderData) (count rows generations quota : ℕ) (offers : List Offered) → terms ≡ made_terms count rows generations offers quota
+    → all ≡ map (first_reader gate) (range_with_len 0 count) → all ≡ map (first_reader gate) (range_with_len 0 terms.setting.threads)
+readers_are gate terms all count rows generations quota offers are threads =
+    threads ∙ ap (λ (n : ℕ). map (first_reader gate) (range_with_len 0 n)) (sym (ap (λ (t : Terms Setting). t.setting.threads) are))

@@ -1,6 +1,6 @@
 -- What a call leaves of a thread at a shared table.
-use Rattle.std.proofs.Common.{◌≡◌, ℕ, ◌+◌, Bool, true, false, cond, List, [], ◌∷◌, ◌++◌, length, Option, Some, refl, sym, ap, ◌∙◌, subst, arith, eq-eqb}
-use Rattle.std.specs.Prelude.{find, option_map}
+use Rattle.std.proofs.Common.{◌≡◌, ℕ, ◌+◌, ◌≤◌, Bool, true, false, cond, List, [], ◌∷◌, ◌++◌, length, Option, Some, Result, Ok, Err, refl, sym, ap, ◌∙◌, subst, arith, eq-eqb}
+use Rattle.std.specs.Prelude.{find, option_map, IfOk, OnOk}
 use Rattle.std.specs.List.{list_any}
 use Rattle.turn_gate.specs.declared.entry.Terms.{Terms}
 use Rattle.turn_gate.specs.Callers.{Gate}
@@ -20,7 +20,11 @@ use Rattle.script_lines.specs.Outcome.{with_call}
 use Rattle.script_lines.specs.Board.{Answers, Finds}
 use Rattle.handle_table.proofs.Unchanged.{newest_version}
 use Rattle.script_run.specs.declared.seated.Seated.{Seated}
-use Rattle.script_run.specs.Seated.{held_data, handed_out, KnowsSeated, IsSeatedAt, MayFollow, HasCalls, AnswersSeated, is_held, IsTaken, IsUnheld}
+use Rattle.catalog_table.specs.Entry.{History as CatalogHistory}
+use Rattle.catalog_table.specs.declared.setting.CatalogSetting.{CatalogSetting}
+use Rattle.catalog_seats.specs.Reader.{ReaderData}
+use Rattle.catalog_seats.specs.Reader as readers
+use Rattle.script_run.specs.Seated.{held_data, handed_out, KnowsSeated, IsSeatedAt, IsAskingAt, MayFollow, Gates, HasCalls, HasAsks, CanCall, AnswersSeated, is_held, IsTaken, IsUnheld}
 use Rattle.script_run.proofs.Apart.{holds_says}
 use Rattle.script_run.proofs.HoldLists.{holds_of, apart_holds, found_as}
 
@@ -205,6 +209,34 @@ ready_less gate old new op place reply a n may =
     let quota = may.quota in
     record { seated = a.seated; quota = omega arith }
 
+-- what stays of the catalogs where a call is one of the table
+pub asking_kept : (gate : Gate CatalogSetting) (old new : Seated) → new.reader ≡ old.reader → new.number ≡ old.number → (M : CatalogHistory) → IsAskingAt gate old M → IsAskingAt gate new M
+asking_kept gate old new same number M at = record {
+  thread = subst (readers.IsReaderOf gate) (sym same) at.thread;
+  in_order = subst (readers.IsInOrder gate.terms) (sym same) at.in_order;
+  seen = ap (λ (r : ReaderData). r.seen) same ∙ at.seen;
+  number = ap (λ (r : ReaderData). r.number) same ∙ at.number ∙ sym number;
+}
+
+asks_kept : (gate : Gate CatalogSetting) (n : ℕ) (old new : Seated) → new.reader ≡ old.reader → new.number ≡ old.number → HasAsks n gate old → HasAsks n gate new
+asks_kept gate n old new same number may = record {
+  seated = asking_kept gate old new same number new.reader.seen
+      (subst (IsAskingAt gate old) (sym (ap (λ (r : ReaderData). r.seen) same)) may.seated);
+  quota = subst (λ (r : ReaderData). length r.calls + n ≤ gate.terms.quota) (sym same) may.quota;
+}
+
+asks_less : (gate : Gate CatalogSetting) (n : ℕ) (s : Seated) → HasAsks (n + 1) gate s → HasAsks n gate s
+asks_less gate n s may = let quota = may.quota in record { seated = may.seated; quota = omega arith }
+
+-- the thread may make one call less of both
+pub can_less : (g : Gates) (old new : Seated) (op : Op) (place : ℕ) (reply : Reply) → AnswersSeated g.locales old new op place reply → new.reader ≡ old.reader
+    → (n : ℕ) → CanCall (n + 1) g old → CanCall n g new
+can_less g old new op place reply a same n may = record {
+  calls = ready_less g.locales old new op place reply a n may.calls;
+  asks = asks_less g.catalogs n new (asks_kept g.catalogs (n + 1) old new same a.number may.asks);
+  agree = may.agree;
+}
+
 -- ---- a read of the global locale
 
 -- what a read of the global locale leaves of a thread
@@ -269,6 +301,13 @@ ready_same gate old new version object found n may =
     let quota = may.quota in
     record { seated = found.seated; quota = omega arith }
 
+pub can_same : (g : Gates) (old new : Seated) (version : ℕ) (object : Parts) → Found g.locales old new version object → new.reader ≡ old.reader → new.number ≡ old.number → (n : ℕ) → CanCall n g old → CanCall n g new
+can_same g old new version object found same number n may = record {
+  calls = ready_same g.locales old new version object found n may.calls;
+  asks = asks_kept g.catalogs n old new same number may.asks;
+  agree = may.agree;
+}
+
 -- ---- what the thread tells of itself
 
 pub own_told : (s : Seated) (o : Option Parts) → o ≡ own_object s.mine → (H : History) → KnowsSeated s H → o ≡ own H s.number
@@ -280,3 +319,9 @@ selected_told s n is H knows = is ∙ ap (λ (G : History). selection G s.mine.n
 pub held_told : (s : Seated) (n : Named) (o : Option Parts) → o ≡ option_map (λ (h : HeldData). h.object) (find (is_held n) s.holds.items)
     → (H : History) → KnowsSeated s H → o ≡ held_as (open_holds H s.number) n
 held_told s n o is H knows = is ∙ ap (λ (hs : List HeldData). option_map (λ (h : HeldData). h.object) (find (is_held n) hs)) knows.holds ∙ found_as n (open_holds H s.number)
+
+-- ---- what holds of both parts of a call that gave something
+
+pub both_ok : {T E : Type 0} (r : Result T E) (P : T → Type 0) (Q R : Type 0) → IfOk r P → OnOk r Q → ((x : T) → P x → Q → R) → OnOk r R
+both_ok (Ok x) P Q R p q f = f x p q
+both_ok (Err e) P Q R p q f = tt

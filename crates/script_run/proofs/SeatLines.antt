@@ -1,12 +1,10 @@
 -- What a turn leaves of a thread of the script, and what several turns leave.
-use Rattle.std.proofs.Common.{◌≡◌, ℕ, ◌+◌, ◌≤◌, Bool, true, cond, not, List, [], ◌∷◌, ◌++◌, length, map, Some, None, Result, Ok, Err, refl, sym, ap, ◌∙◌, subst, arith, eq-eqb, append_assoc, append-nil}
+use Rattle.std.proofs.Common.{◌≡◌, ℕ, ◌+◌, ◌≤◌, Bool, true, cond, not, List, [], ◌∷◌, ◌++◌, length, map, Option, Some, None, Result, Ok, Err, refl, sym, ap, ◌∙◌, subst, arith, eq-eqb, append_assoc, append-nil}
 use Rattle.std.specs.Prelude.{◌==◌, ◌||◌, if◌then◌else◌, filter, reverse}
 use Rattle.std.specs.List.{list_any}
 use Rattle.std.proofs.lemmas.List.{reverse-append}
-use Rattle.std.proofs.lemmas.List.Elements.{All-nil, All-cons}
+use Rattle.std.proofs.lemmas.List.Elements.{All-nil, All-cons, All-weaker}
 use Rattle.turn_gate.specs.declared.entry.Terms.{Terms}
-use Rattle.turn_gate.specs.Callers.{Gate}
-use Rattle.category_store.specs.Catalog.{Catalog}
 use Rattle.handle_table.specs.declared.handle.Handle.{Handle}
 use Rattle.handle_table.specs.declared.handle.Named.TheVariants.{Of}
 use Rattle.handle_table.specs.Entry.{Op, Release, Reply, Released, NotHeld, History, Setting}
@@ -23,15 +21,21 @@ use Rattle.script_lines.specs.Lines.{Caller}
 use Rattle.script_lines.specs.Outcome.{Outcome, with_call}
 use Rattle.script_lines.specs.Thread.{BindsAs}
 use Rattle.script_lines.specs.Turns.{Releases, Turn, closing_turn}
-use Rattle.script_lines.specs.Variables.{Bindings, bound, Bound, bindings_of, bindings_after}
-use Rattle.script_lines.specs.Wishes.{Wish, Calls, ReadsOf, Reads, AsksSelection, AsksName, wish_of}
-use Rattle.script_lines.specs.Board.{Moments, granted_at, AreMomentsOf, LeavesTurn, turn_caller}
-use Rattle.script_serial.specs.Plan.{PlanData}
+use Rattle.script_lines.specs.Variables.{Variable, Bindings, bound, Bound, bindings_of, bindings_after}
+use Rattle.script_lines.specs.Wishes.{Wish, Calls, ReadsOf, Reads, AsksSelection, AsksName, OpensCatalog, GetsMessage, ClosesCatalog, wish_of}
+use Rattle.script_lines.specs.Board.{Moments, catalog_op, granted_at, AreMomentsOf, LeftCatalogs, LeavesTurn, turn_caller}
+use Rattle.catalog_table.specs.Entry as catalogs
+use Rattle.catalog_table.specs.Entry.{History as CatalogHistory}
+use Rattle.catalog_seats.specs.Reader as readers
+use Rattle.catalog_seats.proofs.Meeting as meeting
+use Rattle.script_lines.specs.Catalogs.{Asked, catalog_setting}
+use Rattle.script_serial.specs.Plan.{PlanData, books_of}
 use Rattle.script_serial.specs.Prints.{bound_by}
 use Rattle.script_run.specs.declared.seated.Seated.{Seated}
-use Rattle.script_run.specs.Seated.{IsSeatedAt, MayFollow, AreApart}
-use Rattle.script_run.specs.Timed.{Timed, tellings, lines_in, turn_made, turns_made}
-use Rattle.script_run.specs.Beside.{HasMade, IsWorker, Adds, Works, WorksOn}
+use Rattle.script_run.specs.Seated.{Gates, IsSeatedAt, IsAskingAt, MayFollow, MayFollowAsked, AreApart}
+use Rattle.script_run.specs.Timed.{Timed, tellings, lines_in, turn_made, turns_made, asked_in}
+use Rattle.script_run.specs.Beside.{Stock, stock_of, HasMade, IsWorker, Adds, HasAskedSince, Works, WorksOn}
+use Rattle.script_run.proofs.AskedSeen.{AsksNext, asks_next}
 use Rattle.script_run.proofs.HoldLists.{holds_of, apart_holds, kept_all}
 use Rattle.script_run.proofs.SeatLemmas.{seated_as}
 use Rattle.script_run.proofs.LineSteps.{IsStep, moment_of, granted_step, longer, goes_further, follow_holds, own_entry, own_holds}
@@ -46,6 +50,9 @@ moments_seen c later t H (Ok (ReadsOf n read)) m of = of.moments.seen
 moments_seen c later t H (Ok (Reads read)) m of = of.seen
 moments_seen c later t H (Ok AsksSelection) m of = of.seen
 moments_seen c later t H (Ok (AsksName chosen)) m of = of.seen
+moments_seen c later t H (Ok (OpensCatalog name)) m of = of.seen
+moments_seen c later t H (Ok (GetsMessage h set message default)) m of = of.seen
+moments_seen c later t H (Ok (ClosesCatalog h)) m of = of.seen
 
 pub lines_made : (terms : Terms Setting) (plan : PlanData) (t : ℕ) (S : History) (made : List Timed) (thread : Thread) → HasLines terms.setting plan t S made
     → t ≡ thread.number → S ≡ thread.seen → IsInOrder terms thread → HasMade terms plan thread made
@@ -54,55 +61,65 @@ lines_made terms plan t S made thread has number seen is =
     record { in_order = is; own = now.own; right = now.right; timed = now.timed; places = now.places }
 
 -- one more line of a thread of the script
-pub record AddsRight (gate : Gate Setting) (plan : PlanData) (asked : Turn) (old new : ScriptThread Seated) (made : List Timed) (lines lines' : List OutLine) : Type 0 where
+pub record AddsRight (gate : Gates) (plan : PlanData) (asked : Turn) (old new : ScriptThread Seated) (made : List Timed) (lines lines' : List OutLine) : Type 0 where
   pub newest : Timed
   pub added : lines' ≡ lines ++ newest.told.line ∷ []
   pub turn : turn_made newest ≡ asked
   pub since : length old.side.mine.seen ≤ newest.moment
   pub later : GoesOnFrom new.side.mine.seen old.side.mine.seen
+  pub asked_since : HasAskedSince (length old.side.reader.seen) newest
+  pub asked_later : readers.GoesOnFrom new.side.reader.seen old.side.reader.seen
   pub worker : IsWorker gate plan new (newest ∷ made)
 
 -- the step of a turn, and where it leaves the thread
-record Stepped (gate : Gate Setting) (plan : PlanData) (turn : Turn) (old new : ScriptThread Seated) (made : List Timed) (l : OutLine) : Type 0 where
+record Stepped (gate : Gates) (plan : PlanData) (turn : Turn) (old new : ScriptThread Seated) (made : List Timed) (l : OutLine) : Type 0 where
   done : Outcome
   moment : ℕ
   line : l ≡ done.line
-  now_at : IsSeatedAt gate new.side done.history
-  step : IsStep gate.terms.setting plan.library (turn_caller old.lines turn) (wish_of plan.library (bindings_of turn.thread (bound_by (tellings made))) turn.task) old.side.mine.seen done moment
+  op : Option catalogs.Op
+  asked : Asked
+  now_at : IsSeatedAt gate.locales new.side done.history
+  step : IsStep gate.locales.terms.setting plan.library (books_of plan) (turn_caller old.lines turn) (wish_of plan.library (bindings_of turn.thread (bound_by (tellings made))) turn.task) old.side.mine.seen done moment op asked
+  left : LeftCatalogs (catalog_setting gate.locales.terms.setting) (MayFollowAsked gate.locales.terms.setting old.side.number) (IsAskingAt gate.catalogs new.side) old.side.number old.side.reader.seen op asked
 
-stepped : (gate : Gate Setting) (plan : PlanData) (turn : Turn) (old new : ScriptThread Seated) (made : List Timed) (l : OutLine) → turn.thread ≡ old.side.number
-    → LeavesTurn gate.terms.setting plan.library (MayFollow gate.terms.setting old.side.number) (IsSeatedAt gate new.side) old.side.mine.seen (bound_by (tellings made)) old.lines turn l
+stepped : (gate : Gates) (plan : PlanData) (turn : Turn) (old new : ScriptThread Seated) (made : List Timed) (l : OutLine) → turn.thread ≡ old.side.number
+    → LeavesTurn gate.locales.terms.setting plan.library (books_of plan) (MayFollow gate.locales.terms.setting old.side.number) (MayFollowAsked gate.locales.terms.setting old.side.number)
+    (IsSeatedAt gate.locales new.side) (IsAskingAt gate.catalogs new.side) old.side.mine.seen old.side.reader.seen (bound_by (tellings made)) old.lines turn l
     → Stepped gate plan turn old new made l
 stepped gate plan turn old new made l own leaves =
-    let c : Setting = gate.terms.setting in
+    let c : Setting = gate.locales.terms.setting in
     let at : Caller = turn_caller old.lines turn in
     let S : History = old.side.mine.seen in
     let wish : Result Wish Why = wish_of plan.library (bindings_of turn.thread (bound_by (tellings made))) turn.task in
     let m : Moments = leaves.0 in
     let of : AreMomentsOf c (MayFollow c turn.thread) turn.thread S wish m = subst (λ (k : ℕ). AreMomentsOf c (MayFollow c k) turn.thread S wish m) (sym own) leaves.1 in
-    let done : Outcome = granted_at c plan.library m at wish in
+    let done : Outcome = granted_at c plan.library (books_of plan) m at wish in
+    let op : Option catalogs.Op = catalog_op c plan.library (books_of plan) m at.thread wish in
     record {
       done = done;
       moment = moment_of m at wish;
+      op = op;
+      asked = m.asked;
+      left = subst (λ (k : ℕ). LeftCatalogs (catalog_setting c) (MayFollowAsked c old.side.number) (IsAskingAt gate.catalogs new.side) k old.side.reader.seen op m.asked) own leaves.3;
       line = leaves.2.line;
       now_at = leaves.2.now_at;
-      step = subst (λ (H : History). IsStep c plan.library at wish H done (moment_of m at wish)) (moments_seen c (MayFollow c turn.thread) turn.thread S wish m of)
-          (granted_step c plan.library at m wish S of);
+      step = subst (λ (H : History). IsStep c plan.library (books_of plan) at wish H done (moment_of m at wish) op m.asked) (moments_seen c (MayFollow c turn.thread) turn.thread S wish m of)
+          (granted_step c plan.library (books_of plan) at m wish S of);
     }
 
-step_right : (gate : Gate Setting) (plan : PlanData) (turn : Turn) (old new : ScriptThread Seated) (lines lines' : List OutLine) (made : List Timed) → turn.thread ≡ old.side.number
-    → IsWorker gate plan old made → (a : Adds gate plan.library turn old new lines lines') → Stepped gate plan turn old new made a.line → AddsRight gate plan turn old new made lines lines'
+step_right : (gate : Gates) (plan : PlanData) (turn : Turn) (old new : ScriptThread Seated) (lines lines' : List OutLine) (made : List Timed) → turn.thread ≡ old.side.number
+    → IsWorker gate plan old made → (a : Adds gate (stock_of plan) turn old new lines lines') → Stepped gate plan turn old new made a.line → AddsRight gate plan turn old new made lines lines'
 step_right gate plan turn old new lines lines' made own worker a s =
-    let c : Setting = gate.terms.setting in
+    let c : Setting = gate.locales.terms.setting in
     let at : Caller = turn_caller old.lines turn in
     let S : History = old.side.mine.seen in
     let W : History = s.done.history in
     let l : OutLine = s.done.line in
-    let m : Timed = made_line turn.task l s.moment in
+    let m : Timed = made_line turn.task l s.moment s.op s.asked in
     let was = worker.made in
     let number : old.side.mine.number ≡ turn.thread = worker.seated.knows.number ∙ sym own in
     let has : HasLines c plan turn.thread S made = subst (λ (k : ℕ). HasLines c plan k S made) number (record { own = was.own; right = was.right; timed = was.timed; places = was.places }) in
-    let now : HasLines c plan turn.thread W (m ∷ made) = more_lines c plan at S s.done s.moment made turn.task has (ap (λ (n : ℕ). n + 1) worker.lines) s.step in
+    let now : HasLines c plan turn.thread W (m ∷ made) = more_lines c plan at S s.done s.moment s.op s.asked made turn.task has (ap (λ (n : ℕ). n + 1) worker.lines) s.step in
     let seen : W ≡ new.side.mine.seen = sym s.now_at.knows.seen in
     let mine : turn.thread ≡ new.side.mine.number = own ∙ sym a.adds.number ∙ sym s.now_at.knows.number in
     let thread : l.thread ≡ old.side.number = ap (λ (x : Caller). x.thread) s.step.caller ∙ own in
@@ -117,6 +134,9 @@ step_right gate plan turn old new lines lines' made own worker a s =
     let few_step = s.step.few in
     let more : new.lines ≡ old.lines + 1 = a.adds.lines in
     let count : old.lines ≡ length made = worker.lines in
+    let asks : AsksNext gate.catalogs old.side new.side s.op s.asked made m =
+    asks_next c gate.catalogs old.side new.side s.op s.asked made m worker.agree worker.asking worker.asked a.adds.number refl refl thread s.left
+    in
     let bounds = bound_by (tellings made) in
     let bound = a.adds.variables bounds worker.variables in
     record {
@@ -125,9 +145,14 @@ step_right gate plan turn old new lines lines' made own worker a s =
       turn = ap (λ (x : Caller). record { round = x.round; thread = x.thread; task = turn.task }) s.step.caller;
       since = s.step.since;
       later = subst (λ (H : History). GoesOnFrom H S) seen s.step.later;
+      asked_since = asks.since;
+      asked_later = asks.later;
       worker = record {
-        seated = seated_as gate new.side W new.side.mine.seen seen s.now_at;
-        made = lines_made gate.terms plan turn.thread W (m ∷ made) new.side.mine now mine seen s.now_at.in_order;
+        seated = seated_as gate.locales new.side W new.side.mine.seen seen s.now_at;
+        asking = asks.asking;
+        agree = worker.agree;
+        asked = asks.has;
+        made = lines_made gate.locales.terms plan turn.thread W (m ∷ made) new.side.mine now mine seen s.now_at.in_order;
         few = omega arith;
         variables = subst (λ (k : ℕ). BindsAs k new.variables (bindings_after l.thread bounds turn.task l.reply)) (sym a.adds.number)
             (subst (λ (k : ℕ). BindsAs old.side.number new.variables (bindings_after k bounds turn.task l.reply)) (sym thread)
@@ -136,25 +161,31 @@ step_right gate plan turn old new lines lines' made own worker a s =
       };
     }
 
-pub line_right : (gate : Gate Setting) (library : Catalog) (plan : PlanData) (turn : Turn) (old new : ScriptThread Seated) (lines lines' : List OutLine) (made : List Timed)
-    → plan.library ≡ library → turn.thread ≡ old.side.number → IsWorker gate plan old made → Adds gate library turn old new lines lines' → AddsRight gate plan turn old new made lines lines'
-line_right gate library plan turn old new lines lines' made same own worker adds =
-    let a : Adds gate plan.library turn old new lines lines' = subst (λ (x : Catalog). Adds gate x turn old new lines lines') (sym same) adds in
+pub line_right : (gate : Gates) (stock : Stock) (plan : PlanData) (turn : Turn) (old new : ScriptThread Seated) (lines lines' : List OutLine) (made : List Timed)
+    → stock_of plan ≡ stock → turn.thread ≡ old.side.number → IsWorker gate plan old made → Adds gate stock turn old new lines lines' → AddsRight gate plan turn old new made lines lines'
+line_right gate stock plan turn old new lines lines' made same own worker adds =
+    let a : Adds gate (stock_of plan) turn old new lines lines' = subst (λ (x : Stock). Adds gate x turn old new lines lines') (sym same) adds in
     step_right gate plan turn old new lines lines' made own worker a (stepped gate plan turn old new made a.line own (a.adds.leaves (bound_by (tellings made)) worker.variables))
 
 -- ---- several turns
 
-pub works_none : (gate : Gate Setting) (library : Catalog) (t : ScriptThread Seated) (lines : List OutLine) → WorksOn gate library [] t t lines lines
-works_none gate library t lines plan made same worker = record {
+pub works_none : (gate : Gates) (stock : Stock) (t : ScriptThread Seated) (lines : List OutLine) → WorksOn gate stock [] t t lines lines
+works_none gate stock t lines plan made same worker = record {
   more = [];
   added = sym (append-nil lines);
   turns = refl;
   since = All-nil (λ (m : Timed). length t.side.mine.seen ≤ m.moment);
   later = ([], refl);
+  asked_since = All-nil (HasAskedSince (length t.side.reader.seen));
+  asked_later = meeting.goes_same t.side.reader.seen;
   worker = worker;
 }
 
-works_more : (gate : Gate Setting) (plan : PlanData) (turns : List Turn) (turn : Turn) (old mid new : ScriptThread Seated) (made : List Timed) (lines lines' lines'' : List OutLine)
+-- a line that has asked behind more has asked behind less
+pub since_less : (n m : ℕ) (t : Timed) → m ≤ n → HasAskedSince n t → HasAskedSince m t
+since_less n m t le since = All-weaker (λ (p : ℕ). n ≤ p) (λ (p : ℕ). m ≤ p) (λ p at. omega (arith, le, at)) (asked_in t) since
+
+works_more : (gate : Gates) (plan : PlanData) (turns : List Turn) (turn : Turn) (old mid new : ScriptThread Seated) (made : List Timed) (lines lines' lines'' : List OutLine)
     → (w : Works gate plan turns old mid made lines lines') → AddsRight gate plan turn mid new (w.more ++ made) lines' lines'' → Works gate plan (turns ++ turn ∷ []) old new made lines lines''
 works_more gate plan turns turn old mid new made lines lines' lines'' w r =
     let m : Timed = r.newest in
@@ -167,30 +198,34 @@ works_more gate plan turns turn old mid new made lines lines' lines'' w r =
       turns = ap (λ (x : Turn). x ∷ turns_made w.more) r.turn ∙ ap (λ (ts : List Turn). turn ∷ ts) w.turns ∙ sym (reverse-append turns (turn ∷ []));
       since = All-cons (λ (x : Timed). length old.side.mine.seen ≤ x.moment) m w.more (omega arith) w.since;
       later = goes_further new.side.mine.seen mid.side.mine.seen old.side.mine.seen r.later w.later;
+      asked_since = All-cons (HasAskedSince (length old.side.reader.seen)) m w.more
+          (since_less (length mid.side.reader.seen) (length old.side.reader.seen) m (meeting.as_long mid.side.reader.seen old.side.reader.seen w.asked_later) r.asked_since) w.asked_since;
+      asked_later = meeting.goes_on mid.side.reader.seen old.side.reader.seen new.side.reader.seen r.asked_later w.asked_later;
       worker = r.worker;
     }
 
-pub works_one_more : (gate : Gate Setting) (library : Catalog) (turns : List Turn) (turn : Turn) (old mid new : ScriptThread Seated) (lines lines' lines'' : List OutLine)
-    → WorksOn gate library turns old mid lines lines' → turn.thread ≡ mid.side.number → Adds gate library turn mid new lines' lines'' → WorksOn gate library (turns ++ turn ∷ []) old new lines lines''
-works_one_more gate library turns turn old mid new lines lines' lines'' works own adds plan made same worker =
+pub works_one_more : (gate : Gates) (stock : Stock) (turns : List Turn) (turn : Turn) (old mid new : ScriptThread Seated) (lines lines' lines'' : List OutLine)
+    → WorksOn gate stock turns old mid lines lines' → turn.thread ≡ mid.side.number → Adds gate stock turn mid new lines' lines'' → WorksOn gate stock (turns ++ turn ∷ []) old new lines lines''
+works_one_more gate stock turns turn old mid new lines lines' lines'' works own adds plan made same worker =
     let w = works plan made same worker in
-    works_more gate plan turns turn old mid new made lines lines' lines'' w (line_right gate library plan turn mid new lines' lines'' (w.more ++ made) same own w.worker adds)
+    works_more gate plan turns turn old mid new made lines lines' lines'' w (line_right gate stock plan turn mid new lines' lines'' (w.more ++ made) same own w.worker adds)
 
 -- ---- a Release of the first standing Hold
 
-bounds_back : (t : ℕ) (bindings : Bindings) → bindings_of t (map (λ (b : List ℕ × Handle). record { thread = t; variable = b.0; handle = b.1 }) bindings) ≡ bindings
+bounds_back : (t : ℕ) (bindings : Bindings) → bindings_of t (map (λ (b : Variable × Handle). record { thread = t; variable = b.0; handle = b.1 }) bindings) ≡ bindings
 bounds_back t [] = refl
 bounds_back t (b ∷ bindings) =
-    let rest = map (λ (x : List ℕ × Handle). record { thread = t; variable = x.0; handle = x.1 }) bindings in
+    let rest = map (λ (x : Variable × Handle). record { thread = t; variable = x.0; handle = x.1 }) bindings in
     let first : Bound = record { thread = t; variable = b.0; handle = b.1 } in
     ap (λ (x : Bool). map (λ (y : Bound). (y.variable, y.handle)) (cond x (first ∷ filter (λ (y : Bound). y.thread == t) rest) (filter (λ (y : Bound). y.thread == t) rest))) (eq-eqb t t refl)
     ∙ ap (λ (bs : Bindings). (b.0, b.1) ∷ bs) (bounds_back t bindings)
 
 -- what giving up the first standing Hold leaves
-pub record LeftBy (gate : Gate Setting) (old new : ScriptThread Seated) (left : List OpenHold) : Type 0 where
+pub record LeftBy (gate : Gates) (old new : ScriptThread Seated) (left : List OpenHold) : Type 0 where
   pub holds : open_holds new.side.mine.seen new.side.number ≡ left
   pub calls : length new.side.mine.calls ≡ length old.side.mine.calls + 1
-  pub seated : IsSeatedAt gate new.side new.side.mine.seen
+  pub seated : IsSeatedAt gate.locales new.side new.side.mine.seen
+  pub asking : IsAskingAt gate.catalogs new.side old.side.reader.seen
 
 release_holds : (c : Setting) (t : ℕ) (first : History) (o : OpenHold) (os : List OpenHold) (S : History) → MayFollow c t first S → open_holds S t ≡ o ∷ os → AreApart (o ∷ os)
     → open_holds (with_call c first t (Release (Of o.handle))) t ≡ os
@@ -210,16 +245,16 @@ release_calls : (c : Setting) (t : ℕ) (first S : History) (op : Op) → MayFol
 release_calls c t first S op f =
     ap (λ (H : History). length H) (own_entry c first t op ∙ ap (λ (H : History). record { who = t; op = op; reply = answer c first t op } ∷ H) f.others) ∙ (omega arith)
 
-pub released : (gate : Gate Setting) (library : Catalog) (round : ℕ) (old new : ScriptThread Seated) (lines lines' : List OutLine) (o : OpenHold) (os : List OpenHold)
-    → IsSeatedAt gate old.side old.side.mine.seen → open_holds old.side.mine.seen old.side.number ≡ o ∷ os
-    → Adds gate library (closing_turn round old.side.number (Releases o.handle)) old new lines lines' → LeftBy gate old new os
-released gate library round old new lines lines' o os at standing a =
-    let c : Setting = gate.terms.setting in
+pub released : (gate : Gates) (stock : Stock) (round : ℕ) (old new : ScriptThread Seated) (lines lines' : List OutLine) (o : OpenHold) (os : List OpenHold)
+    → IsSeatedAt gate.locales old.side old.side.mine.seen → open_holds old.side.mine.seen old.side.number ≡ o ∷ os
+    → Adds gate stock (closing_turn round old.side.number (Releases o.handle)) old new lines lines' → LeftBy gate old new os
+released gate stock round old new lines lines' o os at standing a =
+    let c : Setting = gate.locales.terms.setting in
     let t : ℕ = old.side.number in
     let S : History = old.side.mine.seen in
     let turn : Turn = closing_turn round t (Releases o.handle) in
-    let back : bindings_of t (map (λ (b : List ℕ × Handle). record { thread = t; variable = b.0; handle = b.1 }) old.variables) ≡ old.variables = bounds_back t old.variables in
-    let leaves = a.adds.leaves (map (λ (b : List ℕ × Handle). record { thread = t; variable = b.0; handle = b.1 }) old.variables) (λ v. ap (λ (bs : Bindings). bound bs v) (sym back)) in
+    let back : bindings_of t (map (λ (b : Variable × Handle). record { thread = t; variable = b.0; handle = b.1 }) old.variables) ≡ old.variables = bounds_back t old.variables in
+    let leaves = a.adds.leaves (map (λ (b : Variable × Handle). record { thread = t; variable = b.0; handle = b.1 }) old.variables) (λ v. ap (λ (bs : Bindings). bound bs v) (sym back)) in
     let m : Moments = leaves.0 in
     let f : MayFollow c t m.first S = subst (MayFollow c t m.first) leaves.1.seen leaves.1.first in
     let now = leaves.2.now_at in
@@ -234,5 +269,6 @@ released gate library round old new lines lines' o os at standing a =
     record {
       holds = ap (λ (H : History). open_holds H new.side.number) now.knows.seen ∙ ap (open_holds W) a.adds.number ∙ release_holds c t m.first o os S f standing apart;
       calls = calls_new ∙ release_calls c t m.first S op f ∙ ap (λ (n : ℕ). n + 1) (sym calls_old);
-      seated = seated_as gate new.side W new.side.mine.seen (sym now.knows.seen) now;
+      seated = seated_as gate.locales new.side W new.side.mine.seen (sym now.knows.seen) now;
+      asking = leaves.3;
     }

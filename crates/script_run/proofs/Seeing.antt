@@ -1,19 +1,16 @@
 -- Threads that see more of one history and make no call: what they have made stays.
-use Rattle.std.proofs.Common.{◌≡◌, ℕ, ◌+◌, ◌≤◌, Bool, true, false, cond, List, [], ◌∷◌, ◌++◌, length, map, refl, sym, ap, subst, ◌∙◌, arith, length-append, append_assoc}
+use Rattle.std.proofs.Common.{◌≡◌, ℕ, ◌+◌, ◌≤◌, Bool, true, false, cond, List, [], ◌∷◌, ◌++◌, length, refl, sym, ap, subst, ◌∙◌, arith, length-append, append_assoc}
 use Rattle.std.specs.Prelude.{◌==◌}
 use Rattle.std.proofs.lemmas.List.Elements.{All-weaker}
 use Rattle.turn_gate.specs.declared.entry.Terms.{Terms}
-use Rattle.turn_gate.specs.Callers.{Gate}
 use Rattle.handle_table.specs.Entry.{Entry, History, Setting}
 use Rattle.thread_current.specs.Thread.{Thread, IsInOrder, SawMore, GoesOnFrom, entries_by}
-use Rattle.script_lines.specs.declared.holds.OpenHold.{OpenHold}
 use Rattle.script_lines.specs.declared.thread.Thread.{Thread as ScriptThread}
 use Rattle.script_lines.specs.Holds.{open_holds}
 use Rattle.script_serial.specs.Plan.{PlanData}
 use Rattle.script_run.specs.declared.seated.Seated.{Seated}
-use Rattle.script_run.specs.Seated.{held_data}
 use Rattle.script_run.specs.Timed.{Timed, places_by}
-use Rattle.script_run.specs.Beside.{HasMade, IsWorker}
+use Rattle.script_run.specs.Beside.{HasMade}
 use Rattle.script_run.proofs.Growth.{are_right_grow}
 use Rattle.script_run.proofs.Apart.{holds_says, places_stay}
 
@@ -91,28 +88,3 @@ thread_with t mine = record t { side = record t.side { mine = mine } }
 pub holds_kept : (terms : Terms Setting) (t u : Thread) (n : ℕ) → t.number ≡ n → IsInOrder terms t → IsInOrder terms u → SawMore t u → open_holds u.seen n ≡ open_holds t.seen n
 holds_kept terms t u n own before after saw =
     holds_says n u.seen t.seen (subst (λ (k : ℕ). entries_by k u.seen ≡ entries_by k t.seen) own (saw_entries terms t u before after saw))
-
-pub worker_kept : (gate : Gate Setting) (plan : PlanData) (t : ScriptThread Seated) (mine : Thread) (made : List Timed) → IsWorker gate plan t made → SawMore t.side.mine mine → IsInOrder gate.terms mine
-    → IsWorker gate plan (thread_with t mine) made
-worker_kept gate plan t mine made was saw order =
-    let same : open_holds mine.seen t.side.number ≡ open_holds t.side.mine.seen t.side.number =
-    holds_kept gate.terms t.side.mine mine t.side.number was.seated.knows.number was.made.in_order order saw
-    in
-    let calls : length mine.calls ≡ length t.side.mine.calls = ap (λ (H : History). length H) saw.calls in
-    let holds : length (open_holds mine.seen t.side.number) ≡ length (open_holds t.side.mine.seen t.side.number) = ap (λ (os : List OpenHold). length os) same in
-    let few = was.few in
-    record {
-      seated = record {
-        thread = (saw.same.table ∙ was.seated.thread.0, saw.same.terms ∙ was.seated.thread.1);
-        in_order = order;
-        knows = record {
-          seen = refl;
-          number = saw.same.number ∙ was.seated.knows.number;
-          holds = was.seated.knows.holds ∙ ap (λ (os : List OpenHold). map held_data os) (sym same);
-        };
-      };
-      made = made_kept gate.terms plan t.side.mine mine made was.made saw order;
-      few = omega (arith, calls, holds, few);
-      variables = was.variables;
-      lines = was.lines;
-    }

@@ -123,26 +123,26 @@ all_left P [] ys all = All-nil P
 all_left P (x ∷ xs) ys all = All-cons P x xs (All-head P x (xs ++ ys) all) (all_left P xs ys (All-tail P x (xs ++ ys) all))
 
 module _ (round : ℕ) (added made : List Timed) (after : All (λ (t : Timed). t.told.line.round ≡ round) added) (before : All (λ (t : Timed). t.told.line.round < round) made) where
-  earlier_before : (r : ℕ) → r ≤ round → in_rounds_before r (added ++ made) ≡ in_rounds_before r made
+  pub earlier_before : (r : ℕ) → r ≤ round → in_rounds_before r (added ++ made) ≡ in_rounds_before r made
   earlier_before r le =
       filter-append (λ (t : Timed). nat_lt t.told.line.round r) added made
       ∙ ap (λ (ts : List Timed). ts ++ in_rounds_before r made)
       (filter_none (λ (t : Timed). nat_lt t.told.line.round r) added
       (All-weaker (λ (t : Timed). t.told.line.round ≡ round) (λ (t : Timed). nat_lt t.told.line.round r ≡ false) (λ t is. lt-leb (suc t.told.line.round) r (omega (arith, is, le))) added after))
 
-  earlier_to : (r : ℕ) → r < round → in_rounds_to r (added ++ made) ≡ in_rounds_to r made
+  pub earlier_to : (r : ℕ) → r < round → in_rounds_to r (added ++ made) ≡ in_rounds_to r made
   earlier_to r lt =
       filter-append (λ (t : Timed). nat_le t.told.line.round r) added made
       ∙ ap (λ (ts : List Timed). ts ++ in_rounds_to r made)
       (filter_none (λ (t : Timed). nat_le t.told.line.round r) added
       (All-weaker (λ (t : Timed). t.told.line.round ≡ round) (λ (t : Timed). nat_le t.told.line.round r ≡ false) (λ t is. lt-leb t.told.line.round r (omega (arith, is, lt))) added after))
 
-  all_before : in_rounds_before round made ≡ made
+  pub all_before : in_rounds_before round made ≡ made
   all_before =
       filter_all (λ (t : Timed). nat_lt t.told.line.round round) made
       (All-weaker (λ (t : Timed). t.told.line.round < round) (λ (t : Timed). nat_lt t.told.line.round round ≡ true) (λ t lt. le-leb (suc t.told.line.round) round (omega (arith, lt))) made before)
 
-  all_to : in_rounds_to round (added ++ made) ≡ added ++ made
+  pub all_to : in_rounds_to round (added ++ made) ≡ added ++ made
   all_to =
       filter_all (λ (t : Timed). nat_le t.told.line.round round) (added ++ made)
       (All-append (λ (t : Timed). nat_le t.told.line.round round ≡ true) added made

@@ -7,7 +7,6 @@ use Rattle.std.proofs.lemmas.List.Sums.{length-filter, count_by-le-length}
 use Rattle.category_store.specs.Catalog.{Catalog}
 use Rattle.category_store.specs.Library.{opening}
 use Rattle.category_store.specs.Shelf.{IsNumbered, IsInstallable}
-use Rattle.turn_gate.specs.Callers.{Gate}
 use Rattle.handle_table.specs.Entry as table
 use Rattle.handle_table.specs.Entry.{Setting}
 use Rattle.script_commands.specs.InRange.{IsInRange}
@@ -20,10 +19,11 @@ use Rattle.script_lines.specs.Turns.{Runs, Turn, in_round, in_thread, turn_of, t
 use Rattle.script_lines.proofs.WishLemmas.{command_may}
 use Rattle.script_serial.specs.Plan.{PlanData, IsSound}
 use Rattle.script_run.specs.declared.worker.Worker.{Worker}
-use Rattle.script_run.specs.Seated.{IsNoEnd, MayCall}
+use Rattle.script_run.specs.Seated.{Gates, IsNoEnd, MayCall}
 use Rattle.script_run.specs.Timed.{Timed, own_lines, turns_made, turn_made}
-use Rattle.script_run.specs.Beside.{turns_of}
-use Rattle.script_run.specs.Rounds.{Each, MayWork, IsFor, IsReady, AreBetween, turns_to}
+use Rattle.script_run.specs.Beside.{stock_of, turns_of}
+use Rattle.script_run.specs.Rounds.{Each, reader_at, MayWork, IsFor, IsForAsked, IsReady, AreBetween, turns_to}
+use Rattle.script_run.proofs.AskedSeen.{asked_few}
 use Rattle.script_run.proofs.Counting.{few_turns_to, turns_next}
 use Rattle.script_run.proofs.Rounding.{turns_of_near}
 
@@ -67,12 +67,12 @@ pub lines_few : (plan : PlanData) (rounds : ℕ) (made : List Timed) → turns_m
 lines_few plan rounds made same =
     sym (length-map made turn_made) ∙ ap (λ (ts : List Turn). length ts) same ∙ length-reverse (turns_to plan.bundle rounds)
 
-pub may_work : (gate : Gate Setting) (plan : PlanData) (rounds : ℕ) (lines : List OutLine) (ws : List Worker) (turns : List Turn) → AreBetween gate plan rounds lines ws → IsSound plan → IsFor plan gate.terms
-    → turns ≡ round_turns (length plan.bundle.threads) plan.bundle.commands (rounds + 1) → Each ws (λ i w. MayWork gate plan.library turns w)
-may_work gate plan rounds lines ws turns was sound for turns_is = λ i d lt.
-    let c : Setting = gate.terms.setting in
+pub may_work : (gate : Gates) (plan : PlanData) (rounds : ℕ) (lines : List OutLine) (ws : List Worker) (turns : List Turn) → AreBetween gate plan rounds lines ws → IsSound plan → IsFor plan gate.locales.terms
+    → IsForAsked gate.locales.terms gate.catalogs.terms → turns ≡ round_turns (length plan.bundle.threads) plan.bundle.commands (rounds + 1) → Each ws (λ i w. MayWork gate (stock_of plan) turns w)
+may_work gate plan rounds lines ws turns was sound for for_asked turns_is = λ i d lt.
+    let c : Setting = gate.locales.terms.setting in
     let w : Worker = slice_index_or ws i d in
-    let ready : IsReady gate plan was.met was.made i w = was.ready i d lt in
+    let ready : IsReady gate plan was.met was.asked was.made i w = was.ready i d lt in
     let below : i < length plan.bundle.threads = let count = was.count in let threads = for.threads in omega (arith, lt, count, threads) in
     let ps : List Placed = in_round (rounds + 1) plan.bundle.commands in
     let own : turns_of w.thread.side.number turns ≡ thread_turns ps i =
@@ -89,11 +89,17 @@ may_work gate plan rounds lines ws turns was sound for turns_is = λ i d lt.
     let few = ready.worker.few in
     let counted = ready.worker.lines in
     let quota = for.quota in
+    let asked_quota = for_asked.quota in
+    let asked : length (reader_at w).calls ≤ length (own_lines i was.made) = asked_few gate.catalogs.terms (reader_at w) (own_lines i was.made) ready.worker.asked in
     record {
       numbered = sound.numbered;
       installable = sound.installable;
       opening = for.opening;
-      calls = record { seated = ready.worker.seated; quota = omega (arith, few, own_few, turns_few, next, most, made_long, quota) };
+      calls = record {
+        calls = record { seated = ready.worker.seated; quota = omega (arith, few, own_few, turns_few, next, most, made_long, quota) };
+        asks = record { seated = ready.worker.asking; quota = omega (arith, asked, asked_quota, own_few, turns_few, next, most, made_long, quota) };
+        agree = ready.worker.agree;
+      };
       few = omega (arith, counted, own_few, turns_few, next, most, made_long, commands);
       fits = subst (All (λ (turn : Turn). TaskMay plan.library (MayCall c) turn.task)) (sym own) (thread_may c plan (rounds + 1) i sound for.opening for.threads);
     }

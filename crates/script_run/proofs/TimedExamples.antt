@@ -14,6 +14,7 @@ use Rattle.script_out.specs.declared.output.Places.{Places}
 use Rattle.script_out.specs.declared.output.Places.TheVariants as places
 use Rattle.script_out.specs.declared.output.Said.{Said}
 use Rattle.script_out.specs.declared.output.Said.TheVariants as said
+use Rattle.script_lines.specs.Catalogs.{not_asked}
 use Rattle.script_lines.specs.Outcome.{with_call}
 use Rattle.script_lines.specs.Turns.{Task, Runs, Ends}
 use Rattle.script_serial.specs.Prints.{PlacedCall}
@@ -51,7 +52,7 @@ of_nobody = refl
 -- ---- lines with their moments: A makes an object and posts it; B reads it by the handle, between A's calls; then both are closed
 
 abbrev timed : Task → ℕ → ℕ → ℕ → ℕ → Places → Said → Timed
-timed task moment round thread index at reply = record { told = record { task = task; line = line_of round thread index at None reply }; moment = moment }
+timed task moment round thread index at reply = record { told = record { task = task; line = line_of round thread index at None reply }; moment = moment; op = None; asked = not_asked }
 
 abbrev made : Timed
 made = timed (Runs (New (codes "x") 2 (codes "a") None)) 0 1 0 1 (places.One 0) (said.Handle (first_of 0))
@@ -154,9 +155,9 @@ two k l first second = All-cons (IsEntryOf c W) k (l ∷ []) first (All-cons (Is
 
 pub right_by_it : AreRight c shared W all
 right_by_it = (
-  record { within = omega arith; since = omega arith; index = refl; line = refl; entries = one (call 5 1 table.End) (omega arith) refl },
+  record { within = omega arith; since = omega arith; index = refl; line = refl; entries = one (call 5 1 table.End) (omega arith) refl; op = refl },
   (
-    record { within = omega arith; since = omega arith; index = refl; line = refl; entries = one (call 4 0 table.End) (omega arith) refl },
+    record { within = omega arith; since = omega arith; index = refl; line = refl; entries = one (call 4 0 table.End) (omega arith) refl; op = refl },
     (
       record {
         within = omega arith;
@@ -164,9 +165,10 @@ right_by_it = (
         index = refl;
         line = refl;
         entries = two (call 1 1 (table.Hold h)) (call 3 1 (table.Release h)) (record { within = omega arith; entry = refl }) (record { within = omega arith; entry = refl });
+        op = refl;
       },
       (
-        record { within = omega arith; since = omega arith; index = refl; line = refl; entries = one (call 2 0 (table.Post 0 h)) (omega arith) refl },
+        record { within = omega arith; since = omega arith; index = refl; line = refl; entries = one (call 2 0 (table.Post 0 h)) (omega arith) refl; op = refl },
         (
           record {
             within = omega arith;
@@ -174,6 +176,7 @@ right_by_it = (
             index = refl;
             line = refl;
             entries = one (call 0 0 (table.New 2 (0 ∷ 1 ∷ 0 ∷ 0 ∷ 0 ∷ []) None)) (omega arith) refl;
+            op = refl;
           },
           tt,
         ),

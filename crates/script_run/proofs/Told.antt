@@ -1,6 +1,6 @@
 -- A line that is right for a history prints what its task asks for, judged by what stands before its places.
 use Rattle.std.proofs.Common.{◌≡◌, ℕ, ◌<◌, List, [], ◌∷◌, length, Option, Some, None, Result, Ok, Err, refl, sym, ap, subst, ◌∙◌, arith, inl, inr}
-use Rattle.std.specs.Prelude.{All}
+use Rattle.std.specs.Prelude.{All, option_map}
 use Rattle.std.proofs.lemmas.List.Elements.{All-head, All-tail}
 use Rattle.mask_compose.specs.Parts.{Parts}
 use Rattle.handle_table.specs.declared.handle.Named.{Named}
@@ -14,14 +14,17 @@ use Rattle.script_words.specs.declared.categories.Categories.TheVariants.{All as
 use Rattle.script_out.specs.declared.output.OutLine.{OutLine}
 use Rattle.script_out.specs.declared.output.Said.TheVariants as said
 use Rattle.script_out.specs.declared.output.Why.{Why}
-use Rattle.script_lines.specs.Board.{granted_at, reads_between, reads_of, reads}
+use Rattle.catalog_table.specs.Entry as catalogs
+use Rattle.script_lines.specs.Catalogs.{object_used, book_for, catalog_setting, open_line}
+use Rattle.script_lines.specs.Board.{catalog_op, granted_at, reads_between, reads_of, reads, opens}
 use Rattle.script_lines.specs.Holds.{object_held, open_holds, held_as}
 use Rattle.script_lines.specs.Lines.{told_line, placed_line, entry_line, global_read_line, global_name_line}
 use Rattle.script_lines.specs.Variables.{bindings_of}
-use Rattle.script_lines.specs.Wishes.{Wish, Calls, ReadsOf, Reads, AsksSelection, AsksName, wish_of}
-use Rattle.script_serial.specs.Prints.{bound_by, places_in, call_of, Around, past, next_place, IsVersion, global_of, IsCall, IsReadOf, IsRead, IsGranted, IsTold, caller_of}
+use Rattle.script_lines.specs.Wishes.{Wish, Calls, ReadsOf, Reads, AsksSelection, AsksName, OpensCatalog, GetsMessage, ClosesCatalog, wish_of}
+use Rattle.script_serial.specs.Prints.{bound_by, places_in, call_of, Around, past, next_place, IsVersion, global_of, IsCall, IsReadOf, IsRead, IsOpenOf, IsOpen, IsGranted, IsTold, caller_of}
+use Rattle.script_serial.specs.Plan.{books_of}
 use Rattle.script_serial.proofs.SerialCalls.{wished_calls}
-use Rattle.script_run.specs.Timed.{oldest, Timed, second_moment, moments_in, IsEntryOf, IsRight}
+use Rattle.script_run.specs.Timed.{oldest, Timed, second_moment, moments_in, IsEntryOf, IsRight, StandsAsked, HasStanding}
 use Rattle.script_run.proofs.Before.{oldest_again, version_at, IsBetween, released_between}
 
 -- what lines are judged by, where the history is W
@@ -30,6 +33,7 @@ pub record Judges (x : Around) (W : History) (t : Timed) : Type 0 where
   pub whole : x.whole ≡ W
   pub version : IsVersion x (caller_of t.told.line) (sets (oldest t.moment W))
   pub between : (hold release : ℕ) → places_in t.told.line.places ≡ hold ∷ release ∷ [] → IsBetween t.told.line.thread W hold release
+  pub standing : HasStanding (catalog_setting x.setting) x.catalogs t
 
 -- the calls that a line makes, by what it wishes, are entries
 abbrev pub MakesEntries : Setting → History → Timed → Result Wish Why → Type 0
@@ -107,32 +111,65 @@ of_told : (x : Around) (W : History) (t : Timed) (n : Named) (read : Read) (obje
 of_told x W t n read (Some object) j entries is = is
 of_told x W t n read None j entries is = between_told x W t n read (object_held (answer x.setting (oldest t.moment W) t.told.line.thread (table.Hold n))) j entries refl is
 
+-- what the catalogs have answered to what is asked of them
+abbrev Asks : Around → Timed → Option catalogs.Op → Type 0
+Asks x t op = StandsAsked (catalog_setting x.setting) x.catalogs t.told.line.thread op t.asked
+
+-- a catopen, of a catalog that there is or not
+found_told : (x : Around) (t : Timed) (version : Option ℕ) (n : Option ℕ) → Asks x t (option_map catalogs.Open n) → t.told.line ≡ open_line (caller_of t.told.line) version t.asked n
+    → IsOpenOf x (caller_of t.told.line) t.told.line version n
+found_told x t version None stands is = is
+found_told x t version (Some n) stands is = record { asked = t.asked; stands = stands; is = is }
+
+open_told : (x : Around) (W : History) (t : Timed) (name : List ℕ) (object : Option Parts) → Judges x W t
+    → Asks x t (option_map catalogs.Open (book_for x.plan.library (books_of x.plan) (object_used object (global x.setting (oldest t.moment W))) name))
+    → t.told.line ≡ (opens x.setting x.plan.library (books_of x.plan) (moments_in W x.before t) (caller_of t.told.line) name object).line
+    → IsOpen x (caller_of t.told.line) t.told.line name object
+open_told x W t name (Some object) j stands is = found_told x t None (book_for x.plan.library (books_of x.plan) object name) stands is
+open_told x W t name None j stands is =
+    let at = caller_of t.told.line in
+    let first : Parts = global x.setting (oldest t.moment W) in
+    record {
+      version = sets (oldest t.moment W);
+      bounds = j.version;
+      opens = subst (λ (o : Parts). IsOpenOf x at t.told.line (Some (sets (oldest t.moment W))) (book_for x.plan.library (books_of x.plan) o name)) (sym (global_is x W t j))
+          (found_told x t (Some (sets (oldest t.moment W))) (book_for x.plan.library (books_of x.plan) first name) stands is);
+    }
+
 -- the line of a wish is as the relation says
 granted_told : (x : Around) (W : History) (t : Timed) (w : Result Wish Why) → Judges x W t → MakesEntries x.setting W t w
-    → t.told.line ≡ (granted_at x.setting x.plan.library (moments_in W x.before t) (caller_of t.told.line) w).line
+    → t.told.line ≡ (granted_at x.setting x.plan.library (books_of x.plan) (moments_in W x.before t) (caller_of t.told.line) w).line
+    → Asks x t (catalog_op x.setting x.plan.library (books_of x.plan) (moments_in W x.before t) t.told.line.thread w)
     → IsGranted x (caller_of t.told.line) t.told.line w
-granted_told x W t (Err why) j entries is = is
-granted_told x W t (Ok (Calls categories op)) j entries is = call_told x W t categories op j is
-granted_told x W t (Ok (ReadsOf n read)) j entries is =
+granted_told x W t (Err why) j entries is stands = is
+granted_told x W t (Ok (Calls categories op)) j entries is stands = call_told x W t categories op j is
+granted_told x W t (Ok (ReadsOf n read)) j entries is stands =
     let thread : ℕ = t.told.line.thread in
     let place : ℕ = next_place thread x.before in
     subst (λ (G : History). IsReadOf x (caller_of t.told.line) t.told.line n read (held_as (open_holds G thread) n)) (sym (j.pasts place))
     (of_told x W t n read (held_as (open_holds (oldest place W) thread) n) j entries is)
-granted_told x W t (Ok (Reads read)) j entries is =
+granted_told x W t (Ok (Reads read)) j entries is stands =
     let thread : ℕ = t.told.line.thread in
     let place : ℕ = next_place thread x.before in
     subst (λ (G : History). IsRead x (caller_of t.told.line) t.told.line read (own G thread)) (sym (j.pasts place))
     (read_told x W t read (own (oldest place W) thread) j is)
-granted_told x W t (Ok AsksSelection) j entries is =
+granted_told x W t (Ok AsksSelection) j entries is stands =
     let thread : ℕ = t.told.line.thread in
     is ∙ ap (λ (G : History). told_line (caller_of t.told.line) (said.Is (selection G thread))) (sym (j.pasts (next_place thread x.before)))
-granted_told x W t (Ok (AsksName categories)) j entries is = record {
+granted_told x W t (Ok (AsksName categories)) j entries is stands = record {
   version = sets (oldest t.moment W);
   bounds = j.version;
   is = is ∙ ap (global_name_line x.plan.library (caller_of t.told.line) categories (sets (oldest t.moment W))) (sym (global_is x W t j));
 }
+granted_told x W t (Ok (OpensCatalog name)) j entries is stands =
+    let thread : ℕ = t.told.line.thread in
+    let place : ℕ = next_place thread x.before in
+    subst (λ (G : History). IsOpen x (caller_of t.told.line) t.told.line name (own G thread)) (sym (j.pasts place))
+    (open_told x W t name (own (oldest place W) thread) j stands is)
+granted_told x W t (Ok (GetsMessage h set message default)) j entries is stands = record { asked = t.asked; stands = stands; is = is }
+granted_told x W t (Ok (ClosesCatalog h)) j entries is stands = record { asked = t.asked; stands = stands; is = is }
 
 -- a line that is right for a history tells what its task asks for
 pub line_told : (x : Around) (W : History) (t : Timed) → Judges x W t → IsRight x.setting x.plan W x.before t → IsTold x t.told
 line_told x W t j right =
-    granted_told x W t (wish_of x.plan.library (bindings_of t.told.line.thread (bound_by x.before)) t.told.task) j right.entries right.line
+    granted_told x W t (wish_of x.plan.library (bindings_of t.told.line.thread (bound_by x.before)) t.told.task) j right.entries right.line (subst (Asks x t) right.op j.standing)

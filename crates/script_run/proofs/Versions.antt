@@ -10,20 +10,22 @@ use Rattle.category_store.specs.Catalog.{Catalog}
 use Rattle.handle_table.specs.declared.handle.Named.{Named}
 use Rattle.handle_table.specs.Entry as table
 use Rattle.handle_table.specs.Entry.{History, Setting}
-use Rattle.handle_table.specs.History.{sets}
+use Rattle.handle_table.specs.History.{sets, global}
 use Rattle.handle_table.specs.Answer.{answer, own}
 use Rattle.script_commands.specs.declared.command.Read.{Read}
 use Rattle.script_words.specs.declared.categories.Categories.{Categories}
 use Rattle.script_words.specs.declared.categories.Categories.TheVariants.{All as AllCategories}
 use Rattle.script_out.specs.declared.output.OutLine.{OutLine}
 use Rattle.script_out.specs.declared.output.Why.{Why}
-use Rattle.script_lines.specs.Board.{granted_at, reads_between, reads_of, reads}
+use Rattle.catalog_table.specs.Entry.{History as CatalogHistory}
+use Rattle.script_lines.specs.Catalogs.{Books, Asked, book_for, open_line}
+use Rattle.script_lines.specs.Board.{granted_at, reads_between, reads_of, reads, opens}
 use Rattle.script_lines.specs.Holds.{object_held, open_holds, held_as}
-use Rattle.script_lines.specs.Lines.{entry_line, version_made}
+use Rattle.script_lines.specs.Lines.{Caller, entry_line, version_made}
 use Rattle.script_lines.specs.Outcome.{with_call}
 use Rattle.script_lines.specs.Variables.{bindings_of}
-use Rattle.script_lines.specs.Wishes.{Wish, Calls, ReadsOf, Reads, AsksSelection, AsksName, wish_of}
-use Rattle.script_serial.specs.Plan.{PlanData}
+use Rattle.script_lines.specs.Wishes.{Wish, Calls, ReadsOf, Reads, AsksSelection, AsksName, OpensCatalog, GetsMessage, ClosesCatalog, wish_of}
+use Rattle.script_serial.specs.Plan.{PlanData, books_of}
 use Rattle.script_serial.specs.Prints.{Told, PlacedCall, bound_by, places_in, call_of, all_places, of_thread, behind_last, next_place, history_below, Around, around, past, lines_of, first_of, place_behind, versions, IsUpToPlace, IsVersion, caller_of}
 use Rattle.script_serial.proofs.LineLists.{all_right}
 use Rattle.script_serial.proofs.SerialCalls.{wished_calls}
@@ -89,27 +91,48 @@ read_version c library W before u read (Some object) since is =
 read_version c library W before u read None since is =
     newest_version W u (reads c library (moments_in W before u) (caller_of u.told.line) read None).line since is refl
 
-granted_version : (c : Setting) (library : Catalog) (W : History) (before : List Told) (u : Timed) (w : Result Wish Why) → u.moment ≤ end_of u → MakesEntries c W u w
-    → u.told.line ≡ (granted_at c library (moments_in W before u) (caller_of u.told.line) w).line
+-- the version of a catopen, whether there is such a catalog or not
+open_global : (at : Caller) (version : Option ℕ) (asked : Asked) (n : Option ℕ) → (open_line at version asked n).global ≡ version
+open_global at version asked None = refl
+open_global at version asked (Some n) = refl
+
+opens_version : (c : Setting) (library : Catalog) (books : Books) (W : History) (before : List Told) (u : Timed) (name : List ℕ) (object : Option Parts) → u.moment ≤ end_of u
+    → u.told.line ≡ (opens c library books (moments_in W before u) (caller_of u.told.line) name object).line
     → UpTo (sets (oldest (end_of u) W)) u.told.line.global
-granted_version c library W before u (Err why) since entries is =
-    silent_version (sets (oldest (end_of u) W)) u.told.line (granted_at c library (moments_in W before u) (caller_of u.told.line) (Err why)).line is refl
-granted_version c library W before u (Ok (Calls categories op)) since entries is =
+opens_version c library books W before u name (Some object) since is =
+    silent_version (sets (oldest (end_of u) W)) u.told.line (opens c library books (moments_in W before u) (caller_of u.told.line) name (Some object)).line is
+    (open_global (caller_of u.told.line) None u.asked (book_for library books object name))
+opens_version c library books W before u name None since is =
+    newest_version W u (opens c library books (moments_in W before u) (caller_of u.told.line) name None).line since is
+    (open_global (caller_of u.told.line) (Some (sets (oldest u.moment W))) u.asked (book_for library books (global c (oldest u.moment W)) name))
+
+granted_version : (c : Setting) (library : Catalog) (books : Books) (W : History) (before : List Told) (u : Timed) (w : Result Wish Why) → u.moment ≤ end_of u → MakesEntries c W u w
+    → u.told.line ≡ (granted_at c library books (moments_in W before u) (caller_of u.told.line) w).line
+    → UpTo (sets (oldest (end_of u) W)) u.told.line.global
+granted_version c library books W before u (Err why) since entries is =
+    silent_version (sets (oldest (end_of u) W)) u.told.line (granted_at c library books (moments_in W before u) (caller_of u.told.line) (Err why)).line is refl
+granted_version c library books W before u (Ok (Calls categories op)) since entries is =
     let at : places_in u.told.line.places ≡ length (oldest u.moment W) ∷ [] = ap (λ (l : OutLine). places_in l.places) is in
     entry_version c library W u categories op [] is (subst (λ (ps : List ℕ). All (IsEntryOf c W) (wished_calls u.told.line.thread ps (Ok (Calls categories op)))) at entries)
-granted_version c library W before u (Ok (ReadsOf n read)) since entries is =
+granted_version c library books W before u (Ok (ReadsOf n read)) since entries is =
     of_version c library W before u n read (held_as (open_holds (oldest (next_place u.told.line.thread before) W) u.told.line.thread) n) entries is
-granted_version c library W before u (Ok (Reads read)) since entries is =
+granted_version c library books W before u (Ok (Reads read)) since entries is =
     read_version c library W before u read (own (oldest (next_place u.told.line.thread before) W) u.told.line.thread) since is
-granted_version c library W before u (Ok AsksSelection) since entries is =
-    silent_version (sets (oldest (end_of u) W)) u.told.line (granted_at c library (moments_in W before u) (caller_of u.told.line) (Ok AsksSelection)).line is refl
-granted_version c library W before u (Ok (AsksName categories)) since entries is =
-    newest_version W u (granted_at c library (moments_in W before u) (caller_of u.told.line) (Ok (AsksName categories))).line since is refl
+granted_version c library books W before u (Ok AsksSelection) since entries is =
+    silent_version (sets (oldest (end_of u) W)) u.told.line (granted_at c library books (moments_in W before u) (caller_of u.told.line) (Ok AsksSelection)).line is refl
+granted_version c library books W before u (Ok (AsksName categories)) since entries is =
+    newest_version W u (granted_at c library books (moments_in W before u) (caller_of u.told.line) (Ok (AsksName categories))).line since is refl
+granted_version c library books W before u (Ok (OpensCatalog name)) since entries is =
+    opens_version c library books W before u name (own (oldest (next_place u.told.line.thread before) W) u.told.line.thread) since is
+granted_version c library books W before u (Ok (GetsMessage h set message default)) since entries is =
+    silent_version (sets (oldest (end_of u) W)) u.told.line (granted_at c library books (moments_in W before u) (caller_of u.told.line) (Ok (GetsMessage h set message default))).line is refl
+granted_version c library books W before u (Ok (ClosesCatalog h)) since entries is =
+    silent_version (sets (oldest (end_of u) W)) u.told.line (granted_at c library books (moments_in W before u) (caller_of u.told.line) (Ok (ClosesCatalog h))).line is refl
 
 -- a line tells no version above that of what stands before its end
 pub line_version : (c : Setting) (plan : PlanData) (W : History) (before : List Told) (u : Timed) → IsRight c plan W before u → UpTo (sets (oldest (end_of u) W)) u.told.line.global
 line_version c plan W before u right =
-    granted_version c plan.library W before u (wish_of plan.library (bindings_of u.told.line.thread (bound_by before)) u.told.task) right.since right.entries right.line
+    granted_version c plan.library (books_of plan) W before u (wish_of plan.library (bindings_of u.told.line.thread (bound_by before)) u.told.task) right.since right.entries right.line
 
 -- ---- lines of one thread go on in time
 
@@ -260,9 +283,9 @@ next_to x W n (Some p) pasts from = subst (λ (G : History). sets (oldest n W) �
 pub record StandsAmong (ts older : List Timed) (t : Timed) (after : List Timed) : Type 0 where
   pub split : ts ≡ reverse after ++ t ∷ older
 
-module _ (c : Setting) (plan : PlanData) (W : History) (ts : List Timed) (w : IsWhole c plan W ts) (calls : List PlacedCall) (pasts : (n : ℕ) → history_below c calls n ≡ oldest n W) where
+module _ (c : Setting) (plan : PlanData) (W : History) (ts : List Timed) (w : IsWhole c plan W ts) (calls : List PlacedCall) (pasts : (n : ℕ) → history_below c calls n ≡ oldest n W) (V : CatalogHistory) where
   abbrev pub around_it : List Timed → List Timed → Around
-  around_it older after = around c plan (reverse (lines_in ts)) calls (tellings older) (tellings after)
+  around_it older after = around c plan (reverse (lines_in ts)) V calls (tellings older) (tellings after)
 
   -- of a line's own thread
   pub own_timed : (older after : List Timed) (t : Timed) → StandsAmong ts older t after → AreTimed (t ∷ own_lines t.told.line.thread older)

@@ -7,6 +7,8 @@ use Rattle.std.proofs.lemmas.List.{map-append, reverse-append, reverse-reverse}
 use Rattle.std.proofs.lemmas.List.Elements.{All-nil, All-cons, All-head, All-tail, All-weaker, filter-append}
 use Rattle.std.proofs.lemmas.List.Sums.{sum_by-cons, sum_by-append}
 use Rattle.handle_table.specs.Entry.{History, Setting}
+use Rattle.catalog_table.specs.Entry.{History as CatalogHistory}
+use Rattle.script_lines.specs.Catalogs.{catalog_setting}
 use Rattle.script_out.specs.declared.output.OutLine.{OutLine}
 use Rattle.script_lines.specs.Lines.{Caller}
 use Rattle.script_lines.specs.Turns.{Turn, command_turns, closing_turns}
@@ -14,12 +16,13 @@ use Rattle.script_serial.specs.Plan.{PlanData}
 use Rattle.script_serial.specs.Prints.{Told, told, PlacedCall, places_in, calls_after, history_below, caller_of, index_after, caller_after, callers_after, command_calls, all_turns, IsTold, AreTold, Prints}
 use Rattle.script_serial.proofs.LineLists.{all_right}
 use Rattle.script_serial.proofs.SerialPrints.{rounds_within, closing_round}
-use Rattle.script_run.specs.Timed.{oldest, places_by, Timed, AreTimed, lines_in, tellings, turn_made, turns_made, placed_back, own_lines, AreRight, IsRight, IsWhole}
+use Rattle.script_run.specs.Timed.{oldest, places_by, Timed, AreTimed, lines_in, tellings, turn_made, turns_made, placed_back, own_lines, AreRight, IsRight, IsWhole, AreAsked, HasStanding}
 use Rattle.script_run.proofs.Before.{IsBetween, is_between}
 use Rattle.script_run.proofs.Counted.{all_reversed}
 use Rattle.script_run.proofs.Placed.{placed}
 use Rattle.script_run.proofs.History.{calls_told, right_back, pasts_are, whole_is}
 use Rattle.script_run.proofs.Told.{line_told}
+use Rattle.script_run.proofs.AskedPlaces.{IsClosingTask, closing_tasks, all_standing, catalogs_placed}
 use Rattle.script_run.proofs.Versions.{right_part, back_one, StandsAmong, around_it, right_here, version_is}
 
 -- ---- lists that stand the other way
@@ -79,7 +82,7 @@ callers_made c plan W before older (u ∷ after) right counted =
 
 -- ---- what they tell
 
-module _ (c : Setting) (plan : PlanData) (W : History) (ts : List Timed) (w : IsWhole c plan W ts) (calls : List PlacedCall) (pasts : (n : ℕ) → history_below c calls n ≡ oldest n W) (whole : history_below c calls (length calls) ≡ W) where
+module _ (c : Setting) (plan : PlanData) (W : History) (ts : List Timed) (w : IsWhole c plan W ts) (calls : List PlacedCall) (pasts : (n : ℕ) → history_below c calls n ≡ oldest n W) (whole : history_below c calls (length calls) ≡ W) (V : CatalogHistory) (standing : All (HasStanding (catalog_setting c) V) ts) where
   -- a read between has no call of its thread between its two
   between_here : (older after : List Timed) (t : Timed) → StandsAmong ts older t after → (hold release : ℕ) → places_in t.told.line.places ≡ hold ∷ release ∷ [] → IsBetween t.told.line.thread W hold release
   between_here older after t among hold release at =
@@ -100,18 +103,24 @@ module _ (c : Setting) (plan : PlanData) (W : History) (ts : List Timed) (w : Is
       in
       is_between thread W A B hold release places
 
-  told_here : (older after : List Timed) (t : Timed) → StandsAmong ts older t after → IsTold (around_it c plan W ts w calls pasts older after) t.told
+  standing_here : (older after : List Timed) (t : Timed) → StandsAmong ts older t after → HasStanding (catalog_setting c) V t
+  standing_here older after t among =
+      let Stands : Timed → Type 0 = HasStanding (catalog_setting c) V in
+      All-head Stands t older (all_right Stands (reverse after) (t ∷ older) (subst (All Stands) among.split standing))
+
+  told_here : (older after : List Timed) (t : Timed) → StandsAmong ts older t after → IsTold (around_it c plan W ts w calls pasts V older after) t.told
   told_here older after t among =
-      line_told (around_it c plan W ts w calls pasts older after) W t
+      line_told (around_it c plan W ts w calls pasts V older after) W t
       (record {
         pasts = pasts;
         whole = whole;
-        version = version_is c plan W ts w calls pasts older after t among;
+        version = version_is c plan W ts w calls pasts V older after t among;
         between = between_here older after t among;
+        standing = standing_here older after t among;
       })
-      (right_here c plan W ts w calls pasts older after t among).0
+      (right_here c plan W ts w calls pasts V older after t among).0
 
-  pub are_told : (older after : List Timed) → ts ≡ reverse after ++ older → AreTold c plan (reverse (lines_in ts)) calls (tellings older) (tellings after)
+  pub are_told : (older after : List Timed) → ts ≡ reverse after ++ older → AreTold c plan (reverse (lines_in ts)) V calls (tellings older) (tellings after)
   are_told older [] split = tt
   are_told older (t ∷ after) split =
       let next : ts ≡ reverse after ++ t ∷ older = split ∙ back_one t after older in
@@ -121,7 +130,7 @@ module _ (c : Setting) (plan : PlanData) (W : History) (ts : List Timed) (w : Is
 
 -- the lines of the commands are right for one history, and all lines for a whole one; closing lines stand last, in order of their places
 module _ (c : Setting) (plan : PlanData) (M W : History) (closing made : List Timed) (commanded : IsWhole c plan M made) (commands : turns_made made ≡ reverse (command_turns plan.bundle))
-    (w : IsWhole c plan W (closing ++ made)) (closings : turns_made closing ≡ reverse (closing_turns plan.bundle M)) (timed : AreTimed closing) where
+    (w : IsWhole c plan W (closing ++ made)) (closings : turns_made closing ≡ reverse (closing_turns plan.bundle M)) (timed : AreTimed closing) (V : CatalogHistory) (asked : AreAsked (catalog_setting c) V made) where
   abbrev all : List Timed
   all = closing ++ made
 
@@ -158,9 +167,14 @@ module _ (c : Setting) (plan : PlanData) (M W : History) (closing made : List Ti
       ∙ callers_made c plan W [] [] (reverse all) (right_back c plan W all w) (λ thread. refl)
       ∙ ap (callers_after []) (sym turns_are)
 
-  told_are : AreTold c plan lines (calls_told plan all) [] (tellings (reverse all))
+  closers : All (λ (t : Timed). IsClosingTask t.told.task) closing
+  closers =
+      let Closer : Turn → Type 0 = λ (t : Turn). IsClosingTask t.task in
+      unmapped Closer turn_made closing (subst (All Closer) (sym closings) (all_reversed Closer (closing_turns plan.bundle M) (closing_tasks plan.bundle M)))
+
+  told_are : AreTold c plan lines V (calls_told plan all) [] (tellings (reverse all))
   told_are =
-      are_told c plan W all w (calls_told plan all) (pasts_are c plan W all w) (whole_is c plan W all w) [] (reverse all)
+      are_told c plan W all w (calls_told plan all) (pasts_are c plan W all w) (whole_is c plan W all w) V (all_standing c plan W V closing made w.right closers asked.standing) [] (reverse all)
       (sym (append-nil (reverse (reverse all)) ∙ reverse-reverse all))
 
   rounds_of_commands : All (λ (t : Timed). t.told.line.round ≤ plan.bundle.rounds) made
@@ -178,7 +192,9 @@ module _ (c : Setting) (plan : PlanData) (M W : History) (closing made : List Ti
   -- a script may print them
   pub prints : Prints c plan (reverse (lines_in (closing ++ made)))
   prints = record {
+    catalogs = V;
     callers = callers_are;
+    catalogs_placed = catalogs_placed c plan W V closing made w closers asked;
     placed = placed c plan W closing made plan.bundle.rounds w rounds_of_commands rounds_of_closing timed;
-    told = subst (λ (ds : List Told). AreTold c plan lines (calls_after plan.library [] ds) [] ds) (sym tellings_are) told_are;
+    told = subst (λ (ds : List Told). AreTold c plan lines V (calls_after plan.library [] ds) [] ds) (sym tellings_are) told_are;
   }

@@ -11,15 +11,22 @@ use Rattle.handle_table.specs.declared.op.Reply as replies
 use Rattle.handle_table.specs.Entry.{History, Setting}
 use Rattle.handle_table.specs.Answer.{IsLegal}
 use Rattle.handle_table.specs.Kept.{AreThreads}
-use Rattle.thread_current.specs.Thread.{Thread, thread_of, SawMore, IsInOrder, GoesOnFrom}
+use Rattle.thread_current.specs.Thread.{Thread, thread_of, SawMore, IsThreadOf, IsInOrder, GoesOnFrom}
 use Rattle.script_out.specs.declared.output.OutLine.{OutLine}
 use Rattle.script_lines.specs.Holds.{open_holds}
 use Rattle.script_lang.specs.declared.bundle.Bundle.{Bundle}
 use Rattle.script_lines.specs.Turns.{Turn, round_turns, command_turns, closing}
 use Rattle.script_serial.specs.Plan.{PlanData}
+use Rattle.catalog_table.specs.declared.setting.CatalogSetting.{CatalogSetting}
+use Rattle.catalog_table.specs.Entry.{History as CatalogHistory}
+use Rattle.catalog_table.specs.Answer as catalog_answers
+use Rattle.catalog_seats.specs.Reader as readers
+use Rattle.catalog_seats.specs.Reader.{ReaderData}
+use Rattle.script_lines.specs.Catalogs.{Books, catalog_setting}
 use Rattle.script_run.specs.declared.worker.Worker.{Worker}
-use Rattle.script_run.specs.Timed.{Timed, AreTimed, IsWhole, lines_in, turns_made, own_lines, last_end, stacked}
-use Rattle.script_run.specs.Beside.{HasMade, IsWorker, CanWork, Works, turns_of}
+use Rattle.script_run.specs.Seated.{Gates}
+use Rattle.script_run.specs.Timed.{Timed, AreTimed, IsWhole, AreAsked, lines_in, turns_made, own_lines, last_end, stacked}
+use Rattle.script_run.specs.Beside.{Stock, stock_of, HasMade, IsWorker, CanWork, Works, turns_of}
 
 -- a fact of each element, by its place
 abbrev pub Each : {A : Type 0} → List A → (ℕ → A → Type 0) → Type 0
@@ -29,9 +36,17 @@ Each xs P = (i : ℕ) (d : _) → i < length xs → P i (slice_index_or xs i d)
 abbrev pub EachTwo : {A : Type 0} → List A → List A → (ℕ → A → A → Type 0) → Type 0
 EachTwo xs ys P = (i : ℕ) (d : _) → i < length xs → P i (slice_index_or xs i d) (slice_index_or ys i d)
 
+-- the plan of a bundle, its library and its catalogs
+abbrev pub plan_made : Bundle → Catalog → Books → PlanData
+plan_made bundle library books = record { bundle = bundle; library = library; books = books.books }
+
 -- a worker as its table sees it
 abbrev pub mine_of : Worker → Thread
 mine_of w = w.thread.side.mine
+
+-- and as its catalogs see it
+abbrev pub reader_at : Worker → ReaderData
+reader_at w = w.thread.side.reader
 
 -- what was agreed with the table: it is the plan's, and lets a thread make two calls for each command, and its end
 pub record IsFor (plan : PlanData) (terms : Terms Setting) : Type 0 where
@@ -41,10 +56,17 @@ pub record IsFor (plan : PlanData) (terms : Terms Setting) : Type 0 where
   pub opening : terms.setting.opening ≡ opening plan.library
   pub quota : terms.quota ≡ 2 * length plan.bundle.commands + 1
 
--- a worker with this number before its first command, at the table as this thread
-pub record IsFirst (mines : List Thread) (i : ℕ) (w : Worker) : Type 0 where
+-- what was agreed with the catalogs: they are of the table's threads, with as many rows and calls
+pub record IsForAsked (terms : Terms Setting) (asked : Terms CatalogSetting) : Type 0 where
+  pub seats : asked.seats ≡ terms.seats
+  pub agree : asked.setting ≡ catalog_setting terms.setting
+  pub quota : asked.quota ≡ terms.quota
+
+-- a worker with this number before its first command, at the table as this thread, and at the catalogs as this reader
+pub record IsFirst (mines : List Thread) (all : List ReaderData) (i : ℕ) (w : Worker) : Type 0 where
   pub number : w.thread.side.number ≡ i
   pub mine : mine_of w ≡ slice_index_or mines i (mine_of w)
+  pub reader : reader_at w ≡ slice_index_or all i (reader_at w)
   pub holds : w.thread.side.holds.items ≡ []
   pub variables : w.thread.variables ≡ []
   pub no_lines : w.thread.lines ≡ 0
@@ -53,13 +75,13 @@ pub record IsFirst (mines : List Thread) (i : ℕ) (w : Worker) : Type 0 where
 -- ---- while a round runs
 
 -- the worker may take its turns of the round
-abbrev pub MayWork : Gate Setting → Catalog → List Turn → Worker → Type 0
-MayWork gate library turns w = CanWork gate library w.thread (turns_of w.thread.side.number turns)
+abbrev pub MayWork : Gates → Stock → List Turn → Worker → Type 0
+MayWork gate stock turns w = CanWork gate stock w.thread (turns_of w.thread.side.number turns)
 
 -- what its work leaves, unless memory was wanting
-pub record HasWorked (gate : Gate Setting) (library : Catalog) (turns : List Turn) (old new : Worker) : Type 0 where
+pub record HasWorked (gate : Gates) (stock : Stock) (turns : List Turn) (old new : Worker) : Type 0 where
   pub number : OnOk new.outcome (new.thread.side.number ≡ old.thread.side.number)
-  pub works : OnOk new.outcome ((plan : PlanData) (made : List Timed) → plan.library ≡ library → IsWorker gate plan old.thread made
+  pub works : OnOk new.outcome ((plan : PlanData) (made : List Timed) → stock_of plan ≡ stock → IsWorker gate plan old.thread made
       → Works gate plan (turns_of old.thread.side.number turns) old.thread new.thread made old.lines.items new.lines.items)
 
 -- the worker has given its lines away
@@ -70,53 +92,78 @@ pub record HasGiven (old new : Worker) : Type 0 where
 
 -- ---- when threads meet
 
--- the worker with another thread at the table
-abbrev pub with_mine : Worker → Thread → Worker
-with_mine w mine = record w { thread = record w.thread { side = record w.thread.side { mine = mine } } }
+-- the worker is one of the table's and of the catalogs', and what it has seen of both is in order
+abbrev pub IsOfBoth : Gates → Worker → Type 0
+IsOfBoth gate w = IsThreadOf gate.locales (mine_of w) × readers.IsReaderOf gate.catalogs (reader_at w)
 
--- the worker has seen more, or as much, and is the same
-pub record SeesMore (terms : Terms Setting) (old new : Worker) : Type 0 where
-  pub same : new ≡ with_mine old (mine_of new)
+abbrev pub IsOrderly : Gates → Worker → Type 0
+IsOrderly gate w = IsInOrder gate.locales.terms (mine_of w) × readers.IsInOrder gate.catalogs.terms (reader_at w)
+
+-- a worker has seen what another one had seen of both
+pub record HasSeenOf (other w : Worker) : Type 0 where
+  pub seen : GoesOnFrom (mine_of w).seen (mine_of other).seen
+  pub asked : readers.GoesOnFrom (reader_at w).seen (reader_at other).seen
+
+-- the worker with another thread at the table, and another reader at the catalogs
+abbrev pub with_both : Worker → Thread → ReaderData → Worker
+with_both w mine reader = record w { thread = record w.thread { side = record w.thread.side { mine = mine; reader = reader } } }
+
+-- the worker has seen more of both, or as much, and is the same
+pub record SeesMore (gate : Gates) (old new : Worker) : Type 0 where
+  pub same : new ≡ with_both old (mine_of new) (reader_at new)
   pub saw : SawMore (mine_of old) (mine_of new)
-  pub in_order : IsInOrder terms (mine_of old) → IsInOrder terms (mine_of new)
+  pub in_order : IsInOrder gate.locales.terms (mine_of old) → IsInOrder gate.locales.terms (mine_of new)
+  pub asked_saw : readers.SawMore (reader_at old) (reader_at new)
+  pub asked_order : readers.IsInOrder gate.catalogs.terms (reader_at old) → readers.IsInOrder gate.catalogs.terms (reader_at new)
 
 -- the worker has met another one: it has seen what that one had seen
-pub record HasMet (terms : Terms Setting) (seen : History) (old new : Worker) : Type 0 where
-  pub more : SeesMore terms old new
+pub record HasMet (gate : Gates) (seen : History) (asked : CatalogHistory) (old new : Worker) : Type 0 where
+  pub more : SeesMore gate old new
   pub other : GoesOnFrom (mine_of new).seen seen
+  pub asked_other : readers.GoesOnFrom (reader_at new).seen asked
 
--- all workers have met: there is a history that goes on from what each had seen, and what each has seen goes on from it
-pub record AllMet (terms : Terms Setting) (olds news : List Worker) : Type 0 where
+-- all workers have met: there is a history that goes on from what each had seen, and what each has seen goes on from it; and so
+-- there is one of the catalogs
+pub record AllMet (gate : Gates) (olds news : List Worker) : Type 0 where
   pub met : History
-  pub legal : IsLegal terms.setting met
-  pub callers : AreThreads terms.seats met
-  pub more : EachTwo olds news (λ i old new. SeesMore terms old new)
+  pub legal : IsLegal gate.locales.terms.setting met
+  pub callers : AreThreads gate.locales.terms.seats met
+  pub more : EachTwo olds news (λ i old new. SeesMore gate old new)
   pub from : Each olds (λ i w. GoesOnFrom met (mine_of w).seen)
   pub on : Each news (λ i w. GoesOnFrom (mine_of w).seen met)
+  pub asked : CatalogHistory
+  pub asked_legal : catalog_answers.IsLegal gate.catalogs.terms.setting asked
+  pub asked_callers : catalog_answers.AreThreads gate.catalogs.terms.seats asked
+  pub asked_from : Each olds (λ i w. readers.GoesOnFrom asked (reader_at w).seen)
+  pub asked_on : Each news (λ i w. readers.GoesOnFrom (reader_at w).seen asked)
 
 -- ---- between rounds
 
--- the worker with this number goes on behind the history, and has made its lines, which it has given away
-pub record IsReady (gate : Gate Setting) (plan : PlanData) (M : History) (made : List Timed) (i : ℕ) (w : Worker) : Type 0 where
+-- the worker with this number goes on behind the histories, and has made its lines, which it has given away
+pub record IsReady (gate : Gates) (plan : PlanData) (M : History) (V : CatalogHistory) (made : List Timed) (i : ℕ) (w : Worker) : Type 0 where
   pub number : w.thread.side.number ≡ i
   pub worker : IsWorker gate plan w.thread (own_lines i made)
   pub later : GoesOnFrom (mine_of w).seen M
+  pub asked_later : readers.GoesOnFrom (reader_at w).seen V
   pub given : w.lines.items ≡ []
 
 -- the turns of the commands of so many rounds
 abbrev pub turns_to : Bundle → ℕ → List Turn
 turns_to bundle rounds = flat_map (round_turns (length bundle.threads) bundle.commands) (range_with_len 1 rounds)
 
--- the workers have taken the turns of so many rounds: these are the lines, and there is one history of their calls
-pub record AreBetween (gate : Gate Setting) (plan : PlanData) (rounds : ℕ) (lines : List OutLine) (workers : List Worker) : Type 0 where
+-- the workers have taken the turns of so many rounds: these are the lines, and there is one history of their calls, and one of what
+-- they asked of the catalogs
+pub record AreBetween (gate : Gates) (plan : PlanData) (rounds : ℕ) (lines : List OutLine) (workers : List Worker) : Type 0 where
   pub met : History
   pub made : List Timed
-  pub whole : IsWhole gate.terms.setting plan met made
+  pub whole : IsWhole gate.locales.terms.setting plan met made
+  pub asked : CatalogHistory
+  pub asked_whole : AreAsked gate.catalogs.terms.setting asked made
   pub in_rounds : All (λ (t : Timed). t.told.line.round ≤ rounds) made
   pub turns : turns_made made ≡ reverse (turns_to plan.bundle rounds)
   pub lines_are : lines ≡ reverse (lines_in made)
-  pub count : length workers ≡ gate.terms.setting.threads
-  pub ready : Each workers (IsReady gate plan met made)
+  pub count : length workers ≡ gate.locales.terms.setting.threads
+  pub ready : Each workers (IsReady gate plan met asked made)
 
 -- ---- while the threads are closed
 
@@ -131,29 +178,31 @@ pub record SeatSeesMore (gate : Gate Setting) (old new : SeatData) : Type 0 wher
   pub in_order : IsInOrder gate.terms (thread_of 0 old) → IsInOrder gate.terms (thread_of 0 new)
 
 -- the seat of the thread with this number, which has closed: it has made these lines behind the history
-pub record IsCloser (gate : Gate Setting) (plan : PlanData) (round : ℕ) (M : History) (made : List Timed) (i : ℕ) (more : List Timed) (closed : SeatData) : Type 0 where
-  pub seat : IsSeatOf gate closed
+pub record IsCloser (gate : Gates) (plan : PlanData) (round : ℕ) (M : History) (made : List Timed) (i : ℕ) (more : List Timed) (closed : SeatData) : Type 0 where
+  pub seat : IsSeatOf gate.locales closed
   pub number : closed.number ≡ i
-  pub has : HasMade gate.terms plan (thread_of 0 closed) (more ++ own_lines i made)
+  pub has : HasMade gate.locales.terms plan (thread_of 0 closed) (more ++ own_lines i made)
   pub turns : turns_made more ≡ reverse (closing round i (open_holds M i))
   pub since : All (λ (t : Timed). length M ≤ t.moment) more
   pub later : GoesOnFrom (thread_of 0 closed).seen M
 
 -- the threads of these seats have closed one after another
-pub record AreClosers (gate : Gate Setting) (plan : PlanData) (round : ℕ) (M : History) (made : List Timed) (seats : List SeatData) : Type 0 where
+pub record AreClosers (gate : Gates) (plan : PlanData) (round : ℕ) (M : History) (made : List Timed) (seats : List SeatData) : Type 0 where
   pub more : ℕ → List Timed
   pub closers : Each seats (λ i seat. IsCloser gate plan round M made i (more i) seat)
   pub timed : AreTimed (stacked more [] (length seats))
   pub last : Each seats (λ i seat. i + 1 ≡ length seats → last_end (stacked more [] (length seats)) ≤ length (thread_of 0 seat).seen)
 
 -- the threads of a script behind its last round: those of these seats have closed, and the workers that are left have not
-pub record AreClosing (gate : Gate Setting) (plan : PlanData) (seats : List SeatData) (workers : List Worker) (lines : List OutLine) : Type 0 where
+pub record AreClosing (gate : Gates) (plan : PlanData) (seats : List SeatData) (workers : List Worker) (lines : List OutLine) : Type 0 where
   pub met : History
   pub made : List Timed
-  pub whole : IsWhole gate.terms.setting plan met made
+  pub whole : IsWhole gate.locales.terms.setting plan met made
+  pub asked : CatalogHistory
+  pub asked_whole : AreAsked gate.catalogs.terms.setting asked made
   pub in_rounds : All (λ (t : Timed). t.told.line.round ≤ plan.bundle.rounds) made
   pub turns : turns_made made ≡ reverse (command_turns plan.bundle)
-  pub count : length seats + length workers ≡ gate.terms.setting.threads
-  pub ready : Each workers (λ i w. IsReady gate plan met made (length seats + i) w)
+  pub count : length seats + length workers ≡ gate.locales.terms.setting.threads
+  pub ready : Each workers (λ i w. IsReady gate plan met asked made (length seats + i) w)
   pub closers : AreClosers gate plan (plan.bundle.rounds + 1) met made seats
   pub lines_are : lines ≡ reverse (lines_in (stacked closers.more made (length seats)))

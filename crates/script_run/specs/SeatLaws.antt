@@ -4,7 +4,7 @@ use Rattle.turn_gate.specs.Callers.{Gate}
 use Rattle.handle_table.specs.Entry.{History, Setting}
 use Rattle.handle_table.specs.Answer.{IsLegal}
 use Rattle.script_run.specs.declared.seated.Seated.{Seated}
-use Rattle.script_run.specs.Seated.{KnowsSeated, IsSeatedAt, MayFollow, HasCalls}
+use Rattle.script_run.specs.Seated.{KnowsSeated, IsSeatedAt, MayFollow, Gates, CanCall}
 
 -- what a thread is at is what it knows
 pub seated_known : (gate : Gate Setting) (s : Seated) (H : History) → IsSeatedAt gate s H → KnowsSeated s H
@@ -19,5 +19,12 @@ seated_stays gate s H at = record {
 }
 
 -- one that may make so many calls may make fewer
-pub calls_fewer : (n : ℕ) (gate : Gate Setting) (s : Seated) → HasCalls (n + 1) gate s → HasCalls n gate s
-calls_fewer n gate s may = let quota = may.quota in record { seated = may.seated; quota = omega arith }
+pub calls_fewer : (n : ℕ) (g : Gates) (s : Seated) → CanCall (n + 1) g s → CanCall n g s
+calls_fewer n g s may =
+    let calls = may.calls.quota in
+    let asks = may.asks.quota in
+    record {
+      calls = record { seated = may.calls.seated; quota = omega arith };
+      asks = record { seated = may.asks.seated; quota = omega arith };
+      agree = may.agree;
+    }

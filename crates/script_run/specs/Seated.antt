@@ -1,4 +1,4 @@
--- A thread at a table that threads share.
+-- A thread at a table and at catalogs that threads share.
 use Rattle.std.specs.Prelude.{◌≡◌, ℕ, ◌+◌, ◌≤◌, Bool, true, false, List, [], ◌∷◌, map, length}
 use Rattle.std.specs.List.{list_any}
 use Rattle.turn_gate.specs.Callers.{Gate}
@@ -10,6 +10,11 @@ use Rattle.handle_table.specs.Answer.{IsLegal}
 use Rattle.handle_table.specs.Table.{Fits}
 use Rattle.thread_current.specs.Mine.{HeldData}
 use Rattle.thread_current.specs.Thread.{IsThreadOf, IsInOrder, GoesOnFrom, entries_by, Answered}
+use Rattle.catalog_table.specs.declared.setting.CatalogSetting.{CatalogSetting}
+use Rattle.catalog_table.specs.Entry.{History as CatalogHistory}
+use Rattle.catalog_table.specs.Answer as catalog_answers
+use Rattle.catalog_seats.specs.Reader as readers
+use Rattle.script_lines.specs.Catalogs.{catalog_setting}
 use Rattle.script_lines.specs.declared.holds.OpenHold.{OpenHold}
 use Rattle.script_run.specs.declared.seated.Seated.{Seated}
 use Rattle.script_lines.specs.Holds.{open_holds, is_of, without}
@@ -42,6 +47,28 @@ some_gate = record {
   terms = record { setting = record { threads = 0; rows = 0; generations = 0; opening = [] }; seats = 0; quota = 0 };
 }
 
+-- the table and the catalogs that threads share
+pub record Gates : Type 0 where
+  pub locales : Gate Setting
+  pub catalogs : Gate CatalogSetting
+
+abbrev pub gates : Gate Setting → Gate CatalogSetting → Gates
+gates locales catalogs = record { locales = locales; catalogs = catalogs }
+
+-- catalogs that nobody shares, where none are chosen
+abbrev pub some_catalogs : Gate CatalogSetting
+some_catalogs = record {
+  table = record { words = 0; slots = 0; views_name = 0; atom = 0; block = 0; offset = 0; slot_names = [] };
+  terms = record { setting = record { threads = 0; rows = 0; generations = 0 }; seats = 0; quota = 0 };
+}
+
+-- the thread is one of the catalogs, and has seen this history of theirs
+pub record IsAskingAt (gate : Gate CatalogSetting) (s : Seated) (M : CatalogHistory) : Type 0 where
+  pub thread : readers.IsReaderOf gate s.reader
+  pub in_order : readers.IsInOrder gate.terms s.reader
+  pub seen : s.reader.seen ≡ M
+  pub number : s.reader.number ≡ s.number
+
 -- ---- the thread's calls
 
 -- the first history may be what stands before the next call of the thread that has seen the second one: it goes on from that one,
@@ -51,10 +78,27 @@ pub record MayFollow (c : Setting) (thread : ℕ) (G H : History) : Type 0 where
   pub legal : IsLegal c G
   pub others : entries_by thread G ≡ entries_by thread H
 
+-- the same of the catalogs
+pub record MayFollowAsked (c : Setting) (thread : ℕ) (G M : CatalogHistory) : Type 0 where
+  pub later : readers.GoesOnFrom G M
+  pub legal : catalog_answers.IsLegal (catalog_setting c) G
+  pub others : readers.entries_by thread G ≡ readers.entries_by thread M
+
 -- the thread knows what it has seen, and may make so many calls more
 pub record HasCalls (n : ℕ) (gate : Gate Setting) (s : Seated) : Type 0 where
   pub seated : IsSeatedAt gate s s.mine.seen
   pub quota : length s.mine.calls + n ≤ gate.terms.quota
+
+-- the same of the catalogs
+pub record HasAsks (n : ℕ) (gate : Gate CatalogSetting) (s : Seated) : Type 0 where
+  pub seated : IsAskingAt gate s s.reader.seen
+  pub quota : length s.reader.calls + n ≤ gate.terms.quota
+
+-- the same of both, where the catalogs are of as many threads with as many rows as the table
+pub record CanCall (n : ℕ) (g : Gates) (s : Seated) : Type 0 where
+  pub calls : HasCalls n g.locales s
+  pub asks : HasAsks n g.catalogs s
+  pub agree : g.catalogs.terms.setting ≡ catalog_setting g.locales.terms.setting
 
 -- an op that does not end its thread
 abbrev pub IsNoEnd : Op → Type 0

@@ -1,17 +1,23 @@
--- Lines of threads that call beside each other, judged by one history of which each thread has seen a part (our own).
+-- Lines of threads that call beside each other, judged by one history of the table and one of the catalogs, of which each thread has
+-- seen a part (our own).
 -- A history has its newest entry first, and so have the lists of lines here: what stands before stays when more is added.
-use Rattle.std.specs.Prelude.{◌≡◌, ℕ, zero, suc, ◌+◌, ◌<◌, ◌≤◌, nat_lt, nat_le, if◌then◌else◌, List, [], ◌∷◌, ◌++◌, ◌==◌, length, map, filter, flat_map, reverse, All, unwrap_or}
+use Rattle.std.specs.Prelude.{◌≡◌, ℕ, zero, suc, ◌+◌, ◌<◌, ◌≤◌, nat_lt, nat_le, if◌then◌else◌, List, [], ◌∷◌, ◌++◌, ◌==◌, length, map, filter, flat_map, reverse, All, Option, Some, None, unwrap_or}
 use Rattle.handle_table.specs.Entry.{History, Setting}
 use Rattle.handle_table.specs.Kept.{AreThreads}
 use Rattle.handle_table.specs.Answer.{IsLegal}
+use Rattle.catalog_table.specs.declared.setting.CatalogSetting.{CatalogSetting}
+use Rattle.catalog_table.specs.Entry as catalogs
+use Rattle.catalog_table.specs.Entry.{History as CatalogHistory}
+use Rattle.catalog_table.specs.Answer as catalog_answers
 use Rattle.script_out.specs.declared.output.OutLine.{OutLine}
 use Rattle.script_lines.specs.Turns.{Turn}
 use Rattle.script_lines.specs.Variables.{bindings_of}
 use Rattle.script_lines.specs.Wishes.{wish_of}
 use Rattle.script_lines.specs.Outcome.{with_call}
-use Rattle.script_lines.specs.Board.{Moments, granted_at}
-use Rattle.script_serial.specs.Plan.{PlanData}
-use Rattle.script_serial.specs.Prints.{Told, PlacedCall, bound_by, caller_of, places_in, behind_last, next_place, calls_of}
+use Rattle.script_lines.specs.Board.{Moments, catalog_op, granted_at}
+use Rattle.script_lines.specs.Catalogs.{Asked}
+use Rattle.script_serial.specs.Plan.{PlanData, books_of}
+use Rattle.script_serial.specs.Prints.{Told, PlacedCall, bound_by, caller_of, places_in, behind_last, next_place, calls_of, IsAsked}
 
 -- ---- what stands before a place
 
@@ -25,12 +31,20 @@ abbrev pub places_by : ℕ → History → List ℕ
 places_by thread [] = []
 places_by thread (e ∷ H) = if e.who == thread then length H ∷ places_by thread H else places_by thread H
 
+-- the same of a history of the catalogs
+abbrev pub catalog_places_by : ℕ → CatalogHistory → List ℕ
+catalog_places_by thread [] = []
+catalog_places_by thread (e ∷ M) = if e.who == thread then length M ∷ catalog_places_by thread M else catalog_places_by thread M
+
 -- ---- lines with their moments
 
--- a line with its task, and how many entries stood when it was made: before its first call, or when it read the global locale
+-- a line with its task, and how many entries stood when it was made: before its first call, or when it read the global locale; and
+-- what it asked of the catalogs, if anything, and what they have answered
 pub record Timed : Type 0 where
   pub told : Told
   pub moment : ℕ
+  pub op : Option catalogs.Op
+  pub asked : Asked
 
 -- how many entries stood behind the line's last call, or at its moment
 abbrev pub end_of : Timed → ℕ
@@ -63,6 +77,17 @@ turns_made ts = map turn_made ts
 abbrev pub placed_back : List Timed → List ℕ
 placed_back ts = flat_map (λ (t : Timed). reverse (places_in t.told.line.places)) ts
 
+-- the place in the history of the catalogs of what was asked, and those of lines, the newest first
+abbrev pub asked_place : Option catalogs.Op → Asked → List ℕ
+asked_place None asked = []
+asked_place (Some op) asked = asked.place ∷ []
+
+abbrev pub asked_in : Timed → List ℕ
+asked_in t = asked_place t.op t.asked
+
+abbrev pub asked_back : List Timed → List ℕ
+asked_back ts = flat_map asked_in ts
+
 -- the lines of the first n threads, the newest first, on top of earlier ones
 abbrev pub stacked : (ℕ → List Timed) → List Timed → ℕ → List Timed
 stacked more made zero = made
@@ -80,12 +105,14 @@ second_moment [] moment = moment
 second_moment (place ∷ []) moment = place
 second_moment (hold ∷ release ∷ more) moment = release
 
--- the histories that a line goes by: what stood behind the thread's last call, at the line's moment, and before its Release
+-- the histories that a line goes by: what stood behind the thread's last call, at the line's moment, and before its Release; and
+-- what the catalogs have answered
 abbrev pub moments_in : History → List Told → Timed → Moments
 moments_in W before t = record {
   seen = oldest (next_place t.told.line.thread before) W;
   first = oldest t.moment W;
   second = oldest (second_moment (places_in t.told.line.places) t.moment) W;
+  asked = t.asked;
 }
 
 -- the entry of a history at the place of a call is that call, with its answer to what stands before it
@@ -94,14 +121,16 @@ pub record IsEntryOf (c : Setting) (W : History) (call : PlacedCall) : Type 0 wh
   pub entry : oldest (call.place + 1) W ≡ with_call c (oldest call.place W) call.thread call.op
 
 -- A line, behind earlier lines of which the newest stands first: it prints what its task asks for at its moment, its number is
--- the next one of its thread, and its calls are entries of the history
+-- the next one of its thread, and its calls are entries of the history; and it asked of the catalogs what its task asks of them
 pub record IsRight (c : Setting) (plan : PlanData) (W : History) (before : List Told) (t : Timed) : Type 0 where
   pub within : end_of t ≤ length W
   pub since : t.moment ≤ end_of t
   pub index : t.told.line.index ≡ length (filter (λ (d : Told). d.line.thread == t.told.line.thread) before) + 1
   pub line : t.told.line
-      ≡ (granted_at c plan.library (moments_in W before t) (caller_of t.told.line) (wish_of plan.library (bindings_of t.told.line.thread (bound_by before)) t.told.task)).line
+      ≡ (granted_at c plan.library (books_of plan) (moments_in W before t) (caller_of t.told.line) (wish_of plan.library (bindings_of t.told.line.thread (bound_by before)) t.told.task)).line
   pub entries : All (IsEntryOf c W) (calls_of plan.library (bound_by before) t.told)
+  pub op : t.op
+      ≡ catalog_op c plan.library (books_of plan) (moments_in W before t) t.told.line.thread (wish_of plan.library (bindings_of t.told.line.thread (bound_by before)) t.told.task)
 
 -- lines of which each is right behind those before it
 abbrev pub AreRight : Setting → PlanData → History → List Timed → Type 0
@@ -131,3 +160,30 @@ pub record IsWhole (c : Setting) (plan : PlanData) (W : History) (ts : List Time
   pub timed : (thread : ℕ) → AreTimed (own_lines thread ts)
   pub places : (thread : ℕ) → thread < c.threads → places_by thread W ≡ placed_back (own_lines thread ts)
   pub rounds : All (IsInRound ts) ts
+
+-- ---- what all lines have asked of the catalogs
+
+-- what a thread has asked and the catalogs have answered stands in a history of theirs
+abbrev pub StandsAsked : CatalogSetting → CatalogHistory → ℕ → Option catalogs.Op → Asked → Type 0
+StandsAsked c V thread None asked = Unit {0}
+StandsAsked c V thread (Some op) asked = IsAsked c V thread op asked
+
+abbrev pub HasStanding : CatalogSetting → CatalogHistory → Timed → Type 0
+HasStanding c V t = StandsAsked c V t.told.line.thread t.op t.asked
+
+-- a place is from one number on, and below another
+pub record IsWithin (low high p : ℕ) : Type 0 where
+  pub since : low ≤ p
+  pub until : p < high
+
+-- a line has asked while its round ran: behind what was asked in earlier rounds, and before what was asked in later ones
+abbrev pub IsAskedInRound : List Timed → Timed → Type 0
+IsAskedInRound ts t = All (IsWithin (length (asked_back (in_rounds_before t.told.line.round ts))) (length (asked_back (in_rounds_to t.told.line.round ts)))) (asked_in t)
+
+-- what the lines of all threads have asked are the entries of this history of the catalogs
+pub record AreAsked (c : CatalogSetting) (V : CatalogHistory) (ts : List Timed) : Type 0 where
+  pub legal : catalog_answers.IsLegal c V
+  pub callers : catalog_answers.AreThreads c.threads V
+  pub standing : All (HasStanding c V) ts
+  pub places : (thread : ℕ) → thread < c.threads → catalog_places_by thread V ≡ asked_back (own_lines thread ts)
+  pub rounds : All (IsAskedInRound ts) ts

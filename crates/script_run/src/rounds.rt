@@ -6,15 +6,20 @@ ghost use Rattle.category_store.specs.Library.{opening};
 ghost use Rattle.turn_gate.specs.Callers.{IsSeatOf};
 ghost use Rattle.thread_current.specs.Thread.{IsThreadOf, IsInOrder, SawMore, GoesOnFrom, first_thread, thread_of};
 ghost use Rattle.script_lines.specs.Seen.{turn_seen};
-ghost use Rattle.script_serial.specs.Isolation.{IsIsolated};
-ghost use Rattle.script_serial.specs.Plan.{PlanData, IsSound};
+ghost use Rattle.script_serial.specs.Isolation.{IsIsolated, AreCatalogsIsolated};
+ghost use Rattle.catalog_seats.specs.Reader as readers;
+ghost use Rattle.script_serial.specs.Plan.{IsSound};
 ghost use Rattle.script_serial.specs.Prints.{Prints};
 ghost use Rattle.script_serial.specs.Serial.{setting};
-ghost use Rattle.script_run.specs.Rounds.{Each, EachTwo, mine_of, IsFor, IsFirst, MayWork, HasWorked, HasGiven, SeesMore, HasMet, AllMet, AreBetween, SeatSeesMore, AreClosing};
+ghost use Rattle.script_run.specs.Seated.{gates};
+ghost use Rattle.script_run.specs.Beside.{stock};
+ghost use Rattle.script_run.specs.Rounds.{Each, EachTwo, plan_made, mine_of, reader_at, IsFor, IsForAsked, IsFirst, MayWork, HasWorked, HasGiven, IsOfBoth, IsOrderly, HasSeenOf, SeesMore, HasMet, AllMet, AreBetween, SeatSeesMore, AreClosing};
 
 use crate::pause::Pause;
 use crate::seated::Seated;
 use crate::worker::{Common, Worker};
+use catalog_seats::{Reader, SharedCatalogs};
+use catalog_table::BookShare;
 use category_store::Share;
 use lc_base::List;
 use script_lang::Bundle;
@@ -48,6 +53,7 @@ pub fn run<R: Threads + Wait + Sync, P: Pause + Sync>(
     requires generations { generations ≤ 2147483647 }
     ensures prints { IfOk result (λ lines. Prints (setting plan.now rows generations) plan.now lines) }
     ensures isolated { IfOk result (λ lines. IsIsolated (setting plan.now rows generations) plan.now lines) }
+    ensures catalogs_isolated { IfOk result (λ lines. AreCatalogsIsolated (setting plan.now rows generations) plan.now lines) }
 {
     let bundle = plan.bundle();
     if bundle.threads.is_empty() {
@@ -57,13 +63,17 @@ pub fn run<R: Threads + Wait + Sync, P: Pause + Sync>(
     let quota = 2 * bundle.commands.len() as u32 + 1;
     let library = plan.library();
     let shelf = library.opening(alloc)?;
+    let books = plan.books();
     let (shared, mine) = Shared::new(rt, alloc, count, rows, generations, quota, shelf)?;
-    let workers = new_workers(alloc, mine)?;
+    let (catalogs, readers) = SharedCatalogs::new(rt, alloc, count, rows, generations, quota)?;
+    let workers = new_workers(alloc, mine, readers)?;
     let common = &Common {
         rt,
         alloc,
         library,
+        books: &books,
         shared: &shared,
+        catalogs: &catalogs,
         pause,
     };
     let (lines, seats) = all_rounds(common, bundle, workers)?;
@@ -72,15 +82,24 @@ pub fn run<R: Threads + Wait + Sync, P: Pause + Sync>(
 }
 
 /// Workers before their first command, by their numbers.
-fn new_workers(alloc: Global, all: List<Mine<Share>>) -> Result<Vec<Worker>, AllocError>
-    requires { length all ≤ 16 }
+fn new_workers(
+    alloc: Global,
+    all: List<Mine<Share>>,
+    readers: List<Reader<BookShare>>,
+) -> Result<Vec<Worker>, AllocError>
+    requires few { length all ≤ 16 }
+    requires many { length readers ≡ length all }
     ensures length { IfOk result (λ workers. length workers.items ≡ length all) }
-    ensures first { IfOk result (λ workers. Each workers.items (λ i w. IsFirst all i w)) }
+    ensures first { IfOk result (λ workers. Each workers.items (λ i w. IsFirst all readers i w)) }
 {
     let mut workers = Vec::new(alloc);
+    let mut left = readers.into_vec().into_iter();
     for mine in all.into_vec() {
+        let Some(reader) = left.next() else {
+            unreachable!()
+        };
         let number = workers.len() as u32;
-        workers.push(Worker::new(alloc, Seated::new(alloc, number, mine)))?;
+        workers.push(Worker::new(alloc, Seated::new(alloc, number, mine, reader)))?;
     }
     Ok(workers)
 }
@@ -91,17 +110,19 @@ fn all_rounds<R: Threads + Wait + Sync, P: Pause + Sync>(
     bundle: &Bundle,
     mut workers: Vec<Worker>,
 ) -> Result<(Vec<OutLine>, Seats), AllocError>
-    requires sound { IsSound (record { bundle = bundle.now; library = common.now.library.now }) }
-    requires terms { IsFor (record { bundle = bundle.now; library = common.now.library.now }) common.now.shared.now.terms }
-    requires begun { AreBetween common.now.shared.now (record { bundle = bundle.now; library = common.now.library.now }) 0 [] workers.items }
-    ensures { IfOk result (λ r. AreClosing common.now.shared.now (record { bundle = bundle.now; library = common.now.library.now }) r.1.items [] r.0.items) }
+    requires sound { IsSound (plan_made bundle.now common.now.library.now common.now.books.now) }
+    requires terms { IsFor (plan_made bundle.now common.now.library.now common.now.books.now) common.now.shared.now.terms }
+    requires asked { IsForAsked common.now.shared.now.terms common.now.catalogs.now.terms }
+    requires catalogs { common.now.books.now.blocks ≡ bundle.now.catalogs }
+    requires begun { AreBetween (gates common.now.shared.now common.now.catalogs.now) (plan_made bundle.now common.now.library.now common.now.books.now) 0 [] workers.items }
+    ensures { IfOk result (λ r. AreClosing (gates common.now.shared.now common.now.catalogs.now) (plan_made bundle.now common.now.library.now common.now.books.now) r.1.items [] r.0.items) }
 {
     let mut lines = Vec::new(common.alloc);
     for i in 0..bundle.rounds {
         let turns = round_turns(common.alloc, bundle, i + 1)?;
         side_by_side(common, workers.as_mut_slice(), turns.as_slice());
         gather(&mut lines, workers.as_mut_slice())?;
-        meet_all(common.shared, &mut workers);
+        meet_all(common.shared, common.catalogs, &mut workers);
     }
     let seats = close_all(common, bundle, &mut lines, workers)?;
     Ok((lines, seats))
@@ -113,13 +134,13 @@ fn side_by_side<R: Threads + Wait + Sync, P: Pause + Sync>(
     workers: &mut [Worker],
     turns: &[Turn<'_>],
 )
-    requires { Each workers.old (λ i w. MayWork common.now.shared.now common.now.library.now (map turn_seen turns.now) w) }
-    ensures { EachTwo workers.old workers.new (λ i old new. HasWorked common.now.shared.now common.now.library.now (map turn_seen turns.now) old new) }
+    requires { Each workers.old (λ i w. MayWork (gates common.now.shared.now common.now.catalogs.now) (stock common.now.library.now common.now.books.now) (map turn_seen turns.now) w) }
+    ensures { EachTwo workers.old workers.new (λ i old new. HasWorked (gates common.now.shared.now common.now.catalogs.now) (stock common.now.library.now common.now.books.now) (map turn_seen turns.now) old new) }
 {
     let count = workers.len().max(1);
     let work = |_: usize, worker: &mut Worker|
-        requires { MayWork common.now.shared.now common.now.library.now (map turn_seen turns.now) worker.old }
-        ensures { HasWorked common.entry.now.shared.now common.entry.now.library.now (map turn_seen turns.entry.now) worker.old worker.new }
+        requires { MayWork (gates common.now.shared.now common.now.catalogs.now) (stock common.now.library.now common.now.books.now) (map turn_seen turns.now) worker.old }
+        ensures { HasWorked (gates common.entry.now.shared.now common.entry.now.catalogs.now) (stock common.entry.now.library.now common.entry.now.books.now) (map turn_seen turns.entry.now) worker.old worker.new }
     { worker.work(common, turns) };
     thread::for_each_mut(common.rt, workers, count, &work);
 }
@@ -138,31 +159,65 @@ fn gather(lines: &mut Vec<OutLine>, workers: &mut [Worker]) -> Result<(), AllocE
 
 /// Afterwards each worker has seen what any has seen: the last one meets each other, and then each
 /// once more.
-fn meet_all(shared: &Shared<Share>, workers: &mut Vec<Worker>)
-    requires threads { Each workers.old.items (λ i w. IsThreadOf shared.now (mine_of w)) }
+fn meet_all(shared: &Shared<Share>, catalogs: &SharedCatalogs<BookShare>, workers: &mut Vec<Worker>)
+    requires threads { Each workers.old.items (λ i w. IsOfBoth (gates shared.now catalogs.now) w) }
     requires some { 0 < length workers.old.items }
-    requires in_order { Each workers.old.items (λ i w. IsInOrder shared.now.terms (mine_of w)) }
+    requires in_order { Each workers.old.items (λ i w. IsOrderly (gates shared.now catalogs.now) w) }
     ensures length { length workers.new.items ≡ length workers.old.items }
-    ensures met { AllMet shared.now.terms workers.old.items workers.new.items }
+    ensures met { AllMet (gates shared.now catalogs.now) workers.old.items workers.new.items }
 {
     if let Some(mut one) = workers.pop() {
-        meet_each(shared, &mut one, workers.as_mut_slice());
-        meet_each(shared, &mut one, workers.as_mut_slice());
+        meet_each(shared, catalogs, &mut one, workers.as_mut_slice());
+        meet_each(shared, catalogs, &mut one, workers.as_mut_slice());
         workers.push_reserved(one);
     }
 }
 
 /// Lets a worker meet each other one, in order.
-fn meet_each(shared: &Shared<Share>, first: &mut Worker, others: &mut [Worker])
-    requires first { IsThreadOf shared.now (mine_of first.old) }
-    requires threads { Each others.old (λ i w. IsThreadOf shared.now (mine_of w)) }
-    ensures first { SeesMore shared.now.terms first.old first.new }
-    ensures others { EachTwo others.old others.new (λ i old new. HasMet shared.now.terms (mine_of first.old).seen old new) }
-    ensures seen { Each others.old (λ i w. GoesOnFrom (mine_of first.new).seen (mine_of w).seen) }
+fn meet_each(
+    shared: &Shared<Share>,
+    catalogs: &SharedCatalogs<BookShare>,
+    first: &mut Worker,
+    others: &mut [Worker],
+)
+    requires first { IsOfBoth (gates shared.now catalogs.now) first.old }
+    requires threads { Each others.old (λ i w. IsOfBoth (gates shared.now catalogs.now) w) }
+    ensures first { SeesMore (gates shared.now catalogs.now) first.old first.new }
+    ensures others { EachTwo others.old others.new (λ i old new. HasMet (gates shared.now catalogs.now) (mine_of first.old).seen (reader_at first.old).seen old new) }
+    ensures seen { Each others.old (λ i w. HasSeenOf w first.new) }
 {
     for other in others {
-        shared.meet(&mut first.thread.side.mine, &mut other.thread.side.mine);
+        meet_both(
+            shared,
+            catalogs,
+            &mut first.thread.side,
+            &mut other.thread.side,
+        );
     }
+}
+
+/// Afterwards each of two threads has seen what either had seen, of the table and of the catalogs.
+fn meet_both(
+    shared: &Shared<Share>,
+    catalogs: &SharedCatalogs<BookShare>,
+    one: &mut Seated,
+    two: &mut Seated,
+)
+    requires one { IsThreadOf shared.now one.old.mine × readers.IsReaderOf catalogs.now one.old.reader }
+    requires two { IsThreadOf shared.now two.old.mine × readers.IsReaderOf catalogs.now two.old.reader }
+    ensures same_one { one.new ≡ record one.old { mine = one.new.mine; reader = one.new.reader } }
+    ensures same_two { two.new ≡ record two.old { mine = two.new.mine; reader = two.new.reader } }
+    ensures saw_one { SawMore one.old.mine one.new.mine × GoesOnFrom one.new.mine.seen two.old.mine.seen }
+    ensures saw_two { SawMore two.old.mine two.new.mine × GoesOnFrom two.new.mine.seen one.old.mine.seen }
+    ensures order_one { IsInOrder shared.now.terms one.new.mine }
+    ensures order_two { IsInOrder shared.now.terms two.new.mine }
+    ensures asked_one { readers.SawMore one.old.reader one.new.reader × readers.GoesOnFrom one.new.reader.seen two.old.reader.seen }
+    ensures asked_two { readers.SawMore two.old.reader two.new.reader × readers.GoesOnFrom two.new.reader.seen one.old.reader.seen }
+    ensures asked_order_one { readers.IsInOrder catalogs.now.terms one.new.reader }
+    ensures asked_order_two { readers.IsInOrder catalogs.now.terms two.new.reader }
+{
+    shared.meet(&mut one.mine, &mut two.mine);
+    catalogs.meet(&mut one.reader, &mut two.reader);
 }
 
 /// Adds the lines that close the threads, in order of their numbers. Each thread has seen the end of the
@@ -173,10 +228,12 @@ fn close_all<R: Threads + Wait + Sync, P: Pause + Sync>(
     lines: &mut Vec<OutLine>,
     workers: Vec<Worker>,
 ) -> Result<Seats, AllocError>
-    requires sound { IsSound (record { bundle = bundle.now; library = common.now.library.now }) }
-    requires terms { IsFor (record { bundle = bundle.now; library = common.now.library.now }) common.now.shared.now.terms }
-    requires between { AreBetween common.now.shared.now (record { bundle = bundle.now; library = common.now.library.now }) bundle.now.rounds lines.old.items workers.items }
-    ensures { IfOk result (λ seats. AreClosing common.now.shared.now (record { bundle = bundle.now; library = common.now.library.now }) seats.items [] lines.new.items) }
+    requires sound { IsSound (plan_made bundle.now common.now.library.now common.now.books.now) }
+    requires terms { IsFor (plan_made bundle.now common.now.library.now common.now.books.now) common.now.shared.now.terms }
+    requires asked { IsForAsked common.now.shared.now.terms common.now.catalogs.now.terms }
+    requires catalogs { common.now.books.now.blocks ≡ bundle.now.catalogs }
+    requires between { AreBetween (gates common.now.shared.now common.now.catalogs.now) (plan_made bundle.now common.now.library.now common.now.books.now) bundle.now.rounds lines.old.items workers.items }
+    ensures { IfOk result (λ seats. AreClosing (gates common.now.shared.now common.now.catalogs.now) (plan_made bundle.now common.now.library.now common.now.books.now) seats.items [] lines.new.items) }
 {
     let mut seats = Vec::new(common.alloc);
     for mut worker in workers {

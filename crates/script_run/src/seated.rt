@@ -1,6 +1,6 @@
-//! A thread at a table that threads share.
+//! A thread at a table and at catalogs that threads share.
 
-ghost use Rattle.std.specs.Prelude.{◌≡◌, [], find, position, IfOk, MatchOption};
+ghost use Rattle.std.specs.Prelude.{◌≡◌, [], find, position, IfOk, OnOk, MatchOption};
 ghost use Rattle.std.specs.Option.{option_copied};
 ghost use Rattle.handle_table.specs.Entry as table;
 ghost use Rattle.handle_table.specs.Seen.{op_of, reply_of, refusal_of};
@@ -8,6 +8,8 @@ ghost use Rattle.handle_table.specs.Table.{Fits};
 ghost use Rattle.thread_current.specs.Thread.{own_object};
 ghost use Rattle.script_run.specs.Seated.{HasCalls, MayCall, IsPlain, IsChange, AnswersSeated, is_held, IsFirst, IsTaken, IsUnheld};
 
+use catalog_seats::{Reader, SharedCatalogs};
+use catalog_table::{BookShare, CatalogOp, CatalogReply};
 use category_store::Share;
 use handle_table::{Handle, Named, Op, Refusal, Reply};
 use mask_compose::Object;
@@ -18,23 +20,25 @@ use std::marker::{Brand, PhantomData};
 use std::sync::Wait;
 use thread_current::{Fault, Held, Mine, Shared};
 
-/// What a thread keeps at a shared table.
+/// What a thread keeps at a shared table and at shared catalogs.
 #[derive(Drop)]
 pub struct Seated {
     pub number: u32,
     pub mine: Mine<Share>,
+    pub reader: Reader<BookShare>,
     /// Its open Holds, in the order made.
     pub holds: Vec<Held<Share>>,
 }
 
 impl Seated {
     /// A thread before its first call.
-    pub fn new(alloc: Global, number: u32, mine: Mine<Share>) -> Seated
-        ensures { (result.number ≡ number) × (result.mine ≡ mine) × (result.holds.items ≡ []) }
+    pub fn new(alloc: Global, number: u32, mine: Mine<Share>, reader: Reader<BookShare>) -> Seated
+        ensures { (result.number ≡ number) × (result.mine ≡ mine) × (result.holds.items ≡ []) × (result.reader ≡ reader) }
     {
         Seated {
             number,
             mine,
+            reader,
             holds: Vec::new(alloc),
         }
     }
@@ -101,31 +105,39 @@ impl Side for Seated {
     }
 }
 
-/// Which shared table it is.
+/// Which shared table it is, and which catalogs.
 pub trait OneTable {
     ghost use Rattle.turn_gate.specs.Callers.{Gate};
     ghost use Rattle.handle_table.specs.Entry.{Setting};
+    ghost use Rattle.catalog_table.specs.declared.setting.CatalogSetting.{CatalogSetting};
 
     ghost gate: { Gate Setting };
+
+    ghost desk: { Gate CatalogSetting };
 }
 
 impl OneTable for Brand {
-    ghost use Rattle.script_run.specs.Seated.{some_gate};
+    ghost use Rattle.script_run.specs.Seated.{some_gate, some_catalogs};
 
     ghost gate = { some_gate };
+
+    ghost desk = { some_catalogs };
 }
 
-/// A table that threads share, with the runtime value by which its calls wait for their turn.
+/// A table and catalogs that threads share, with the runtime value by which their calls wait for their
+/// turn.
 #[derive(Drop)]
 pub struct Beside<'a, R, G: OneTable> {
     rt: &'a R,
     shared: &'a Shared<Share>,
+    catalogs: &'a SharedCatalogs<BookShare>,
     of: PhantomData<G>,
     ghost table_is: { shared.now ≡ G.gate },
+    ghost catalogs_are: { catalogs.now ≡ G.desk },
 }
 
 impl<'a, R: Wait, G: OneTable> Board for Beside<'a, R, G> {
-    ghost use Rattle.script_run.specs.Seated.{IsSeatedAt, MayFollow, HasCalls, MayCall};
+    ghost use Rattle.script_run.specs.Seated.{IsSeatedAt, IsAskingAt, MayFollow, MayFollowAsked, CanCall, MayCall, gates};
     ghost use Rattle.script_run.specs.SeatLaws.{seated_known, seated_stays, calls_fewer};
 
     type Side = Seated;
@@ -136,7 +148,11 @@ impl<'a, R: Wait, G: OneTable> Board for Beside<'a, R, G> {
 
     ghost later = { MayFollow };
 
-    ghost ready = { λ n _ s. HasCalls n G.gate s };
+    ghost catalogs_at = { λ _ s M. IsAskingAt G.desk s M };
+
+    ghost catalogs_later = { MayFollowAsked };
+
+    ghost ready = { λ n _ s. CanCall n (gates G.gate G.desk) s };
 
     ghost may = { MayCall };
 
@@ -152,21 +168,35 @@ impl<'a, R: Wait, G: OneTable> Board for Beside<'a, R, G> {
         self.shared.global_now(self.rt, &mut side.mine)
     }
 
+    fn catalog(
+        &mut self,
+        side: &mut Seated,
+        op: CatalogOp<BookShare>,
+    ) -> (u64, CatalogReply<BookShare>) {
+        self.catalogs.turn(self.rt, &mut side.reader, op)
+    }
+
     ghost known = { λ _ s H. seated_known G.gate s H };
 
     ghost stays = { λ _ s H. seated_stays G.gate s H };
 
-    ghost fewer = { λ n _ s. calls_fewer n G.gate s };
+    ghost fewer = { λ n _ s. calls_fewer n (gates G.gate G.desk) s };
 }
 
 impl<'a, R: Wait, G: OneTable> Beside<'a, R, G> {
-    /// The table, for a while.
-    pub fn new(rt: &'a R, shared: &'a Shared<Share>) -> Beside<'a, R, G>
-        requires { shared.now ≡ G.gate }
+    /// The table and the catalogs, for a while.
+    pub fn new(
+        rt: &'a R,
+        shared: &'a Shared<Share>,
+        catalogs: &'a SharedCatalogs<BookShare>,
+    ) -> Beside<'a, R, G>
+        requires table { shared.now ≡ G.gate }
+        requires catalogs { catalogs.now ≡ G.desk }
     {
         Beside {
             rt,
             shared,
+            catalogs,
             of: PhantomData,
         }
     }
@@ -176,6 +206,7 @@ impl<'a, R: Wait, G: OneTable> Beside<'a, R, G> {
         requires calls { HasCalls 1 self.now.shared.now side.old }
         requires op { MayCall self.now.shared.now.terms.setting (op_of op) }
         ensures answers { IfOk result (λ r. AnswersSeated self.now.shared.now side.old side.new (op_of op) r.0 (reply_of r.1)) }
+        ensures reader { OnOk result (side.new.reader ≡ side.old.reader) }
     {
         match op {
             Op::Hold { h } => self.hold(side, h),
@@ -197,6 +228,7 @@ impl<'a, R: Wait, G: OneTable> Beside<'a, R, G> {
         requires calls { HasCalls 1 self.now.shared.now side.old }
         requires op { Fits self.now.shared.now.terms.setting (op_of op) × IsPlain (op_of op) }
         ensures answers { AnswersSeated self.now.shared.now side.old side.new (op_of op) result.0 (reply_of result.1) }
+        ensures reader { side.new.reader ≡ side.old.reader }
     {
         let (rt, shared, mine) = (self.rt, self.shared, &mut side.mine);
         match op {
@@ -233,6 +265,7 @@ impl<'a, R: Wait, G: OneTable> Beside<'a, R, G> {
         requires calls { HasCalls 1 self.now.shared.now side.old }
         requires op { Fits self.now.shared.now.terms.setting (op_of op) × IsChange (op_of op) }
         ensures answers { AnswersSeated self.now.shared.now side.old side.new (op_of op) result.0 (reply_of result.1) }
+        ensures reader { side.new.reader ≡ side.old.reader }
     {
         let (rt, shared, mine) = (self.rt, self.shared, &mut side.mine);
         match op {
@@ -255,6 +288,7 @@ impl<'a, R: Wait, G: OneTable> Beside<'a, R, G> {
     fn select(&self, side: &mut Seated, to: Named) -> (u64, Reply<Share>)
         requires calls { HasCalls 1 self.now.shared.now side.old }
         ensures answers { AnswersSeated self.now.shared.now side.old side.new (table.Use to) result.0 (reply_of result.1) }
+        ensures reader { side.new.reader ≡ side.old.reader }
     {
         match self.shared.uselocale(self.rt, &mut side.mine, to) {
             Ok((place, former)) => {
@@ -269,6 +303,7 @@ impl<'a, R: Wait, G: OneTable> Beside<'a, R, G> {
     fn hold(&self, side: &mut Seated, h: Named) -> Result<(u64, Reply<Share>), AllocError>
         requires calls { HasCalls 1 self.now.shared.now side.old }
         ensures answers { IfOk result (λ r. AnswersSeated self.now.shared.now side.old side.new (table.Hold h) r.0 (reply_of r.1)) }
+        ensures reader { OnOk result (side.new.reader ≡ side.old.reader) }
     {
         match self.shared.hold(self.rt, &mut side.mine, h) {
             Ok((place, held)) => {
@@ -284,6 +319,7 @@ impl<'a, R: Wait, G: OneTable> Beside<'a, R, G> {
     fn release(&self, side: &mut Seated, h: Named) -> (u64, Reply<Share>)
         requires calls { HasCalls 1 self.now.shared.now side.old }
         ensures answers { AnswersSeated self.now.shared.now side.old side.new (table.Release h) result.0 (reply_of result.1) }
+        ensures reader { side.new.reader ≡ side.old.reader }
     {
         match take_hold(&mut side.holds, h) {
             Some(held) => {

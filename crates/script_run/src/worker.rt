@@ -5,11 +5,15 @@ ghost use Rattle.turn_gate.specs.Callers.{IsSeatOf};
 ghost use Rattle.script_lines.specs.Seen.{turn_seen};
 ghost use Rattle.script_serial.specs.Plan.{PlanData};
 ghost use Rattle.script_run.specs.Timed.{Timed};
-ghost use Rattle.script_run.specs.Beside.{CanAdd, AddsLine, Adds, CanWork, IsWorker, WorksOn, CanClose, GivesUp, EndsSeat, Closes, turns_of};
+ghost use Rattle.script_run.specs.Seated.{gates};
+ghost use Rattle.script_run.specs.Beside.{stock, stock_of, CanAdd, AddsLine, Adds, CanWork, IsWorker, WorksOn, CanClose, GivesUp, EndsSeat, Closes, turns_of};
 
 use crate::pause::Pause;
 use crate::seated::{Beside, OneTable, Seated};
+use catalog_seats::SharedCatalogs;
+use catalog_table::BookShare;
 use category_store::{Library, Share};
+use script_lines::catalogs::Books;
 use script_lines::granted::turn_line;
 use script_lines::lines::line;
 use script_lines::thread::Thread;
@@ -35,25 +39,32 @@ pub struct Common<'a, R, P> {
     pub rt: &'a R,
     pub alloc: Global,
     pub library: &'a Library,
+    pub books: &'a Books<'a>,
     pub shared: &'a Shared<Share>,
+    pub catalogs: &'a SharedCatalogs<BookShare>,
     pub pause: &'a P,
 }
 
-// The line of a turn of a thread at a shared table.
-fn seat_line<R: Wait, G: OneTable>(
-    rt: &R,
-    alloc: Global,
-    library: &Library,
-    shared: &Shared<Share>,
+// The line of a turn of a thread at a shared table and at shared catalogs.
+fn seat_line<R: Wait, P, G: OneTable>(
+    common: &Common<'_, R, P>,
     thread: &mut Thread<Seated>,
     turn: Turn<'_>,
 ) -> Result<OutLine, AllocError>
-    requires table { shared.now ≡ G.gate }
-    requires can { CanAdd shared.now library.now thread.old (turn_seen turn) }
-    ensures { IfOk result (λ l. AddsLine shared.now library.now (turn_seen turn.entry) thread.old thread.new l) }
+    requires table { common.now.shared.now ≡ G.gate }
+    requires catalogs { common.now.catalogs.now ≡ G.desk }
+    requires can { CanAdd (gates common.now.shared.now common.now.catalogs.now) (stock common.now.library.now common.now.books.now) thread.old (turn_seen turn) }
+    ensures { IfOk result (λ l. AddsLine (gates common.now.shared.now common.now.catalogs.now) (stock common.now.library.now common.now.books.now) (turn_seen turn.entry) thread.old thread.new l) }
 {
-    let mut board = Beside::<R, G>::new(rt, shared);
-    let line = turn_line(alloc, library, &mut board, thread, turn)?;
+    let mut board = Beside::<R, G>::new(common.rt, common.shared, common.catalogs);
+    let line = turn_line(
+        common.alloc,
+        common.library,
+        common.books,
+        &mut board,
+        thread,
+        turn,
+    )?;
     Ok(line)
 }
 
@@ -71,8 +82,8 @@ impl Worker {
 
     /// Makes the lines of its turns among these of a round, in order. It ends where memory is wanting.
     pub fn work<R: Wait, P: Pause>(&mut self, common: &Common<'_, R, P>, turns: &[Turn<'_>])
-        requires can { CanWork common.now.shared.now common.now.library.now self.old.thread (turns_of self.old.thread.side.number (map turn_seen turns.now)) }
-        ensures works { OnOk self.new.outcome (WorksOn common.now.shared.now common.now.library.now (turns_of self.old.thread.side.number (map turn_seen turns.now)) self.old.thread self.new.thread self.old.lines.items self.new.lines.items) }
+        requires can { CanWork (gates common.now.shared.now common.now.catalogs.now) (stock common.now.library.now common.now.books.now) self.old.thread (turns_of self.old.thread.side.number (map turn_seen turns.now)) }
+        ensures works { OnOk self.new.outcome (WorksOn (gates common.now.shared.now common.now.catalogs.now) (stock common.now.library.now common.now.books.now) (turns_of self.old.thread.side.number (map turn_seen turns.now)) self.old.thread self.new.thread self.old.lines.items self.new.lines.items) }
         ensures number { OnOk self.new.outcome (self.new.thread.side.number ≡ self.old.thread.side.number) }
     {
         self.outcome = self.lines_of(common, turns);
@@ -84,8 +95,8 @@ impl Worker {
         common: &Common<'_, R, P>,
         turns: &[Turn<'_>],
     ) -> Result<(), AllocError>
-        requires can { CanWork common.now.shared.now common.now.library.now self.old.thread (turns_of self.old.thread.side.number (map turn_seen turns.now)) }
-        ensures works { OnOk result (WorksOn common.now.shared.now common.now.library.now (turns_of self.old.thread.side.number (map turn_seen turns.now)) self.old.thread self.new.thread self.old.lines.items self.new.lines.items) }
+        requires can { CanWork (gates common.now.shared.now common.now.catalogs.now) (stock common.now.library.now common.now.books.now) self.old.thread (turns_of self.old.thread.side.number (map turn_seen turns.now)) }
+        ensures works { OnOk result (WorksOn (gates common.now.shared.now common.now.catalogs.now) (stock common.now.library.now common.now.books.now) (turns_of self.old.thread.side.number (map turn_seen turns.now)) self.old.thread self.new.thread self.old.lines.items self.new.lines.items) }
         ensures number { OnOk result (self.new.thread.side.number ≡ self.old.thread.side.number) }
     {
         let number = self.thread.number();
@@ -106,17 +117,10 @@ impl Worker {
         common: &Common<'_, R, P>,
         turn: Turn<'_>,
     ) -> Result<(), AllocError>
-        requires { CanAdd common.now.shared.now common.now.library.now self.old.thread (turn_seen turn) }
-        ensures { OnOk result (Adds common.now.shared.now common.now.library.now (turn_seen turn.entry) self.old.thread self.new.thread self.old.lines.items self.new.lines.items) }
+        requires { CanAdd (gates common.now.shared.now common.now.catalogs.now) (stock common.now.library.now common.now.books.now) self.old.thread (turn_seen turn) }
+        ensures { OnOk result (Adds (gates common.now.shared.now common.now.catalogs.now) (stock common.now.library.now common.now.books.now) (turn_seen turn.entry) self.old.thread self.new.thread self.old.lines.items self.new.lines.items) }
     {
-        let line = seat_line::<R, Brand>(
-            common.rt,
-            common.alloc,
-            common.library,
-            common.shared,
-            &mut self.thread,
-            turn,
-        )?;
+        let line = seat_line::<R, P, Brand>(common, &mut self.thread, turn)?;
         self.lines.push(line)?;
         Ok(())
     }
@@ -128,9 +132,9 @@ impl Worker {
         common: &Common<'_, R, P>,
         round: u32,
     ) -> Result<(Vec<OutLine>, Seat<Locales<Share>>), AllocError>
-        requires can { CanClose common.now.shared.now common.now.library.now self.thread }
-        ensures closes { IfOk result (λ r. (plan : PlanData) (made : List Timed) → plan.library ≡ common.now.library.now → IsWorker common.now.shared.now plan self.thread made
-            → Closes common.now.shared.now plan round self.thread r.1 made self.lines.items r.0.items) }
+        requires can { CanClose (gates common.now.shared.now common.now.catalogs.now) (stock common.now.library.now common.now.books.now) self.thread }
+        ensures closes { IfOk result (λ r. (plan : PlanData) (made : List Timed) → stock_of plan ≡ stock common.now.library.now common.now.books.now → IsWorker (gates common.now.shared.now common.now.catalogs.now) plan self.thread made
+            → Closes (gates common.now.shared.now common.now.catalogs.now) plan round self.thread r.1 made self.lines.items r.0.items) }
         ensures seat { IfOk result (λ r. IsSeatOf common.now.shared.now r.1 × (r.1.number ≡ self.thread.side.number)) }
     {
         self.release_all(common, round)?;
@@ -143,7 +147,7 @@ impl Worker {
         common: &Common<'_, R, P>,
         round: u32,
     ) -> Result<(Vec<OutLine>, Seat<Locales<Share>>), AllocError>
-        requires can { CanClose common.now.shared.now common.now.library.now self.thread }
+        requires can { CanClose (gates common.now.shared.now common.now.catalogs.now) (stock common.now.library.now common.now.books.now) self.thread }
         requires empty { self.thread.side.holds.items ≡ [] }
         ensures ends { IfOk result (λ r. EndsSeat common.now.shared.now round self.thread r.1 self.lines.items r.0.items) }
         ensures seat { IfOk result (λ r. IsSeatOf common.now.shared.now r.1 × (r.1.number ≡ self.thread.side.number)) }
@@ -166,8 +170,8 @@ impl Worker {
         common: &Common<'_, R, P>,
         round: u32,
     ) -> Result<(), AllocError>
-        requires { CanClose common.now.shared.now common.now.library.now self.old.thread }
-        ensures { OnOk result (GivesUp common.now.shared.now common.now.library.now round self.old.thread self.new.thread self.old.lines.items self.new.lines.items) }
+        requires { CanClose (gates common.now.shared.now common.now.catalogs.now) (stock common.now.library.now common.now.books.now) self.old.thread }
+        ensures { OnOk result (GivesUp (gates common.now.shared.now common.now.catalogs.now) (stock common.now.library.now common.now.books.now) round self.old.thread self.new.thread self.old.lines.items self.new.lines.items) }
     {
         let thread = self.thread.number();
         while let Some(handle) = self.thread.side.first_hold() {

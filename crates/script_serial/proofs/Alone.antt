@@ -1,21 +1,27 @@
 -- A line of a table that nobody else calls meanwhile is the line of the history that its thread has seen.
-use Rattle.std.proofs.Common.{◌≡◌, Option, Some, None, Result, Ok, Err, length, refl, subst, ◌∙◌}
+use Rattle.std.proofs.Common.{◌≡◌, ℕ, List, ◌∷◌, Option, Some, None, Result, Ok, Err, length, refl, ap, subst, ◌∙◌}
+use Rattle.std.specs.Prelude.{option_map}
 use Rattle.mask_compose.specs.Parts.{Parts}
 use Rattle.category_store.specs.Catalog.{Catalog}
 use Rattle.handle_table.specs.declared.handle.Named.{Named}
 use Rattle.handle_table.specs.Entry as table
 use Rattle.handle_table.specs.Entry.{History, Setting}
-use Rattle.handle_table.specs.History.{selection}
+use Rattle.handle_table.specs.History.{sets, global, selection}
 use Rattle.handle_table.specs.Answer.{answer, own}
+use Rattle.catalog_table.specs.declared.setting.CatalogSetting.{CatalogSetting}
+use Rattle.catalog_table.specs.Entry as catalog
+use Rattle.catalog_table.specs.Entry.{History as CatalogHistory}
+use Rattle.catalog_table.specs.Answer.{answer as answer_after, entry as catalog_entry}
 use Rattle.script_commands.specs.declared.command.Read.{Read}
 use Rattle.script_out.specs.declared.output.OutLine.{OutLine}
 use Rattle.script_out.specs.declared.output.Said.TheVariants as said
 use Rattle.script_out.specs.declared.output.Why.{Why}
 use Rattle.script_lines.specs.Holds.{object_held, open_holds, held_as}
-use Rattle.script_lines.specs.Wishes.{Wish, Calls, ReadsOf, Reads, AsksSelection, AsksName}
+use Rattle.script_lines.specs.Wishes.{Wish, Calls, ReadsOf, Reads, AsksSelection, AsksName, OpensCatalog, GetsMessage, ClosesCatalog}
+use Rattle.script_lines.specs.Catalogs.{Books, Asked, book_for, catalog_setting, handle_meant, object_used, catalog_op_by, asked_after, catalogs_after, open_line, message_line, close_line}
 use Rattle.script_lines.specs.Lines.{Caller, told_line, object_line, held_line}
-use Rattle.script_lines.specs.Outcome.{tells, with_call, calls, reads_between, reads_of, read_line, name_line, granted}
-use Rattle.script_lines.specs.Board.{Moments, reads_between as reads_between_at, reads_of as reads_of_at, reads as reads_at, Left, Leaves}
+use Rattle.script_lines.specs.Outcome.{tells, with_call, calls, reads_between, reads_of, read_line, name_line, opens_line, catalog_op_of, granted, catalogs_left}
+use Rattle.script_lines.specs.Board.{Moments, reads_between as reads_between_at, reads_of as reads_of_at, reads as reads_at, opens, catalog_op, AnswersCatalog, AreMomentsOf, Left, LeftCatalogs, Leaves}
 
 -- what a read between leaves, by the moments of its two calls
 between_alone : (c : Setting) (library : Catalog) (at : History → Type 0) (H : History) (caller : Caller) (n : Named) (read : Read) (m : Moments) (object : Option Parts) (l : OutLine)
@@ -39,17 +45,97 @@ read_alone : (c : Setting) (library : Catalog) (at : History → Type 0) (H : Hi
 read_alone c library at H caller read m (Some object) l seen first left = subst (λ (G : History). Left at (tells G (object_line library caller read object)) l) seen left
 read_alone c library at H caller read m None l seen first left = subst (λ (G : History). Left at (tells G (read_line c library G caller read None)) l) first left
 
-pub alone : (c : Setting) (library : Catalog) (at : History → Type 0) (H : History) (caller : Caller) (w : Result Wish Why) (l : OutLine)
-    → Leaves c library (λ (G K : History). G ≡ K) at H caller w l → Left at (granted c library H caller w) l
-alone c library at H caller (Err why) l leaves = subst (λ (G : History). Left at (tells G (told_line caller (said.Refused why))) l) leaves.1.seen leaves.2
-alone c library at H caller (Ok (Calls categories op)) l leaves = subst (λ (G : History). Left at (calls c library G caller categories op) l) (leaves.1.first ∙ leaves.1.seen) leaves.2
-alone c library at H caller (Ok (ReadsOf n read)) l leaves =
+-- ---- the catalogs, which nobody else asks meanwhile
+
+abbrev IsSame : CatalogHistory → CatalogHistory → Type 0
+IsSame N K = N ≡ K
+
+asked_is : (c : CatalogSetting) (catalogs_at : CatalogHistory → Type 0) (thread : ℕ) (M : CatalogHistory) (op : catalog.Op) (asked : Asked)
+    → AnswersCatalog c IsSame catalogs_at thread M op asked.place asked.reply → asked ≡ asked_after c M thread (Some op)
+asked_is c catalogs_at thread M op asked a =
+    ap (λ (p : ℕ). record { place = p; reply = asked.reply }) (a.place_is ∙ ap length a.is_later)
+    ∙ ap (λ (r : catalog.Reply). record { place = length M; reply = r }) (a.reply_is ∙ ap (λ (N : CatalogHistory). answer_after c N thread op) a.is_later)
+
+left_alone : (c : CatalogSetting) (catalogs_at : CatalogHistory → Type 0) (thread : ℕ) (M : CatalogHistory) (op : Option catalog.Op) (asked : Asked)
+    → LeftCatalogs c IsSame catalogs_at thread M op asked → catalogs_at (catalogs_after c M thread op)
+left_alone c catalogs_at thread M None asked left = left
+left_alone c catalogs_at thread M (Some op) asked left = subst (λ (N : CatalogHistory). catalogs_at (catalog_entry c N thread op ∷ N)) left.is_later left.now_at
+
+-- the moments of a line are the history that its thread has seen
+seen_alone : (c : Setting) (thread : ℕ) (H : History) (w : Result Wish Why) (m : Moments) → AreMomentsOf c (λ (G K : History). G ≡ K) thread H w m → (m.seen ≡ H) × (m.first ≡ H)
+seen_alone c thread H (Err why) m are = (are.seen, are.first ∙ are.seen)
+seen_alone c thread H (Ok (Calls categories op)) m are = (are.seen, are.first ∙ are.seen)
+seen_alone c thread H (Ok (ReadsOf n read)) m are = (are.moments.seen, are.moments.first ∙ are.moments.seen)
+seen_alone c thread H (Ok (Reads read)) m are = (are.seen, are.first ∙ are.seen)
+seen_alone c thread H (Ok AsksSelection) m are = (are.seen, are.first ∙ are.seen)
+seen_alone c thread H (Ok (AsksName categories)) m are = (are.seen, are.first ∙ are.seen)
+seen_alone c thread H (Ok (OpensCatalog name)) m are = (are.seen, are.first ∙ are.seen)
+seen_alone c thread H (Ok (GetsMessage h set message default)) m are = (are.seen, are.first ∙ are.seen)
+seen_alone c thread H (Ok (ClosesCatalog h)) m are = (are.seen, are.first ∙ are.seen)
+
+asked_alone : (c : Setting) (library : Catalog) (books : Books) (catalogs_at : CatalogHistory → Type 0) (H : History) (M : CatalogHistory) (thread : ℕ) (w : Result Wish Why) (m : Moments)
+    → AreMomentsOf c (λ (G K : History). G ≡ K) thread H w m → LeftCatalogs (catalog_setting c) IsSame catalogs_at thread M (catalog_op c library books m thread w) m.asked
+    → LeftCatalogs (catalog_setting c) IsSame catalogs_at thread M (catalog_op_of c library books H thread w) m.asked
+asked_alone c library books catalogs_at H M thread w m are left =
+    let same = seen_alone c thread H w m are in
+    subst (λ (G : History). LeftCatalogs (catalog_setting c) IsSame catalogs_at thread M (catalog_op_by library books (object_used (own H thread) (global c G)) w) m.asked) same.1
+    (subst (λ (G : History). LeftCatalogs (catalog_setting c) IsSame catalogs_at thread M (catalog_op_by library books (object_used (own G thread) (global c m.first)) w) m.asked) same.0 left)
+
+open_alone : (c : CatalogSetting) (catalogs_at : CatalogHistory → Type 0) (thread : ℕ) (M : CatalogHistory) (caller : Caller) (version n : Option ℕ) (asked : Asked)
+    → LeftCatalogs c IsSame catalogs_at thread M (option_map catalog.Open n) asked → open_line caller version asked n ≡ open_line caller version (asked_after c M thread (option_map catalog.Open n)) n
+open_alone c catalogs_at thread M caller version None asked left = refl
+open_alone c catalogs_at thread M caller version (Some n) asked left = ap (λ (a : Asked). open_line caller version a (Some n)) (asked_is c catalogs_at thread M (catalog.Open n) asked left)
+
+opens_alone : (c : Setting) (library : Catalog) (books : Books) (at : History → Type 0) (catalogs_at : CatalogHistory → Type 0) (H : History) (M : CatalogHistory) (caller : Caller) (name : List ℕ) (m : Moments) (object : Option Parts) (l : OutLine)
+    → m.seen ≡ H → m.first ≡ H
+    → let op = option_map catalog.Open (book_for library books (object_used object (global c H)) name) in
+    LeftCatalogs (catalog_setting c) IsSame catalogs_at caller.thread M op m.asked → Left at (opens c library books m caller name object) l
+    → Left at (tells H (opens_line c library books H caller name (asked_after (catalog_setting c) M caller.thread op) object)) l
+opens_alone c library books at catalogs_at H M caller name m (Some object) l seen first asked left =
+    subst (λ (k : OutLine). Left at (tells H k) l) (open_alone (catalog_setting c) catalogs_at caller.thread M caller None (book_for library books object name) m.asked asked)
+    (subst (λ (G : History). Left at (tells G (open_line caller None m.asked (book_for library books object name))) l) seen left)
+opens_alone c library books at catalogs_at H M caller name m None l seen first asked left =
+    subst (λ (k : OutLine). Left at (tells H k) l) (open_alone (catalog_setting c) catalogs_at caller.thread M caller (Some (sets H)) (book_for library books (global c H) name) m.asked asked)
+    (subst (λ (G : History). Left at (tells G (open_line caller (Some (sets G)) m.asked (book_for library books (global c G) name))) l) first left)
+
+-- the line, and the history of the table then
+pub alone : (c : Setting) (library : Catalog) (books : Books) (at : History → Type 0) (catalogs_at : CatalogHistory → Type 0) (H : History) (M : CatalogHistory) (caller : Caller) (w : Result Wish Why) (l : OutLine)
+    → Leaves c library books (λ (G K : History). G ≡ K) (λ (N K : CatalogHistory). N ≡ K) at catalogs_at H M caller w l → Left at (granted c library books H M caller w) l
+alone c library books at catalogs_at H M caller (Err why) l leaves = subst (λ (G : History). Left at (tells G (told_line caller (said.Refused why))) l) leaves.1.seen leaves.2
+alone c library books at catalogs_at H M caller (Ok (Calls categories op)) l leaves = subst (λ (G : History). Left at (calls c library G caller categories op) l) (leaves.1.first ∙ leaves.1.seen) leaves.2
+alone c library books at catalogs_at H M caller (Ok (ReadsOf n read)) l leaves =
     let m : Moments = leaves.0 in
     subst (λ (G : History). Left at (reads_of c library H caller n read (held_as (open_holds G caller.thread) n)) l) leaves.1.moments.seen
     (held_alone c library at H caller n read m (held_as (open_holds m.seen caller.thread) n) l leaves.1.moments.seen (leaves.1.moments.first ∙ leaves.1.moments.seen) leaves.1.second leaves.2)
-alone c library at H caller (Ok (Reads read)) l leaves =
+alone c library books at catalogs_at H M caller (Ok (Reads read)) l leaves =
     let m : Moments = leaves.0 in
     subst (λ (G : History). Left at (tells H (read_line c library H caller read (own G caller.thread))) l) leaves.1.seen
     (read_alone c library at H caller read m (own m.seen caller.thread) l leaves.1.seen (leaves.1.first ∙ leaves.1.seen) leaves.2)
-alone c library at H caller (Ok AsksSelection) l leaves = subst (λ (G : History). Left at (tells G (told_line caller (said.Is (selection G caller.thread)))) l) leaves.1.seen leaves.2
-alone c library at H caller (Ok (AsksName categories)) l leaves = subst (λ (G : History). Left at (tells G (name_line c library G caller categories)) l) (leaves.1.first ∙ leaves.1.seen) leaves.2
+alone c library books at catalogs_at H M caller (Ok AsksSelection) l leaves = subst (λ (G : History). Left at (tells G (told_line caller (said.Is (selection G caller.thread)))) l) leaves.1.seen leaves.2
+alone c library books at catalogs_at H M caller (Ok (AsksName categories)) l leaves = subst (λ (G : History). Left at (tells G (name_line c library G caller categories)) l) (leaves.1.first ∙ leaves.1.seen) leaves.2
+alone c library books at catalogs_at H M caller (Ok (OpensCatalog name)) l leaves =
+    let m : Moments = leaves.0 in
+    let op : Option Parts → Option catalog.Op = λ (o : Option Parts). option_map catalog.Open (book_for library books (object_used o (global c H)) name) in
+    let asked : LeftCatalogs (catalog_setting c) (λ (N K : CatalogHistory). N ≡ K) catalogs_at caller.thread M (op (own H caller.thread)) m.asked =
+    asked_alone c library books catalogs_at H M caller.thread (Ok (OpensCatalog name)) m leaves.1 leaves.3
+    in
+    let first : m.first ≡ H = leaves.1.first ∙ leaves.1.seen in
+    opens_alone c library books at catalogs_at H M caller name m (own H caller.thread) l leaves.1.seen first asked
+    (subst (λ (G : History). Left at (opens c library books m caller name (own G caller.thread)) l) leaves.1.seen leaves.2)
+alone c library books at catalogs_at H M caller (Ok (GetsMessage h set message default)) l leaves =
+    let m : Moments = leaves.0 in
+    let op : catalog.Op = catalog.Get (handle_meant h) in
+    subst (λ (a : Asked). Left at (tells H (message_line books caller set message default a)) l) (asked_is (catalog_setting c) catalogs_at caller.thread M op m.asked leaves.3)
+    (subst (λ (G : History). Left at (tells G (message_line books caller set message default m.asked)) l) leaves.1.seen leaves.2)
+alone c library books at catalogs_at H M caller (Ok (ClosesCatalog h)) l leaves =
+    let m : Moments = leaves.0 in
+    let op : catalog.Op = catalog.Close (handle_meant h) in
+    subst (λ (a : Asked). Left at (tells H (close_line caller a)) l) (asked_is (catalog_setting c) catalogs_at caller.thread M op m.asked leaves.3)
+    (subst (λ (G : History). Left at (tells G (close_line caller m.asked)) l) leaves.1.seen leaves.2)
+
+-- and the history of the catalogs
+pub alone_catalogs : (c : Setting) (library : Catalog) (books : Books) (at : History → Type 0) (catalogs_at : CatalogHistory → Type 0) (H : History) (M : CatalogHistory) (caller : Caller) (w : Result Wish Why) (l : OutLine)
+    → Leaves c library books (λ (G K : History). G ≡ K) (λ (N K : CatalogHistory). N ≡ K) at catalogs_at H M caller w l → catalogs_at (catalogs_left c library books H M caller.thread w)
+alone_catalogs c library books at catalogs_at H M caller w l leaves =
+    left_alone (catalog_setting c) catalogs_at caller.thread M (catalog_op_of c library books H caller.thread w) leaves.0.asked
+    (asked_alone c library books catalogs_at H M caller.thread w leaves.0 leaves.1 leaves.3)

@@ -3,11 +3,13 @@ use Rattle.std.proofs.Common.{◌≡◌, ℕ, List, [], ◌∷◌, ◌++◌, Opt
 use Rattle.std.specs.Prelude.{negsuc, codes}
 use Rattle.lc_base.specs.declared.category.Category.TheVariants as categories
 use Rattle.lc_base.specs.declared.block.Block.{Block}
+use Rattle.msg_catalog.specs.declared.book.Message.{Message}
 use Rattle.numeric_cat.specs.NumericValues.{NumericValues}
 use Rattle.compiled_categories.specs.Locale.{Locale, posix_locale}
 use Rattle.category_store.specs.Catalog.{Catalog}
 use Rattle.handle_table.specs.declared.handle.Handle.{Handle}
 use Rattle.handle_table.specs.declared.handle.Named.TheVariants as named
+use Rattle.handle_table.specs.declared.op.Refusal.TheVariants as refusals
 use Rattle.handle_table.specs.Entry as table
 use Rattle.lc_base.specs.declared.item.Item.TheVariants.{Radixchar, Thousep}
 use Rattle.script_commands.specs.declared.command.Read.TheVariants.{Info}
@@ -15,7 +17,9 @@ use Rattle.script_words.specs.declared.categories.Categories.TheVariants.{All, O
 use Rattle.script_commands.specs.declared.command.Target.{Target}
 use Rattle.script_commands.specs.declared.command.Target.TheVariants as targets
 use Rattle.script_commands.specs.declared.command.Command.{Command}
-use Rattle.script_commands.specs.declared.command.Command.TheVariants.{New, Dup, Free, Use, Selected, Hold, Release, Setlocale, LocaleName, Install, Post, Fetch, Pins, Read, ReadOf}
+use Rattle.script_commands.specs.declared.command.Command.TheVariants.{New, Dup, Free, Use, Selected, Hold, Release, Setlocale, LocaleName, Install, Post, Fetch, Pins, Read, ReadOf, CatOpen, CatGets, CatClose}
+use Rattle.script_commands.specs.declared.command.OpenCatalog.{OpenCatalog}
+use Rattle.script_commands.specs.declared.command.OpenCatalog.TheVariants as open_catalogs
 use Rattle.script_commands.specs.declared.command.Placed.{Placed}
 use Rattle.script_out.specs.declared.output.OutLine.{OutLine}
 use Rattle.script_out.specs.declared.output.Places.{Places}
@@ -25,7 +29,7 @@ use Rattle.script_out.specs.declared.output.Said.TheVariants as said
 use Rattle.script_out.specs.declared.output.Why.TheVariants as whys
 use Rattle.script_serial.specs.Plan.{PlanData, counts}
 use Rattle.script_lines.specs.Names.{joint_name, object_name}
-use Rattle.script_lines.specs.Variables.{bound}
+use Rattle.script_lines.specs.Variables.{bound, locale_variable}
 use Rattle.script_lines.specs.Lines.{shown}
 use Rattle.script_serial.specs.Serial.{serial_lines}
 
@@ -54,10 +58,18 @@ abbrev pub placed : ℕ → ℕ → List Command → List Placed
 placed round thread [] = []
 placed round thread (c ∷ cs) = record { round = round; thread = thread; command = c } ∷ placed round thread cs
 
+-- the catalog `m` for the locale `C`, and one of that name for `a`
+abbrev catalog : List ℕ → List ℕ → Block
+catalog name locale = record { name = name; charset = locale; first_line = 2; text = [] }
+
+abbrev message : ℕ → ℕ → List ℕ → Message
+message set number text = record { set = set; number = number; text = text }
+
 abbrev pub plan : List (List ℕ) → ℕ → List Placed → PlanData
 plan threads rounds commands = record {
-  bundle = record { charmaps = []; locales = []; later = []; native = Some (codes "a"); threads = threads; rounds = rounds; commands = commands };
+  bundle = record { charmaps = []; locales = []; later = []; catalogs = catalog (codes "m") (codes "a") ∷ catalog (codes "m") (codes "C") ∷ []; native = Some (codes "a"); threads = threads; rounds = rounds; commands = commands };
   library = library;
+  books = (message 1 1 (codes "one") ∷ []) ∷ (message 1 1 (codes "Hello") ∷ message 2 1 (codes "Second") ∷ []) ∷ [];
 }
 
 -- the lines of the thread `A` in one round
@@ -98,7 +110,7 @@ numeric_a = codes "LC_CTYPE=C;LC_NUMERIC=a;LC_MONETARY=C;LC_TIME=C;LC_MESSAGES=C
 abbrev empty_block : Block
 empty_block = record { name = codes "m"; charset = []; first_line = 2; text = [] }
 
-some_counts : counts (record { charmaps = empty_block ∷ []; locales = empty_block ∷ empty_block ∷ []; later = []; native = None; threads = codes "A" ∷ []; rounds = 1; commands = placed 1 0 (Selected ∷ Selected ∷ Selected ∷ []) }) ≡ record { locales = 2; charmaps = 1; threads = 1; rounds = 1; commands = 3 }
+some_counts : counts (record { charmaps = empty_block ∷ []; locales = empty_block ∷ empty_block ∷ []; later = []; catalogs = empty_block ∷ []; native = None; threads = codes "A" ∷ []; rounds = 1; commands = placed 1 0 (Selected ∷ Selected ∷ Selected ∷ []) }) ≡ record { locales = 2; charmaps = 1; threads = 1; rounds = 1; commands = 3 }
 some_counts = refl
 
 -- ---- names
@@ -117,7 +129,7 @@ name_of_time = refl
 
 -- ---- variables
 
-newest_binding : bound ((codes "y", record { owner = 0; row = 2; generation = 1 }) ∷ (codes "x", record { owner = 0; row = 1; generation = 1 }) ∷ (codes "x", record { owner = 0; row = 0; generation = 1 }) ∷ []) (codes "x") ≡ Some (record { owner = 0; row = 1; generation = 1 })
+newest_binding : bound ((locale_variable (codes "y"), record { owner = 0; row = 2; generation = 1 }) ∷ (locale_variable (codes "x"), record { owner = 0; row = 1; generation = 1 }) ∷ (locale_variable (codes "x"), record { owner = 0; row = 0; generation = 1 }) ∷ []) (locale_variable (codes "x")) ≡ Some (record { owner = 0; row = 1; generation = 1 })
 newest_binding = refl
 
 -- ---- scripts
@@ -303,3 +315,48 @@ variable_of_another_thread : two_threads 1 (placed 1 0 (New (codes "x") 2 (codes
     ∷ line_of 2 0 2 (places.One 1) None said.Ended
     ∷ line_of 2 1 2 (places.One 2) None said.Ended ∷ []
 variable_of_another_thread = refl
+
+-- ---- message catalogs
+
+abbrev opened : OpenCatalog
+opened = open_catalogs.Variable (codes "c")
+
+-- by the global locale, which is C: the catalog of that name for C, with the version; a message that is there, and the default
+-- where there is none; a closed handle stays refused; the places are those of the history of the catalogs
+opened_and_closed : lines (CatOpen (codes "c") (codes "m") ∷ CatGets opened 1 1 (codes "?") ∷ CatGets opened 2 1 (codes "?") ∷ CatGets opened 3 1 (codes "?") ∷ CatClose opened ∷ CatGets opened 1 1 (codes "?") ∷ [])
+    ≡ line 1 (places.Catalog 0) (Some 0) (said.Opened (first_of 0))
+    ∷ line 2 (places.Catalog 1) None (said.Text (codes "Hello"))
+    ∷ line 3 (places.Catalog 2) None (said.Text (codes "Second"))
+    ∷ line 4 (places.Catalog 3) None (said.Text (codes "?"))
+    ∷ line 5 (places.Catalog 4) None said.Closed
+    ∷ refused 6 (places.Catalog 5) table.Stale
+    ∷ ended 7 0 ∷ []
+opened_and_closed = refl
+
+-- no catalog has the name for the locale: no entry, with the version that was read; a locale variable of the same name is another
+-- one, and an unset one goes first; a handle that nobody made has an entry
+not_opened : lines (CatOpen (codes "c") (codes "nowhere") ∷ New (codes "c") 2 (codes "a") None ∷ CatClose opened ∷ CatClose (open_catalogs.Handle (record { owner = 0; row = 3; generation = 1 })) ∷ [])
+    ≡ line 1 places.None (Some 0) (said.Refused whys.NoCatalog)
+    ∷ line 2 (places.One 0) None (said.Handle (first_of 0))
+    ∷ line 3 places.None None (said.Refused whys.Unset)
+    ∷ refused 4 (places.Catalog 0) table.NeverMade
+    ∷ ended 5 1 ∷ []
+not_opened = refl
+
+-- by the thread's own object no version is told, and its LC_MESSAGES is what counts
+opened_by_own_object : lines (New (codes "x") 2 (codes "a") None ∷ Use x ∷ CatOpen (codes "c") (codes "m") ∷ CatGets opened 1 1 (codes "?") ∷ [])
+    ≡ line 1 (places.One 0) None (said.Handle (first_of 0))
+    ∷ line 2 (places.One 1) None (said.Was named.Global)
+    ∷ line 3 (places.Catalog 0) None (said.Opened (first_of 0))
+    ∷ line 4 (places.Catalog 1) None (said.Text (codes "Hello"))
+    ∷ ended 5 2 ∷ []
+opened_by_own_object = refl
+
+-- each thread has rows of its own, and only so many
+few_catalog_rows : serial_lines 1 9 (plan (codes "A" ∷ codes "B" ∷ []) 1 (placed 1 0 (CatOpen (codes "c") (codes "m") ∷ CatOpen (codes "d") (codes "m") ∷ []) ++ placed 1 1 (CatOpen (codes "c") (codes "m") ∷ [])))
+    ≡ line 1 (places.Catalog 0) (Some 0) (said.Opened (first_of 0))
+    ∷ line 2 (places.Catalog 1) (Some 0) (said.Refused (whys.Table refusals.TooMany))
+    ∷ line_of 1 1 1 (places.Catalog 2) (Some 0) (said.Opened (first_of 1))
+    ∷ line_of 2 0 3 (places.One 0) None said.Ended
+    ∷ line_of 2 1 2 (places.One 1) None said.Ended ∷ []
+few_catalog_rows = refl

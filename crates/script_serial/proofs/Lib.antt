@@ -1,4 +1,5 @@
 pub mod Alone
+pub mod CatalogLines
 pub mod Examples
 pub mod Fronts
 pub mod IsolationExamples
@@ -11,6 +12,7 @@ pub mod PrintsExamples
 pub mod ReleaseLaws
 pub mod RunLemmas
 pub mod SerialCalls
+pub mod SerialCatalogs
 pub mod SerialLines
 pub mod SerialNewest
 pub mod SerialPrints

@@ -15,10 +15,13 @@ use Rattle.script_out.specs.declared.output.OutLine.{OutLine}
 use Rattle.script_out.specs.declared.output.Why.{Why}
 use Rattle.script_lines.specs.Holds.{object_held, holds_after, open_holds, held_as}
 use Rattle.script_lines.specs.Lines.{Caller}
-use Rattle.script_lines.specs.Outcome.{with_call, reads_between, reads_of, read_line, granted}
+use Rattle.script_lines.specs.Outcome.{with_call, reads_between, reads_of, read_line, granted, asked_of}
 use Rattle.script_serial.specs.Serial.{lines_of_thread}
 use Rattle.script_serial.specs.Kept.{KeptData, Knows}
-use Rattle.script_lines.specs.Wishes.{Wish, Calls, ReadsOf, Reads, AsksSelection, AsksName}
+use Rattle.script_lines.specs.Wishes.{Wish, Calls, ReadsOf, Reads, AsksSelection, AsksName, OpensCatalog, GetsMessage, ClosesCatalog}
+use Rattle.script_lines.specs.Catalogs.{Books}
+use Rattle.script_serial.proofs.CatalogLines.{opens_caller}
+use Rattle.catalog_table.specs.Entry.{History as CatalogHistory}
 
 -- ---- whose line it is
 
@@ -35,13 +38,16 @@ read_thread c library H at read (Some object) = refl
 read_thread c library H at read None = refl
 
 -- the line of an outcome is its caller's
-pub granted_thread : (c : Setting) (library : Catalog) (H : History) (at : Caller) (w : Result Wish Why) → (granted c library H at w).line.thread ≡ at.thread
-granted_thread c library H at (Err why) = refl
-granted_thread c library H at (Ok (Calls categories op)) = refl
-granted_thread c library H at (Ok (ReadsOf n read)) = of_whose c library H at n read (held_as (open_holds H at.thread) n)
-granted_thread c library H at (Ok (Reads read)) = read_thread c library H at read (own H at.thread)
-granted_thread c library H at (Ok AsksSelection) = refl
-granted_thread c library H at (Ok (AsksName categories)) = refl
+pub granted_thread : (c : Setting) (library : Catalog) (books : Books) (H : History) (M : CatalogHistory) (at : Caller) (w : Result Wish Why) → (granted c library books H M at w).line.thread ≡ at.thread
+granted_thread c library books H M at (Err why) = refl
+granted_thread c library books H M at (Ok (Calls categories op)) = refl
+granted_thread c library books H M at (Ok (ReadsOf n read)) = of_whose c library H at n read (held_as (open_holds H at.thread) n)
+granted_thread c library books H M at (Ok (Reads read)) = read_thread c library H at read (own H at.thread)
+granted_thread c library books H M at (Ok AsksSelection) = refl
+granted_thread c library books H M at (Ok (AsksName categories)) = refl
+granted_thread c library books H M at (Ok (OpensCatalog name)) = ap (λ (a : Caller). a.thread) (opens_caller c library books H at name (asked_of c library books H M at.thread (Ok (OpensCatalog name))) (own H at.thread))
+granted_thread c library books H M at (Ok (GetsMessage h set message default)) = refl
+granted_thread c library books H M at (Ok (ClosesCatalog h)) = refl
 
 -- ---- how many lines a thread has
 
@@ -79,10 +85,13 @@ knows_of : (c : Setting) (library : Catalog) (H : History) (t : KeptData) (at : 
 knows_of c library H t at n read (Some object) other k = k
 knows_of c library H t at n read None other k = knows_between c library H t at n read (object_held (answer c H at.thread (table.Hold n))) other k
 
-pub knows_granted : (c : Setting) (library : Catalog) (H : History) (t : KeptData) (at : Caller) (w : Result Wish Why) → at.thread ≢ t.number → Knows t H → Knows t (granted c library H at w).history
-knows_granted c library H t at (Err why) other k = k
-knows_granted c library H t at (Ok (Calls categories op)) other k = knows_call c H t at.thread op other k
-knows_granted c library H t at (Ok (ReadsOf n read)) other k = knows_of c library H t at n read (held_as (open_holds H at.thread) n) other k
-knows_granted c library H t at (Ok (Reads read)) other k = k
-knows_granted c library H t at (Ok AsksSelection) other k = k
-knows_granted c library H t at (Ok (AsksName categories)) other k = k
+pub knows_granted : (c : Setting) (library : Catalog) (books : Books) (H : History) (M : CatalogHistory) (t : KeptData) (at : Caller) (w : Result Wish Why) → at.thread ≢ t.number → Knows t H → Knows t (granted c library books H M at w).history
+knows_granted c library books H M t at (Err why) other k = k
+knows_granted c library books H M t at (Ok (Calls categories op)) other k = knows_call c H t at.thread op other k
+knows_granted c library books H M t at (Ok (ReadsOf n read)) other k = knows_of c library H t at n read (held_as (open_holds H at.thread) n) other k
+knows_granted c library books H M t at (Ok (Reads read)) other k = k
+knows_granted c library books H M t at (Ok AsksSelection) other k = k
+knows_granted c library books H M t at (Ok (AsksName categories)) other k = k
+knows_granted c library books H M t at (Ok (OpensCatalog name)) other k = k
+knows_granted c library books H M t at (Ok (GetsMessage h set message default)) other k = k
+knows_granted c library books H M t at (Ok (ClosesCatalog h)) other k = k

@@ -2,19 +2,22 @@
 use Rattle.std.proofs.Common.{◌≡◌, ℕ, ◌+◌, ◌*◌, ◌≤◌, List, [], length, map, refl, sym, ap, subst, ◌∙◌, arith}
 use Rattle.std.specs.Prelude.{flat_map, All}
 use Rattle.std.proofs.lemmas.List.{length-map}
+use Rattle.lc_base.specs.declared.block.Block.{Block}
 use Rattle.mask_compose.specs.Offer.{Offered}
+use Rattle.msg_catalog.specs.declared.book.Message.{Message}
+use Rattle.script_lines.specs.Catalogs.{Books}
 use Rattle.category_store.specs.Catalog.{Catalog}
 use Rattle.category_store.specs.Library.{opening}
 use Rattle.handle_table.specs.Entry.{History, Setting}
-use Rattle.handle_table.specs.Table.{TableData, steps}
+use Rattle.script_serial.specs.Kept.{AloneData}
 use Rattle.script_lang.specs.declared.bundle.Bundle.{Bundle}
 use Rattle.script_out.specs.declared.output.OutLine.{OutLine}
 use Rattle.script_lines.specs.declared.turns.Turn.{Turn as LentTurn}
 use Rattle.script_lines.specs.Holds.{open_holds}
-use Rattle.script_serial.specs.Plan.{PlanData, IsSound}
+use Rattle.script_serial.specs.Plan.{PlanData, IsSound, books_of}
 use Rattle.script_lines.specs.Seen.{turn_seen, TurnFits}
 use Rattle.script_serial.specs.Serial.{Run, setting, played, begun, commands_played, closed, serial_lines}
-use Rattle.script_serial.specs.Session.{ThreadData, AreAt, GoesOn, AreNumbered, CanPlay}
+use Rattle.script_serial.specs.Session.{ThreadData, AreAt, answered, GoesOn, AreNumbered, CanPlay}
 use Rattle.script_lines.specs.Turns.{Turn, first_numbers, command_turns, closing, closing_turns}
 use Rattle.script_serial.proofs.TurnLemmas.{AreFrom, few_turns, turns_fit, no_turns, few_closing, closing_is, closings_fit}
 
@@ -27,12 +30,13 @@ few_commands plan turns sound same =
     let few : length (command_turns plan.bundle) ≤ 20480000 = few_turns plan.bundle sound.accepted in
     omega arith
 
-pub can_play_commands : (plan : PlanData) (table : TableData) (threads : List ThreadData) (turns : List LentTurn) → IsSound plan → AreAt table threads begun
-    → table.setting.opening ≡ opening plan.library → table.setting.threads ≡ length plan.bundle.threads → length threads ≡ length plan.bundle.threads
-    → map turn_seen turns ≡ command_turns plan.bundle → CanPlay plan.library table threads (length turns)
-can_play_commands plan table threads turns sound at shelf many long same =
+pub can_play_commands : (plan : PlanData) (board : AloneData) (threads : List ThreadData) (turns : List LentTurn) → IsSound plan → AreAt board threads begun
+    → board.table.setting.opening ≡ opening plan.library → board.table.setting.threads ≡ length plan.bundle.threads → length threads ≡ length plan.bundle.threads
+    → map turn_seen turns ≡ command_turns plan.bundle → CanPlay plan.library board threads (length turns)
+can_play_commands plan board threads turns sound at shelf many long same =
     let few : length turns ≤ 20480000 = few_commands plan turns sound same in
-    let none : table.count ≡ 0 = at.stands.steps in
+    let none : board.table.count ≡ 0 = at.stands.steps in
+    let not_asked : board.asked ≡ 0 = at.catalogs.asked in
     record { opening = shelf; threads = many ∙ sym long; steps = omega arith }
 
 pub commands_fit : (plan : PlanData) (threads : List ThreadData) (turns : List LentTurn) → IsSound plan → length threads ≡ length plan.bundle.threads → map turn_seen turns ≡ command_turns plan.bundle
@@ -42,30 +46,33 @@ commands_fit plan threads turns sound long same =
 
 -- ---- what closes the threads
 
--- a table and threads after all commands of a plan, which made so many lines
-pub record AreDone (plan : PlanData) (c : Setting) (table : TableData) (threads : List ThreadData) (printed : ℕ) : Type 0 where
+-- a table with its catalogs and threads after all commands of a plan, which made so many lines
+pub record AreDone (plan : PlanData) (c : Setting) (board : AloneData) (threads : List ThreadData) (printed : ℕ) : Type 0 where
   pub sound : IsSound plan
-  pub there : AreAt table threads (commands_played c plan)
-  pub same : table.setting ≡ c
+  pub there : AreAt board threads (commands_played c plan)
+  pub same : board.table.setting ≡ c
   pub shelf : c.opening ≡ opening plan.library
   pub many : c.threads ≡ length plan.bundle.threads
   pub long : length threads ≡ length plan.bundle.threads
   pub numbered : AreNumbered printed threads
   pub printed_few : printed ≤ 20480000
-  pub steps_few : steps table ≤ 40960000
+  pub steps_few : answered board ≤ 40960000
 
-pub are_done : (plan : PlanData) (start table : TableData) (before threads : List ThreadData) (turns : List LentTurn) (printed : ℕ) → IsSound plan → AreAt start before begun
-    → start.setting.opening ≡ opening plan.library → start.setting.threads ≡ length plan.bundle.threads → length threads ≡ length plan.bundle.threads
+pub are_done : (plan : PlanData) (start board : AloneData) (before threads : List ThreadData) (turns : List LentTurn) (printed : ℕ) → IsSound plan → AreAt start before begun
+    → start.table.setting.opening ≡ opening plan.library → start.table.setting.threads ≡ length plan.bundle.threads → length threads ≡ length plan.bundle.threads
     → map turn_seen turns ≡ command_turns plan.bundle
-    → AreAt table threads (played start.setting plan.library begun (map turn_seen turns)) → GoesOn (2 * length turns) start table → AreNumbered printed threads → printed ≤ length turns
-    → AreDone plan start.setting table threads printed
-are_done plan start table before threads turns printed sound at shelf many long same after on numbered few =
+    → (books : Books) → books ≡ books_of plan → AreAt board threads (played start.table.setting plan.library books begun (map turn_seen turns)) → GoesOn (2 * length turns) start board → AreNumbered printed threads → printed ≤ length turns
+    → AreDone plan start.table.setting board threads printed
+are_done plan start board before threads turns printed sound at shelf many long same books read after on numbered few =
     let commands : length turns ≤ 20480000 = few_commands plan turns sound same in
-    let none : start.count ≡ 0 = at.stands.steps in
-    let made : steps table ≤ steps start + 2 * length turns = on.steps in
+    let none : start.table.count ≡ 0 = at.stands.steps in
+    let not_asked : start.asked ≡ 0 = at.catalogs.asked in
+    let made : answered board ≤ answered start + 2 * length turns = on.steps in
     record {
       sound = sound;
-      there = subst (λ (ts : List Turn). AreAt table threads (played start.setting plan.library begun ts)) same after;
+      there =
+          subst (λ (ts : List Turn). AreAt board threads (played start.table.setting plan.library (books_of plan) begun ts)) same
+          (subst (λ (bs : Books). AreAt board threads (played start.table.setting plan.library bs begun (map turn_seen turns))) read after);
       same = on.setting;
       shelf = shelf;
       many = many;
@@ -82,46 +89,47 @@ numbers_from printed threads numbered = λ i d lt. let own = (numbered i d lt).n
 abbrev pub closings_of : PlanData → List ThreadData → List Turn
 closings_of plan threads = flat_map (λ (t : ThreadData). closing (plan.bundle.rounds + 1) t.side.number t.side.holds) threads
 
-pub closings_are : (plan : PlanData) (c : Setting) (table : TableData) (threads : List ThreadData) (printed : ℕ) → AreDone plan c table threads printed
+pub closings_are : (plan : PlanData) (c : Setting) (board : AloneData) (threads : List ThreadData) (printed : ℕ) → AreDone plan c board threads printed
     → closings_of plan threads ≡ closing_turns plan.bundle (commands_played c plan).history
-closings_are plan c table threads printed done =
+closings_are plan c board threads printed done =
     closing_is plan.bundle (commands_played c plan).history (plan.bundle.rounds + 1) threads refl done.long (numbers_from printed threads done.numbered) (λ k d lt. (done.there.follow k d lt).knows.holds)
 
-pub few_closings : (plan : PlanData) (c : Setting) (table : TableData) (threads : List ThreadData) (printed : ℕ) (turns : List LentTurn) → AreDone plan c table threads printed
+pub few_closings : (plan : PlanData) (c : Setting) (board : AloneData) (threads : List ThreadData) (printed : ℕ) (turns : List LentTurn) → AreDone plan c board threads printed
     → map turn_seen turns ≡ closings_of plan threads → length turns ≤ 655360016
-few_closings plan c table threads printed turns done same =
+few_closings plan c board threads printed turns done same =
     let H : History = (commands_played c plan).history in
-    let entries : table.count ≡ length H = done.there.stands.steps in
-    let made : steps table ≤ 40960000 = done.steps_few in
+    let entries : board.table.count ≡ length H = done.there.stands.steps in
+    let made : answered board ≤ 40960000 = done.steps_few in
     let few : length (closing_turns plan.bundle H) ≤ 655360016 = few_closing plan.bundle H done.sound.accepted (omega arith) in
-    let all : length (map turn_seen turns) ≡ length (closing_turns plan.bundle H) = ap (λ (ts : List Turn). length ts) (same ∙ closings_are plan c table threads printed done) in
+    let all : length (map turn_seen turns) ≡ length (closing_turns plan.bundle H) = ap (λ (ts : List Turn). length ts) (same ∙ closings_are plan c board threads printed done) in
     let long : length (map turn_seen turns) ≡ length turns = length-map turns turn_seen in
     omega arith
 
-pub can_play_closings : (plan : PlanData) (c : Setting) (table : TableData) (threads : List ThreadData) (printed : ℕ) (turns : List LentTurn) → AreDone plan c table threads printed
-    → map turn_seen turns ≡ closings_of plan threads → CanPlay plan.library table threads (length turns)
-can_play_closings plan c table threads printed turns done same =
-    let few : length turns ≤ 655360016 = few_closings plan c table threads printed turns done same in
-    let made : steps table ≤ 40960000 = done.steps_few in
+pub can_play_closings : (plan : PlanData) (c : Setting) (board : AloneData) (threads : List ThreadData) (printed : ℕ) (turns : List LentTurn) → AreDone plan c board threads printed
+    → map turn_seen turns ≡ closings_of plan threads → CanPlay plan.library board threads (length turns)
+can_play_closings plan c board threads printed turns done same =
+    let few : length turns ≤ 655360016 = few_closings plan c board threads printed turns done same in
+    let made : answered board ≤ 40960000 = done.steps_few in
     record {
       opening = ap (λ (s : Setting). s.opening) done.same ∙ done.shelf;
       threads = ap (λ (s : Setting). s.threads) done.same ∙ done.many ∙ sym done.long;
       steps = omega arith;
     }
 
-pub all_closings_fit : (plan : PlanData) (c : Setting) (table : TableData) (threads : List ThreadData) (printed : ℕ) (turns : List LentTurn) → AreDone plan c table threads printed
+pub all_closings_fit : (plan : PlanData) (c : Setting) (board : AloneData) (threads : List ThreadData) (printed : ℕ) (turns : List LentTurn) → AreDone plan c board threads printed
     → map turn_seen turns ≡ closings_of plan threads → All (TurnFits (length threads)) (map turn_seen turns)
-all_closings_fit plan c table threads printed turns done same =
+all_closings_fit plan c board threads printed turns done same =
     subst (All (TurnFits (length threads))) (sym same) (closings_fit (length threads) (plan.bundle.rounds + 1) 0 threads (numbers_from printed threads done.numbered) (omega arith))
 
 -- the lines of a plan
-pub closed_is : (plan : PlanData) (c : Setting) (table : TableData) (threads : List ThreadData) (printed : ℕ) (turns : List LentTurn) (lines : List OutLine) → AreDone plan c table threads printed
-    → map turn_seen turns ≡ closings_of plan threads → lines ≡ (played table.setting plan.library (commands_played c plan) (map turn_seen turns)).lines
+pub closed_is : (plan : PlanData) (c : Setting) (board : AloneData) (threads : List ThreadData) (printed : ℕ) (turns : List LentTurn) (lines : List OutLine) → AreDone plan c board threads printed
+    → map turn_seen turns ≡ closings_of plan threads → (books : Books) → books ≡ books_of plan → lines ≡ (played board.table.setting plan.library books (commands_played c plan) (map turn_seen turns)).lines
     → lines ≡ (closed c plan (commands_played c plan)).lines
-closed_is plan c table threads printed turns lines done same is =
+closed_is plan c board threads printed turns lines done same books read is =
     is
-    ∙ ap (λ (s : Setting). (played s plan.library (commands_played c plan) (map turn_seen turns)).lines) done.same
-    ∙ ap (λ (ts : List Turn). (played c plan.library (commands_played c plan) ts).lines) (same ∙ closings_are plan c table threads printed done)
+    ∙ ap (λ (bs : Books). (played board.table.setting plan.library bs (commands_played c plan) (map turn_seen turns)).lines) read
+    ∙ ap (λ (s : Setting). (played s plan.library (books_of plan) (commands_played c plan) (map turn_seen turns)).lines) done.same
+    ∙ ap (λ (ts : List Turn). (played c plan.library (books_of plan) (commands_played c plan) ts).lines) (same ∙ closings_are plan c board threads printed done)
 
 -- without a thread there is nothing to close
 no_closing_turns : (b : Bundle) (H : History) → b.threads ≡ [] → closing_turns b H ≡ []
@@ -131,31 +139,35 @@ no_closing_turns b H none = ap (λ (n : ℕ). flat_map (λ (t : ℕ). closing (b
 pub no_lines : (plan : PlanData) (rows generations : ℕ) → plan.bundle.threads ≡ [] → serial_lines rows generations plan ≡ []
 no_lines plan rows generations none =
     let c : Setting = setting plan rows generations in
-    let commands : commands_played c plan ≡ begun = ap (played c plan.library begun) (no_turns plan.bundle none) in
+    let commands : commands_played c plan ≡ begun = ap (played c plan.library (books_of plan) begun) (no_turns plan.bundle none) in
     let closes : closing_turns plan.bundle (commands_played c plan).history ≡ [] = no_closing_turns plan.bundle (commands_played c plan).history none in
-    ap (λ (ts : List Turn). (played c plan.library (commands_played c plan) ts).lines) closes ∙ ap (λ (r : Run). r.lines) commands
+    ap (λ (ts : List Turn). (played c plan.library (books_of plan) (commands_played c plan) ts).lines) closes ∙ ap (λ (r : Run). r.lines) commands
 
 -- what a plan and a setting are made of
-abbrev made_plan : Bundle → Catalog → PlanData
-made_plan bundle library = record { bundle = bundle; library = library }
+abbrev made_plan : Bundle → Catalog → List (List Message) → PlanData
+made_plan bundle library books = record { bundle = bundle; library = library; books = books }
 
-plan_is : (plan : PlanData) (bundle : Bundle) (library : Catalog) → bundle ≡ plan.bundle → library ≡ plan.library → made_plan bundle library ≡ plan
-plan_is plan bundle library same of = ap (λ (b : Bundle). made_plan b library) same ∙ ap (λ (l : Catalog). made_plan plan.bundle l) of
+plan_is : (plan : PlanData) (bundle : Bundle) (library : Catalog) (books : List (List Message)) → bundle ≡ plan.bundle → library ≡ plan.library → books ≡ plan.books → made_plan bundle library books ≡ plan
+plan_is plan bundle library books same of read =
+    ap (λ (b : Bundle). made_plan b library books) same ∙ ap (λ (l : Catalog). made_plan plan.bundle l books) of ∙ ap (λ (bs : List (List Message)). made_plan plan.bundle plan.library bs) read
 
-pub sound_parts : (plan : PlanData) (bundle : Bundle) (library : Catalog) → bundle ≡ plan.bundle → library ≡ plan.library → IsSound plan → IsSound (record { bundle = bundle; library = library })
-sound_parts plan bundle library same of sound = subst IsSound (sym (plan_is plan bundle library same of)) sound
+pub sound_parts : (plan : PlanData) (bundle : Bundle) (library : Catalog) (books : List (List Message)) → bundle ≡ plan.bundle → library ≡ plan.library → books ≡ plan.books → IsSound plan
+    → IsSound (record { bundle = bundle; library = library; books = books })
+sound_parts plan bundle library books same of read sound = subst IsSound (sym (plan_is plan bundle library books same of read)) sound
+
+-- the catalogs whose blocks are those of a bundle are those of a plan with it
+pub books_are : (bundle : Bundle) (library : Catalog) (books : Books) → books.blocks ≡ bundle.catalogs → books ≡ books_of (record { bundle = bundle; library = library; books = books.books })
+books_are bundle library books same = ap (λ (blocks : List Block). record { blocks = blocks; books = books.books }) same
 
 abbrev made_setting : ℕ → ℕ → ℕ → List Offered → Setting
 made_setting threads rows generations offers = record { threads = threads; rows = rows; generations = generations; opening = offers }
 
 -- the lines that are told are those of the plan
-pub serial_told : (plan : PlanData) (rows generations count : ℕ) (bundle : Bundle) (library : Catalog) (offers : List Offered) (c : Setting) (lines : List OutLine)
-    → c ≡ record { threads = count; rows = rows; generations = generations; opening = offers } → count ≡ length bundle.threads → offers ≡ opening library → bundle ≡ plan.bundle → library ≡ plan.library
-    → lines ≡ (closed c (record { bundle = bundle; library = library }) (commands_played c (record { bundle = bundle; library = library }))).lines → lines ≡ serial_lines rows generations plan
-serial_told plan rows generations count bundle library offers c lines own many shelf same of is =
-    let told : PlanData = made_plan bundle library in
-    let whole : told ≡ plan = plan_is plan bundle library same of in
-    let set : c ≡ setting told rows generations =
-    own ∙ ap (λ (n : ℕ). made_setting n rows generations offers) many ∙ ap (λ (os : List Offered). made_setting (length bundle.threads) rows generations os) shelf
-    in
+pub serial_told : (plan : PlanData) (rows generations count : ℕ) (bundle : Bundle) (library : Catalog) (books : List (List Message)) (c : Setting) (lines : List OutLine)
+    → c ≡ record { threads = count; rows = rows; generations = generations; opening = opening library } → count ≡ length bundle.threads → bundle ≡ plan.bundle → library ≡ plan.library → books ≡ plan.books
+    → lines ≡ (closed c (record { bundle = bundle; library = library; books = books }) (commands_played c (record { bundle = bundle; library = library; books = books }))).lines → lines ≡ serial_lines rows generations plan
+serial_told plan rows generations count bundle library books c lines own many same of read is =
+    let told : PlanData = made_plan bundle library books in
+    let whole : told ≡ plan = plan_is plan bundle library books same of read in
+    let set : c ≡ setting told rows generations = own ∙ ap (λ (n : ℕ). made_setting n rows generations (opening library)) many in
     is ∙ ap (λ (s : Setting). (closed s told (commands_played s told)).lines) set ∙ ap (λ (p : PlanData). serial_lines rows generations p) whole

@@ -56,7 +56,7 @@ callers_between : map caller_of between ≡ callers_after [] (all_turns c shared
 callers_between = refl
 
 -- each line prints what its task asks for
-told_between : let ds = told (all_turns c shared between) between in AreTold c shared between (calls_after shared.library [] ds) [] ds
+told_between : let ds = told (all_turns c shared between) between in AreTold c shared between [] (calls_after shared.library [] ds) [] ds
 told_between = (
   record { place = 0; is = refl },
   (

@@ -9,27 +9,28 @@ use Rattle.category_store.specs.Catalog.{Catalog}
 use Rattle.category_store.specs.Library.{opening}
 use Rattle.handle_table.specs.declared.handle.Handle.{Handle}
 use Rattle.handle_table.specs.Entry.{Setting, History}
-use Rattle.handle_table.specs.Table.{TableData, steps}
+use Rattle.catalog_table.specs.Entry.{History as CatalogHistory}
 use Rattle.script_out.specs.declared.output.OutLine.{OutLine}
 use Rattle.script_out.specs.declared.output.Why.{Why}
 use Rattle.script_lines.specs.declared.turns.Turn.{Turn as LentTurn}
 use Rattle.script_lines.specs.Seen.{turn_seen, TaskFits, TurnFits}
 use Rattle.script_lines.specs.Turns.{Turn}
-use Rattle.script_lines.specs.Variables.{Bindings, bound, Bound, bindings_of, variable_bound, handle_said, with_binding, bindings_after}
+use Rattle.script_lines.specs.Variables.{Variable, Bindings, bound, Bound, bindings_of, variable_bound, handle_said, with_binding, bindings_after}
 use Rattle.script_lines.specs.Wishes.{Wish, wish_of}
 use Rattle.script_lines.specs.Lines.{Caller}
-use Rattle.script_lines.specs.Outcome.{Outcome, granted}
-use Rattle.script_serial.specs.Serial.{Run, lines_of_thread, next_caller, outcome, with_outcome, played}
+use Rattle.script_lines.specs.Catalogs.{Books}
+use Rattle.script_lines.specs.Outcome.{granted}
+use Rattle.script_serial.specs.Serial.{Run, TurnOutcome, lines_of_thread, next_caller, outcome, with_outcome, played}
 use Rattle.script_lines.specs.Thread.{BindsAs}
 use Rattle.script_lines.specs.Board.{Left, LeavesTurn, turn_caller}
-use Rattle.script_serial.specs.Kept.{KeptData, Knows}
-use Rattle.script_serial.specs.Session.{ThreadData, Follows, IsAt, IsWith, AreAt, IsReady, GoesOn, IsNumberedThread, AreNumbered, CanPlay}
-use Rattle.script_serial.proofs.Alone.{alone}
+use Rattle.script_serial.specs.Kept.{KeptData, Knows, AloneData}
+use Rattle.script_serial.specs.Session.{ThreadData, Follows, IsAt, CatalogsAreAt, answered, IsWith, AreAt, IsReady, GoesOn, IsNumberedThread, AreNumbered, CanPlay}
+use Rattle.script_serial.proofs.Alone.{alone, alone_catalogs}
 use Rattle.script_serial.proofs.OutcomeLemmas.{granted_thread, one_more_line, no_line_more, knows_granted}
 
 -- ---- what variables stand for
 
-abbrev pair : Bound → List ℕ × Handle
+abbrev pair : Bound → Variable × Handle
 pair b = (b.variable, b.handle)
 
 other_bound : (b : Bound) (bounds : List Bound) (t : ℕ) → b.thread ≢ t → bindings_of t (b ∷ bounds) ≡ bindings_of t bounds
@@ -38,7 +39,7 @@ other_bound b bounds t other =
     ap (λ (q : Bool). map pair (cond q (b ∷ rest) rest)) (ne_eqb b.thread t other)
 
 -- what another thread's line binds is no concern
-with_other : (t : ThreadData) (bounds : List Bound) (who : ℕ) (v : Option (List ℕ)) (h : Option Handle) → who ≢ t.side.number → BindsAs t.side.number t.variables bounds → BindsAs t.side.number t.variables (with_binding who bounds v h)
+with_other : (t : ThreadData) (bounds : List Bound) (who : ℕ) (v : Option Variable) (h : Option Handle) → who ≢ t.side.number → BindsAs t.side.number t.variables bounds → BindsAs t.side.number t.variables (with_binding who bounds v h)
 with_other t bounds who None h other is = is
 with_other t bounds who (Some v) None other is = is
 with_other t bounds who (Some v) (Some h) other is = λ x. is x ∙ sym (ap (λ (bs : Bindings). bound bs x) (other_bound (record { thread = who; variable = v; handle = h }) bounds t.side.number other))
@@ -51,26 +52,26 @@ caller_is t run turn f own =
     ap (λ (n : ℕ). record { round = turn.round; thread = turn.thread; index = n + 1 }) (f.lines ∙ ap (λ (k : ℕ). lines_of_thread k run.lines) (sym own))
 
 -- a thread that has no turn
-pub follows_other : (c : Setting) (library : Catalog) (run : Run) (t : ThreadData) (turn : Turn) → turn.thread ≢ t.side.number → Follows t run → Follows t (with_outcome run turn (outcome c library run turn))
-follows_other c library run t turn other f =
+pub follows_other : (c : Setting) (library : Catalog) (books : Books) (run : Run) (t : ThreadData) (turn : Turn) → turn.thread ≢ t.side.number → Follows t run → Follows t (with_outcome run turn (outcome c library books run turn))
+follows_other c library books run t turn other f =
     let at : Caller = next_caller run turn in
-    let done : Outcome = outcome c library run turn in
-    let whose : done.line.thread ≡ turn.thread = granted_thread c library run.history at (wish_of library (bindings_of turn.thread run.bindings) turn.task) in
+    let done : TurnOutcome = outcome c library books run turn in
+    let whose : done.line.thread ≡ turn.thread = granted_thread c library books run.history run.catalogs at (wish_of library (bindings_of turn.thread run.bindings) turn.task) in
     record {
-      knows = knows_granted c library run.history t.side at (wish_of library (bindings_of turn.thread run.bindings) turn.task) other f.knows;
+      knows = knows_granted c library books run.history run.catalogs t.side at (wish_of library (bindings_of turn.thread run.bindings) turn.task) other f.knows;
       variables = with_other t run.bindings turn.thread (variable_bound turn.task) (handle_said done.line.reply) other f.variables;
       lines = f.lines ∙ sym (no_line_more t.side.number run.lines done.line (λ same. other (sym whose ∙ same)));
     }
 
 -- the thread that has it, by what its line leaves
-pub follows_own : (c : Setting) (library : Catalog) (run : Run) (t u : ThreadData) (turn : Turn) → turn.thread ≡ t.side.number → u.side.number ≡ t.side.number → Follows t run
-    → Knows u.side (outcome c library run turn).history
-    → BindsAs u.side.number u.variables (bindings_after t.side.number run.bindings turn.task (outcome c library run turn).line.reply)
+pub follows_own : (c : Setting) (library : Catalog) (books : Books) (run : Run) (t u : ThreadData) (turn : Turn) → turn.thread ≡ t.side.number → u.side.number ≡ t.side.number → Follows t run
+    → Knows u.side (outcome c library books run turn).history
+    → BindsAs u.side.number u.variables (bindings_after t.side.number run.bindings turn.task (outcome c library books run turn).line.reply)
     → u.lines ≡ t.lines + 1
-    → Follows u (with_outcome run turn (outcome c library run turn))
-follows_own c library run t u turn own number f knows binds lines =
-    let done : Outcome = outcome c library run turn in
-    let whose : done.line.thread ≡ turn.thread = granted_thread c library run.history (next_caller run turn) (wish_of library (bindings_of turn.thread run.bindings) turn.task) in
+    → Follows u (with_outcome run turn (outcome c library books run turn))
+follows_own c library books run t u turn own number f knows binds lines =
+    let done : TurnOutcome = outcome c library books run turn in
+    let whose : done.line.thread ≡ turn.thread = granted_thread c library books run.history run.catalogs (next_caller run turn) (wish_of library (bindings_of turn.thread run.bindings) turn.task) in
     record {
       knows = knows;
       variables = subst (λ (n : ℕ). BindsAs u.side.number u.variables (bindings_after n run.bindings turn.task done.line.reply)) (sym own) binds;
@@ -83,27 +84,27 @@ follows_own c library run t u turn own number f knows binds lines =
 -- ---- all turns
 
 -- the script after so many turns, and what the turns that are left make of it
-pub record PlaysOn (c : Setting) (library : Catalog) (turns : List Turn) (start : Run) (table : TableData) (threads : List ThreadData) (lines : List OutLine) (i : ℕ) (run : Run) : Type 0 where
-  pub at : AreAt table threads run
+pub record PlaysOn (c : Setting) (library : Catalog) (books : Books) (turns : List Turn) (start : Run) (board : AloneData) (threads : List ThreadData) (lines : List OutLine) (i : ℕ) (run : Run) : Type 0 where
+  pub at : AreAt board threads run
   pub printed : run.lines ≡ lines
-  pub rest : played c library run (drop i turns) ≡ played c library start turns
+  pub rest : played c library books run (drop i turns) ≡ played c library books start turns
 
 -- the run after one more turn
-abbrev pub next : Setting → Catalog → Run → Turn → Run
-next c library run turn = with_outcome run turn (outcome c library run turn)
+abbrev pub next : Setting → Catalog → Books → Run → Turn → Run
+next c library books run turn = with_outcome run turn (outcome c library books run turn)
 
-pub plays_on : (c : Setting) (library : Catalog) (turns : List Turn) (start : Run) (table table' : TableData) (threads threads' : List ThreadData) (lines lines' : List OutLine) (i : ℕ) (run : Run) (turn : Turn)
+pub plays_on : (c : Setting) (library : Catalog) (books : Books) (turns : List Turn) (start : Run) (board board' : AloneData) (threads threads' : List ThreadData) (lines lines' : List OutLine) (i : ℕ) (run : Run) (turn : Turn)
     → i < length turns → turn ≡ get_or turns i turn
-    → PlaysOn c library turns start table threads lines i run
-    → lines' ≡ lines ++ (outcome c library run turn).line ∷ []
-    → AreAt table' threads' (next c library run turn)
-    → PlaysOn c library turns start table' threads' lines' (i + 1) (next c library run turn)
-plays_on c library turns start table table' threads threads' lines lines' i run turn lt is p pushed at = record {
+    → PlaysOn c library books turns start board threads lines i run
+    → lines' ≡ lines ++ (outcome c library books run turn).line ∷ []
+    → AreAt board' threads' (next c library books run turn)
+    → PlaysOn c library books turns start board' threads' lines' (i + 1) (next c library books run turn)
+plays_on c library books turns start board board' threads threads' lines lines' i run turn lt is p pushed at = record {
   at = at;
-  printed = ap (λ (ls : List OutLine). ls ++ (outcome c library run turn).line ∷ []) p.printed ∙ sym pushed;
+  printed = ap (λ (ls : List OutLine). ls ++ (outcome c library books run turn).line ∷ []) p.printed ∙ sym pushed;
   rest =
       let cut : drop i turns ≡ turn ∷ drop (i + 1) turns = drop-cons turns i turn lt ∙ ap (λ (q : Turn). q ∷ drop (suc i) turns) (sym is) ∙ ap (λ (n : ℕ). turn ∷ drop n turns) (sym (add-one i)) in
-      sym (ap (played c library run) cut) ∙ p.rest;
+      sym (ap (played c library books run) cut) ∙ p.rest;
 }
 
 -- ---- all threads after a turn of one
@@ -119,12 +120,12 @@ elsewhere {X} P xs i x lt here others = λ k d l.
       | inr apart ↦ subst (P k) (sym (get_or-set_other xs i k x d apart.1)) (others k d (omega (arith, l, long)) apart.1)
     ]
 
-pub all_follow : (c : Setting) (library : Catalog) (run : Run) (turn : Turn) (threads : List ThreadData) (u : ThreadData) (lines : ℕ)
-    → turn.thread < length threads → AreNumbered lines threads → All (λ (t : ThreadData). Follows t run) threads → Follows u (next c library run turn)
-    → All (λ (t : ThreadData). Follows t (next c library run turn)) (slice_set threads turn.thread u)
-all_follow c library run turn threads u lines lt numbered follow own =
-    elsewhere (λ (k : ℕ) (t : ThreadData). Follows t (next c library run turn)) threads turn.thread u lt own (λ k d l apart.
-    follows_other c library run (slice_index_or threads k d) turn (λ same. apart (sym (numbered k d l).number ∙ sym same)) (follow k d l))
+pub all_follow : (c : Setting) (library : Catalog) (books : Books) (run : Run) (turn : Turn) (threads : List ThreadData) (u : ThreadData) (lines : ℕ)
+    → turn.thread < length threads → AreNumbered lines threads → All (λ (t : ThreadData). Follows t run) threads → Follows u (next c library books run turn)
+    → All (λ (t : ThreadData). Follows t (next c library books run turn)) (slice_set threads turn.thread u)
+all_follow c library books run turn threads u lines lt numbered follow own =
+    elsewhere (λ (k : ℕ) (t : ThreadData). Follows t (next c library books run turn)) threads turn.thread u lt own (λ k d l apart.
+    follows_other c library books run (slice_index_or threads k d) turn (λ same. apart (sym (numbered k d l).number ∙ sym same)) (follow k d l))
 
 pub still_numbered : (threads : List ThreadData) (u : ThreadData) (i lines : ℕ) → i < length threads → AreNumbered lines threads → u.side.number ≡ i → u.lines ≤ lines + 1 → AreNumbered (lines + 1) (slice_set threads i u)
 still_numbered threads u i lines lt numbered number few =
@@ -133,48 +134,52 @@ still_numbered threads u i lines lt numbered number few =
 
 -- ---- what a turn leaves
 
--- a line is that of the turn's outcome, and the table and the thread are at the script after it
-pub record IsTurned (c : Setting) (library : Catalog) (run : Run) (table : TableData) (t : ThreadData) (turn : Turn) (l : OutLine) : Type 0 where
-  pub line : l ≡ (outcome c library run turn).line
-  pub there : IsWith table t (next c library run turn)
+-- a line is that of the turn's outcome, and the board and the thread are at the script after it
+pub record IsTurned (c : Setting) (library : Catalog) (books : Books) (run : Run) (board : AloneData) (t : ThreadData) (turn : Turn) (l : OutLine) : Type 0 where
+  pub line : l ≡ (outcome c library books run turn).line
+  pub there : IsWith board t (next c library books run turn)
 
-pub turned : (c : Setting) (library : Catalog) (run : Run) (old new : TableData) (t u : ThreadData) (turn : Turn) (l : OutLine)
+pub turned : (c : Setting) (library : Catalog) (books : Books) (run : Run) (old new : AloneData) (t u : ThreadData) (turn : Turn) (l : OutLine)
     → turn.thread ≡ t.side.number → u.side.number ≡ t.side.number → u.lines ≡ t.lines + 1
-    → ((H : History) (bounds : List Bound) → IsAt old t.side H → BindsAs t.side.number t.variables bounds → LeavesTurn c library (λ (G K : History). G ≡ K) (IsAt new u.side) H bounds t.lines turn l)
+    → ((H : History) (M : CatalogHistory) (bounds : List Bound) → IsAt old.table t.side H → CatalogsAreAt old M → BindsAs t.side.number t.variables bounds
+    → LeavesTurn c library books (λ (G K : History). G ≡ K) (λ (N K : CatalogHistory). N ≡ K) (IsAt new.table u.side) (CatalogsAreAt new) H M bounds t.lines turn l)
     → ((bounds : List Bound) → BindsAs t.side.number t.variables bounds → BindsAs t.side.number u.variables (bindings_after t.side.number bounds turn.task l.reply))
-    → IsWith old t run → IsTurned c library run new u turn l
-turned c library run old new t u turn l own number lines leaves binds is =
+    → IsWith old t run → IsTurned c library books run new u turn l
+turned c library books run old new t u turn l own number lines leaves binds is =
     let w : Result Wish Why = wish_of library (bindings_of turn.thread run.bindings) turn.task in
-    let done : Outcome = outcome c library run turn in
-    let here : IsAt old t.side run.history = record { stands = is.stands; knows = is.follows.knows } in
-    let left : Left (IsAt new u.side) (granted c library run.history (turn_caller t.lines turn) w) l =
-    alone c library (IsAt new u.side) run.history (turn_caller t.lines turn) w l (leaves run.history run.bindings here is.follows.variables)
-    in
-    let made : Left (IsAt new u.side) done l = subst (λ (a : Caller). Left (IsAt new u.side) (granted c library run.history a w) l) (caller_is t run turn is.follows own) left in
+    let done : TurnOutcome = outcome c library books run turn in
+    let H : History = run.history in
+    let M : CatalogHistory = run.catalogs in
+    let caller : Caller = turn_caller t.lines turn in
+    let here : IsAt old.table t.side H = record { stands = is.stands; knows = is.follows.knows } in
+    let all = leaves H M run.bindings here is.catalogs is.follows.variables in
+    let left : Left (IsAt new.table u.side) (granted c library books H M caller w) l = alone c library books (IsAt new.table u.side) (CatalogsAreAt new) H M caller w l all in
+    let catalogs : CatalogsAreAt new done.catalogs = alone_catalogs c library books (IsAt new.table u.side) (CatalogsAreAt new) H M caller w l all in
+    let made : Left (IsAt new.table u.side) (granted c library books H M (next_caller run turn) w) l = subst (λ (a : Caller). Left (IsAt new.table u.side) (granted c library books H M a w) l) (caller_is t run turn is.follows own) left in
     let told : BindsAs t.side.number u.variables (bindings_after t.side.number run.bindings turn.task done.line.reply) =
     subst (λ (x : OutLine). BindsAs t.side.number u.variables (bindings_after t.side.number run.bindings turn.task x.reply)) made.line (binds run.bindings is.follows.variables)
     in
     let named : BindsAs u.side.number u.variables (bindings_after t.side.number run.bindings turn.task done.line.reply) =
     subst (λ (n : ℕ). BindsAs n u.variables (bindings_after t.side.number run.bindings turn.task done.line.reply)) (sym number) told
     in
-    record { line = made.line; there = record { stands = made.now_at.stands; follows = follows_own c library run t u turn own number is.follows made.now_at.knows named lines } }
+    record { line = made.line; there = record { stands = made.now_at.stands; catalogs = catalogs; follows = follows_own c library books run t u turn own number is.follows made.now_at.knows named lines } }
 
 -- a turn takes two steps at most
-pub two_steps : (old new : TableData) (t u : KeptData) → new.setting ≡ old.setting → IsReady 2 old t → ((n : ℕ) → IsReady (n + 2) old t → IsReady n new u) → GoesOn 2 old new
+pub two_steps : (old new : AloneData) (t u : KeptData) → new.table.setting ≡ old.table.setting → IsReady 2 old t → ((n : ℕ) → IsReady (n + 2) old t → IsReady n new u) → GoesOn 2 old new
 two_steps old new t u same ready leaves =
-    let few : steps old + 2 ≤ 2147483647 = ready.steps in
-    let rest : ℕ = 2147483647 - (steps old + 2) in
-    let after : steps new + rest ≤ 2147483647 = (leaves rest (record { number = ready.number; steps = omega arith })).steps in
+    let few : answered old + 2 ≤ 2147483647 = ready.steps in
+    let rest : ℕ = 2147483647 - (answered old + 2) in
+    let after : answered new + rest ≤ 2147483647 = (leaves rest (record { number = ready.number; steps = omega arith })).steps in
     record { setting = same; steps = omega arith }
 
 -- ---- what a turn needs
 
 -- what the turn of a thread asks for
-pub record CanTake (library : Catalog) (table : TableData) (t : ThreadData) (turn : Turn) : Type 0 where
-  pub ready : IsReady 2 table t.side
-  pub shelf : table.setting.opening ≡ opening library
+pub record CanTake (library : Catalog) (board : AloneData) (t : ThreadData) (turn : Turn) : Type 0 where
+  pub ready : IsReady 2 board t.side
+  pub shelf : board.table.setting.opening ≡ opening library
   pub own : turn.thread ≡ t.side.number
-  pub fits : TaskFits table.setting.threads turn.task
+  pub fits : TaskFits board.table.setting.threads turn.task
   pub few : t.lines + 1 < 2 ^ 32
 
 -- the turn at a place
@@ -186,19 +191,19 @@ fits_at threads turns i item fit lt is =
     let long : length (map turn_seen turns) ≡ length turns = length-map turns turn_seen in
     subst (TurnFits threads) (sym (turn_at turns i item lt is)) (fit i (turn_seen item) (omega arith))
 
-pub can_take : (library : Catalog) (start table : TableData) (before threads : List ThreadData) (count lines i : ℕ) (turn : Turn) (d : ThreadData)
-    → CanPlay library start before count → GoesOn (2 * i) start table → length threads ≡ length before → AreNumbered (lines + i) threads → lines + count < 2 ^ 32 → i < count
-    → TurnFits (length before) turn → CanTake library table (get_or threads turn.thread d) turn
-can_take library start table before threads count lines i turn d can on same numbered few lt fits =
+pub can_take : (library : Catalog) (start board : AloneData) (before threads : List ThreadData) (count lines i : ℕ) (turn : Turn) (d : ThreadData)
+    → CanPlay library start before count → GoesOn (2 * i) start board → length threads ≡ length before → AreNumbered (lines + i) threads → lines + count < 2 ^ 32 → i < count
+    → TurnFits (length before) turn → CanTake library board (get_or threads turn.thread d) turn
+can_take library start board before threads count lines i turn d can on same numbered few lt fits =
     let t : ThreadData = get_or threads turn.thread d in
     let thread : turn.thread < length before = fits.thread in
     let within : turn.thread < length threads = omega arith in
     let own : IsNumberedThread (lines + i) turn.thread t = numbered turn.thread d within in
     let number : t.side.number ≡ turn.thread = own.number in
     let most : t.lines ≤ lines + i = own.lines in
-    let many : table.setting.threads ≡ length before = ap (λ (s : Setting). s.threads) on.setting ∙ can.threads in
-    let made : steps table ≤ steps start + 2 * i = on.steps in
-    let room : steps start + 2 * count ≤ 2147483647 = can.steps in
+    let many : board.table.setting.threads ≡ length before = ap (λ (s : Setting). s.threads) on.setting ∙ can.threads in
+    let made : answered board ≤ answered start + 2 * i = on.steps in
+    let room : answered start + 2 * count ≤ 2147483647 = can.steps in
     record {
       ready = record { number = omega arith; steps = omega arith };
       shelf = ap (λ (s : Setting). s.opening) on.setting ∙ can.opening;
@@ -208,11 +213,11 @@ can_take library start table before threads count lines i turn d can on same num
     }
 
 -- the turn at a place of a list that can be played
-pub taking : (library : Catalog) (start table : TableData) (before threads : List ThreadData) (turns : List LentTurn) (lines now i : ℕ) (item : LentTurn) (d : ThreadData)
-    → CanPlay library start before (length turns) → GoesOn (2 * i) start table → length threads ≡ length before → AreNumbered now threads → now ≡ lines + i → lines + length turns < 2 ^ 32
-    → All (TurnFits (length before)) (map turn_seen turns) → i < length turns → item ≡ get_or turns i item → CanTake library table (get_or threads item.thread d) (turn_seen item)
-taking library start table before threads turns lines now i item d can on same numbered printed few fit lt is =
-    can_take library start table before threads (length turns) lines i (turn_seen item) d can on same (subst (λ (n : ℕ). AreNumbered n threads) printed numbered) few lt (fits_at (length before) turns i item fit lt is)
+pub taking : (library : Catalog) (start board : AloneData) (before threads : List ThreadData) (turns : List LentTurn) (lines now i : ℕ) (item : LentTurn) (d : ThreadData)
+    → CanPlay library start before (length turns) → GoesOn (2 * i) start board → length threads ≡ length before → AreNumbered now threads → now ≡ lines + i → lines + length turns < 2 ^ 32
+    → All (TurnFits (length before)) (map turn_seen turns) → i < length turns → item ≡ get_or turns i item → CanTake library board (get_or threads item.thread d) (turn_seen item)
+taking library start board before threads turns lines now i item d can on same numbered printed few fit lt is =
+    can_take library start board before threads (length turns) lines i (turn_seen item) d can on same (subst (λ (n : ℕ). AreNumbered n threads) printed numbered) few lt (fits_at (length before) turns i item fit lt is)
 
 -- ---- what the loop over turns keeps
 
@@ -231,25 +236,25 @@ numbered_on threads d u k lines lines' l pushed lt numbered number more =
     let most : (get_or threads k d).lines ≤ length lines = own.lines in
     subst (λ (n : ℕ). AreNumbered n (slice_set threads k u)) (sym all) (still_numbered threads u k (length lines) lt numbered (number ∙ own.number) (omega arith))
 
-pub goes_on : (start table table' : TableData) (i : ℕ) → GoesOn (2 * i) start table → GoesOn 2 table table' → GoesOn (2 * (i + 1)) start table'
-goes_on start table table' i before after =
-    let made : steps table ≤ steps start + 2 * i = before.steps in
-    let more : steps table' ≤ steps table + 2 = after.steps in
+pub goes_on : (start board board' : AloneData) (i : ℕ) → GoesOn (2 * i) start board → GoesOn 2 board board' → GoesOn (2 * (i + 1)) start board'
+goes_on start board board' i before after =
+    let made : answered board ≤ answered start + 2 * i = before.steps in
+    let more : answered board' ≤ answered board + 2 = after.steps in
     record { setting = after.setting ∙ before.setting; steps = omega arith }
 
 -- the script after one more turn, where the thread at its place has left this
-pub after_turn : (library : Catalog) (turns : List LentTurn) (start : Run) (c : Setting) (table table' : TableData) (threads : List ThreadData) (d u : ThreadData) (lines lines' : List OutLine) (l : OutLine) (i most : ℕ) (run : Run) (item : LentTurn)
-    → table.setting ≡ c → i < length turns → item ≡ get_or turns i item → item.thread < length threads → AreNumbered most threads
-    → ((r : Run) → IsWith table (get_or threads item.thread d) r → IsTurned table.setting library r table' u (turn_seen item) l)
+pub after_turn : (library : Catalog) (books : Books) (turns : List LentTurn) (start : Run) (c : Setting) (board board' : AloneData) (threads : List ThreadData) (d u : ThreadData) (lines lines' : List OutLine) (l : OutLine) (i most : ℕ) (run : Run) (item : LentTurn)
+    → board.table.setting ≡ c → i < length turns → item ≡ get_or turns i item → item.thread < length threads → AreNumbered most threads
+    → ((r : Run) → IsWith board (get_or threads item.thread d) r → IsTurned board.table.setting library books r board' u (turn_seen item) l)
     → lines' ≡ lines ++ l ∷ []
-    → PlaysOn c library (map turn_seen turns) start table threads lines i run
-    → PlaysOn c library (map turn_seen turns) start table' (slice_set threads item.thread u) lines' (i + 1) (next c library run (turn_seen item))
-after_turn library turns start c table table' threads d u lines lines' l i most run item same lt is within numbered leaves pushed p =
+    → PlaysOn c library books (map turn_seen turns) start board threads lines i run
+    → PlaysOn c library books (map turn_seen turns) start board' (slice_set threads item.thread u) lines' (i + 1) (next c library books run (turn_seen item))
+after_turn library books turns start c board board' threads d u lines lines' l i most run item same lt is within numbered leaves pushed p =
     let turn : Turn = turn_seen item in
     let long : length (map turn_seen turns) ≡ length turns = length-map turns turn_seen in
-    let before : IsWith table (get_or threads item.thread d) run = record { stands = p.at.stands; follows = p.at.follow item.thread d within } in
-    let after : IsWith table' u (next c library run turn) = subst (λ (s : Setting). IsWith table' u (next s library run turn)) same (leaves run before).there in
-    let said : l ≡ (outcome c library run turn).line = subst (λ (s : Setting). l ≡ (outcome s library run turn).line) same (leaves run before).line in
-    plays_on c library (map turn_seen turns) start table table' threads (slice_set threads item.thread u) lines lines' i run turn (omega (arith, lt, long)) (turn_at turns i item lt is) p
+    let before : IsWith board (get_or threads item.thread d) run = record { stands = p.at.stands; catalogs = p.at.catalogs; follows = p.at.follow item.thread d within } in
+    let after : IsWith board' u (next c library books run turn) = subst (λ (s : Setting). IsWith board' u (next s library books run turn)) same (leaves run before).there in
+    let said : l ≡ (outcome c library books run turn).line = subst (λ (s : Setting). l ≡ (outcome s library books run turn).line) same (leaves run before).line in
+    plays_on c library books (map turn_seen turns) start board board' threads (slice_set threads item.thread u) lines lines' i run turn (omega (arith, lt, long)) (turn_at turns i item lt is) p
     (pushed ∙ ap (λ (x : OutLine). lines ++ x ∷ []) said)
-    (record { stands = after.stands; follow = all_follow c library run turn threads u most within numbered p.at.follow after.follows })
+    (record { stands = after.stands; catalogs = after.catalogs; follow = all_follow c library books run turn threads u most within numbered p.at.follow after.follows })

@@ -17,11 +17,14 @@ use Rattle.script_lines.specs.Holds.{object_held, open_holds, held_as}
 use Rattle.script_lines.specs.Lines.{Caller}
 use Rattle.script_lines.specs.Turns.{Turn}
 use Rattle.script_lines.specs.Variables.{Bound, bindings_of, bindings_after}
-use Rattle.script_lines.specs.Wishes.{Wish, Calls, ReadsOf, Reads, AsksSelection, AsksName, wish_of, ops_of}
-use Rattle.script_lines.specs.Outcome.{Outcome, with_call, reads_between, reads_of, read_line, granted}
-use Rattle.script_serial.specs.Serial.{Run, next_caller, outcome, with_outcome, played}
+use Rattle.script_lines.specs.Wishes.{Wish, Calls, ReadsOf, Reads, AsksSelection, AsksName, wish_of, ops_of, OpensCatalog, GetsMessage, ClosesCatalog}
+use Rattle.script_lines.specs.Outcome.{Outcome, with_call, reads_between, reads_of, read_line, granted, asked_of}
+use Rattle.script_serial.specs.Serial.{Run, next_caller, outcome, with_outcome, played, TurnOutcome}
 use Rattle.script_serial.specs.Prints.{Told, told, bound_by, places_in, PlacedCall, call_of, calls_of, calls_after, with_placed, history_below}
 use Rattle.script_serial.proofs.SerialLines.{granted_caller, added}
+use Rattle.script_lines.specs.Catalogs.{Books}
+use Rattle.script_serial.proofs.CatalogLines.{opens_places}
+use Rattle.catalog_table.specs.Entry.{History as CatalogHistory}
 
 -- ---- the calls of a history, each at its place
 
@@ -112,25 +115,28 @@ of_on : (c : Setting) (library : Catalog) (H : History) (at : Caller) (n : Named
 of_on c library H at n read (Some object) = goes_nowhere H
 of_on c library H at n read None = between_on c library H at n read (object_held (answer c H at.thread (table.Hold n)))
 
-pub granted_on : (c : Setting) (library : Catalog) (H : History) (at : Caller) (w : Result Wish Why) → GoesOnFrom H (granted c library H at w).history
-granted_on c library H at (Err why) = goes_nowhere H
-granted_on c library H at (Ok (Calls categories op)) = one_entry H (entry c H at.thread op)
-granted_on c library H at (Ok (ReadsOf n read)) = of_on c library H at n read (held_as (open_holds H at.thread) n)
-granted_on c library H at (Ok (Reads read)) = goes_nowhere H
-granted_on c library H at (Ok AsksSelection) = goes_nowhere H
-granted_on c library H at (Ok (AsksName categories)) = goes_nowhere H
+pub granted_on : (c : Setting) (library : Catalog) (books : Books) (H : History) (M : CatalogHistory) (at : Caller) (w : Result Wish Why) → GoesOnFrom H (granted c library books H M at w).history
+granted_on c library books H M at (Err why) = goes_nowhere H
+granted_on c library books H M at (Ok (Calls categories op)) = one_entry H (entry c H at.thread op)
+granted_on c library books H M at (Ok (ReadsOf n read)) = of_on c library H at n read (held_as (open_holds H at.thread) n)
+granted_on c library books H M at (Ok (Reads read)) = goes_nowhere H
+granted_on c library books H M at (Ok AsksSelection) = goes_nowhere H
+granted_on c library books H M at (Ok (AsksName categories)) = goes_nowhere H
+granted_on c library books H M at (Ok (OpensCatalog name)) = goes_nowhere H
+granted_on c library books H M at (Ok (GetsMessage h set message default)) = goes_nowhere H
+granted_on c library books H M at (Ok (ClosesCatalog h)) = goes_nowhere H
 
 abbrev pub wish_in : Catalog → Run → Turn → Result Wish Why
 wish_in library run turn = wish_of library (bindings_of turn.thread run.bindings) turn.task
 
-pub turn_on : (c : Setting) (library : Catalog) (run : Run) (turn : Turn) → GoesOnFrom run.history (outcome c library run turn).history
-turn_on c library run turn = granted_on c library run.history (next_caller run turn) (wish_in library run turn)
+pub turn_on : (c : Setting) (library : Catalog) (books : Books) (run : Run) (turn : Turn) → GoesOnFrom run.history (outcome c library books run turn).history
+turn_on c library books run turn = granted_on c library books run.history run.catalogs (next_caller run turn) (wish_in library run turn)
 
-pub played_on : (c : Setting) (library : Catalog) (run : Run) (turns : List Turn) → GoesOnFrom run.history (played c library run turns).history
-played_on c library run [] = goes_nowhere run.history
-played_on c library run (turn ∷ turns) =
-    let done : Outcome = outcome c library run turn in
-    goes_on run.history done.history (played c library (with_outcome run turn done) turns).history (turn_on c library run turn) (played_on c library (with_outcome run turn done) turns)
+pub played_on : (c : Setting) (library : Catalog) (books : Books) (run : Run) (turns : List Turn) → GoesOnFrom run.history (played c library books run turns).history
+played_on c library books run [] = goes_nowhere run.history
+played_on c library books run (turn ∷ turns) =
+    let done : TurnOutcome = outcome c library books run turn in
+    goes_on run.history done.history (played c library books (with_outcome run turn done) turns).history (turn_on c library books run turn) (played_on c library books (with_outcome run turn done) turns)
 
 -- ---- histories stay legal
 
@@ -146,19 +152,22 @@ of_legal : (c : Setting) (library : Catalog) (H : History) (at : Caller) (n : Na
 of_legal c library H at n read (Some object) legal = legal
 of_legal c library H at n read None legal = between_legal c library H at n read (object_held (answer c H at.thread (table.Hold n))) legal
 
-pub granted_legal : (c : Setting) (library : Catalog) (H : History) (at : Caller) (w : Result Wish Why) → IsLegal c H → IsLegal c (granted c library H at w).history
-granted_legal c library H at (Err why) legal = legal
-granted_legal c library H at (Ok (Calls categories op)) legal = legal_call c H at.thread op legal
-granted_legal c library H at (Ok (ReadsOf n read)) legal = of_legal c library H at n read (held_as (open_holds H at.thread) n) legal
-granted_legal c library H at (Ok (Reads read)) legal = legal
-granted_legal c library H at (Ok AsksSelection) legal = legal
-granted_legal c library H at (Ok (AsksName categories)) legal = legal
+pub granted_legal : (c : Setting) (library : Catalog) (books : Books) (H : History) (M : CatalogHistory) (at : Caller) (w : Result Wish Why) → IsLegal c H → IsLegal c (granted c library books H M at w).history
+granted_legal c library books H M at (Err why) legal = legal
+granted_legal c library books H M at (Ok (Calls categories op)) legal = legal_call c H at.thread op legal
+granted_legal c library books H M at (Ok (ReadsOf n read)) legal = of_legal c library H at n read (held_as (open_holds H at.thread) n) legal
+granted_legal c library books H M at (Ok (Reads read)) legal = legal
+granted_legal c library books H M at (Ok AsksSelection) legal = legal
+granted_legal c library books H M at (Ok (AsksName categories)) legal = legal
+granted_legal c library books H M at (Ok (OpensCatalog name)) legal = legal
+granted_legal c library books H M at (Ok (GetsMessage h set message default)) legal = legal
+granted_legal c library books H M at (Ok (ClosesCatalog h)) legal = legal
 
-pub played_legal : (c : Setting) (library : Catalog) (run : Run) (turns : List Turn) → IsLegal c run.history → IsLegal c (played c library run turns).history
-played_legal c library run [] legal = legal
-played_legal c library run (turn ∷ turns) legal =
-    played_legal c library (with_outcome run turn (outcome c library run turn)) turns
-    (granted_legal c library run.history (next_caller run turn) (wish_in library run turn) legal)
+pub played_legal : (c : Setting) (library : Catalog) (books : Books) (run : Run) (turns : List Turn) → IsLegal c run.history → IsLegal c (played c library books run turns).history
+played_legal c library books run [] legal = legal
+played_legal c library books run (turn ∷ turns) legal =
+    played_legal c library books (with_outcome run turn (outcome c library books run turn)) turns
+    (granted_legal c library books run.history run.catalogs (next_caller run turn) (wish_in library run turn) legal)
 
 -- ---- the calls of a line are those that its history has gained
 
@@ -186,58 +195,61 @@ read_gains : (c : Setting) (library : Catalog) (H : History) (at : Caller) (read
 read_gains c library H at read (Some object) = no_gain H
 read_gains c library H at read None = no_gain H
 
-pub granted_gains : (c : Setting) (library : Catalog) (H : History) (at : Caller) (w : Result Wish Why) → Gains H at w (granted c library H at w)
-granted_gains c library H at (Err why) = no_gain H
-granted_gains c library H at (Ok (Calls categories op)) = refl
-granted_gains c library H at (Ok (ReadsOf n read)) = of_gains c library H at n read (held_as (open_holds H at.thread) n)
-granted_gains c library H at (Ok (Reads read)) = read_gains c library H at read (own H at.thread)
-granted_gains c library H at (Ok AsksSelection) = no_gain H
-granted_gains c library H at (Ok (AsksName categories)) = no_gain H
+pub granted_gains : (c : Setting) (library : Catalog) (books : Books) (H : History) (M : CatalogHistory) (at : Caller) (w : Result Wish Why) → Gains H at w (granted c library books H M at w)
+granted_gains c library books H M at (Err why) = no_gain H
+granted_gains c library books H M at (Ok (Calls categories op)) = refl
+granted_gains c library books H M at (Ok (ReadsOf n read)) = of_gains c library H at n read (held_as (open_holds H at.thread) n)
+granted_gains c library books H M at (Ok (Reads read)) = read_gains c library H at read (own H at.thread)
+granted_gains c library books H M at (Ok AsksSelection) = no_gain H
+granted_gains c library books H M at (Ok (AsksName categories)) = no_gain H
+granted_gains c library books H M at (Ok (OpensCatalog name)) = no_gain H ∙ ap (λ (ps : List ℕ). calls_from H ++ wished_calls at.thread ps (Ok (OpensCatalog name))) (sym (opens_places c library books H at name (asked_of c library books H M at.thread (Ok (OpensCatalog name))) (own H at.thread)))
+granted_gains c library books H M at (Ok (GetsMessage h set message default)) = no_gain H
+granted_gains c library books H M at (Ok (ClosesCatalog h)) = no_gain H
 
 -- ---- the lines with their tasks
 
 abbrev pub told_of : Turn → OutLine → Told
 told_of turn l = record { task = turn.task; line = l }
 
-pub line_thread : (c : Setting) (library : Catalog) (run : Run) (turn : Turn) → (outcome c library run turn).line.thread ≡ turn.thread
-line_thread c library run turn = ap (λ (at : Caller). at.thread) (granted_caller c library run.history (next_caller run turn) (wish_in library run turn))
+pub line_thread : (c : Setting) (library : Catalog) (books : Books) (run : Run) (turn : Turn) → (outcome c library books run turn).line.thread ≡ turn.thread
+line_thread c library books run turn = ap (λ (at : Caller). at.thread) (granted_caller c library books run.history run.catalogs (next_caller run turn) (wish_in library run turn))
 
-pub line_round : (c : Setting) (library : Catalog) (run : Run) (turn : Turn) → (outcome c library run turn).line.round ≡ turn.round
-line_round c library run turn = ap (λ (at : Caller). at.round) (granted_caller c library run.history (next_caller run turn) (wish_in library run turn))
+pub line_round : (c : Setting) (library : Catalog) (books : Books) (run : Run) (turn : Turn) → (outcome c library books run turn).line.round ≡ turn.round
+line_round c library books run turn = ap (λ (at : Caller). at.round) (granted_caller c library books run.history run.catalogs (next_caller run turn) (wish_in library run turn))
 
 -- what variables stand for after one more line
-pub bound_next : (c : Setting) (library : Catalog) (run : Run) (before : List Told) (turn : Turn) → bound_by before ≡ run.bindings
-    → bound_by (told_of turn (outcome c library run turn).line ∷ before) ≡ (with_outcome run turn (outcome c library run turn)).bindings
-bound_next c library run before turn bounds =
-    let l : OutLine = (outcome c library run turn).line in
-    ap (λ (thread : ℕ). bindings_after thread (bound_by before) turn.task l.reply) (line_thread c library run turn)
+pub bound_next : (c : Setting) (library : Catalog) (books : Books) (run : Run) (before : List Told) (turn : Turn) → bound_by before ≡ run.bindings
+    → bound_by (told_of turn (outcome c library books run turn).line ∷ before) ≡ (with_outcome run turn (outcome c library books run turn)).bindings
+bound_next c library books run before turn bounds =
+    let l : OutLine = (outcome c library books run turn).line in
+    ap (λ (thread : ℕ). bindings_after thread (bound_by before) turn.task l.reply) (line_thread c library books run turn)
     ∙ ap (λ (bs : List Bound). bindings_after turn.thread bs turn.task l.reply) bounds
 
-pub calls_here : (c : Setting) (library : Catalog) (run : Run) (before : List Told) (turn : Turn) → bound_by before ≡ run.bindings
-    → calls_of library (bound_by before) (told_of turn (outcome c library run turn).line)
-    ≡ wished_calls turn.thread (places_in (outcome c library run turn).line.places) (wish_in library run turn)
-calls_here c library run before turn bounds =
-    let at : List ℕ = places_in (outcome c library run turn).line.places in
-    ap (λ (thread : ℕ). wished_calls thread at (wish_of library (bindings_of thread (bound_by before)) turn.task)) (line_thread c library run turn)
+pub calls_here : (c : Setting) (library : Catalog) (books : Books) (run : Run) (before : List Told) (turn : Turn) → bound_by before ≡ run.bindings
+    → calls_of library (bound_by before) (told_of turn (outcome c library books run turn).line)
+    ≡ wished_calls turn.thread (places_in (outcome c library books run turn).line.places) (wish_in library run turn)
+calls_here c library books run before turn bounds =
+    let at : List ℕ = places_in (outcome c library books run turn).line.places in
+    ap (λ (thread : ℕ). wished_calls thread at (wish_of library (bindings_of thread (bound_by before)) turn.task)) (line_thread c library books run turn)
     ∙ ap (λ (bs : List Bound). wished_calls turn.thread at (wish_of library (bindings_of turn.thread bs) turn.task)) bounds
 
 -- the calls of the lines of turns are those of the history
-pub calls_played : (c : Setting) (library : Catalog) (run : Run) (before : List Told) (turns : List Turn) → bound_by before ≡ run.bindings
-    → calls_from run.history ++ calls_after library before (told turns (added c library run turns)) ≡ calls_from (played c library run turns).history
-calls_played c library run before [] bounds = append-nil (calls_from run.history)
-calls_played c library run before (turn ∷ turns) bounds =
-    let done : Outcome = outcome c library run turn in
+pub calls_played : (c : Setting) (library : Catalog) (books : Books) (run : Run) (before : List Told) (turns : List Turn) → bound_by before ≡ run.bindings
+    → calls_from run.history ++ calls_after library before (told turns (added c library books run turns)) ≡ calls_from (played c library books run turns).history
+calls_played c library books run before [] bounds = append-nil (calls_from run.history)
+calls_played c library books run before (turn ∷ turns) bounds =
+    let done : TurnOutcome = outcome c library books run turn in
     let d : Told = told_of turn done.line in
     let next : Run = with_outcome run turn done in
-    let after : List PlacedCall = calls_after library (d ∷ before) (told turns (added c library next turns)) in
-    ap (λ (here : List PlacedCall). calls_from run.history ++ (here ++ after)) (calls_here c library run before turn bounds)
+    let after : List PlacedCall = calls_after library (d ∷ before) (told turns (added c library books next turns)) in
+    ap (λ (here : List PlacedCall). calls_from run.history ++ (here ++ after)) (calls_here c library books run before turn bounds)
     ∙ sym (append_assoc (calls_from run.history) (wished_calls turn.thread (places_in done.line.places) (wish_in library run turn)) after)
-    ∙ ap (λ (calls : List PlacedCall). calls ++ after) (sym (granted_gains c library run.history (next_caller run turn) (wish_in library run turn)))
-    ∙ calls_played c library next (d ∷ before) turns (bound_next c library run before turn bounds)
+    ∙ ap (λ (calls : List PlacedCall). calls ++ after) (sym (granted_gains c library books run.history run.catalogs (next_caller run turn) (wish_in library run turn)))
+    ∙ calls_played c library books next (d ∷ before) turns (bound_next c library books run before turn bounds)
 
 -- the tasks of turns tell of their lines alone
-pub told_first : (c : Setting) (library : Catalog) (run : Run) (turns : List Turn) (more : List OutLine) → told turns (added c library run turns ++ more) ≡ told turns (added c library run turns)
-told_first c library run [] more = refl
-told_first c library run (turn ∷ turns) more =
-    let done : Outcome = outcome c library run turn in
-    ap (λ (ds : List Told). told_of turn done.line ∷ ds) (told_first c library (with_outcome run turn done) turns more)
+pub told_first : (c : Setting) (library : Catalog) (books : Books) (run : Run) (turns : List Turn) (more : List OutLine) → told turns (added c library books run turns ++ more) ≡ told turns (added c library books run turns)
+told_first c library books run [] more = refl
+told_first c library books run (turn ∷ turns) more =
+    let done : TurnOutcome = outcome c library books run turn in
+    ap (λ (ds : List Told). told_of turn done.line ∷ ds) (told_first c library books (with_outcome run turn done) turns more)

@@ -17,10 +17,13 @@ use Rattle.script_lines.specs.Holds.{object_held, open_holds, held_as}
 use Rattle.script_lines.specs.Lines.{Caller}
 use Rattle.script_lines.specs.Turns.{Turn}
 use Rattle.script_lines.specs.Variables.{bindings_of}
-use Rattle.script_lines.specs.Wishes.{Wish, Calls, ReadsOf, Reads, AsksSelection, AsksName, wish_of}
-use Rattle.script_lines.specs.Outcome.{Outcome, reads_between, reads_of, read_line, granted}
-use Rattle.script_serial.specs.Serial.{Run, next_caller, outcome, with_outcome, played}
+use Rattle.script_lines.specs.Wishes.{Wish, Calls, ReadsOf, Reads, AsksSelection, AsksName, wish_of, OpensCatalog, GetsMessage, ClosesCatalog}
+use Rattle.script_lines.specs.Outcome.{Outcome, reads_between, reads_of, read_line, granted, asked_of}
+use Rattle.script_serial.specs.Serial.{Run, next_caller, outcome, with_outcome, played, TurnOutcome}
 use Rattle.script_serial.specs.Prints.{places_in, all_places, caller_of, caller_after, callers_after}
+use Rattle.script_lines.specs.Catalogs.{Books}
+use Rattle.script_serial.proofs.CatalogLines.{opens_caller, opens_places}
+use Rattle.catalog_table.specs.Entry.{History as CatalogHistory}
 
 -- ---- whose line it is
 
@@ -36,13 +39,16 @@ read_caller : (c : Setting) (library : Catalog) (H : History) (at : Caller) (rea
 read_caller c library H at read (Some object) = refl
 read_caller c library H at read None = refl
 
-pub granted_caller : (c : Setting) (library : Catalog) (H : History) (at : Caller) (w : Result Wish Why) → caller_of (granted c library H at w).line ≡ at
-granted_caller c library H at (Err why) = refl
-granted_caller c library H at (Ok (Calls categories op)) = refl
-granted_caller c library H at (Ok (ReadsOf n read)) = of_caller c library H at n read (held_as (open_holds H at.thread) n)
-granted_caller c library H at (Ok (Reads read)) = read_caller c library H at read (own H at.thread)
-granted_caller c library H at (Ok AsksSelection) = refl
-granted_caller c library H at (Ok (AsksName categories)) = refl
+pub granted_caller : (c : Setting) (library : Catalog) (books : Books) (H : History) (M : CatalogHistory) (at : Caller) (w : Result Wish Why) → caller_of (granted c library books H M at w).line ≡ at
+granted_caller c library books H M at (Err why) = refl
+granted_caller c library books H M at (Ok (Calls categories op)) = refl
+granted_caller c library books H M at (Ok (ReadsOf n read)) = of_caller c library H at n read (held_as (open_holds H at.thread) n)
+granted_caller c library books H M at (Ok (Reads read)) = read_caller c library H at read (own H at.thread)
+granted_caller c library books H M at (Ok AsksSelection) = refl
+granted_caller c library books H M at (Ok (AsksName categories)) = refl
+granted_caller c library books H M at (Ok (OpensCatalog name)) = opens_caller c library books H at name (asked_of c library books H M at.thread (Ok (OpensCatalog name))) (own H at.thread)
+granted_caller c library books H M at (Ok (GetsMessage h set message default)) = refl
+granted_caller c library books H M at (Ok (ClosesCatalog h)) = refl
 
 one_more : (b : Bool) (n m : ℕ) → n ≡ m → n + cond b 1 0 ≡ m + cond b 1 0
 one_more b n m e = ap (λ (k : ℕ). k + cond b 1 0) e
@@ -56,43 +62,43 @@ pub next_is : (run : Run) (turn : Turn) → next_caller run turn ≡ caller_afte
 next_is run turn = ap (λ (n : ℕ). record { round = turn.round; thread = turn.thread; index = n + 1 }) (same_count turn.thread 0 run.lines)
 
 -- the callers of the lines are those of the turns
-pub callers_played : (c : Setting) (library : Catalog) (run : Run) (turns : List Turn) → map caller_of (played c library run turns).lines ≡ map caller_of run.lines ++ callers_after (map caller_of run.lines) turns
-callers_played c library run [] = sym (append-nil (map caller_of run.lines))
-callers_played c library run (turn ∷ turns) =
+pub callers_played : (c : Setting) (library : Catalog) (books : Books) (run : Run) (turns : List Turn) → map caller_of (played c library books run turns).lines ≡ map caller_of run.lines ++ callers_after (map caller_of run.lines) turns
+callers_played c library books run [] = sym (append-nil (map caller_of run.lines))
+callers_played c library books run (turn ∷ turns) =
     let before : List Caller = map caller_of run.lines in
-    let done : Outcome = outcome c library run turn in
+    let done : TurnOutcome = outcome c library books run turn in
     let whose : caller_of done.line ≡ caller_after before turn =
-    granted_caller c library run.history (next_caller run turn) (wish_of library (bindings_of turn.thread run.bindings) turn.task) ∙ next_is run turn
+    granted_caller c library books run.history run.catalogs (next_caller run turn) (wish_of library (bindings_of turn.thread run.bindings) turn.task) ∙ next_is run turn
     in
     let longer : map caller_of (run.lines ++ done.line ∷ []) ≡ before ++ caller_after before turn ∷ [] =
     map-append caller_of run.lines (done.line ∷ []) ∙ ap (λ (at : Caller). before ++ at ∷ []) whose
     in
-    callers_played c library (with_outcome run turn done) turns
+    callers_played c library books (with_outcome run turn done) turns
     ∙ ap (λ (xs : List Caller). xs ++ callers_after xs turns) longer
     ∙ append_assoc before (caller_after before turn ∷ []) (callers_after (before ++ caller_after before turn ∷ []) turns)
 
-pub played_append : (c : Setting) (library : Catalog) (run : Run) (xs ys : List Turn) → played c library run (xs ++ ys) ≡ played c library (played c library run xs) ys
-played_append c library run [] ys = refl
-played_append c library run (x ∷ xs) ys = played_append c library (with_outcome run x (outcome c library run x)) xs ys
+pub played_append : (c : Setting) (library : Catalog) (books : Books) (run : Run) (xs ys : List Turn) → played c library books run (xs ++ ys) ≡ played c library books (played c library books run xs) ys
+played_append c library books run [] ys = refl
+played_append c library books run (x ∷ xs) ys = played_append c library books (with_outcome run x (outcome c library books run x)) xs ys
 
 -- ---- the lines that turns add
 
-abbrev pub added : Setting → Catalog → Run → List Turn → List OutLine
-added c library run [] = []
-added c library run (turn ∷ turns) = (outcome c library run turn).line ∷ added c library (with_outcome run turn (outcome c library run turn)) turns
+abbrev pub added : Setting → Catalog → Books → Run → List Turn → List OutLine
+added c library books run [] = []
+added c library books run (turn ∷ turns) = (outcome c library books run turn).line ∷ added c library books (with_outcome run turn (outcome c library books run turn)) turns
 
-pub played_lines : (c : Setting) (library : Catalog) (run : Run) (turns : List Turn) → (played c library run turns).lines ≡ run.lines ++ added c library run turns
-played_lines c library run [] = sym (append-nil run.lines)
-played_lines c library run (turn ∷ turns) =
-    let done : Outcome = outcome c library run turn in
-    played_lines c library (with_outcome run turn done) turns
-    ∙ append_assoc run.lines (done.line ∷ []) (added c library (with_outcome run turn done) turns)
+pub played_lines : (c : Setting) (library : Catalog) (books : Books) (run : Run) (turns : List Turn) → (played c library books run turns).lines ≡ run.lines ++ added c library books run turns
+played_lines c library books run [] = sym (append-nil run.lines)
+played_lines c library books run (turn ∷ turns) =
+    let done : TurnOutcome = outcome c library books run turn in
+    played_lines c library books (with_outcome run turn done) turns
+    ∙ append_assoc run.lines (done.line ∷ []) (added c library books (with_outcome run turn done) turns)
 
-pub added_append : (c : Setting) (library : Catalog) (run : Run) (xs ys : List Turn) → added c library run (xs ++ ys) ≡ added c library run xs ++ added c library (played c library run xs) ys
-added_append c library run [] ys = refl
-added_append c library run (x ∷ xs) ys =
-    let done : Outcome = outcome c library run x in
-    ap (λ (ls : List OutLine). done.line ∷ ls) (added_append c library (with_outcome run x done) xs ys)
+pub added_append : (c : Setting) (library : Catalog) (books : Books) (run : Run) (xs ys : List Turn) → added c library books run (xs ++ ys) ≡ added c library books run xs ++ added c library books (played c library books run xs) ys
+added_append c library books run [] ys = refl
+added_append c library books run (x ∷ xs) ys =
+    let done : TurnOutcome = outcome c library books run x in
+    ap (λ (ls : List OutLine). done.line ∷ ls) (added_append c library books (with_outcome run x done) xs ys)
 
 -- ---- places
 
@@ -103,13 +109,13 @@ place_more : (a n : ℕ) → range_with_len a n ++ (a + n) ∷ [] ≡ range_with
 place_more a zero = let here : a + 0 ≡ a = omega arith in ap (λ (m : ℕ). m ∷ []) here
 place_more a (suc n) = let next : a + suc n ≡ a + 1 + n = omega arith in ap (λ (m : ℕ). a ∷ (range_with_len (a + 1) n ++ m ∷ [])) next ∙ ap (λ (xs : List ℕ). a ∷ xs) (place_more (a + 1) n)
 
-one_place : (n : ℕ) → first_places n ++ n ∷ [] ≡ first_places (suc n)
+pub one_place : (n : ℕ) → first_places n ++ n ∷ [] ≡ first_places (suc n)
 one_place n = let here : n ≡ 0 + n = omega arith in ap (λ (m : ℕ). first_places n ++ m ∷ []) here ∙ place_more 0 n
 
 two_places : (n : ℕ) → first_places n ++ n ∷ suc n ∷ [] ≡ first_places (suc (suc n))
 two_places n = sym (append_assoc (first_places n) (n ∷ []) (suc n ∷ [])) ∙ ap (λ (xs : List ℕ). xs ++ suc n ∷ []) (one_place n) ∙ one_place (suc n)
 
-no_place : (n : ℕ) → first_places n ++ [] ≡ first_places n
+pub no_place : (n : ℕ) → first_places n ++ [] ≡ first_places n
 no_place n = append-nil (first_places n)
 
 abbrev Grows : History → Outcome → Type 0
@@ -128,25 +134,28 @@ read_places c library H at read (Some object) = no_place (length H)
 read_places c library H at read None = no_place (length H)
 
 -- a line has the next places, one for each entry that it makes
-pub granted_places : (c : Setting) (library : Catalog) (H : History) (at : Caller) (w : Result Wish Why) → Grows H (granted c library H at w)
-granted_places c library H at (Err why) = no_place (length H)
-granted_places c library H at (Ok (Calls categories op)) = one_place (length H)
-granted_places c library H at (Ok (ReadsOf n read)) = of_places c library H at n read (held_as (open_holds H at.thread) n)
-granted_places c library H at (Ok (Reads read)) = read_places c library H at read (own H at.thread)
-granted_places c library H at (Ok AsksSelection) = no_place (length H)
-granted_places c library H at (Ok (AsksName categories)) = no_place (length H)
+pub granted_places : (c : Setting) (library : Catalog) (books : Books) (H : History) (M : CatalogHistory) (at : Caller) (w : Result Wish Why) → Grows H (granted c library books H M at w)
+granted_places c library books H M at (Err why) = no_place (length H)
+granted_places c library books H M at (Ok (Calls categories op)) = one_place (length H)
+granted_places c library books H M at (Ok (ReadsOf n read)) = of_places c library H at n read (held_as (open_holds H at.thread) n)
+granted_places c library books H M at (Ok (Reads read)) = read_places c library H at read (own H at.thread)
+granted_places c library books H M at (Ok AsksSelection) = no_place (length H)
+granted_places c library books H M at (Ok (AsksName categories)) = no_place (length H)
+granted_places c library books H M at (Ok (OpensCatalog name)) = ap (λ (ps : List ℕ). first_places (length H) ++ ps) (opens_places c library books H at name (asked_of c library books H M at.thread (Ok (OpensCatalog name))) (own H at.thread)) ∙ no_place (length H)
+granted_places c library books H M at (Ok (GetsMessage h set message default)) = no_place (length H)
+granted_places c library books H M at (Ok (ClosesCatalog h)) = no_place (length H)
 
 abbrev pub IsCounted : Run → Type 0
 IsCounted run = all_places run.lines ≡ first_places (length run.history)
 
-pub one_turn : (c : Setting) (library : Catalog) (run : Run) (turn : Turn) → IsCounted run → IsCounted (with_outcome run turn (outcome c library run turn))
-one_turn c library run turn counted =
-    let done : Outcome = outcome c library run turn in
+pub one_turn : (c : Setting) (library : Catalog) (books : Books) (run : Run) (turn : Turn) → IsCounted run → IsCounted (with_outcome run turn (outcome c library books run turn))
+one_turn c library books run turn counted =
+    let done : TurnOutcome = outcome c library books run turn in
     flat_map-append (λ (l : OutLine). places_in l.places) run.lines (done.line ∷ [])
     ∙ ap (λ (xs : List ℕ). all_places run.lines ++ xs) (append-nil (places_in done.line.places))
     ∙ ap (λ (xs : List ℕ). xs ++ places_in done.line.places) counted
-    ∙ granted_places c library run.history (next_caller run turn) (wish_of library (bindings_of turn.thread run.bindings) turn.task)
+    ∙ granted_places c library books run.history run.catalogs (next_caller run turn) (wish_of library (bindings_of turn.thread run.bindings) turn.task)
 
-pub all_turns_counted : (c : Setting) (library : Catalog) (run : Run) (turns : List Turn) → IsCounted run → IsCounted (played c library run turns)
-all_turns_counted c library run [] counted = counted
-all_turns_counted c library run (turn ∷ turns) counted = all_turns_counted c library (with_outcome run turn (outcome c library run turn)) turns (one_turn c library run turn counted)
+pub all_turns_counted : (c : Setting) (library : Catalog) (books : Books) (run : Run) (turns : List Turn) → IsCounted run → IsCounted (played c library books run turns)
+all_turns_counted c library books run [] counted = counted
+all_turns_counted c library books run (turn ∷ turns) counted = all_turns_counted c library books (with_outcome run turn (outcome c library books run turn)) turns (one_turn c library books run turn counted)

@@ -6,33 +6,36 @@ use Rattle.category_store.specs.Catalog.{Catalog}
 use Rattle.handle_table.specs.declared.handle.Named.{Named}
 use Rattle.handle_table.specs.Entry as table
 use Rattle.handle_table.specs.Entry.{History, Setting}
-use Rattle.handle_table.specs.History.{sets}
+use Rattle.handle_table.specs.History.{sets, global}
 use Rattle.handle_table.specs.Answer.{answer, own, IsLegal}
 use Rattle.script_commands.specs.declared.command.Read.{Read}
 use Rattle.script_out.specs.declared.output.OutLine.{OutLine}
 use Rattle.script_out.specs.declared.output.Places.TheVariants as places
 use Rattle.script_out.specs.declared.output.Why.{Why}
-use Rattle.script_serial.specs.Plan.{PlanData}
+use Rattle.script_serial.specs.Plan.{PlanData, books_of}
 use Rattle.script_lines.specs.Holds.{object_held, open_holds, held_as}
 use Rattle.script_lines.specs.Lines.{Caller}
 use Rattle.script_lines.specs.Turns.{Turn}
-use Rattle.script_lines.specs.Wishes.{Wish, Calls, ReadsOf, Reads, AsksSelection, AsksName}
-use Rattle.script_lines.specs.Outcome.{Outcome, reads_between, reads_of, read_line, granted}
-use Rattle.script_serial.specs.Serial.{Run, next_caller, outcome, with_outcome, played, begun, serial_lines, setting}
-use Rattle.script_serial.specs.Prints.{told, PlacedCall, calls_after, history_below, all_turns, AreNewest, PrintsInOrder}
+use Rattle.script_lines.specs.Wishes.{Wish, Calls, ReadsOf, Reads, AsksSelection, AsksName, OpensCatalog, GetsMessage, ClosesCatalog}
+use Rattle.script_lines.specs.Outcome.{Outcome, reads_between, reads_of, read_line, granted, opens_line, asked_of}
+use Rattle.script_serial.specs.Serial.{Run, next_caller, outcome, with_outcome, played, begun, serial_lines, setting, TurnOutcome}
+use Rattle.script_serial.specs.Prints.{places_in, told, PlacedCall, calls_after, history_below, all_turns, AreNewest, PrintsInOrder}
 use Rattle.script_serial.proofs.SerialLines.{IsCounted, one_turn, added}
 use Rattle.script_serial.proofs.SerialCalls.{calls_from, GoesOnFrom, past_is, played_on, played_legal, wish_in, calls_played}
 use Rattle.script_serial.proofs.SerialTold.{places_so_far}
-use Rattle.script_serial.proofs.SerialPrints.{turns, lines, whole, serial_is, turns_are, serial_prints, serial_in_order}
+use Rattle.script_serial.proofs.SerialPrints.{turns, lines, whole, serial_is, turns_are, serial_prints, serial_in_order, serial_catalogs_in_order}
+use Rattle.script_lines.specs.Catalogs.{Books, Asked, book_for}
+use Rattle.script_serial.proofs.CatalogLines.{open_version}
+use Rattle.catalog_table.specs.Entry.{History as CatalogHistory}
 
 -- a line without a place tells the version of the history
 abbrev TellsNewest : History → OutLine → Type 0
-TellsNewest H l = (version : ℕ) → l.places ≡ places.None → l.global ≡ Some version → version ≡ sets H
+TellsNewest H l = (version : ℕ) → places_in l.places ≡ [] → l.global ≡ Some version → version ≡ sets H
 
 no_version : (version : ℕ) (m : ℕ) → None ≡ Some version → version ≡ m
 no_version version m is = absurd (cc is)
 
-one_place : (place version m : ℕ) → places.One place ≡ places.None → version ≡ m
+one_place : (place version m : ℕ) → place ∷ [] ≡ [] → version ≡ m
 one_place place version m is = absurd (cc is)
 
 this_version : (version m : ℕ) → Some m ≡ Some version → version ≡ m
@@ -50,27 +53,34 @@ read_newest : (c : Setting) (library : Catalog) (H : History) (at : Caller) (rea
 read_newest c library H at read (Some object) version none is = no_version version (sets H) is
 read_newest c library H at read None version none is = this_version version (sets H) is
 
-granted_newest : (c : Setting) (library : Catalog) (H : History) (at : Caller) (w : Result Wish Why) → TellsNewest H (granted c library H at w).line
-granted_newest c library H at (Err why) version none is = no_version version (sets H) is
-granted_newest c library H at (Ok (Calls categories op)) version none is = one_place (length H) version (sets H) none
-granted_newest c library H at (Ok (ReadsOf n read)) version none is = of_newest c library H at n read (held_as (open_holds H at.thread) n) version none is
-granted_newest c library H at (Ok (Reads read)) version none is = read_newest c library H at read (own H at.thread) version none is
-granted_newest c library H at (Ok AsksSelection) version none is = no_version version (sets H) is
-granted_newest c library H at (Ok (AsksName categories)) version none is = this_version version (sets H) is
+opens_newest : (c : Setting) (library : Catalog) (books : Books) (H : History) (at : Caller) (name : List ℕ) (asked : Asked) (object : Option Parts) → TellsNewest H (opens_line c library books H at name asked object)
+opens_newest c library books H at name asked (Some object) version none is = no_version version (sets H) (sym (open_version at None asked (book_for library books object name)) ∙ is)
+opens_newest c library books H at name asked None version none is = this_version version (sets H) (sym (open_version at (Some (sets H)) asked (book_for library books (global c H) name)) ∙ is)
 
-are_newest : (c : Setting) (library : Catalog) (F : History) (run : Run) (turns : List Turn) → IsLegal c F → F ≡ (played c library run turns).history → IsCounted run
-    → AreNewest c (calls_from F) run.lines (added c library run turns)
-are_newest c library F run [] legal final counted = tt
-are_newest c library F run (turn ∷ turns) legal final counted =
-    let done : Outcome = outcome c library run turn in
+granted_newest : (c : Setting) (library : Catalog) (books : Books) (H : History) (M : CatalogHistory) (at : Caller) (w : Result Wish Why) → TellsNewest H (granted c library books H M at w).line
+granted_newest c library books H M at (Err why) version none is = no_version version (sets H) is
+granted_newest c library books H M at (Ok (Calls categories op)) version none is = one_place (length H) version (sets H) none
+granted_newest c library books H M at (Ok (ReadsOf n read)) version none is = of_newest c library H at n read (held_as (open_holds H at.thread) n) version none is
+granted_newest c library books H M at (Ok (Reads read)) version none is = read_newest c library H at read (own H at.thread) version none is
+granted_newest c library books H M at (Ok AsksSelection) version none is = no_version version (sets H) is
+granted_newest c library books H M at (Ok (AsksName categories)) version none is = this_version version (sets H) is
+granted_newest c library books H M at (Ok (OpensCatalog name)) version none is = opens_newest c library books H at name (asked_of c library books H M at.thread (Ok (OpensCatalog name))) (own H at.thread) version none is
+granted_newest c library books H M at (Ok (GetsMessage h set message default)) version none is = no_version version (sets H) is
+granted_newest c library books H M at (Ok (ClosesCatalog h)) version none is = no_version version (sets H) is
+
+are_newest : (c : Setting) (library : Catalog) (books : Books) (F : History) (run : Run) (turns : List Turn) → IsLegal c F → F ≡ (played c library books run turns).history → IsCounted run
+    → AreNewest c (calls_from F) run.lines (added c library books run turns)
+are_newest c library books F run [] legal final counted = tt
+are_newest c library books F run (turn ∷ turns) legal final counted =
+    let done : TurnOutcome = outcome c library books run turn in
     let past : history_below c (calls_from F) (length run.history) ≡ run.history =
-    past_is c F run.history legal (subst (GoesOnFrom run.history) (sym final) (played_on c library run (turn ∷ turns)))
+    past_is c F run.history legal (subst (GoesOnFrom run.history) (sym final) (played_on c library books run (turn ∷ turns)))
     in (
       λ version none is.
-          granted_newest c library run.history (next_caller run turn) (wish_in library run turn) version none is
+          granted_newest c library books run.history run.catalogs (next_caller run turn) (wish_in library run turn) version none is
           ∙ sym (ap sets past)
           ∙ sym (ap (λ (n : ℕ). sets (history_below c (calls_from F) n)) (places_so_far run counted)),
-      are_newest c library F (with_outcome run turn done) turns legal final (one_turn c library run turn counted),
+      are_newest c library books F (with_outcome run turn done) turns legal final (one_turn c library books run turn counted),
     )
 
 -- serial prints line after line
@@ -80,11 +90,12 @@ serial_prints_in_order rows generations plan =
     let all : List OutLine = lines rows generations plan in
     let ts : List Turn = turns rows generations plan in
     let F : History = whole rows generations plan in
-    let calls : calls_after plan.library [] (told ts all) ≡ calls_from F = calls_played c plan.library begun [] ts refl in
-    let newest : AreNewest c (calls_from F) [] all = are_newest c plan.library F begun ts (played_legal c plan.library begun ts tt) refl refl in
+    let calls : calls_after plan.library [] (told ts all) ≡ calls_from F = calls_played c plan.library (books_of plan) begun [] ts refl in
+    let newest : AreNewest c (calls_from F) [] all = are_newest c plan.library (books_of plan) F begun ts (played_legal c plan.library (books_of plan) begun ts tt) refl refl in
     record {
       prints = serial_prints rows generations plan;
       in_order = serial_in_order rows generations plan;
+      catalogs_in_order = serial_catalogs_in_order rows generations plan;
       newest =
           subst (λ (ls : List OutLine). AreNewest c (calls_after plan.library [] (told (all_turns c plan ls) ls)) [] ls) (sym (serial_is rows generations plan))
           (subst (λ (us : List Turn). AreNewest c (calls_after plan.library [] (told us all)) [] all) (sym (turns_are rows generations plan))

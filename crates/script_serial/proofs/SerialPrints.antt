@@ -11,16 +11,21 @@ use Rattle.script_commands.specs.declared.command.Placed.{Placed}
 use Rattle.script_lang.specs.declared.bundle.Bundle.{Bundle}
 use Rattle.script_out.specs.declared.output.OutLine.{OutLine}
 use Rattle.script_lines.specs.declared.holds.OpenHold.{OpenHold}
-use Rattle.script_serial.specs.Plan.{PlanData}
+use Rattle.script_serial.specs.Plan.{PlanData, books_of}
 use Rattle.script_lines.specs.Holds.{open_holds}
 use Rattle.script_lines.specs.Turns.{Turn, first_numbers, in_round, in_thread, turn_of, thread_turns, round_turns, command_turns, closing_turn, releases, closing, closing_turns, Releases, Ends}
 use Rattle.script_serial.specs.Serial.{Run, outcome, with_outcome, played, begun, commands_played, serial_lines, setting}
-use Rattle.script_serial.specs.Prints.{Told, told, places_in, all_places, of_thread, before_round, from_round, PlacedCall, calls_after, history_below, caller_of, callers_after, command_calls, all_turns, AreTold, ArePlaced, Prints, AreInOrder}
+use Rattle.script_serial.specs.Prints.{Told, told, places_in, all_places, of_thread, before_round, from_round, PlacedCall, calls_after, history_below, caller_of, callers_after, command_calls, all_turns, AreTold, ArePlaced, Prints, AreInOrder, catalog_places_in, all_catalog_places, AreCatalogsPlaced, AreCatalogsInOrder}
 use Rattle.script_serial.proofs.LineLists.{filter_true, filter_none, all_kept, GoUp, AreBelow, increasing, range_up, up_right, up_below, up_kept, count_once}
 use Rattle.script_serial.proofs.SerialLines.{first_places, all_turns_counted, callers_played, played_append, added, played_lines, added_append}
 use Rattle.script_serial.proofs.SerialCalls.{calls_from, calls_length, goes_nowhere, past_is, played_legal, calls_played, told_first, line_round}
 use Rattle.script_serial.proofs.SerialTold.{AreByRound, added_rounds, IsOnItsWay, are_told}
 use Rattle.script_serial.proofs.TurnLemmas.{flat_all}
+use Rattle.script_lines.specs.Catalogs.{Books, catalog_setting}
+use Rattle.script_serial.proofs.SerialCatalogs.{played_catalogs_legal, played_catalogs_threads, all_turns_entered}
+use Rattle.catalog_table.specs.Answer.{AreThreads, IsLegal as CatalogLegal}
+use Rattle.catalog_table.specs.declared.setting.CatalogSetting.{CatalogSetting}
+use Rattle.catalog_table.specs.Entry.{History as CatalogHistory}
 
 -- ---- turns are in order of their rounds
 
@@ -95,11 +100,11 @@ abbrev AreLinesByRound : List OutLine → Type 0
 AreLinesByRound [] = Unit {0}
 AreLinesByRound (l ∷ lines) = All (λ (m : OutLine). l.round ≤ m.round) lines × AreLinesByRound lines
 
-lines_by_round : (c : Setting) (library : Catalog) (run : Run) (turns : List Turn) → AreByRound turns → AreLinesByRound (added c library run turns)
-lines_by_round c library run [] by = tt
-lines_by_round c library run (turn ∷ turns) by =
-    let next : Run = with_outcome run turn (outcome c library run turn) in
-    (subst (λ (r : ℕ). All (λ (m : OutLine). r ≤ m.round) (added c library next turns)) (sym (line_round c library run turn)) (added_rounds c library turn.round next turns by.0), lines_by_round c library next turns by.1)
+lines_by_round : (c : Setting) (library : Catalog) (books : Books) (run : Run) (turns : List Turn) → AreByRound turns → AreLinesByRound (added c library books run turns)
+lines_by_round c library books run [] by = tt
+lines_by_round c library books run (turn ∷ turns) by =
+    let next : Run = with_outcome run turn (outcome c library books run turn) in
+    (subst (λ (r : ℕ). All (λ (m : OutLine). r ≤ m.round) (added c library books next turns)) (sym (line_round c library books run turn)) (added_rounds c library books turn.round next turns by.0), lines_by_round c library books next turns by.1)
 
 before_here : (round : ℕ) (l : OutLine) (lines : List OutLine) → l.round < round → before_round round (l ∷ lines) ≡ l ∷ before_round round lines
 before_here round l lines lt = ap (λ (b : Bool). cond b (l ∷ before_round round lines) (before_round round lines)) (lt-ltb l.round round lt)
@@ -114,27 +119,34 @@ before_none round l lines le from =
     (All-weaker (λ (m : OutLine). l.round ≤ m.round) (λ (m : OutLine). nat_lt m.round round ≡ false) (λ m h. le-ltb m.round round (omega (arith, h, le))) lines from))
 
 -- each place of a round is below each of the rounds from another on
-rounds_apart : (round : ℕ) (lines : List OutLine) → AreLinesByRound lines → GoUp (all_places lines) → AreBelow (all_places (before_round round lines)) (all_places (from_round round lines))
-rounds_apart round [] by up = All-nil (λ (p : ℕ). All (λ (q : ℕ). p < q) [])
-rounds_apart round (l ∷ lines) by up =
-    let here : List ℕ = places_in l.places in
-    let rest : List ℕ = all_places lines in
-    let later : List ℕ = all_places (from_round round lines) in
+rounds_apart : (f : OutLine → List ℕ) (round : ℕ) (lines : List OutLine) → AreLinesByRound lines → GoUp (flat_map f lines) → AreBelow (flat_map f (before_round round lines)) (flat_map f (from_round round lines))
+rounds_apart f round [] by up = All-nil (λ (p : ℕ). All (λ (q : ℕ). p < q) [])
+rounds_apart f round (l ∷ lines) by up =
+    let here : List ℕ = f l in
+    let rest : List ℕ = flat_map f lines in
+    let later : List ℕ = flat_map f (from_round round lines) in
     let Below : List ℕ → ℕ → Type 0 = λ (qs : List ℕ) (p : ℕ). All (λ (q : ℕ). p < q) qs in
     elim (cases_lt l.round round) [
       | inl lt ↦
           let first : All (Below later) here =
-          All-weaker (Below rest) (Below later) (λ p below. all_kept (λ (m : OutLine). places_in m.places) (λ (q : ℕ). p < q) (λ (m : OutLine). nat_le round m.round) lines below) here (up_below here rest up)
+          All-weaker (Below rest) (Below later) (λ p below. all_kept f (λ (q : ℕ). p < q) (λ (m : OutLine). nat_le round m.round) lines below) here (up_below here rest up)
           in
-          let both : AreBelow (here ++ all_places (before_round round lines)) later =
-          All-append (Below later) here (all_places (before_round round lines)) first (rounds_apart round lines by.1 (up_right here rest up))
+          let both : AreBelow (here ++ flat_map f (before_round round lines)) later =
+          All-append (Below later) here (flat_map f (before_round round lines)) first (rounds_apart f round lines by.1 (up_right here rest up))
           in
-          subst (λ (ls : List OutLine). AreBelow (all_places ls) (all_places (from_round round (l ∷ lines)))) (sym (before_here round l lines lt))
-          (subst (λ (ls : List OutLine). AreBelow (here ++ all_places (before_round round lines)) (all_places ls)) (sym (from_later round l lines lt)) both)
+          subst (λ (ls : List OutLine). AreBelow (flat_map f ls) (flat_map f (from_round round (l ∷ lines)))) (sym (before_here round l lines lt))
+          (subst (λ (ls : List OutLine). AreBelow (here ++ flat_map f (before_round round lines)) (flat_map f ls)) (sym (from_later round l lines lt)) both)
       | inr le ↦
-          subst (λ (ls : List OutLine). AreBelow (all_places ls) (all_places (from_round round (l ∷ lines)))) (sym (before_none round l lines le by.0))
-          (All-nil (Below (all_places (from_round round (l ∷ lines)))))
+          subst (λ (ls : List OutLine). AreBelow (flat_map f ls) (flat_map f (from_round round (l ∷ lines)))) (sym (before_none round l lines le by.0))
+          (All-nil (Below (flat_map f (from_round round (l ∷ lines)))))
     ]
+
+-- the places of a line in the history of the table, and its place in that of the catalogs
+abbrev at_table : OutLine → List ℕ
+at_table l = places_in l.places
+
+abbrev at_catalogs : OutLine → List ℕ
+at_catalogs l = catalog_places_in l.places
 
 are_placed : (last n : ℕ) (lines : List OutLine) → AreLinesByRound lines → all_places lines ≡ first_places n → ArePlaced last lines
 are_placed last n lines by counted =
@@ -142,10 +154,64 @@ are_placed last n lines by counted =
     let long : length (all_places lines) ≡ n = ap length counted ∙ length-range_with_len 0 n in
     record {
       once = λ place lt. ap (count_by (λ (p : ℕ). p == place)) counted ∙ count_once place 0 n (omega arith) (omega (arith, lt, long));
-      threads = λ thread. increasing (all_places (of_thread thread lines)) (up_kept (λ (l : OutLine). places_in l.places) (λ (l : OutLine). l.thread == thread) lines up);
-      rounds = λ round. rounds_apart round lines by up;
-      closing = increasing (all_places (from_round (last + 1) lines)) (up_kept (λ (l : OutLine). places_in l.places) (λ (l : OutLine). nat_le (last + 1) l.round) lines up);
+      threads = λ thread. increasing (all_places (of_thread thread lines)) (up_kept at_table (λ (l : OutLine). l.thread == thread) lines up);
+      rounds = λ round. rounds_apart at_table round lines by up;
+      closing = increasing (all_places (from_round (last + 1) lines)) (up_kept at_table (λ (l : OutLine). nat_le (last + 1) l.round) lines up);
     }
+
+are_catalogs_placed : (c : CatalogSetting) (M : CatalogHistory) (lines : List OutLine) → AreLinesByRound lines → all_catalog_places lines ≡ first_places (length M) → CatalogLegal c M → AreThreads c.threads M → AreCatalogsPlaced c M lines
+are_catalogs_placed c M lines by entered legal of =
+    let n : ℕ = length M in
+    let up : GoUp (all_catalog_places lines) = subst GoUp (sym entered) (range_up 0 n) in
+    let long : length (all_catalog_places lines) ≡ n = ap length entered ∙ length-range_with_len 0 n in
+    record {
+      legal = legal;
+      callers = of;
+      many = long;
+      once = λ place lt. ap (count_by (λ (p : ℕ). p == place)) entered ∙ count_once place 0 n (omega arith) (omega (arith, lt, long));
+      threads = λ thread. increasing (all_catalog_places (of_thread thread lines)) (up_kept at_catalogs (λ (l : OutLine). l.thread == thread) lines up);
+      rounds = λ round. rounds_apart at_catalogs round lines by up;
+    }
+
+-- ---- turns are of the threads
+
+abbrev AreOfThreads : ℕ → List Turn → Type 0
+AreOfThreads n turns = All (λ (t : Turn). t.thread < n) turns
+
+numbers_below : (from n : ℕ) → All (λ (t : ℕ). t < from + n) (range_with_len from n)
+numbers_below from zero = All-nil (λ (t : ℕ). t < from + 0)
+numbers_below from (suc n) =
+    All-cons (λ (t : ℕ). t < from + suc n) from (range_with_len (from + 1) n) (omega arith)
+    (All-weaker (λ (t : ℕ). t < from + 1 + n) (λ (t : ℕ). t < from + suc n) (λ t lt. omega (arith, lt)) (range_with_len (from + 1) n) (numbers_below (from + 1) n))
+
+flat_of : {X A : Type 0} (P : A → Type 0) (Q : X → Type 0) (f : X → List A) (xs : List X) → All Q xs → ((x : X) → Q x → All P (f x)) → All P (flat_map f xs)
+flat_of P Q f [] all each = All-nil P
+flat_of P Q f (x ∷ xs) all each = All-append P (f x) (flat_map f xs) (each x (All-head Q x xs all)) (flat_of P Q f xs (All-tail Q x xs all) each)
+
+thread_is : (ps : List Placed) (thread : ℕ) → All (λ (t : Turn). t.thread ≡ thread) (thread_turns ps thread)
+thread_is ps thread =
+    All-map (λ (t : Turn). t.thread ≡ thread) turn_of (in_thread ps thread)
+    (All-weaker (λ (p : Placed). (p.thread == thread) ≡ true) (λ (p : Placed). p.thread ≡ thread) (λ p is. eqb-true p.thread thread is) (in_thread ps thread)
+    (filter_true (λ (p : Placed). p.thread == thread) ps))
+
+threads_below : (n : ℕ) (f : ℕ → List Turn) → ((thread : ℕ) → All (λ (t : Turn). t.thread ≡ thread) (f thread)) → AreOfThreads n (flat_map f (first_numbers n))
+threads_below n f each =
+    flat_of (λ (t : Turn). t.thread < n) (λ (t : ℕ). t < n) f (first_numbers n)
+    (All-weaker (λ (t : ℕ). t < 0 + n) (λ (t : ℕ). t < n) (λ t lt. omega (arith, lt)) (first_numbers n) (numbers_below 0 n)) (λ thread lt.
+    All-weaker (λ (t : Turn). t.thread ≡ thread) (λ (t : Turn). t.thread < n) (λ t is. omega (arith, is, lt)) (f thread) (each thread))
+
+closing_thread : (round thread : ℕ) (holds : List OpenHold) → All (λ (t : Turn). t.thread ≡ thread) (closing round thread holds)
+closing_thread round thread holds =
+    All-append (λ (t : Turn). t.thread ≡ thread) (releases round thread holds) (closing_turn round thread Ends ∷ [])
+    (All-map (λ (t : Turn). t.thread ≡ thread) (λ (o : OpenHold). closing_turn round thread (Releases o.handle)) holds (λ k d l. refl))
+    (All-cons (λ (t : Turn). t.thread ≡ thread) (closing_turn round thread Ends) [] refl (All-nil (λ (t : Turn). t.thread ≡ thread)))
+
+turns_of_threads : (b : Bundle) (H : History) → AreOfThreads (length b.threads) (command_turns b ++ closing_turns b H)
+turns_of_threads b H =
+    let n : ℕ = length b.threads in
+    All-append (λ (t : Turn). t.thread < n) (command_turns b) (closing_turns b H)
+    (flat_all (λ (t : Turn). t.thread < n) (round_turns n b.commands) (range_with_len 1 b.rounds) (λ round. threads_below n (thread_turns (in_round round b.commands)) (thread_is (in_round round b.commands))))
+    (threads_below n (λ (t : ℕ). closing (b.rounds + 1) t (open_holds H t)) (λ t. closing_thread (b.rounds + 1) t (open_holds H t)))
 
 -- ---- all of it
 
@@ -161,29 +227,32 @@ module _ (rows generations : ℕ) (plan : PlanData) where
   turns = command_turns plan.bundle ++ closing_turns plan.bundle commanded
 
   abbrev pub lines : List OutLine
-  lines = added c plan.library begun turns
+  lines = added c plan.library (books_of plan) begun turns
 
   abbrev pub whole : History
-  whole = (played c plan.library begun turns).history
+  whole = (played c plan.library (books_of plan) begun turns).history
+
+  abbrev pub catalogs : CatalogHistory
+  catalogs = (played c plan.library (books_of plan) begun turns).catalogs
 
   pub serial_is : serial_lines rows generations plan ≡ lines
   serial_is =
-      ap (λ (run : Run). run.lines) (sym (played_append c plan.library begun (command_turns plan.bundle) (closing_turns plan.bundle commanded)))
-      ∙ played_lines c plan.library begun turns
+      ap (λ (run : Run). run.lines) (sym (played_append c plan.library (books_of plan) begun (command_turns plan.bundle) (closing_turns plan.bundle commanded)))
+      ∙ played_lines c plan.library (books_of plan) begun turns
 
   -- the history of the commands is that of the calls of their lines
   pub turns_are : all_turns c plan lines ≡ turns
   turns_are =
       let commands : List Turn = command_turns plan.bundle in
-      let first : List OutLine = added c plan.library begun commands in
-      let rest : List OutLine = added c plan.library (commands_played c plan) (closing_turns plan.bundle commanded) in
-      let split : lines ≡ first ++ rest = added_append c plan.library begun commands (closing_turns plan.bundle commanded) in
+      let first : List OutLine = added c plan.library (books_of plan) begun commands in
+      let rest : List OutLine = added c plan.library (books_of plan) (commands_played c plan) (closing_turns plan.bundle commanded) in
+      let split : lines ≡ first ++ rest = added_append c plan.library (books_of plan) begun commands (closing_turns plan.bundle commanded) in
       let calls : command_calls plan lines ≡ calls_from commanded =
       ap (λ (ls : List OutLine). calls_after plan.library [] (told commands ls)) split
-      ∙ ap (calls_after plan.library []) (told_first c plan.library begun commands rest)
-      ∙ calls_played c plan.library begun [] commands refl
+      ∙ ap (calls_after plan.library []) (told_first c plan.library (books_of plan) begun commands rest)
+      ∙ calls_played c plan.library (books_of plan) begun [] commands refl
       in
-      let legal = played_legal c plan.library begun commands tt in
+      let legal = played_legal c plan.library (books_of plan) begun commands tt in
       let past : history_below c (command_calls plan lines) (length (command_calls plan lines)) ≡ commanded =
       ap (λ (cs : List PlacedCall). history_below c cs (length cs)) calls
       ∙ ap (history_below c (calls_from commanded)) (calls_length commanded)
@@ -193,17 +262,21 @@ module _ (rows generations : ℕ) (plan : PlanData) where
 
   callers_are : map caller_of lines ≡ callers_after [] (all_turns c plan lines)
   callers_are =
-      ap (map caller_of) (sym (played_lines c plan.library begun turns))
-      ∙ callers_played c plan.library begun turns
+      ap (map caller_of) (sym (played_lines c plan.library (books_of plan) begun turns))
+      ∙ callers_played c plan.library (books_of plan) begun turns
       ∙ ap (callers_after []) (sym turns_are)
 
   pub places_are : all_places lines ≡ first_places (length whole)
-  places_are = ap all_places (sym (played_lines c plan.library begun turns)) ∙ all_turns_counted c plan.library begun turns refl
+  places_are = ap all_places (sym (played_lines c plan.library (books_of plan) begun turns)) ∙ all_turns_counted c plan.library (books_of plan) begun turns refl
 
-  begins : IsOnItsWay c plan lines whole begun [] turns
+  pub catalog_places_are : all_catalog_places lines ≡ first_places (length catalogs)
+  catalog_places_are = ap all_catalog_places (sym (played_lines c plan.library (books_of plan) begun turns)) ∙ all_turns_entered c plan.library (books_of plan) begun turns refl
+
+  begins : IsOnItsWay c plan lines whole catalogs begun [] turns
   begins = record {
-    legal = played_legal c plan.library begun turns tt;
+    legal = played_legal c plan.library (books_of plan) begun turns tt;
     final = refl;
+    catalogs = refl;
     lines = refl;
     bounds = refl;
     next = λ t. refl;
@@ -214,17 +287,20 @@ module _ (rows generations : ℕ) (plan : PlanData) where
     printed_before = All-nil (λ (v : ℕ). v ≤ 0);
   }
 
-  told_are : let ds = told turns lines in AreTold c plan lines (calls_after plan.library [] ds) [] ds
+  told_are : let ds = told turns lines in AreTold c plan lines catalogs (calls_after plan.library [] ds) [] ds
   told_are =
       let ds : List Told = told turns lines in
-      let calls : calls_after plan.library [] ds ≡ calls_from whole = calls_played c plan.library begun [] turns refl in
-      subst (λ (cs : List PlacedCall). AreTold c plan lines cs [] ds) (sym calls) (are_told c plan lines whole begun [] turns begins)
+      let calls : calls_after plan.library [] ds ≡ calls_from whole = calls_played c plan.library (books_of plan) begun [] turns refl in
+      subst (λ (cs : List PlacedCall). AreTold c plan lines catalogs cs [] ds) (sym calls) (are_told c plan lines whole catalogs begun [] turns begins)
 
   prints : Prints c plan lines
   prints = record {
+    catalogs = catalogs;
     callers = callers_are;
-    placed = are_placed plan.bundle.rounds (length whole) lines (lines_by_round c plan.library begun turns (turns_by_round plan.bundle commanded)) places_are;
-    told = subst (λ (ts : List Turn). let ds = told ts lines in AreTold c plan lines (calls_after plan.library [] ds) [] ds) (sym turns_are) told_are;
+    catalogs_placed = are_catalogs_placed (catalog_setting c) catalogs lines (lines_by_round c plan.library (books_of plan) begun turns (turns_by_round plan.bundle commanded)) catalog_places_are
+        (played_catalogs_legal c plan.library (books_of plan) begun turns tt) (played_catalogs_threads (length plan.bundle.threads) c plan.library (books_of plan) begun turns (turns_of_threads plan.bundle commanded) tt);
+    placed = are_placed plan.bundle.rounds (length whole) lines (lines_by_round c plan.library (books_of plan) begun turns (turns_by_round plan.bundle commanded)) places_are;
+    told = subst (λ (ts : List Turn). let ds = told ts lines in AreTold c plan lines catalogs (calls_after plan.library [] ds) [] ds) (sym turns_are) told_are;
   }
 
   -- serial prints what a script may print
@@ -234,3 +310,8 @@ module _ (rows generations : ℕ) (plan : PlanData) where
   -- and its places go up from line to line
   pub serial_in_order : AreInOrder (serial_lines rows generations plan)
   serial_in_order = increasing (all_places (serial_lines rows generations plan)) (subst GoUp (sym (ap all_places serial_is ∙ places_are)) (range_up 0 (length whole)))
+
+  -- in both histories
+  pub serial_catalogs_in_order : AreCatalogsInOrder (serial_lines rows generations plan)
+  serial_catalogs_in_order =
+      increasing (all_catalog_places (serial_lines rows generations plan)) (subst GoUp (sym (ap all_catalog_places serial_is ∙ catalog_places_are)) (range_up 0 (length catalogs)))

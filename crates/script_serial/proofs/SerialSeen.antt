@@ -21,10 +21,13 @@ use Rattle.script_commands.specs.declared.command.Read.{Read}
 use Rattle.script_out.specs.declared.output.Why.{Why}
 use Rattle.script_lines.specs.Holds.{object_held, open_holds, held_as, holds_after}
 use Rattle.script_lines.specs.Lines.{Caller, version_made}
-use Rattle.script_lines.specs.Wishes.{Wish, Calls, ReadsOf, Reads, AsksSelection, AsksName}
-use Rattle.script_lines.specs.Outcome.{Outcome, with_call, reads_between, reads_of, read_line, granted}
+use Rattle.script_lines.specs.Wishes.{Wish, Calls, ReadsOf, Reads, AsksSelection, AsksName, OpensCatalog, GetsMessage, ClosesCatalog}
+use Rattle.script_lines.specs.Outcome.{Outcome, with_call, reads_between, reads_of, read_line, granted, opens_line, asked_of}
 use Rattle.script_serial.specs.Prints.{places_in, PlacedCall, with_placed, history_below, behind_last, or_earlier}
 use Rattle.script_serial.proofs.SerialCalls.{GoesOnFrom, goes_nowhere, one_entry, goes_on}
+use Rattle.script_lines.specs.Catalogs.{Books, Asked, book_for}
+use Rattle.script_serial.proofs.CatalogLines.{open_version, opens_places}
+use Rattle.catalog_table.specs.Entry.{History as CatalogHistory}
 
 -- ---- what a thread has seen: the history up to its last entry
 
@@ -91,13 +94,16 @@ read_next : (t : ℕ) (c : Setting) (library : Catalog) (H : History) (at : Call
 read_next t c library H at read (Some object) = none_next (at.thread == t) (length (own_past H t))
 read_next t c library H at read None = none_next (at.thread == t) (length (own_past H t))
 
-pub granted_next : (t : ℕ) (c : Setting) (library : Catalog) (H : History) (at : Caller) (w : Result Wish Why) → Follows t H at.thread (granted c library H at w)
-granted_next t c library H at (Err why) = none_next (at.thread == t) (length (own_past H t))
-granted_next t c library H at (Ok (Calls categories op)) = one_next (at.thread == t) (entry c H at.thread op) H (own_past H t)
-granted_next t c library H at (Ok (ReadsOf n read)) = of_next t c library H at n read (held_as (open_holds H at.thread) n)
-granted_next t c library H at (Ok (Reads read)) = read_next t c library H at read (own H at.thread)
-granted_next t c library H at (Ok AsksSelection) = none_next (at.thread == t) (length (own_past H t))
-granted_next t c library H at (Ok (AsksName categories)) = none_next (at.thread == t) (length (own_past H t))
+pub granted_next : (t : ℕ) (c : Setting) (library : Catalog) (books : Books) (H : History) (M : CatalogHistory) (at : Caller) (w : Result Wish Why) → Follows t H at.thread (granted c library books H M at w)
+granted_next t c library books H M at (Err why) = none_next (at.thread == t) (length (own_past H t))
+granted_next t c library books H M at (Ok (Calls categories op)) = one_next (at.thread == t) (entry c H at.thread op) H (own_past H t)
+granted_next t c library books H M at (Ok (ReadsOf n read)) = of_next t c library H at n read (held_as (open_holds H at.thread) n)
+granted_next t c library books H M at (Ok (Reads read)) = read_next t c library H at read (own H at.thread)
+granted_next t c library books H M at (Ok AsksSelection) = none_next (at.thread == t) (length (own_past H t))
+granted_next t c library books H M at (Ok (AsksName categories)) = none_next (at.thread == t) (length (own_past H t))
+granted_next t c library books H M at (Ok (OpensCatalog name)) = ap (λ (ps : List ℕ). next_of (at.thread == t) ps (length (own_past H t))) (opens_places c library books H at name (asked_of c library books H M at.thread (Ok (OpensCatalog name))) (own H at.thread)) ∙ none_next (at.thread == t) (length (own_past H t))
+granted_next t c library books H M at (Ok (GetsMessage h set message default)) = none_next (at.thread == t) (length (own_past H t))
+granted_next t c library books H M at (Ok (ClosesCatalog h)) = none_next (at.thread == t) (length (own_past H t))
 
 -- ---- versions
 
@@ -215,15 +221,22 @@ read_version : (c : Setting) (library : Catalog) (H : History) (at : Caller) (re
 read_version c library H at read (Some object) = none_up (sets H)
 read_version c library H at read None = some_up (sets H) (sets H) (le_refl (sets H))
 
+opens_version : (c : Setting) (library : Catalog) (books : Books) (H : History) (at : Caller) (name : List ℕ) (asked : Asked) (object : Option Parts) → UpTo (sets H) (opens_line c library books H at name asked object).global
+opens_version c library books H at name asked (Some object) = subst (UpTo (sets H)) (sym (open_version at None asked (book_for library books object name))) (none_up (sets H))
+opens_version c library books H at name asked None = subst (UpTo (sets H)) (sym (open_version at (Some (sets H)) asked (book_for library books (global c H) name))) (some_up (sets H) (sets H) (le_refl (sets H)))
+
 -- a line prints no version after that of its history
-pub granted_version : (c : Setting) (library : Catalog) (H : History) (at : Caller) (w : Result Wish Why)
-    → let done = granted c library H at w in UpTo (sets done.history) done.line.global
-granted_version c library H at (Err why) = none_up (sets H)
-granted_version c library H at (Ok (Calls categories op)) = call_version c H at.thread op
-granted_version c library H at (Ok (ReadsOf n read)) = of_version c library H at n read (held_as (open_holds H at.thread) n)
-granted_version c library H at (Ok (Reads read)) = read_version c library H at read (own H at.thread)
-granted_version c library H at (Ok AsksSelection) = none_up (sets H)
-granted_version c library H at (Ok (AsksName categories)) = some_up (sets H) (sets H) (le_refl (sets H))
+pub granted_version : (c : Setting) (library : Catalog) (books : Books) (H : History) (M : CatalogHistory) (at : Caller) (w : Result Wish Why)
+    → let done = granted c library books H M at w in UpTo (sets done.history) done.line.global
+granted_version c library books H M at (Err why) = none_up (sets H)
+granted_version c library books H M at (Ok (Calls categories op)) = call_version c H at.thread op
+granted_version c library books H M at (Ok (ReadsOf n read)) = of_version c library H at n read (held_as (open_holds H at.thread) n)
+granted_version c library books H M at (Ok (Reads read)) = read_version c library H at read (own H at.thread)
+granted_version c library books H M at (Ok AsksSelection) = none_up (sets H)
+granted_version c library books H M at (Ok (AsksName categories)) = some_up (sets H) (sets H) (le_refl (sets H))
+granted_version c library books H M at (Ok (OpensCatalog name)) = opens_version c library books H at name (asked_of c library books H M at.thread (Ok (OpensCatalog name))) (own H at.thread)
+granted_version c library books H M at (Ok (GetsMessage h set message default)) = none_up (sets H)
+granted_version c library books H M at (Ok (ClosesCatalog h)) = none_up (sets H)
 
 -- ---- a Release after its Hold is accepted
 

@@ -16,21 +16,24 @@ use Rattle.script_out.specs.declared.output.Places.{Places}
 use Rattle.script_out.specs.declared.output.Places.TheVariants as places
 use Rattle.script_out.specs.declared.output.Said.TheVariants as said
 use Rattle.script_out.specs.declared.output.Why.{Why}
-use Rattle.script_serial.specs.Plan.{PlanData}
+use Rattle.script_serial.specs.Plan.{PlanData, books_of}
 use Rattle.script_lines.specs.Holds.{object_held, open_holds, held_as}
-use Rattle.script_serial.specs.Isolation.{all_told, all_calls, front, whole, SaysTheSameTo, apart, AreToldApart, IsIsolated}
+use Rattle.script_serial.specs.Isolation.{all_told, all_calls, front, whole, SaysTheSameTo, apart, AreToldApart, IsIsolated, AreCatalogsIsolated}
 use Rattle.script_lines.specs.Lines.{Caller, told_line, placed_line, global_read_line, global_name_line}
-use Rattle.script_serial.specs.Prints.{Told, bound_by, places_in, all_places, before_round, up_to_round, PlacedCall, call_of, calls_of, calls_after, with_placed, history_below, Around, around, past, next_place, seen, place_behind, IsUpToPlace, IsVersion, global_of, IsReadBetween, IsHoldRefused, IsReadOf, IsRead, IsGranted, AreTold, caller_of, Prints}
+use Rattle.script_serial.specs.Prints.{Told, bound_by, places_in, all_places, before_round, up_to_round, PlacedCall, call_of, calls_of, calls_after, with_placed, history_below, Around, around, past, next_place, seen, place_behind, IsUpToPlace, IsVersion, global_of, IsReadBetween, IsHoldRefused, IsReadOf, IsRead, IsGranted, AreTold, caller_of, Prints, IsOpenOf, IsOpenBy, IsOpen}
 use Rattle.script_serial.specs.Serial.{serial_lines, setting}
 use Rattle.script_lines.specs.Variables.{bindings_of}
-use Rattle.script_lines.specs.Wishes.{Wish, Calls, ReadsOf, Reads, AsksSelection, AsksName, wish_of, ops_of}
+use Rattle.script_lines.specs.Wishes.{Wish, Calls, ReadsOf, Reads, AsksSelection, AsksName, wish_of, ops_of, OpensCatalog, GetsMessage, ClosesCatalog}
 use Rattle.handle_table.proofs.Isolated.{part_legal, answer_apart, says_part}
+use Rattle.catalog_table.proofs.Apart.{part_legal as catalog_part_legal}
 use Rattle.script_serial.proofs.Fronts.{part_says_the_same}
 use Rattle.script_serial.proofs.LineLists.{all_left, all_right}
 use Rattle.script_serial.proofs.OnlySerial.{below_on}
 use Rattle.script_serial.proofs.PlacedCalls.{place_of, places_of_calls, AreOnce, StandsAt, stands_at, below_legal}
 use Rattle.script_serial.proofs.SerialCalls.{GoesOnFrom, is_at, wished_calls}
 use Rattle.script_serial.proofs.SerialNewest.{printed_in_order}
+use Rattle.script_lines.specs.Catalogs.{book_for, catalog_setting}
+use Rattle.catalog_table.specs.Entry.{History as CatalogHistory}
 
 -- ---- each call of the threads gets the answer of the part
 
@@ -164,6 +167,20 @@ read_apart threads x at l read None p r = record {
   is = r.is ∙ ap (global_read_line x.plan.library at read r.version) (p.whole r.version);
 }
 
+open_apart : (threads : List ℕ) (x : Around) (at : Caller) (l : OutLine) (version n : Option ℕ) → IsOpenOf x at l version n → IsOpenOf (apart threads x) at l version n
+open_apart threads x at l version None is = is
+open_apart threads x at l version (Some n) r = record { asked = r.asked; stands = r.stands; is = r.is }
+
+opens_apart : (threads : List ℕ) (x : Around) (at : Caller) (l : OutLine) (name : List ℕ) (object : Option Parts) → Parted threads x at l (Ok (OpensCatalog name)) → IsOpen x at l name object → IsOpen (apart threads x) at l name object
+opens_apart threads x at l name (Some object) p is = open_apart threads x at l None (book_for x.plan.library (books_of x.plan) object name) is
+opens_apart threads x at l name None p r = record {
+  version = r.version;
+  bounds = version_apart p r.version r.bounds;
+  opens =
+      subst (λ (o : Parts). IsOpenBy (apart threads x) at l (Some r.version) name o) (p.whole r.version)
+      (open_apart threads x at l (Some r.version) (book_for x.plan.library (books_of x.plan) (global_of x r.version) name) r.opens);
+}
+
 granted_apart : (threads : List ℕ) (x : Around) (at : Caller) (l : OutLine) (w : Result Wish Why) → Parted threads x at l w → IsGranted x at l w → IsGranted (apart threads x) at l w
 granted_apart threads x at l (Err why) p is = is
 granted_apart threads x at l (Ok (Calls categories op)) p r = record {
@@ -187,18 +204,23 @@ granted_apart threads x at l (Ok (AsksName categories)) p r = record {
   bounds = version_apart p r.version r.bounds;
   is = r.is ∙ ap (global_name_line x.plan.library at categories r.version) (p.whole r.version);
 }
+granted_apart threads x at l (Ok (OpensCatalog name)) p is =
+    let t : ℕ = at.thread in
+    opens_apart threads x at l name (own (seen (apart threads x) t) t) p (subst (IsOpen x at l name) (says p (next_place t x.before)).own is)
+granted_apart threads x at l (Ok (GetsMessage h set message default)) p r = record { asked = r.asked; stands = r.stands; is = r.is }
+granted_apart threads x at l (Ok (ClosesCatalog h)) p r = record { asked = r.asked; stands = r.stands; is = r.is }
 
 -- ---- all lines
 
-module _ (threads : List ℕ) (c : Setting) (plan : PlanData) (lines : List OutLine) (calls : List PlacedCall) (once : AreOnce (map place_of calls)) (closed : IsClosed threads (history_below c calls (length calls))) where
-  are_told_apart : (before after : List Told) → AreTold c plan lines calls before after → All (AgreesApart threads c (history_below c calls)) (calls_after plan.library before after)
-      → AreToldApart threads c plan lines calls before after
+module _ (threads : List ℕ) (c : Setting) (plan : PlanData) (lines : List OutLine) (M : CatalogHistory) (calls : List PlacedCall) (once : AreOnce (map place_of calls)) (closed : IsClosed threads (history_below c calls (length calls))) where
+  are_told_apart : (before after : List Told) → AreTold c plan lines M calls before after → All (AgreesApart threads c (history_below c calls)) (calls_after plan.library before after)
+      → AreToldApart threads c plan lines M calls before after
   are_told_apart before [] told agree = tt
   are_told_apart before (d ∷ after) told agree =
       let Agrees : PlacedCall → Type 0 = AgreesApart threads c (history_below c calls) in
       let here : List PlacedCall = calls_of plan.library (bound_by before) d in
       let rest : List PlacedCall = calls_after plan.library (d ∷ before) after in
-      let x : Around = around c plan lines calls before after in
+      let x : Around = around c plan lines M calls before after in
       let says : SaysOfThreads c threads (part_of threads x.whole) x.whole = says_part c threads x.whole (below_legal c calls (length calls)) closed in (
         λ within.
             granted_apart threads x (caller_of d.line) d.line (wish_of plan.library (bindings_of d.line.thread (bound_by before)) d.task)
@@ -221,9 +243,13 @@ isolated c plan lines w threads closed =
     record {
       legal = part_legal c threads (whole c plan lines) (below_legal c calls (length calls)) closed;
       fronts = λ n le t within. part_says_the_same c threads t within (front c plan lines n) (below_legal c calls n) (each_closed threads c calls once closed n);
-      told = are_told_apart threads c plan lines calls once closed [] (all_told c plan lines) w.told (calls_apart threads c calls once closed);
+      told = λ printed. are_told_apart threads c plan lines printed.catalogs calls once closed [] (all_told c plan lines) printed.told (calls_apart threads c calls once closed);
     }
 
 -- and so do those of what has the lines of `serial`
 pub printed_isolated : (plan : PlanData) (rows generations : ℕ) {lines : List OutLine} → lines ≡ serial_lines rows generations plan → IsIsolated (setting plan rows generations) plan lines
 printed_isolated plan rows generations {lines} is = isolated (setting plan rows generations) plan lines (printed_in_order plan rows generations is).prints
+
+-- threads that share catalog handles with nobody have the replies that they would have without the others
+pub catalogs_isolated : (c : Setting) (plan : PlanData) (lines : List OutLine) → AreCatalogsIsolated c plan lines
+catalogs_isolated c plan lines w threads closed = catalog_part_legal (catalog_setting c) threads w.catalogs w.catalogs_placed.legal closed

@@ -5,6 +5,8 @@ use Rattle.std.proofs.lemmas.Option.{same_Some}
 use Rattle.std.proofs.lemmas.List.Elements.{All-nil, All-cons, All-head}
 use Rattle.lc_base.specs.declared.category.Category.TheVariants as categories
 use Rattle.lc_base.specs.declared.item.Item.TheVariants.{Radixchar}
+use Rattle.catalog_table.specs.declared.setting.CatalogSetting.{CatalogSetting}
+use Rattle.catalog_table.specs.Entry.{History as CatalogHistory}
 use Rattle.handle_table.specs.Entry as table
 use Rattle.handle_table.specs.Entry.{Setting}
 use Rattle.mask_compose.specs.Parts.{Parts}
@@ -28,7 +30,7 @@ use Rattle.script_lines.specs.Holds.{object_held}
 use Rattle.script_lines.specs.Lines.{Caller, shown}
 use Rattle.script_lines.specs.Reads.{local}
 use Rattle.script_serial.specs.Serial.{setting}
-use Rattle.script_serial.specs.Prints.{told, calls_after, all_turns, caller_of, callers_after, Around, past, global_of, AreTold, IsGlobalRead, IsReadBetween, IsHoldRefused, ArePlaced}
+use Rattle.script_serial.specs.Prints.{told, calls_after, all_turns, caller_of, callers_after, Around, past, global_of, AreTold, IsGlobalRead, IsReadBetween, IsHoldRefused, AreCatalogsPlaced, ArePlaced}
 use Rattle.script_serial.proofs.Examples.{library, plan, placed, line_of, first_of}
 use Rattle.script_serial.proofs.PrintsExamples.{shared}
 
@@ -56,7 +58,7 @@ end_line round thread index place = line_of round thread index (places.One place
 
 -- each line tells what its task asks for
 abbrev AllTell : PlanData → List OutLine → Type 0
-AllTell p lines = let ds = told (all_turns (c p) p lines) lines in AreTold (c p) p lines (calls_after p.library [] ds) [] ds
+AllTell p lines = let ds = told (all_turns (c p) p lines) lines in AreTold (c p) p lines [] (calls_after p.library [] ds) [] ds
 
 abbrev first_byte : Said → ℕ
 first_byte (said.Text text) = get_or text 0 0
@@ -254,6 +256,7 @@ abbrev place_in : Places → ℕ
 place_in places.None = 0
 place_in (places.One place) = place
 place_in (places.Two hold release) = hold
+place_in (places.Catalog place) = place
 
 two_for_one : {x : Around} {at : Caller} {n : Named} {read : Reading} (place : ℕ) (l : OutLine) → l.places ≡ places.One place → IsReadBetween x at l n read → ⊥
 two_for_one place l is r = absurd (cc (sym is ∙ ap (λ (k : OutLine). k.places) r.is))
@@ -310,3 +313,10 @@ round_behind p =
 -- nor do the closing lines end a later thread before an earlier one
 ended_first : ArePlaced 1 (end_line 2 0 1 1 ∷ end_line 2 1 1 0 ∷ []) → ⊥
 ended_first p = let low : 1 < 0 = p.closing 0 (omega arith) in omega (arith, low)
+
+-- no place of the catalogs is there twice, and the places of a thread go up
+catalog_place_twice : {k : CatalogSetting} {M : CatalogHistory} → AreCatalogsPlaced k M (line_of 1 0 1 (places.Catalog 0) None said.Closed ∷ line_of 1 1 1 (places.Catalog 0) None said.Closed ∷ []) → ⊥
+catalog_place_twice p = let once : 2 ≡ 1 = p.once 0 (omega arith) in omega (arith, once)
+
+catalogs_go_back : {k : CatalogSetting} {M : CatalogHistory} → AreCatalogsPlaced k M (line_of 1 0 1 (places.Catalog 1) None said.Closed ∷ line_of 1 0 2 (places.Catalog 0) None said.Closed ∷ []) → ⊥
+catalogs_go_back p = let low : 1 < 0 = p.threads 0 0 (omega arith) in omega (arith, low)

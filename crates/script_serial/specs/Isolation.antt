@@ -4,10 +4,14 @@ use Rattle.handle_table.specs.Entry.{History, Setting}
 use Rattle.handle_table.specs.History.{sets, global_at, selection}
 use Rattle.handle_table.specs.Answer.{IsLegal, own}
 use Rattle.handle_table.specs.Isolation.{has_thread, part_of, IsClosed}
+use Rattle.catalog_table.specs.Entry.{History as CatalogHistory}
+use Rattle.catalog_table.specs.Answer as catalog_answers
+use Rattle.catalog_table.specs.Isolation as catalog_isolation
 use Rattle.script_out.specs.declared.output.OutLine.{OutLine}
 use Rattle.script_serial.specs.Plan.{PlanData}
 use Rattle.script_lines.specs.Holds.{open_holds}
-use Rattle.script_serial.specs.Prints.{Told, told, PlacedCall, calls_after, history_below, all_turns, Around, around, IsTold}
+use Rattle.script_lines.specs.Catalogs.{catalog_setting}
+use Rattle.script_serial.specs.Prints.{Told, told, PlacedCall, calls_after, history_below, all_turns, Around, around, IsTold, Prints}
 
 -- the lines with their tasks, and all their calls
 abbrev pub all_told : Setting → PlanData → List OutLine → List Told
@@ -37,11 +41,11 @@ abbrev pub apart : List ℕ → Around → Around
 apart threads x = record x { history = λ (place : ℕ). part_of threads (x.history place); whole = part_of threads x.whole }
 
 -- each line of the threads tells what its task asks for, judged by the parts alone
-abbrev pub AreToldApart : List ℕ → Setting → PlanData → List OutLine → List PlacedCall → List Told → List Told → Type 0
-AreToldApart threads c plan lines calls before [] = Unit {0}
-AreToldApart threads c plan lines calls before (d ∷ after) =
-    (has_thread threads d.line.thread ≡ true → IsTold (apart threads (around c plan lines calls before after)) d)
-    × AreToldApart threads c plan lines calls (d ∷ before) after
+abbrev pub AreToldApart : List ℕ → Setting → PlanData → List OutLine → CatalogHistory → List PlacedCall → List Told → List Told → Type 0
+AreToldApart threads c plan lines catalogs calls before [] = Unit {0}
+AreToldApart threads c plan lines catalogs calls before (d ∷ after) =
+    (has_thread threads d.line.thread ≡ true → IsTold (apart threads (around c plan lines catalogs calls before after)) d)
+    × AreToldApart threads c plan lines catalogs calls (d ∷ before) after
 
 -- the threads read what they would read without the others: their part of the history is legal, each front of it says the
 -- same to them as its part, and each of their lines tells what the parts alone say. Places alone count the calls of others
@@ -49,8 +53,15 @@ pub record AreApart (c : Setting) (plan : PlanData) (lines : List OutLine) (thre
   pub legal : IsLegal c (part_of threads (whole c plan lines))
   pub fronts : (n : ℕ) → n ≤ length (all_calls c plan lines) → (t : ℕ) → has_thread threads t ≡ true
       → SaysTheSameTo c t (front c plan lines n) (part_of threads (front c plan lines n))
-  pub told : AreToldApart threads c plan lines (all_calls c plan lines) [] (all_told c plan lines)
+  pub told : (printed : Prints c plan lines) → AreToldApart threads c plan lines printed.catalogs (all_calls c plan lines) [] (all_told c plan lines)
 
 -- so do all threads that share handles among themselves alone
 abbrev pub IsIsolated : Setting → PlanData → List OutLine → Type 0
 IsIsolated c plan lines = (threads : List ℕ) → IsClosed threads (whole c plan lines) → AreApart c plan lines threads
+
+-- the same of catalogs: in each history of them by which the lines are printed, the entries of threads that share catalog handles
+-- among themselves alone are by themselves a legal history, with the replies that they have beside the others
+abbrev pub AreCatalogsIsolated : Setting → PlanData → List OutLine → Type 0
+AreCatalogsIsolated c plan lines =
+    (printed : Prints c plan lines) (threads : List ℕ) → catalog_isolation.IsClosed threads printed.catalogs
+    → catalog_answers.IsLegal (catalog_setting c) (catalog_isolation.part_of threads printed.catalogs)

@@ -1,10 +1,12 @@
--- What a thread keeps beside a table that does not tell it, and when it is right.
+-- What a thread keeps beside a table that does not tell it, when it is right, and the table with its catalogs.
 use Rattle.std.specs.Prelude.{◌≡◌, ℕ, List, Option}
 use Rattle.mask_compose.specs.Parts.{Parts}
 use Rattle.handle_table.specs.declared.handle.Named.{Named}
 use Rattle.handle_table.specs.Entry.{History}
 use Rattle.handle_table.specs.History.{selection}
 use Rattle.handle_table.specs.Answer.{own}
+use Rattle.handle_table.specs.Table.{TableData}
+use Rattle.catalog_table.specs.Table.{CatalogsData}
 use Rattle.script_lines.specs.declared.holds.OpenHold.{OpenHold}
 use Rattle.script_lines.specs.Holds.{open_holds}
 
@@ -21,3 +23,9 @@ pub record Knows (k : KeptData) (H : History) : Type 0 where
   pub own : k.own ≡ own H k.number
   pub selected : k.selected ≡ selection H k.number
   pub holds : k.holds ≡ open_holds H k.number
+
+-- a table and the catalogs of its threads, which one runner has alone, and how many ops the catalogs have answered
+pub record AloneData : Type 0 where
+  pub table : TableData
+  pub catalogs : CatalogsData
+  pub asked : ℕ

@@ -9,7 +9,7 @@ use Rattle.handle_table.specs.Answer.{IsLegal}
 use Rattle.script_out.specs.declared.output.OutLine.{OutLine}
 use Rattle.script_serial.specs.Plan.{PlanData}
 use Rattle.script_lines.specs.Holds.{open_holds, held_as}
-use Rattle.script_serial.specs.Isolation.{IsIsolated}
+use Rattle.script_serial.specs.Isolation.{IsIsolated, AreCatalogsIsolated}
 use Rattle.script_serial.specs.Prints.{Prints, PrintsInOrder}
 use Rattle.script_serial.specs.Serial.{serial_lines, setting}
 
@@ -25,3 +25,7 @@ HeldWhereHolding = (c : Setting) (H : History) → IsLegal c H → (t : ℕ) (h 
 -- they would read without the others
 abbrev pub Isolation : Type 0
 Isolation = (c : Setting) (plan : PlanData) (lines : List OutLine) → Prints c plan lines → IsIsolated c plan lines
+
+-- and the same of those that share catalog handles with nobody
+abbrev pub CatalogsIsolation : Type 0
+CatalogsIsolation = (c : Setting) (plan : PlanData) (lines : List OutLine) → AreCatalogsIsolated c plan lines

@@ -1,27 +1,44 @@
--- The accepted bundle with its compiled locales (our own).
-use Rattle.std.specs.Prelude.{ℕ, List, length, Ok}
+-- The accepted bundle with its compiled locales and its message catalogs (our own).
+use Rattle.std.specs.Prelude.{ℕ, List, [], ◌∷◌, length, Ok}
+use Rattle.lc_base.specs.declared.block.Block.{Block}
 use Rattle.lc_base.specs.Reading.{Reads, ◌>>=◌}
 use Rattle.category_store.specs.Catalog.{Catalog}
 use Rattle.category_store.specs.Library.{catalog}
 use Rattle.category_store.specs.Shelf.{IsNumbered, IsInstallable}
+use Rattle.msg_catalog.specs.declared.book.Message.{Message}
+use Rattle.msg_catalog.specs.Messages.{messages}
 use Rattle.script_lang.specs.declared.bundle.Bundle.{Bundle}
 use Rattle.script_lang.specs.Accepted.{IsAccepted, bundle_of}
+use Rattle.script_lines.specs.Catalogs.{Books}
 use Rattle.script_serial.specs.declared.plan.Counts.{Counts}
 
--- a bundle, and what its charmaps, locales and later versions make
+-- a bundle, what its charmaps, locales and later versions make, and the messages of each of its catalogs
 pub record PlanData : Type 0 where
   pub bundle : Bundle
   pub library : Catalog
+  pub books : List (List Message)
 
--- the plan of a bundle, or the first fault of its charmaps, sources, copies and categories
+-- the messages of catalogs, one catalog after another, or their first fault (XCU gencat)
+abbrev pub books_read : List Block → Reads (List (List Message))
+books_read [] = Ok []
+books_read (block ∷ blocks) = messages block.text block.first_line >>= λ book. books_read blocks >>= λ books. Ok (book ∷ books)
+
+-- the plan of a bundle, or the first fault of its charmaps, sources, copies and categories, and behind all of them the first one
+-- of its catalogs
 abbrev pub compiled : Bundle → Reads PlanData
-compiled bundle = catalog bundle.charmaps bundle.locales bundle.later bundle.native >>= λ library. Ok (record { bundle = bundle; library = library })
+compiled bundle =
+    catalog bundle.charmaps bundle.locales bundle.later bundle.native >>= λ library. books_read bundle.catalogs >>= λ books.
+    Ok (record { bundle = bundle; library = library; books = books })
 
 -- the plan of a text: the faults of its lines come first, then those of its names, and then those of what it compiles
 abbrev pub plan_of : List ℕ → Reads PlanData
 plan_of text = bundle_of text >>= compiled
 
--- how many blocks, threads, rounds and commands a bundle has; later versions are not counted
+-- the catalogs of a plan: their blocks and their messages
+abbrev pub books_of : PlanData → Books
+books_of plan = record { blocks = plan.bundle.catalogs; books = plan.books }
+
+-- how many blocks of locales and charmaps, threads, rounds and commands a bundle has; later versions and catalogs are not counted
 abbrev pub counts : Bundle → Counts
 counts bundle = record {
   locales = length bundle.locales;

@@ -1,4 +1,5 @@
--- Which lines a script may print: those of one history of its threads' calls (our own).
+-- Which lines a script may print: those of one history of its threads' calls of the table, and of one of their calls of the
+-- catalogs (our own).
 -- A round's threads may call in any order. Each line is judged by the history before its own places, or, where it has none,
 -- before the next place of its thread.
 use Rattle.std.specs.Prelude.{◌≡◌, ℕ, zero, suc, ◌+◌, ◌<◌, ◌≤◌, ◌⊎◌, ◌==◌, nat_lt, nat_le, if◌then◌else◌, List, [], ◌∷◌, ◌++◌, length, map, filter, flat_map, find, zip, count_by, option_to_list, All, Option, Some, None, unwrap_or, Result, Ok, Err}
@@ -10,6 +11,11 @@ use Rattle.handle_table.specs.Entry as table
 use Rattle.handle_table.specs.Entry.{History, Setting}
 use Rattle.handle_table.specs.History.{sets, global_at, selection}
 use Rattle.handle_table.specs.Answer.{answer, own}
+use Rattle.catalog_table.specs.declared.setting.CatalogSetting.{CatalogSetting}
+use Rattle.catalog_table.specs.Entry as catalog
+use Rattle.catalog_table.specs.Entry.{History as CatalogHistory}
+use Rattle.catalog_table.specs.Answer as catalog_answers
+use Rattle.catalog_table.specs.Answer.{AreThreads}
 use Rattle.script_commands.specs.declared.command.Read.{Read}
 use Rattle.script_words.specs.declared.categories.Categories.{Categories}
 use Rattle.script_words.specs.declared.categories.Categories.TheVariants.{All as AllCategories}
@@ -18,12 +24,13 @@ use Rattle.script_out.specs.declared.output.Places.{Places}
 use Rattle.script_out.specs.declared.output.Places.TheVariants as places
 use Rattle.script_out.specs.declared.output.Why.{Why}
 use Rattle.script_out.specs.declared.output.Said.TheVariants as said
-use Rattle.script_serial.specs.Plan.{PlanData}
+use Rattle.script_serial.specs.Plan.{PlanData, books_of}
 use Rattle.script_lines.specs.Holds.{object_held, open_holds, held_as}
 use Rattle.script_lines.specs.Turns.{Task, Turn, command_turns, closing_turns}
 use Rattle.script_lines.specs.Variables.{Bound, bindings_of, bindings_after}
-use Rattle.script_lines.specs.Wishes.{Wish, Calls, ReadsOf, Reads, AsksSelection, AsksName, wish_of, ops_of}
+use Rattle.script_lines.specs.Wishes.{Wish, Calls, ReadsOf, Reads, AsksSelection, AsksName, OpensCatalog, GetsMessage, ClosesCatalog, wish_of, ops_of}
 use Rattle.script_lines.specs.Lines.{Caller, told_line, placed_line, object_line, held_line, global_read_line, global_name_line}
+use Rattle.script_lines.specs.Catalogs.{Asked, not_asked, book_for, catalog_setting, handle_meant, open_line, message_line, close_line}
 use Rattle.script_lines.specs.Outcome.{with_call}
 
 -- ---- lines with their tasks
@@ -44,15 +51,26 @@ abbrev pub bound_by : List Told → List Bound
 bound_by [] = []
 bound_by (d ∷ before) = bindings_after d.line.thread (bound_by before) d.task d.line.reply
 
--- the places of a line
+-- the places of a line in the history of the table
 abbrev pub places_in : Places → List ℕ
 places_in places.None = []
 places_in (places.One place) = place ∷ []
 places_in (places.Two hold release) = hold ∷ release ∷ []
+places_in (places.Catalog place) = []
+
+-- its place in the history of the catalogs, if it has one
+abbrev pub catalog_places_in : Places → List ℕ
+catalog_places_in places.None = []
+catalog_places_in (places.One place) = []
+catalog_places_in (places.Two hold release) = []
+catalog_places_in (places.Catalog place) = place ∷ []
 
 -- all places of lines, in the order of the lines
 abbrev pub all_places : List OutLine → List ℕ
 all_places lines = flat_map (λ (l : OutLine). places_in l.places) lines
+
+abbrev pub all_catalog_places : List OutLine → List ℕ
+all_catalog_places lines = flat_map (λ (l : OutLine). catalog_places_in l.places) lines
 
 -- the lines of a thread, of the rounds before one, and of a round and those before it
 abbrev pub of_thread : ℕ → List OutLine → List OutLine
@@ -99,13 +117,15 @@ history_below c calls (suc n) = with_placed c (history_below c calls n) (find (�
 
 -- ---- what a line is judged by
 
--- the lines before it, of which the newest stands first, those behind it, the history before each place, and the whole one
+-- the lines before it, of which the newest stands first, those behind it, the history before each place, the whole one, and the
+-- whole one of the catalogs
 pub record Around : Type 0 where
   pub setting : Setting
   pub plan : PlanData
   pub lines : List OutLine
   pub history : ℕ → History
   pub whole : History
+  pub catalogs : CatalogHistory
   pub before : List Told
   pub after : List Told
 
@@ -210,6 +230,41 @@ abbrev pub IsRead : Around → Caller → OutLine → Read → Option Parts → 
 IsRead x at l read (Some object) = l ≡ object_line x.plan.library at read object
 IsRead x at l read None = IsGlobalRead x at l read
 
+-- what the catalogs have answered to an op of a thread, in a history of theirs: the entry at the place is the thread's, with this
+-- op and the answer to what stands before it
+pub record IsAsked (c : CatalogSetting) (M : CatalogHistory) (thread : ℕ) (op : catalog.Op) (asked : Asked) : Type 0 where
+  pub before : CatalogHistory
+  pub behind : CatalogHistory
+  pub whole : M ≡ behind ++ catalog_answers.entry c before thread op ∷ before
+  pub place : asked.place ≡ length before
+  pub reply : asked.reply ≡ catalog_answers.answer c before thread op
+
+-- the line of a call of the catalogs prints their answer
+pub record IsCatalogCall (x : Around) (at : Caller) (l : OutLine) (op : catalog.Op) (printed : Asked → OutLine) : Type 0 where
+  pub asked : Asked
+  pub stands : IsAsked (catalog_setting x.setting) x.catalogs at.thread op asked
+  pub is : l ≡ printed asked
+
+-- a catopen that prints this version, of the catalog with this number; of none it makes no entry
+abbrev pub IsOpenOf : Around → Caller → OutLine → Option ℕ → Option ℕ → Type 0
+IsOpenOf x at l version (Some n) = IsCatalogCall x at l (catalog.Open n) (λ asked. open_line at version asked (Some n))
+IsOpenOf x at l version None = l ≡ open_line at version not_asked None
+
+-- a catopen by this object: of the catalog that the name names for it
+abbrev pub IsOpenBy : Around → Caller → OutLine → Option ℕ → List ℕ → Parts → Type 0
+IsOpenBy x at l version name object = IsOpenOf x at l version (book_for x.plan.library (books_of x.plan) object name)
+
+-- a catopen by the global locale as it was at a version
+pub record IsGlobalOpen (x : Around) (at : Caller) (l : OutLine) (name : List ℕ) : Type 0 where
+  pub version : ℕ
+  pub bounds : IsVersion x at version
+  pub opens : IsOpenBy x at l (Some version) name (global_of x version)
+
+-- a catopen by the thread's own object, or by the global locale
+abbrev pub IsOpen : Around → Caller → OutLine → List ℕ → Option Parts → Type 0
+IsOpen x at l name (Some object) = IsOpenBy x at l None name object
+IsOpen x at l name None = IsGlobalOpen x at l name
+
 -- the line of a wish; a refusal without an entry is printed alone
 abbrev pub IsGranted : Around → Caller → OutLine → Result Wish Why → Type 0
 IsGranted x at l (Err why) = l ≡ told_line at (said.Refused why)
@@ -218,6 +273,9 @@ IsGranted x at l (Ok (ReadsOf n read)) = IsReadOf x at l n read (held_as (open_h
 IsGranted x at l (Ok (Reads read)) = IsRead x at l read (own (seen x at.thread) at.thread)
 IsGranted x at l (Ok AsksSelection) = l ≡ told_line at (said.Is (selection (seen x at.thread) at.thread))
 IsGranted x at l (Ok (AsksName categories)) = IsGlobalName x at l categories
+IsGranted x at l (Ok (OpensCatalog name)) = IsOpen x at l name (own (seen x at.thread) at.thread)
+IsGranted x at l (Ok (GetsMessage h set message default)) = IsCatalogCall x at l (catalog.Get (handle_meant h)) (λ asked. message_line (books_of x.plan) at set message default asked)
+IsGranted x at l (Ok (ClosesCatalog h)) = IsCatalogCall x at l (catalog.Close (handle_meant h)) (λ asked. close_line at asked)
 
 -- the caller of a line
 abbrev pub caller_of : OutLine → Caller
@@ -228,21 +286,22 @@ abbrev pub IsTold : Around → Told → Type 0
 IsTold x d = IsGranted x (caller_of d.line) d.line (wish_of x.plan.library (bindings_of d.line.thread (bound_by x.before)) d.task)
 
 -- what a line is judged by among lines with these calls
-abbrev pub around : Setting → PlanData → List OutLine → List PlacedCall → List Told → List Told → Around
-around c plan lines calls before after = record {
+abbrev pub around : Setting → PlanData → List OutLine → CatalogHistory → List PlacedCall → List Told → List Told → Around
+around c plan lines catalogs calls before after = record {
   setting = c;
   plan = plan;
   lines = lines;
   history = history_below c calls;
   whole = history_below c calls (length calls);
+  catalogs = catalogs;
   before = before;
   after = after;
 }
 
 -- each line does, by what stands before it and behind it
-abbrev pub AreTold : Setting → PlanData → List OutLine → List PlacedCall → List Told → List Told → Type 0
-AreTold c plan lines calls before [] = Unit {0}
-AreTold c plan lines calls before (d ∷ after) = IsTold (around c plan lines calls before after) d × AreTold c plan lines calls (d ∷ before) after
+abbrev pub AreTold : Setting → PlanData → List OutLine → CatalogHistory → List PlacedCall → List Told → List Told → Type 0
+AreTold c plan lines catalogs calls before [] = Unit {0}
+AreTold c plan lines catalogs calls before (d ∷ after) = IsTold (around c plan lines catalogs calls before after) d × AreTold c plan lines catalogs calls (d ∷ before) after
 
 -- ---- the whole
 
@@ -274,11 +333,24 @@ pub record ArePlaced (last : ℕ) (lines : List OutLine) : Type 0 where
   pub rounds : (round : ℕ) → All (λ (p : ℕ). All (λ (q : ℕ). p < q) (all_places (from_round round lines))) (all_places (before_round round lines))
   pub closing : IsStrictlyIncreasing (all_places (from_round (last + 1) lines))
 
--- a script prints these lines: one for each turn, in order; with the places of one history; and each prints what it asks for
+-- the same of the catalogs: a history of them is a legal one of the script's threads, and has an entry for each place of the lines,
+-- which are all there, each once; they rise along the lines of a thread, and from round to round
+pub record AreCatalogsPlaced (c : CatalogSetting) (M : CatalogHistory) (lines : List OutLine) : Type 0 where
+  pub legal : catalog_answers.IsLegal c M
+  pub callers : AreThreads c.threads M
+  pub many : length (all_catalog_places lines) ≡ length M
+  pub once : (place : ℕ) → place < length (all_catalog_places lines) → count_by (λ (p : ℕ). p == place) (all_catalog_places lines) ≡ 1
+  pub threads : (thread : ℕ) → IsStrictlyIncreasing (all_catalog_places (of_thread thread lines))
+  pub rounds : (round : ℕ) → All (λ (p : ℕ). All (λ (q : ℕ). p < q) (all_catalog_places (from_round round lines))) (all_catalog_places (before_round round lines))
+
+-- a script prints these lines: one for each turn, in order; with the places of one history of the table, and of one of the catalogs;
+-- and each prints what it asks for
 pub record Prints (c : Setting) (plan : PlanData) (lines : List OutLine) : Type 0 where
+  pub catalogs : CatalogHistory
   pub callers : map caller_of lines ≡ callers_after [] (all_turns c plan lines)
   pub placed : ArePlaced plan.bundle.rounds lines
-  pub told : let ds = told (all_turns c plan lines) lines in AreTold c plan lines (calls_after plan.library [] ds) [] ds
+  pub catalogs_placed : AreCatalogsPlaced (catalog_setting c) catalogs lines
+  pub told : let ds = told (all_turns c plan lines) lines in AreTold c plan lines catalogs (calls_after plan.library [] ds) [] ds
 
 -- ---- lines of which each is printed before the next call is made
 
@@ -286,9 +358,12 @@ pub record Prints (c : Setting) (plan : PlanData) (lines : List OutLine) : Type 
 abbrev pub AreInOrder : List OutLine → Type 0
 AreInOrder lines = IsStrictlyIncreasing (all_places lines)
 
+abbrev pub AreCatalogsInOrder : List OutLine → Type 0
+AreCatalogsInOrder lines = IsStrictlyIncreasing (all_catalog_places lines)
+
 -- a version that a line tells without having made it is that of the calls of the lines before it
 abbrev pub IsNewest : Setting → List PlacedCall → List OutLine → OutLine → Type 0
-IsNewest c calls before l = (version : ℕ) → l.places ≡ places.None → l.global ≡ Some version → version ≡ sets (history_below c calls (length (all_places before)))
+IsNewest c calls before l = (version : ℕ) → places_in l.places ≡ [] → l.global ≡ Some version → version ≡ sets (history_below c calls (length (all_places before)))
 
 abbrev pub AreNewest : Setting → List PlacedCall → List OutLine → List OutLine → Type 0
 AreNewest c calls before [] = Unit {0}
@@ -298,4 +373,5 @@ AreNewest c calls before (l ∷ after) = IsNewest c calls before l × AreNewest 
 pub record PrintsInOrder (c : Setting) (plan : PlanData) (lines : List OutLine) : Type 0 where
   pub prints : Prints c plan lines
   pub in_order : AreInOrder lines
+  pub catalogs_in_order : AreCatalogsInOrder lines
   pub newest : AreNewest c (calls_after plan.library [] (told (all_turns c plan lines) lines)) [] lines

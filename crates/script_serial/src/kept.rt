@@ -1,6 +1,7 @@
 //! A thread at a table that its runner has alone.
 
 ghost use Rattle.std.specs.Prelude.{◌≡◌, ◌+◌, ◌<◌, ◌≤◌, [], OnOk, None, if◌then◌else◌};
+ghost use Rattle.script_lines.specs.Catalogs.{catalog_setting};
 ghost use Rattle.handle_table.specs.declared.handle.Named.TheVariants as names;
 ghost use Rattle.handle_table.specs.Entry.{is_accepted};
 ghost use Rattle.handle_table.specs.History.{selection_after};
@@ -8,6 +9,7 @@ ghost use Rattle.handle_table.specs.Answer.{own_after};
 ghost use Rattle.handle_table.specs.Seen.{op_of, reply_of};
 ghost use Rattle.script_lines.specs.Holds.{object_held, changed};
 
+use catalog_table::{BookShare, CatalogOp, CatalogReply, Catalogs};
 use category_store::Share;
 use handle_table::{Handle, Named, Op, Reply, Table};
 use mask_compose::Object;
@@ -103,26 +105,38 @@ impl Side for Kept {
     }
 }
 
-/// A table that its runner has alone.
+/// A table and the catalogs of its threads, which their runner has alone.
 #[derive(Drop)]
 pub struct Alone {
     table: Table<Share>,
+    catalogs: Catalogs<BookShare>,
+    /// How many ops the catalogs have answered.
+    asked: u32,
 }
 
 impl Model for Alone {
-    ghost use Rattle.handle_table.specs.Table.{TableData};
+    ghost use Rattle.std.specs.Prelude.{◌≡◌};
+    ghost use Rattle.script_lines.specs.Catalogs.{catalog_setting};
+    ghost use Rattle.script_serial.specs.Kept.{AloneData};
 
-    ghost Value = { TableData };
+    ghost Value = { AloneData };
 
-    ghost view = { λ a. a.table };
+    ghost view = { λ a. record { table = a.table; catalogs = a.catalogs; asked = a.asked } };
+
+    ghost invariant = { λ a. a.catalogs.setting ≡ catalog_setting a.table.setting };
 }
 
 impl Alone {
-    /// The table.
-    pub fn new(table: Table<Share>) -> Alone
-        ensures { result ≡ table }
+    /// The table, and catalogs of the same threads that have answered nothing yet.
+    pub fn new(table: Table<Share>, catalogs: Catalogs<BookShare>) -> Alone
+        requires { catalogs.setting ≡ catalog_setting table.setting }
+        ensures { result ≡ record { table = table; catalogs = catalogs; asked = 0 } }
     {
-        Alone { table }
+        Alone {
+            table,
+            catalogs,
+            asked: 0,
+        }
     }
 }
 
@@ -130,15 +144,19 @@ impl Board for Alone {
     ghost use Rattle.std.specs.Prelude.{◌≡◌};
     ghost use Rattle.std.proofs.Common.{refl, arith};
     ghost use Rattle.handle_table.specs.Table.{Fits};
-    ghost use Rattle.script_serial.specs.Session.{IsAt, IsReady};
+    ghost use Rattle.script_serial.specs.Session.{IsAt, IsReady, CatalogsAreAt};
 
     type Side = Kept;
 
-    ghost setting_of = { λ t. t.setting };
+    ghost setting_of = { λ a. a.table.setting };
 
-    ghost at = { IsAt };
+    ghost at = { λ a k H. IsAt a.table k H };
 
     ghost later = { λ _ _ G H. G ≡ H };
+
+    ghost catalogs_at = { λ a _ M. CatalogsAreAt a M };
+
+    ghost catalogs_later = { λ _ _ G M. G ≡ M };
 
     ghost ready = { IsReady };
 
@@ -162,6 +180,16 @@ impl Board for Alone {
     fn global(&mut self, _side: &mut Kept) -> (u32, Object<Share>) {
         let global = self.table.global();
         (global.version(), global.peek().share())
+    }
+
+    fn catalog(
+        &mut self,
+        side: &mut Kept,
+        op: CatalogOp<BookShare>,
+    ) -> (u64, CatalogReply<BookShare>) {
+        let place = u64::from(self.asked);
+        self.asked += 1;
+        (place, self.catalogs.step(side.number, op))
     }
 }
 

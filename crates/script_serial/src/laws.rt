@@ -1,6 +1,6 @@
 //! Laws of what scripts print. Each function takes nothing, and its contract is the law.
 
-ghost use Rattle.script_serial.specs.Laws.{HeldWhereHolding, Isolation, OnlySerial};
+ghost use Rattle.script_serial.specs.Laws.{CatalogsIsolation, HeldWhereHolding, Isolation, OnlySerial};
 
 /// Lines that a script prints one after another are those of `serial`.
 pub fn only_serial()
@@ -16,4 +16,10 @@ pub fn held_where_holding()
 /// handles with nobody read what they would read without the others.
 pub fn isolation()
     ensures isolation { Isolation }
+{}
+
+/// Threads that share catalog handles with nobody are answered what they would be answered without
+/// the others.
+pub fn catalogs_isolation()
+    ensures catalogs_isolation { CatalogsIsolation }
 {}

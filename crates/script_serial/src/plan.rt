@@ -1,21 +1,26 @@
-//! A bundle with its compiled locales.
+//! A bundle with its compiled locales and its message catalogs.
 
-ghost use Rattle.std.specs.Prelude.{◌≡◌, ◌<◌, ◌^◌, length};
+ghost use Rattle.std.specs.Prelude.{◌≡◌, ◌<◌, ◌^◌, length, All, IfOk};
+ghost use Rattle.category_store.specs.Library.{catalog};
+ghost use Rattle.category_store.specs.Shelf.{IsNumbered, IsInstallable};
 ghost use Rattle.lc_base.specs.Reading.{Gives};
-ghost use Rattle.script_lang.specs.Accepted.{IsAccepted};
-ghost use Rattle.script_serial.specs.Plan.{IsSound, plan_of, counts, counts_of};
+ghost use Rattle.script_lang.specs.Accepted.{IsAccepted, IsSized};
+ghost use Rattle.script_serial.specs.Plan.{IsSound, books_of, books_read, plan_of, counts, counts_of};
 
 use category_store::Library;
-use lc_base::{ByteText, List, TextFault};
+use lc_base::{Block, ByteText, List, TextFault};
+use msg_catalog::{Book, read_catalog};
 use script_lang::Bundle;
+use script_lines::catalogs::Books;
 use std::alloc::Global;
 use std::marker::Model;
 
-/// An accepted bundle with its compiled locales.
+/// An accepted bundle with its compiled locales and its message catalogs.
 #[derive(Drop)]
 pub struct Plan {
     bundle: Bundle,
     library: Library,
+    books: List<Book>,
 }
 
 impl Model for Plan {
@@ -23,9 +28,9 @@ impl Model for Plan {
 
     ghost Value = { PlanData };
 
-    ghost view = { λ p. record { bundle = p.bundle; library = p.library } };
+    ghost view = { λ p. record { bundle = p.bundle; library = p.library; books = p.books } };
 
-    ghost invariant = { λ p. IsSound (record { bundle = p.bundle; library = p.library }) };
+    ghost invariant = { λ p. IsSound (record { bundle = p.bundle; library = p.library; books = p.books }) };
 }
 
 impl Plan {
@@ -50,12 +55,19 @@ impl Plan {
     {
         &self.library
     }
+
+    /// Its message catalogs.
+    pub fn books(&self) -> Books<'_>
+        ensures { result ≡ books_of self.now }
+    {
+        Books::new(&self.bundle.catalogs, &self.books)
+    }
 }
 
 /// How many of each a bundle has.
 #[derive(Clone, Copy, Debug, PartialEq, Eq)]
 pub struct Counts {
-    /// `.locale` blocks; later versions are not counted.
+    /// `.locale` blocks; later versions are not counted, nor are catalogs.
     pub locales: u32,
     pub charmaps: u32,
     pub threads: u32,
@@ -64,24 +76,62 @@ pub struct Counts {
     pub commands: u32,
 }
 
-/// Reads a bundle and compiles its locales.
+/// Reads a bundle, compiles its locales and reads its message catalogs.
 ///
 /// The refusal is the bundle's first fault: of its lines, then of its names, then of its charmaps,
-/// its locale sources, its copies and its categories.
+/// its locale sources, its copies and its categories, and then of its catalogs.
 pub fn prepare(alloc: Global, text: &[u8]) -> Result<Plan, TextFault>
     requires { length text.now < 2 ^ 31 }
     ensures { Gives (λ plan. plan) result (plan_of text.now) }
 {
     let bundle = Bundle::read(alloc, text)?;
+    let library = library_of(alloc, &bundle)?;
+    match read_books(alloc, bundle.catalogs.as_slice()) {
+        Ok(books) => Ok(Plan {
+            bundle,
+            library,
+            books: List::of(books),
+        }),
+        Err(fault) => Err(fault_alone(bundle, library, fault)),
+    }
+}
+
+/// The compiled locales of a bundle.
+fn library_of(alloc: Global, bundle: &Bundle) -> Result<Library, TextFault>
+    requires { IsAccepted bundle.now }
+    ensures library { Gives (λ library. library) result (catalog bundle.now.charmaps bundle.now.locales bundle.now.later bundle.now.native) }
+    ensures numbered { IfOk result IsNumbered }
+    ensures installable { IfOk result IsInstallable }
+{
     let native = bundle.native.as_ref().map(|name| name.as_bytes());
-    let library = Library::build(
+    Library::build(
         alloc,
         &bundle.charmaps,
         &bundle.locales,
         &bundle.later,
         native,
-    )?;
-    Ok(Plan { bundle, library })
+    )
+}
+
+/// A fault, once what was made before it is let go.
+fn fault_alone(bundle: Bundle, library: Library, fault: TextFault) -> TextFault
+    ensures { result ≡ fault }
+{
+    drop(library);
+    drop(bundle);
+    fault
+}
+
+/// Reads the message catalogs of blocks, in their order (XCU gencat).
+fn read_books(alloc: Global, blocks: &[Block]) -> Result<Vec<Book>, TextFault>
+    requires { All IsSized blocks.now }
+    ensures { Gives (λ books. books.items) result (books_read blocks.now) }
+{
+    let mut books = Vec::new(alloc);
+    for block in blocks {
+        books.push(read_catalog(alloc, block.text.as_bytes(), block.first_line)?)?;
+    }
+    Ok(books)
 }
 
 /// Counts what an accepted bundle has. The refusals are those of `prepare`.

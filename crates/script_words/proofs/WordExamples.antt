@@ -1,7 +1,7 @@
 -- Names, words and commands on small inputs.
 use Rattle.std.proofs.Common.{◌≡◌, ℕ, true, false, List, [], ◌∷◌, Some, None, refl}
 use Rattle.std.specs.Prelude.{codes, replicate}
-use Rattle.script_words.specs.Names.{is_formed, is_locale_name, is_charmap_name, is_thread_name}
+use Rattle.script_words.specs.Names.{is_formed, is_locale_name, is_part_name, is_charmap_name, is_thread_name}
 use Rattle.script_words.specs.Spans.{Span, whole_line, next_word}
 use Rattle.script_words.specs.Words.{text_of_word, decimal_number, categories_of_word, mask_of_word, variable_of_word, cut_at, handle_of_word}
 use Rattle.script_words.specs.Tables.{commands_table, items_table}
@@ -28,6 +28,19 @@ locale_named-UTF = refl
 locale_named-slash : is_locale_name (codes "a/b") ≡ false
 unfolding next_word text_of_word mask_of_word categories_of_word variable_of_word decimal_number cut_at is_formed is_locale_name is_charmap_name is_thread_name commands_table items_table
 locale_named-slash = refl
+
+-- a category of an object may have the name `C`, and not `POSIX`
+part_named-C : is_part_name (codes "C") ≡ true
+unfolding is_part_name is_formed
+part_named-C = refl
+
+part_named-POSIX : is_part_name (codes "POSIX") ≡ false
+unfolding is_part_name is_formed
+part_named-POSIX = refl
+
+part_named-slash : is_part_name (codes "a/b") ≡ false
+unfolding is_part_name is_formed
+part_named-slash = refl
 
 formed-empty : is_formed [] ≡ false
 unfolding next_word text_of_word mask_of_word categories_of_word variable_of_word decimal_number cut_at is_formed is_locale_name is_charmap_name is_thread_name commands_table items_table

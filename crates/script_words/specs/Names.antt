@@ -28,6 +28,10 @@ is_formed name = nat_lt 0 (length name) && nat_le (length name) LOCALE_NAME_LIMI
 unfoldable pub is_locale_name : List ℕ → Bool
 is_locale_name name = is_formed name && not (bytes_eq name (codes "C")) && not (bytes_eq name (codes "POSIX"))
 
+-- a formed name that is not `POSIX`, since the categories of the POSIX locale have the name `C`
+unfoldable pub is_part_name : List ℕ → Bool
+is_part_name name = is_formed name && not (bytes_eq name (codes "POSIX"))
+
 -- a formed name that is neither `UTF-8` nor `POSIX`
 unfoldable pub is_charmap_name : List ℕ → Bool
 is_charmap_name name = is_formed name && not (bytes_eq name (codes "UTF-8")) && not (bytes_eq name (codes "POSIX"))

@@ -20,6 +20,7 @@ directives_table =
     (codes ".charmap", directives.Charmap) ∷
     (codes ".locale", directives.Locale) ∷
     (codes ".later", directives.Later) ∷
+    (codes ".catalog", directives.Catalog) ∷
     (codes ".native", directives.Native) ∷
     (codes ".thread", directives.Thread) ∷
     (codes ".round", directives.Round) ∷
@@ -56,6 +57,9 @@ commands_table =
     (codes "number_l", verbs.ReadOf questions.Number) ∷
     (codes "parse", verbs.Read questions.Parse) ∷
     (codes "parse_l", verbs.ReadOf questions.Parse) ∷
+    (codes "catopen", verbs.CatOpen) ∷
+    (codes "catgets", verbs.CatGets) ∷
+    (codes "catclose", verbs.CatClose) ∷
     []
 
 -- the items

@@ -127,7 +127,7 @@ variable_of_word w = if is_thread_name w then Some w else None
 unfoldable pub class_of_word : List ℕ → Option (List ℕ)
 class_of_word w = if is_class_name w then Some w else None
 
--- the key of a later version of a locale
+-- the key of a later version of a locale, or the name of a message catalog
 unfoldable pub key_of_word : List ℕ → Option (List ℕ)
 key_of_word w = if is_locale_name w then Some w else None
 

@@ -30,7 +30,7 @@ pub const NUMBER_LIMIT: usize = 64;
 /// The most digits of a number.
 pub const NUMBER_DIGITS: usize = 20;
 
-/// The most bytes of a text that a command scans.
+/// The most bytes of a text that a command is given in quotes.
 pub const TEXT_LIMIT: usize = 1024;
 
 /// The most digits of a number of a time.
@@ -166,7 +166,7 @@ impl WrittenNumber {
     }
 }
 
-/// A text of at most 1024 bytes that a command scans.
+/// A text of at most 1024 bytes that a command is given in quotes.
 #[derive(Debug, Drop)]
 pub struct CommandText {
     text: ByteText,
@@ -202,6 +202,14 @@ impl CommandText {
         ensures short { length result.now ≤ TEXT_LIMIT }
     {
         self.text.as_bytes()
+    }
+
+    /// The text itself. Takes no memory.
+    pub fn into_text(self) -> ByteText
+        ensures { result ≡ self }
+    {
+        let CommandText { text } = self;
+        text
     }
 }
 

@@ -2,7 +2,7 @@
 
 ghost use Rattle.std.specs.Prelude.{◌≡◌};
 ghost use Rattle.std.specs.List.{list_all};
-ghost use Rattle.script_words.specs.Names.{is_letter, is_letter_or_digit, is_name_byte, is_formed, is_locale_name, is_charmap_name, is_thread_name, is_class_name};
+ghost use Rattle.script_words.specs.Names.{is_letter, is_letter_or_digit, is_name_byte, is_formed, is_locale_name, is_part_name, is_charmap_name, is_thread_name, is_class_name};
 
 /// The most bytes of a locale's or a charmap's name.
 pub const LOCALE_NAME_LIMIT: usize = 64;
@@ -27,6 +27,15 @@ pub fn is_locale_name(name: &[u8]) -> bool
     ensures { result ≡ is_locale_name name.now }
 {
     is_formed(name) && name != b"C".as_slice() && name != b"POSIX".as_slice()
+}
+
+/// Whether a category of an object may have this name: that of a locale of the bundle, or `C`, the
+/// name of the POSIX locale's categories.
+#[tactic(auto, unfolding(crate::specs::Names::is_part_name))]
+pub fn is_part_name(name: &[u8]) -> bool
+    ensures { result ≡ is_part_name name.now }
+{
+    is_formed(name) && name != b"POSIX".as_slice()
 }
 
 /// Whether a charmap may have this name: a formed one, and neither `UTF-8` nor `POSIX`.

@@ -14,6 +14,8 @@ pub enum Directive {
     Locale,
     /// `.later KEY NAME CHARSET`: a block with a later version of a locale.
     Later,
+    /// `.catalog NAME LOCALE`: a block with a message catalog.
+    Catalog,
     /// `.native NAME`: the locale that an empty name means.
     Native,
     /// `.thread NAME`: the thread of the commands that follow.
@@ -74,19 +76,26 @@ pub enum Verb {
     Read(Question),
     /// The object of a handle is read.
     ReadOf(Question),
+    /// catopen.
+    CatOpen,
+    /// catgets.
+    CatGets,
+    /// catclose.
+    CatClose,
 }
 
-const DIRECTIVES: [(&[u8], Directive); 6] = [
+const DIRECTIVES: [(&[u8], Directive); 7] = [
     (b".charmap", Directive::Charmap),
     (b".locale", Directive::Locale),
     (b".later", Directive::Later),
+    (b".catalog", Directive::Catalog),
     (b".native", Directive::Native),
     (b".thread", Directive::Thread),
     (b".round", Directive::Round),
 ];
 
 /// The commands.
-const COMMANDS: [(&[u8], Verb); 28] = [
+const COMMANDS: [(&[u8], Verb); 31] = [
     (b"new", Verb::New),
     (b"dup", Verb::Dup),
     (b"free", Verb::Free),
@@ -115,6 +124,9 @@ const COMMANDS: [(&[u8], Verb); 28] = [
     (b"number_l", Verb::ReadOf(Question::Number)),
     (b"parse", Verb::Read(Question::Parse)),
     (b"parse_l", Verb::ReadOf(Question::Parse)),
+    (b"catopen", Verb::CatOpen),
+    (b"catgets", Verb::CatGets),
+    (b"catclose", Verb::CatClose),
 ];
 
 /// The items of nl_langinfo.

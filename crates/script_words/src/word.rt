@@ -299,7 +299,7 @@ pub fn class_of_word(alloc: Global, word: &[u8]) -> Result<Option<ByteText>, All
     }
 }
 
-/// The key of a later version of a locale.
+/// The key of a later version of a locale, or the name of a message catalog.
 #[tactic(auto, unfolding(crate::specs::Words::key_of_word))]
 pub fn key_of_word(alloc: Global, word: &[u8]) -> Result<Option<ByteText>, AllocError>
     ensures { IfOk result (λ key. key ≡ key_of_word word.now) }

@@ -39,6 +39,12 @@ returns-in-Posted-clause-back c = λ v fits is.
     let this = reply_of_form c.args.threads.now v c.args.bytes.now c.first_word.result.0.now c.first_word.result.1.now c.reply_form.result replies.Posted is c.first_word.ensures.back c.reply_form.ensures at in
     given (reply_text c.args.threads.now) c.args.threads.now v _ (sym this)
 
+pub returns-in-Closed-clause-back : goal.returns-in-Closed-clause-back
+returns-in-Closed-clause-back c = λ v fits is.
+    let at : c.reply_form.result ≡ Some replies.Closed = cc (c.in-Some.is, c.in-Closed.is) in
+    let this = reply_of_form c.args.threads.now v c.args.bytes.now c.first_word.result.0.now c.first_word.result.1.now c.reply_form.result replies.Closed is c.first_word.ensures.back c.reply_form.ensures at in
+    given (reply_text c.args.threads.now) c.args.threads.now v _ (sym this)
+
 pub returns-in-Ended-clause-back : goal.returns-in-Ended-clause-back
 returns-in-Ended-clause-back c = λ v fits is.
     let at : c.reply_form.result ≡ Some replies.Ended = cc (c.in-Some.is, c.in-Ended.is) in
@@ -74,6 +80,24 @@ returns-in_ok-made-in-Handle-clause-back c = λ v fits is.
     let small = subst (λ (u : Said). IsSaid c.args.threads.now u) this.1 fits in
     let read = c.in_ok-made-in-Handle.ensures.back this.0 small (sym there) in
     (ap (λ t. codes "handle " ++ t) read.0 ∙ ap (λ u. reply_text c.args.threads.now u) (sym this.1), λ distinct. ap (λ k. said.Handle k) (read.1 distinct) ∙ sym this.1)
+
+pub returns-in_err-opened-in-Opened-clause-back : goal.returns-in_err-opened-in-Opened-clause-back
+returns-in_err-opened-in-Opened-clause-back c = λ v fits is.
+    let at : c.reply_form.result ≡ Some replies.Opened = cc (c.in-Some.is, c.in-Opened.is) in
+    let this = reply_of_form c.args.threads.now v c.args.bytes.now c.first_word.result.0.now c.first_word.result.1.now c.reply_form.result replies.Opened is c.first_word.ensures.back c.reply_form.ensures at in
+    let there = c.behind_space-operand.ensures (handle_text c.args.threads.now this.0) this.2 in
+    let small = subst (λ (u : Said). IsSaid c.args.threads.now u) this.1 fits in
+    let p = err_from_is_err_and c.from_residual-in_err-opened-in-Opened.result c.from_residual-in_err-opened-in-Opened.ensures.1 in
+    rw (p.1, p.2) (c.in_err-opened-in-Opened.ensures.back this.0 small (sym there))
+
+pub returns-in_ok-opened-in-Opened-clause-back : goal.returns-in_ok-opened-in-Opened-clause-back
+returns-in_ok-opened-in-Opened-clause-back c = λ v fits is.
+    let at : c.reply_form.result ≡ Some replies.Opened = cc (c.in-Some.is, c.in-Opened.is) in
+    let this = reply_of_form c.args.threads.now v c.args.bytes.now c.first_word.result.0.now c.first_word.result.1.now c.reply_form.result replies.Opened is c.first_word.ensures.back c.reply_form.ensures at in
+    let there = c.behind_space-operand.ensures (handle_text c.args.threads.now this.0) this.2 in
+    let small = subst (λ (u : Said). IsSaid c.args.threads.now u) this.1 fits in
+    let read = c.in_ok-opened-in-Opened.ensures.back this.0 small (sym there) in
+    (ap (λ t. codes "opened " ++ t) read.0 ∙ ap (λ u. reply_text c.args.threads.now u) (sym this.1), λ distinct. ap (λ k. said.Opened k) (read.1 distinct) ∙ sym this.1)
 
 pub returns-in_err-former-in-Was-clause-back : goal.returns-in_err-former-in-Was-clause-back
 returns-in_err-former-in-Was-clause-back c = λ v fits is.

@@ -5,7 +5,7 @@ use Rattle.script_lines.proofs.granted.read_of_line.Goals as goal
 
 pub returns-in-Some-clause-leaves : goal.returns-in-Some-clause-leaves
 returns-in-Some-clause-leaves g c =
-    IfOk-weaker c.object_line.result _ _ (λ l is H here. held_leaves (g.B.Board.setting_of c.args.board.now) c.args.library.now (g.B.Board.later (g.B.Board.setting_of c.args.board.now) (g.B.Side.Side.number_of c.args.side.now)) (g.B.Board.at c.args.board.now c.args.side.now) H (caller c.args.at) c.args.named c.args.read.now (g.B.Side.Side.number_of c.args.side.now) c.in-Some.object.now l c.requires.caller (c.in-Some.ensures H (g.met.B.Board.known c.args.board.now c.args.side.now H here)) here (g.met.B.Board.stays c.args.board.now c.args.side.now H here) is) c.object_line.ensures
+    IfOk-weaker c.object_line.result _ _ (λ l is books H here. held_leaves (g.B.Board.setting_of c.args.board.now) c.args.library.now books (g.B.Board.later (g.B.Board.setting_of c.args.board.now) (g.B.Side.Side.number_of c.args.side.now)) (g.B.Board.at c.args.board.now c.args.side.now) H (caller c.args.at) c.args.named c.args.read.now (g.B.Side.Side.number_of c.args.side.now) c.in-Some.object.now l c.requires.caller (c.in-Some.ensures H (g.met.B.Board.known c.args.board.now c.args.side.now H here)) here (g.met.B.Board.stays c.args.board.now c.args.side.now H here) is) c.object_line.ensures
 
 pub returns-in-Some-clause-ready : goal.returns-in-Some-clause-ready
 returns-in-Some-clause-ready g c =
@@ -13,4 +13,4 @@ returns-in-Some-clause-ready g c =
 
 pub returns-in-None-clause-leaves : goal.returns-in-None-clause-leaves
 returns-in-None-clause-leaves g c =
-    IfOk-weaker c.read_between.result _ _ (λ l f H here. unheld_leaves (g.B.Board.setting_of c.args.board.now) c.args.library.now (g.B.Board.later (g.B.Board.setting_of c.args.board.now) (g.B.Side.Side.number_of c.args.side.now)) (g.B.Board.at c.read_between.new.board c.read_between.new.side) H (caller c.args.at) c.args.named c.args.read.now (g.B.Side.Side.number_of c.args.side.now) l c.requires.caller (c.in-None.ensures H (g.met.B.Board.known c.args.board.now c.args.side.now H here)) (f H here)) c.read_between.ensures.leaves
+    IfOk-weaker c.read_between.result _ _ (λ l f books H here. unheld_leaves (g.B.Board.setting_of c.args.board.now) c.args.library.now books (g.B.Board.later (g.B.Board.setting_of c.args.board.now) (g.B.Side.Side.number_of c.args.side.now)) (g.B.Board.at c.read_between.new.board c.read_between.new.side) H (caller c.args.at) c.args.named c.args.read.now (g.B.Side.Side.number_of c.args.side.now) l c.requires.caller (c.in-None.ensures H (g.met.B.Board.known c.args.board.now c.args.side.now H here)) (f H here)) c.read_between.ensures.leaves

@@ -1,31 +1,36 @@
 use Rattle.std.proofs.Common.{◌≡◌, ◌+◌, ◌++◌, List, length, map, take, drop, sym, ap, subst, ◌∙◌, arith}
 use Rattle.std.specs.Prelude.{flat_map}
-use Rattle.thread_current.specs.Thread.{IsThreadOf, IsInOrder}
 use Rattle.script_lines.specs.Seen.{turn_seen}
 use Rattle.script_lines.specs.Turns.{Turn, round_turns}
 use Rattle.script_lines.specs.declared.turns.Turn.{Turn as LentTurn}
 use Rattle.script_serial.specs.Plan.{PlanData}
 use Rattle.script_run.specs.declared.worker.Worker.{Worker}
-use Rattle.script_run.specs.Rounds.{Each, EachTwo, mine_of, MayWork, HasWorked, HasGiven, AllMet}
+use Rattle.script_run.specs.Seated.{Gates, gates}
+use Rattle.script_run.specs.Beside.{Stock, stock, stock_of}
+use Rattle.script_run.specs.Rounds.{Each, EachTwo, plan_made, IsOfBoth, IsOrderly, MayWork, HasWorked, HasGiven, AllMet}
 use Rattle.script_run.proofs.Rounding.{between_next, in_order_at}
-use Rattle.script_run.proofs.Running.{made_plan}
+use Rattle.script_run.proofs.Running.{stock_made}
 use Rattle.script_run.proofs.Stacking.{written}
 use Rattle.script_run.proofs.Taking.{may_work}
 use Rattle.script_run.proofs.rounds.all_rounds.Goals as goal
 
 pub side_by_side-requires-after_bounds : goal.side_by_side-requires-after_bounds
 side_by_side-requires-after_bounds g c κs within =
-    let plan : PlanData = made_plan c.args.bundle.now c.args.common.now.library.now in
-    let gate = c.args.common.now.shared.now in
+    let plan : PlanData = plan_made c.args.bundle.now c.args.common.now.library.now c.args.common.now.books.now in
+    let gate : Gates = gates c.args.common.now.shared.now c.args.common.now.catalogs.now in
+    let shelf : Stock = stock c.args.common.now.library.now c.args.common.now.books.now in
+    let same : stock_of plan ≡ shelf = stock_made c.args.bundle.now c.args.common.now.library.now c.args.common.now.books.now c.requires.catalogs in
     let turns : List Turn = map turn_seen c.as_slice.result.now in
     let turns_are : turns ≡ round_turns (length plan.bundle.threads) plan.bundle.commands (c.loop-i.i + 1) = ap (λ (ts : List LentTurn). map turn_seen ts) c.as_slice.ensures.value ∙ c.in_ok-turns.ensures in
-    subst (λ (ws : List Worker). Each ws (λ i w. MayWork gate plan.library turns w)) (sym c.as_mut_slice.ensures.value)
-    (may_work gate plan c.loop-i.i c.loop-i.lines.items c.loop-i.workers.items turns c.loop-i.invariant c.requires.sound c.requires.terms turns_are)
+    subst (λ (ws : List Worker). Each ws (λ i w. MayWork gate shelf turns w)) (sym c.as_mut_slice.ensures.value)
+    (subst (λ (x : Stock). Each c.loop-i.workers.items (λ i w. MayWork gate x turns w)) same (may_work gate plan c.loop-i.i c.loop-i.lines.items c.loop-i.workers.items turns c.loop-i.invariant c.requires.sound c.requires.terms c.requires.asked turns_are))
 
 pub meet_all-requires-clause-threads : goal.meet_all-requires-clause-threads
 meet_all-requires-clause-threads g c =
-    let plan : PlanData = made_plan c.args.bundle.now c.args.common.now.library.now in
-    let gate = c.args.common.now.shared.now in
+    let plan : PlanData = plan_made c.args.bundle.now c.args.common.now.library.now c.args.common.now.books.now in
+    let gate : Gates = gates c.args.common.now.shared.now c.args.common.now.catalogs.now in
+    let shelf : Stock = stock c.args.common.now.library.now c.args.common.now.books.now in
+    let same : stock_of plan ≡ shelf = stock_made c.args.bundle.now c.args.common.now.library.now c.args.common.now.books.now c.requires.catalogs in
     let turns : List Turn = map turn_seen c.as_slice.result.now in
     let turns_are : turns ≡ round_turns (length plan.bundle.threads) plan.bundle.commands (c.loop-i.i + 1) = ap (λ (ts : List LentTurn). map turn_seen ts) c.as_slice.ensures.value ∙ c.in_ok-turns.ensures in
     let n = c.loop-i.workers.len in
@@ -41,17 +46,22 @@ meet_all-requires-clause-threads g c =
     let slice1_long = ap (λ (ws : List Worker). length ws) slice1 in
     let long2 : length given ≡ n = omega (arith, c.gather.auto.workers, slice1_long, long1) in
     let items2 : take n (given ++ drop (length given) (take n (worked ++ drop (length worked) items0))) ≡ given = written n given (drop (length given) (take n (worked ++ drop (length worked) items0))) long2 in
-    let work : EachTwo items0 worked (λ i old new. HasWorked gate plan.library turns old new) = subst (λ (ws : List Worker). EachTwo ws worked (λ i old new. HasWorked gate plan.library turns old new)) slice0 c.side_by_side.ensures in
+    let work : EachTwo items0 worked (λ i old new. HasWorked gate (stock_of plan) turns old new) =
+    subst (λ (x : Stock). EachTwo items0 worked (λ i old new. HasWorked gate x turns old new)) (sym same)
+    (subst (λ (ws : List Worker). EachTwo ws worked (λ i old new. HasWorked gate shelf turns old new)) slice0 c.side_by_side.ensures)
+    in
     let give : EachTwo worked given (λ i old new. HasGiven old new) = subst (λ (ws : List Worker). EachTwo ws given (λ i old new. HasGiven old new)) slice1 c.in_ok-gather.ensures.given in
-    let ordered : Each given (λ i w. IsThreadOf gate (mine_of w) × IsInOrder gate.terms (mine_of w)) =
+    let ordered : Each given (λ i w. IsOfBoth gate w × IsOrderly gate w) =
     in_order_at gate plan c.loop-i.i c.loop-i.lines.items turns items0 worked given c.loop-i.invariant (omega (arith, long1, items0_long)) (omega (arith, long2, items0_long)) work give
     in
-    subst (λ (ws : List Worker). Each ws (λ i w. IsThreadOf gate (mine_of w))) (sym items2) (λ i d lt. (ordered i d lt).0)
+    subst (λ (ws : List Worker). Each ws (λ i w. IsOfBoth gate w)) (sym items2) (λ i d lt. (ordered i d lt).0)
 
 pub meet_all-requires-clause-in_order : goal.meet_all-requires-clause-in_order
 meet_all-requires-clause-in_order g c =
-    let plan : PlanData = made_plan c.args.bundle.now c.args.common.now.library.now in
-    let gate = c.args.common.now.shared.now in
+    let plan : PlanData = plan_made c.args.bundle.now c.args.common.now.library.now c.args.common.now.books.now in
+    let gate : Gates = gates c.args.common.now.shared.now c.args.common.now.catalogs.now in
+    let shelf : Stock = stock c.args.common.now.library.now c.args.common.now.books.now in
+    let same : stock_of plan ≡ shelf = stock_made c.args.bundle.now c.args.common.now.library.now c.args.common.now.books.now c.requires.catalogs in
     let turns : List Turn = map turn_seen c.as_slice.result.now in
     let turns_are : turns ≡ round_turns (length plan.bundle.threads) plan.bundle.commands (c.loop-i.i + 1) = ap (λ (ts : List LentTurn). map turn_seen ts) c.as_slice.ensures.value ∙ c.in_ok-turns.ensures in
     let n = c.loop-i.workers.len in
@@ -67,17 +77,22 @@ meet_all-requires-clause-in_order g c =
     let slice1_long = ap (λ (ws : List Worker). length ws) slice1 in
     let long2 : length given ≡ n = omega (arith, c.gather.auto.workers, slice1_long, long1) in
     let items2 : take n (given ++ drop (length given) (take n (worked ++ drop (length worked) items0))) ≡ given = written n given (drop (length given) (take n (worked ++ drop (length worked) items0))) long2 in
-    let work : EachTwo items0 worked (λ i old new. HasWorked gate plan.library turns old new) = subst (λ (ws : List Worker). EachTwo ws worked (λ i old new. HasWorked gate plan.library turns old new)) slice0 c.side_by_side.ensures in
+    let work : EachTwo items0 worked (λ i old new. HasWorked gate (stock_of plan) turns old new) =
+    subst (λ (x : Stock). EachTwo items0 worked (λ i old new. HasWorked gate x turns old new)) (sym same)
+    (subst (λ (ws : List Worker). EachTwo ws worked (λ i old new. HasWorked gate shelf turns old new)) slice0 c.side_by_side.ensures)
+    in
     let give : EachTwo worked given (λ i old new. HasGiven old new) = subst (λ (ws : List Worker). EachTwo ws given (λ i old new. HasGiven old new)) slice1 c.in_ok-gather.ensures.given in
-    let ordered : Each given (λ i w. IsThreadOf gate (mine_of w) × IsInOrder gate.terms (mine_of w)) =
+    let ordered : Each given (λ i w. IsOfBoth gate w × IsOrderly gate w) =
     in_order_at gate plan c.loop-i.i c.loop-i.lines.items turns items0 worked given c.loop-i.invariant (omega (arith, long1, items0_long)) (omega (arith, long2, items0_long)) work give
     in
-    subst (λ (ws : List Worker). Each ws (λ i w. IsInOrder gate.terms (mine_of w))) (sym items2) (λ i d lt. (ordered i d lt).1)
+    subst (λ (ws : List Worker). Each ws (λ i w. IsOrderly gate w)) (sym items2) (λ i d lt. (ordered i d lt).1)
 
 pub loop-i-preserved : goal.loop-i-preserved
 loop-i-preserved g c =
-    let plan : PlanData = made_plan c.args.bundle.now c.args.common.now.library.now in
-    let gate = c.args.common.now.shared.now in
+    let plan : PlanData = plan_made c.args.bundle.now c.args.common.now.library.now c.args.common.now.books.now in
+    let gate : Gates = gates c.args.common.now.shared.now c.args.common.now.catalogs.now in
+    let shelf : Stock = stock c.args.common.now.library.now c.args.common.now.books.now in
+    let same : stock_of plan ≡ shelf = stock_made c.args.bundle.now c.args.common.now.library.now c.args.common.now.books.now c.requires.catalogs in
     let turns : List Turn = map turn_seen c.as_slice.result.now in
     let turns_are : turns ≡ round_turns (length plan.bundle.threads) plan.bundle.commands (c.loop-i.i + 1) = ap (λ (ts : List LentTurn). map turn_seen ts) c.as_slice.ensures.value ∙ c.in_ok-turns.ensures in
     let n = c.loop-i.workers.len in
@@ -93,9 +108,12 @@ loop-i-preserved g c =
     let slice1_long = ap (λ (ws : List Worker). length ws) slice1 in
     let long2 : length given ≡ n = omega (arith, c.gather.auto.workers, slice1_long, long1) in
     let items2 : take n (given ++ drop (length given) (take n (worked ++ drop (length worked) items0))) ≡ given = written n given (drop (length given) (take n (worked ++ drop (length worked) items0))) long2 in
-    let work : EachTwo items0 worked (λ i old new. HasWorked gate plan.library turns old new) = subst (λ (ws : List Worker). EachTwo ws worked (λ i old new. HasWorked gate plan.library turns old new)) slice0 c.side_by_side.ensures in
+    let work : EachTwo items0 worked (λ i old new. HasWorked gate (stock_of plan) turns old new) =
+    subst (λ (x : Stock). EachTwo items0 worked (λ i old new. HasWorked gate x turns old new)) (sym same)
+    (subst (λ (ws : List Worker). EachTwo ws worked (λ i old new. HasWorked gate shelf turns old new)) slice0 c.side_by_side.ensures)
+    in
     let give : EachTwo worked given (λ i old new. HasGiven old new) = subst (λ (ws : List Worker). EachTwo ws given (λ i old new. HasGiven old new)) slice1 c.in_ok-gather.ensures.given in
-    let ordered : Each given (λ i w. IsThreadOf gate (mine_of w) × IsInOrder gate.terms (mine_of w)) =
+    let ordered : Each given (λ i w. IsOfBoth gate w × IsOrderly gate w) =
     in_order_at gate plan c.loop-i.i c.loop-i.lines.items turns items0 worked given c.loop-i.invariant (omega (arith, long1, items0_long)) (omega (arith, long2, items0_long)) work give
     in
     let met : List Worker = c.meet_all.new.workers.items in
@@ -104,6 +122,6 @@ loop-i-preserved g c =
     let printed : c.gather.new.lines.items ≡ c.loop-i.lines.items ++ flat_map (λ (w : Worker). w.lines.items) worked =
     c.in_ok-gather.ensures.lines ∙ ap (λ (ws : List Worker). c.loop-i.lines.items ++ flat_map (λ (w : Worker). w.lines.items) ws) slice1
     in
-    between_next gate plan c.loop-i.i c.loop-i.lines.items c.gather.new.lines.items turns items0 worked given met c.loop-i.invariant c.requires.terms turns_are
+    between_next gate plan c.loop-i.i c.loop-i.lines.items c.gather.new.lines.items turns items0 worked given met c.loop-i.invariant c.requires.terms c.requires.asked turns_are
     (omega (arith, long1, items0_long)) (omega (arith, long2, items0_long)) met_long work printed give
-    (subst (λ (ws : List Worker). AllMet gate.terms ws met) items2 c.meet_all.ensures.met)
+    (subst (λ (ws : List Worker). AllMet gate ws met) items2 c.meet_all.ensures.met)

@@ -11,7 +11,7 @@ invariant-loop-turn l = record {
   threads : length l.threads ≡ length l.initial.threads;
   numbered : AreNumbered (length l.lines.items) l.threads;
   lines : length l.lines.items ≡ length l.initial.lines.items + l.turn-index;
-  on : GoesOn (2 * l.turn-index) l.initial.table l.table;
-  plays : (start : Run) → AreAt l.initial.table l.initial.threads start → start.lines ≡ l.initial.lines.items
-      → (run : Run) × PlaysOn l.initial.table.setting l.library (map turn_seen l.turns) start l.table l.threads l.lines.items l.turn-index run;
+  on : GoesOn (2 * l.turn-index) l.initial.alone l.alone;
+  plays : (start : Run) → AreAt l.initial.alone l.initial.threads start → start.lines ≡ l.initial.lines.items
+      → (run : Run) × PlaysOn l.initial.alone.table.setting l.library l.books (map turn_seen l.turns) start l.alone l.threads l.lines.items l.turn-index run;
 }

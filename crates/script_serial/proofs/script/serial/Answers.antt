@@ -1,9 +1,10 @@
 use Rattle.std.proofs.Common.{◌≡◌, [], sym, ap, ◌∙◌}
-use Rattle.handle_table.specs.Table.{TableData}
+use Rattle.script_lines.specs.Catalogs.{Books}
 use Rattle.script_lang.specs.declared.bundle.Bundle.{Bundle}
 use Rattle.script_serial.proofs.PlayLemmas.{no_lines, sound_parts, serial_told}
+use Rattle.script_serial.specs.Serial.{setting}
 use Rattle.script_serial.proofs.SerialNewest.{printed_in_order}
-use Rattle.script_serial.proofs.ToldApart.{printed_isolated}
+use Rattle.script_serial.proofs.ToldApart.{printed_isolated, catalogs_isolated}
 use Rattle.script_serial.proofs.script.serial.Goals as goal
 
 pub returns-then-is_empty-clause-lines : goal.returns-then-is_empty-clause-lines
@@ -12,13 +13,17 @@ returns-then-is_empty-clause-lines c =
     c.of.ensures ∙ c.new.ensures.items ∙ sym (no_lines c.args.plan.now c.args.rows c.args.generations (ap (λ (b : Bundle). b.threads) (sym c.bundle-bundle.ensures.bundle) ∙ none))
 
 pub all_lines-requires-clause-sound : goal.all_lines-requires-clause-sound
-all_lines-requires-clause-sound c = sound_parts c.args.plan.now c.bundle-bundle.result.now c.library-library.result.now c.bundle-bundle.ensures.bundle c.library-library.ensures c.bundle-bundle.ensures.sound
+all_lines-requires-clause-sound c =
+    sound_parts c.args.plan.now c.bundle-bundle.result.now c.library-library.result.now c.books-books.result.books c.bundle-bundle.ensures.bundle c.library-library.ensures (ap (λ (b : Books). b.books) c.books-books.ensures) c.bundle-bundle.ensures.sound
+
+pub all_lines-requires-clause-blocks : goal.all_lines-requires-clause-blocks
+all_lines-requires-clause-blocks c = ap (λ (b : Books). b.blocks) c.books-books.ensures ∙ ap (λ (b : Bundle). b.catalogs) (sym c.bundle-bundle.ensures.bundle)
 
 pub returns-clause-lines : goal.returns-clause-lines
 returns-clause-lines c =
     c.of-2.ensures
-    ∙ serial_told c.args.plan.now c.args.rows c.args.generations c.len-count.result c.bundle-bundle.result.now c.library-library.result.now c.in_ok-shelf.shelf c.new-table.result.setting c.in_ok-lines.lines.items
-    (ap (λ (t : TableData). t.setting) c.new-table.ensures ∙ c.in_ok-table.ensures.setting) c.len-count.ensures c.in_ok-shelf.ensures c.bundle-bundle.ensures.bundle c.library-library.ensures c.in_ok-lines.ensures
+    ∙ serial_told c.args.plan.now c.args.rows c.args.generations c.len-count.result c.bundle-bundle.result.now c.library-library.result.now c.books-books.result.books c.in_ok-alone.alone.table.setting c.in_ok-lines.lines.items
+    c.in_ok-alone.ensures.setting c.len-count.ensures c.bundle-bundle.ensures.bundle c.library-library.ensures (ap (λ (b : Books). b.books) c.books-books.ensures) c.in_ok-lines.ensures
 
 pub returns-then-is_empty-clause-prints : goal.returns-then-is_empty-clause-prints
 returns-then-is_empty-clause-prints c = printed_in_order c.args.plan.now c.args.rows c.args.generations (returns-then-is_empty-clause-lines c)
@@ -31,3 +36,9 @@ returns-then-is_empty-clause-isolated c = printed_isolated c.args.plan.now c.arg
 
 pub returns-clause-isolated : goal.returns-clause-isolated
 returns-clause-isolated c = printed_isolated c.args.plan.now c.args.rows c.args.generations (returns-clause-lines c)
+
+pub returns-then-is_empty-clause-catalogs_isolated : goal.returns-then-is_empty-clause-catalogs_isolated
+returns-then-is_empty-clause-catalogs_isolated c = catalogs_isolated (setting c.args.plan.now c.args.rows c.args.generations) c.args.plan.now c.of.result
+
+pub returns-clause-catalogs_isolated : goal.returns-clause-catalogs_isolated
+returns-clause-catalogs_isolated c = catalogs_isolated (setting c.args.plan.now c.args.rows c.args.generations) c.args.plan.now c.of-2.result

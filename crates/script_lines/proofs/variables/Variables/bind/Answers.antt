@@ -1,7 +1,13 @@
-use Rattle.std.proofs.Common.{◌∷◌, ◌∙◌, ap}
-use Rattle.script_lines.specs.Variables.{Bindings, bound}
-use Rattle.script_lines.proofs.VariableLemmas.{bound_insert}
+use Rattle.std.proofs.Common.{◌≡◌, ◌∷◌, sym, subst}
+use Rattle.std.specs.Result.{OnOk}
+use Rattle.script_lines.specs.declared.variables.Space.{Space}
+use Rattle.script_lines.specs.Variables.{Variable, bound}
 use Rattle.script_lines.proofs.variables.Variables.bind.Goals as goal
 
-pub returns : goal.returns
-returns c = λ v. bound_insert c.in_ok-name.name c.args.variable.now c.args.handle c.self.inside.handles.entries c.insert.new.self.entries c.in_ok-name.ensures.items c.in_ok-insert.ensures.entries v ∙ ap (λ (b : Bindings). bound ((c.args.variable.now, c.args.handle) ∷ b) v) c.self.view_is
+pub returns-in-Locales : goal.returns-in-Locales
+returns-in-Locales c =
+    subst (λ (s : Space). OnOk c.bind_locale.result ((v : Variable) → bound c.bind_locale.new.self v ≡ bound ((record { space = s; name = c.args.variable.name.now }, c.args.handle) ∷ c.args.self.now) v)) (sym c.in-Locales.is) c.bind_locale.ensures
+
+pub returns-in-Catalogs : goal.returns-in-Catalogs
+returns-in-Catalogs c =
+    subst (λ (s : Space). OnOk c.bind_catalog.result ((v : Variable) → bound c.bind_catalog.new.self v ≡ bound ((record { space = s; name = c.args.variable.name.now }, c.args.handle) ∷ c.args.self.now) v)) (sym c.in-Catalogs.is) c.bind_catalog.ensures

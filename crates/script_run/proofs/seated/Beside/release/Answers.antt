@@ -14,10 +14,12 @@ pub returns-in-Some : goal.returns-in-Some
 returns-in-Some g c = record {
   answers = answers_release c.args.self.now.shared.now c.args.side.now _ c.args.h c.release-place.result c.in-Some.held
       c.requires.calls c.release-place.ensures.made c.release-place.ensures.in_order refl c.in-Some.ensures;
+  reader = refl;
 }
 
 pub returns-in-None : goal.returns-in-None
 returns-in-None g c = record {
   answers = answers_refused c.args.self.now.shared.now c.args.side.now _ (table.Release c.args.h) c.release_unheld-place.result.0 (refusal_of c.release_unheld-place.result.1)
       c.requires.calls c.release_unheld-place.ensures.fault c.release_unheld-place.ensures.in_order refl c.in-None.ensures.1;
+  reader = refl;
 }

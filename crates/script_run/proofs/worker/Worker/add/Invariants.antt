@@ -1,5 +1,5 @@
 use Rattle.script_run.proofs.worker.Worker.add.Given as goal
 
--- the table that all workers share
+-- the table and the catalogs that all workers share
 abbrev pub ghosts-seat_line : goal.ghosts-seat_line
-ghosts-seat_line g a = record { gate = a.shared.now }
+ghosts-seat_line g a = record { gate = a.common.now.shared.now; desk = a.common.now.catalogs.now }
