@@ -1,5 +1,5 @@
 -- Groups of digits, one after another from the radix on.
-use Rattle.std.proofs.Common.{◌≡◌, ℕ, ◌+◌, ◌-◌, ◌*◌, ◌%◌, ◌<◌, ◌≤◌, List, [], ◌∷◌, ◌++◌, length, true, false, take, drop, subst, ap, ◌∙◌, sym, refl, arith}
+use Rattle.std.proofs.Common.{◌≡◌, ℕ, ◌+◌, ◌-◌, ◌*◌, ◌%◌, ◌<◌, ◌≤◌, List, [], ◌∷◌, ◌++◌, length, Bool, true, false, take, drop, subst, ap, ◌∙◌, sym, refl, arith}
 use Rattle.std.specs.Prelude.{ℤ, pos, negsuc, suc, zero, nat_lt, ◌==◌, Some, None, if◌then◌else◌}
 use Rattle.std.specs.List.{list_all}
 use Rattle.std.proofs.Math.Nat.{mod_self, mod-eq_of_lt, add-mod_right}
@@ -46,6 +46,20 @@ none sizes (suc n) h =
     let here : separates sizes n ≡ false = h n (omega arith) in
     let later : separators sizes n ≡ 0 = none sizes n (λ k lt. h k (omega arith)) in
     rw (here, later) refl
+
+no_one : (b : Bool) (n : ℕ) → (if b then 1 else 0) + n ≡ 0 → b ≡ false
+no_one true n h = absurd (omega (arith, h))
+no_one false n h = refl
+
+-- digits in which no separator stands
+pub none_separated : (d : List ℕ) (sizes : List ℤ) (sep : List ℕ) → separators sizes (length d) ≡ 0 → separated d sizes sep ≡ d
+unfolding separated separators
+none_separated [] sizes sep h = refl
+none_separated (x ∷ xs) sizes sep h =
+    let later : separators sizes (length xs) ≡ 0 = omega (arith, h) in
+    let inside : separates sizes (length xs) ≡ false = no_one (separates sizes (length xs)) (separators sizes (length xs)) h in
+    let rest : separated xs sizes sep ≡ xs = none_separated xs sizes sep later in
+    rw (inside, rest) refl
 
 -- where no digits stand before the last group, no separator stands in the digits
 pub nothing_before : (sizes : List ℤ) (n : ℕ) → list_all is_size sizes ≡ true → last_group sizes n ≡ None → (k : ℕ) → k < n → separates sizes k ≡ false

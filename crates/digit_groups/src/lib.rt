@@ -30,7 +30,24 @@ pub fn group(
     added
 }
 
+/// Appends digits with `sep` between their groups, as [`group`] does.
+///
+/// After a refusal `out` is as before.
+#[inline]
+pub fn group_into(
+    out: &mut Vec<u8>,
+    digits: &[u8],
+    sizes: &[i32],
+    sep: &[u8],
+) -> Result<(), AllocError>
+    ensures ok { OnOk result (out.new.items ≡ out.old.items ++ grouped digits.now sizes.now sep.now) }
+    ensures err { OnErr result (out.new.items ≡ out.old.items) }
+{
+    add_groups(out, digits, sizes_used(sizes), sep)
+}
+
 /// How many bytes `n` digits have once they are grouped, with a separator of `sep_len` bytes.
+#[inline]
 pub fn width_of(n: usize, sizes: &[i32], sep_len: usize) -> usize
     requires few { n ≤ 65536 }
     requires short { sep_len ≤ 65536 }
@@ -44,6 +61,7 @@ pub fn width_of(n: usize, sizes: &[i32], sep_len: usize) -> usize
 }
 
 /// The sizes before the first 0.
+#[inline]
 fn sizes_used(sizes: &[i32]) -> &[i32]
     ensures is { result.now ≡ sizes_used sizes.now }
     ensures sizes { list_all is_size result.now ≡ true }
@@ -57,6 +75,7 @@ fn sizes_used(sizes: &[i32]) -> &[i32]
 }
 
 /// The size of the group next to the radix, where digits stand before it.
+#[inline]
 fn last_group(sizes: &[i32], n: usize) -> Option<usize>
     ensures { result ≡ last_group sizes.now n }
 {
@@ -68,6 +87,7 @@ fn last_group(sizes: &[i32], n: usize) -> Option<usize>
 }
 
 /// The sizes of the groups before the one next to the radix.
+#[inline]
 fn before_last(sizes: &[i32]) -> &[i32]
     ensures { result.now ≡ before_last sizes.now }
 {
@@ -78,6 +98,7 @@ fn before_last(sizes: &[i32]) -> &[i32]
 }
 
 /// How many separators stand in `n` digits.
+#[inline]
 fn separators(n: usize, sizes: &[i32]) -> usize
     requires { list_all is_size sizes.now ≡ true }
     ensures is { result ≡ separators sizes.now n }
@@ -95,18 +116,25 @@ fn separators(n: usize, sizes: &[i32]) -> usize
 }
 
 /// Writes a piece over the bytes before `end`, and says where it begins.
+#[inline(always)]
 fn write_before(target: &mut [u8], end: usize, piece: &[u8]) -> usize
     requires room { length piece.now ≤ end }
     requires within { end ≤ length target.old }
     ensures begins { result + length piece.now ≡ end }
     ensures written { drop result target.new ≡ piece.now ++ drop end target.old }
 {
-    let start = end - piece.len();
-    target[start..end].copy_from_slice(piece);
-    start
+    let mut at = end;
+    let mut left = piece.len();
+    while left > 0 {
+        at -= 1;
+        left -= 1;
+        target[at] = piece[left];
+    }
+    at
 }
 
 /// Writes grouped digits over bytes, from their end on.
+#[inline]
 fn write_groups(target: &mut [u8], digits: &[u8], sizes: &[i32], sep: &[u8])
     requires sizes { list_all is_size sizes.now ≡ true }
     requires room { length target.old ≡ length digits.now + separators sizes.now (length digits.now) * length sep.now }
@@ -125,22 +153,44 @@ fn write_groups(target: &mut [u8], digits: &[u8], sizes: &[i32], sep: &[u8])
 }
 
 /// Where a list of `start` bytes ends once grouped digits stand behind it, if there can be so many.
+#[inline]
 fn end_of(start: usize, digits: usize, separators: usize, sep_len: usize) -> Option<usize>
     ensures { IfSome result (λ end. end ≡ start + (digits + separators * sep_len)) }
 {
     start.checked_add(digits.checked_add(separators.checked_mul(sep_len)?)?)
 }
 
+/// Appends digits with so many separators.
+fn add_separated(
+    out: &mut Vec<u8>,
+    digits: &[u8],
+    sizes: &[i32],
+    sep: &[u8],
+    count: usize,
+) -> Result<(), AllocError>
+    requires sizes { list_all is_size sizes.now ≡ true }
+    requires count { count ≡ separators sizes.now (length digits.now) }
+    ensures ok { OnOk result (out.new.items ≡ out.old.items ++ separated digits.now sizes.now sep.now) }
+    ensures err { OnErr result (out.new.items ≡ out.old.items) }
+{
+    let start = out.len();
+    let end = end_of(start, digits.len(), count, sep.len()).ok_or(AllocError)?;
+    out.resize(end, 0)?;
+    write_groups(&mut out[start..], digits, sizes, sep);
+    Ok(())
+}
+
 /// Appends grouped digits.
+#[tactic(auto, using(crate::proofs::GroupLemmas::none_separated))]
+#[inline]
 fn add_groups(out: &mut Vec<u8>, digits: &[u8], sizes: &[i32], sep: &[u8]) -> Result<(), AllocError>
     requires { list_all is_size sizes.now ≡ true }
     ensures ok { OnOk result (out.new.items ≡ out.old.items ++ separated digits.now sizes.now sep.now) }
     ensures err { OnErr result (out.new.items ≡ out.old.items) }
 {
-    let start = out.len();
     let count = separators(digits.len(), sizes);
-    let end = end_of(start, digits.len(), count, sep.len()).ok_or(AllocError)?;
-    out.resize(end, 0)?;
-    write_groups(&mut out[start..], digits, sizes, sep);
-    Ok(())
+    if count == 0 {
+        return out.extend_from_slice(digits);
+    }
+    add_separated(out, digits, sizes, sep, count)
 }

@@ -14,6 +14,33 @@ few_digits n small = length-digits_of-le 10 20 n (lit≤ tt) (omega arith)
 pub more_digits : (n : ℕ) → 0 < n → digit_count n ≡ digit_count (n / 10) + 1
 more_digits n some = length-digits_of_step 10 n (lit≤ tt) some
 
+pub no_digits : digit_count 0 ≡ 0
+no_digits = let most : digit_count 0 ≤ 0 = length-digits_of-le 10 0 0 (lit≤ tt) (omega arith) in omega arith
+
+pub one_digit : (n : ℕ) → 0 < n → n < 10 → digit_count n ≡ 1
+one_digit n least most =
+    let none : n / 10 ≡ 0 = omega arith in
+    omega (arith, more_digits n least, ap (λ k. digit_count k) none, no_digits)
+
+pub two_digits : (n : ℕ) → 10 ≤ n → n < 100 → digit_count n ≡ 2
+two_digits n least most = let one : digit_count (n / 10) ≡ 1 = one_digit (n / 10) (omega arith) (omega arith) in omega (arith, more_digits n (omega arith))
+
+pub three_digits : (n : ℕ) → 100 ≤ n → n < 1000 → digit_count n ≡ 3
+three_digits n least most = let two : digit_count (n / 10) ≡ 2 = two_digits (n / 10) (omega arith) (omega arith) in omega (arith, more_digits n (omega arith))
+
+pub four_digits : (n : ℕ) → 1000 ≤ n → n < 10000 → digit_count n ≡ 4
+four_digits n least most = let three : digit_count (n / 10) ≡ 3 = three_digits (n / 10) (omega arith) (omega arith) in omega (arith, more_digits n (omega arith))
+
+pub four_more_digits : (n : ℕ) → 10000 ≤ n → digit_count n ≡ digit_count (n / 10000) + 4
+four_more_digits n large =
+    let first = more_digits n (omega arith) in
+    let second = more_digits (n / 10) (omega arith) in
+    let third = more_digits (n / 10 / 10) (omega arith) in
+    let fourth = more_digits (n / 10 / 10 / 10) (omega arith) in
+    let same : n / 10 / 10 / 10 / 10 ≡ n / 10000 = omega arith in
+    let rest : digit_count (n / 10 / 10 / 10 / 10) ≡ digit_count (n / 10000) = ap (λ k. digit_count k) same in
+    omega (arith, first, second, third, fourth, rest)
+
 -- a number is below the power of ten of its digits
 pub below_power : (n : ℕ) → n < 10 ^ digit_count n
 below_power n = subst (λ (m : ℕ). m < 10 ^ digit_count n) (number_digits_of 10 n (lit≤ tt)) (number_lt 10 (digits_of 10 n) (all_below_base_digits_of 10 n (lit≤ tt)))

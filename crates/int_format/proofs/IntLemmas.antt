@@ -65,12 +65,28 @@ unfolding pieces_text
 text_of_piece v at n p (Ok ps) numbers good = refl
 text_of_piece v at n p (Err e) numbers good = cc
 
-pub good_behind : (at : ℕ) (p : Piece) (r : Result (List (ℕ × Piece)) ℕ) (numbers : List ℤ) → refusal (followed (at, p) r) (length numbers) ≡ None → refusal r (length (numbers_behind p numbers)) ≡ None
+-- a piece whose number is there leaves the refusal of what stands behind it
+pub refusal_copied : (at b n : ℕ) (r : Result (List (ℕ × Piece)) ℕ) → refusal (followed (at, Literal b) r) n ≡ refusal r n
 unfolding missing
-good_behind at (Literal b) (Ok ps) numbers good = good
-good_behind at (Convert c) (Ok ps) [] good = cc
-good_behind at (Convert c) (Ok ps) (v ∷ numbers) good = good
-good_behind at p (Err e) numbers good = cc
+refusal_copied at b n (Ok ps) = refl
+refusal_copied at b n (Err e) = refl
+
+pub refusal_there : (at : ℕ) (c : Conversion) (r : Result (List (ℕ × Piece)) ℕ) (numbers : List ℤ) → 1 ≤ length numbers → refusal (followed (at, Convert c) r) (length numbers) ≡ refusal r (length (numbers_behind (Convert c) numbers))
+unfolding missing
+refusal_there at c r [] some = absurd (omega arith)
+refusal_there at c (Ok ps) (a ∷ numbers) some = refl
+refusal_there at c (Err e) (a ∷ numbers) some = refl
+
+pub refusal_none_left : (at : ℕ) (c : Conversion) (r : Result (List (ℕ × Piece)) ℕ) (numbers : List ℤ) → length numbers < 1 → refusal (followed (at, Convert c) r) (length numbers) ≡ None → ⊥
+unfolding missing
+refusal_none_left at c (Ok ps) [] none e = cc
+refusal_none_left at c (Err place) [] none e = cc
+refusal_none_left at c r (a ∷ numbers) none e = absurd (omega arith)
+
+-- nothing is refused where no byte is left
+pub refusal_at_end : (n : ℕ) → refusal (Ok []) n ≡ None
+unfolding missing
+refusal_at_end n = refl
 
 -- what a piece leaves of numbers in the range is in the range
 pub numbers_stay : (p : Piece) (numbers : List ℤ) → list_all is_number numbers ≡ true → list_all is_number (numbers_behind p numbers) ≡ true

@@ -57,6 +57,7 @@ const NO_FLAGS: Flags = Flags {
     zeros: false,
 };
 
+#[inline(always)]
 fn mark_of(byte: u8) -> Option<Mark>
     ensures { result ≡ mark_of byte }
 {
@@ -71,6 +72,7 @@ fn mark_of(byte: u8) -> Option<Mark>
 }
 
 /// The flags with one more.
+#[inline(always)]
 fn with_mark(flags: Flags, mark: Mark) -> Flags
     ensures { result ≡ with_mark flags mark }
 {
@@ -87,6 +89,7 @@ fn with_mark(flags: Flags, mark: Mark) -> Flags
 
 /// The flags that bytes begin with, and how many bytes they take.
 #[tactic(auto, unfolding(crate::specs::Formats::flags_behind))]
+#[inline(always)]
 fn flags_of(bytes: &[u8]) -> (Flags, usize)
     ensures is { result ≡ flags bytes.now }
     ensures within { result.1 ≤ length bytes.now }
@@ -125,6 +128,7 @@ fn number(bytes: &[u8]) -> Option<(u8, usize)>
 }
 
 /// The precision that bytes begin with, if a `.` is there, and how many bytes it takes.
+#[inline(always)]
 fn precision_of(bytes: &[u8]) -> Option<(Option<u8>, usize)>
     ensures is { result ≡ precision bytes.now }
     ensures within { IfSome result (λ r. r.1 ≤ length bytes.now) }
@@ -139,6 +143,7 @@ fn precision_of(bytes: &[u8]) -> Option<(Option<u8>, usize)>
 }
 
 /// How many bytes `l`, `ll` or `j` take, if one of them is there.
+#[inline(always)]
 fn modifier(bytes: &[u8]) -> usize
     ensures is { result ≡ modifier bytes.now }
     ensures within { result ≤ length bytes.now }
@@ -151,6 +156,7 @@ fn modifier(bytes: &[u8]) -> usize
 }
 
 /// Whether bytes begin with `d` or `i`, or with `u`.
+#[inline(always)]
 fn is_signed(bytes: &[u8]) -> Option<bool>
     ensures is { result ≡ is_signed bytes.now }
     ensures some { IfSome result (λ r. 0 < length bytes.now) }
@@ -164,6 +170,7 @@ fn is_signed(bytes: &[u8]) -> Option<bool>
 
 /// Whether a conversion ends with `d` or `i`, or with `u`, and how many bytes that takes with `l`,
 /// `ll` or `j` before it.
+#[inline(always)]
 fn letter_of(bytes: &[u8]) -> Option<(bool, usize)>
     ensures is { result ≡ letter bytes.now }
     ensures within { IfSome result (λ r. r.1 ≤ length bytes.now) }
@@ -174,6 +181,7 @@ fn letter_of(bytes: &[u8]) -> Option<(bool, usize)>
 }
 
 /// The conversion that bytes behind a `%` begin with, and how many bytes it takes.
+#[inline(always)]
 fn conversion_of(bytes: &[u8]) -> Option<(Conversion, usize)>
     ensures is { result ≡ conversion bytes.now }
     ensures within { IfSome result (λ r. r.1 ≤ length bytes.now) }
@@ -194,6 +202,7 @@ fn conversion_of(bytes: &[u8]) -> Option<(Conversion, usize)>
 }
 
 /// What a `%` begins, and how many bytes behind it belong to it.
+#[inline(always)]
 fn behind_percent(bytes: &[u8]) -> Option<(Piece, usize)>
     ensures is { result ≡ behind_percent bytes.now }
     ensures within { IfSome result (λ r. r.1 ≤ length bytes.now) }
@@ -207,6 +216,7 @@ fn behind_percent(bytes: &[u8]) -> Option<(Piece, usize)>
 
 /// The piece that a byte begins, and how many of the bytes behind it belong to it.
 #[tactic(auto, unfolding(crate::specs::Formats::piece))]
+#[inline(always)]
 pub fn piece_of(byte: u8, behind: &[u8]) -> Option<(Piece, usize)>
     ensures is { result ≡ piece byte behind.now }
     ensures within { IfSome result (λ r. r.1 ≤ length behind.now) }

@@ -40,6 +40,7 @@ pub struct Laid {
 }
 
 /// The magnitude that a conversion shows; `u` shows a number below 0 with 2^64 more.
+#[inline(always)]
 fn magnitude_of(c: &Conversion, value: i128) -> u64
     requires { is_number value ≡ true }
     ensures { result ≡ shown c.now.signed value }
@@ -53,6 +54,7 @@ fn magnitude_of(c: &Conversion, value: i128) -> u64
 }
 
 /// What stands for the sign.
+#[inline(always)]
 fn sign_of(c: &Conversion, value: i128) -> &'static [u8]
     ensures is { result.now ≡ sign_text c.now value }
     ensures short { length result.now ≤ 1 }
@@ -71,6 +73,7 @@ fn sign_of(c: &Conversion, value: i128) -> &'static [u8]
 }
 
 /// Where the bytes stand that fill the field.
+#[inline(always)]
 fn fill_of(c: &Conversion) -> Fill
     ensures { result ≡ fill_of c.now }
 {
@@ -84,6 +87,7 @@ fn fill_of(c: &Conversion) -> Fill
 }
 
 /// The sizes of groups.
+#[inline(always)]
 pub fn sizes_of<'a>(n: &'a Numeric, c: &Conversion) -> &'a [i32]
     ensures { result.now ≡ sizes_of n.now c.now }
 {
@@ -91,6 +95,7 @@ pub fn sizes_of<'a>(n: &'a Numeric, c: &Conversion) -> &'a [i32]
 }
 
 /// The least number of digits.
+#[inline(always)]
 fn least_digits(c: &Conversion) -> usize
     ensures is { result ≡ least_digits c.now }
     ensures few { result ≤ 255 }
@@ -102,6 +107,7 @@ fn least_digits(c: &Conversion) -> usize
 }
 
 /// How many bytes grouped digits have.
+#[inline(always)]
 pub fn grouped_width(n: usize, sizes: &[i32], sep: &[u8]) -> u128
     requires { n ≤ 255 }
     ensures is { result ≡ grouped_width n sizes.now (length sep.now) }
@@ -113,6 +119,7 @@ pub fn grouped_width(n: usize, sizes: &[i32], sep: &[u8]) -> u128
 }
 
 /// How many bytes fill a field that has so many.
+#[inline(always)]
 fn padding_of(width: u8, text: u128) -> usize
     ensures is { result ≡ width - text }
     ensures few { result ≤ 255 }
@@ -121,6 +128,7 @@ fn padding_of(width: u8, text: u128) -> usize
 }
 
 /// A number laid out in a conversion.
+#[inline(always)]
 pub fn laid_out(n: &Numeric, c: &Conversion, value: i128) -> Laid
     requires { is_number value ≡ true }
     ensures few { result.digits ≤ 255 }

@@ -1,10 +1,10 @@
 //! Whole numbers as text (XSH fprintf: `d`, `i` and `u` with the flag `'`).
 #![tactic(auto)]
 
-ghost use Rattle.std.specs.Prelude.{◌≡◌, ◌<◌, ◌≤◌, ◌++◌, ◌⊎◌, length, List, [], ◌∷◌, ℕ, Result, Err, None, option_map, OnOk, IfErr, true};
+ghost use Rattle.std.specs.Prelude.{◌≡◌, ◌≢◌, ◌+◌, ◌<◌, ◌≤◌, ◌++◌, ◌⊎◌, length, drop, List, [], ◌∷◌, ℕ, Result, Ok, Err, None, option_map, OnOk, IfOk, IfErr, IfSome, true};
 ghost use Rattle.std.specs.List.{list_all};
 ghost use Rattle.int_format.specs.Formats.{pieces, followed};
-ghost use Rattle.int_format.specs.Ints.{is_number, ints, refusal, refusal_behind, fault_of, good_pieces, pieces_text, piece_text, numbers_behind, at_most, within, Answers};
+ghost use Rattle.int_format.specs.Ints.{is_number, ints, refusal, refusal_behind, fault_of, good_pieces, pieces_text, piece_text, numbers_behind, at_most, within, unless_refused, Refuses, Answers};
 ghost use Rattle.int_format.specs.declared.format.Piece.{Piece};
 ghost use Rattle.int_format.specs.declared.fault.IntFault.TheVariants.{TooBig, Memory};
 
@@ -29,7 +29,6 @@ use write::add_conversion;
 /// A conversion is `%`, flags, a width, `.` with a precision, perhaps `l`, `ll` or `j`, and `d`, `i`
 /// or `u`. A `%` that begins no conversion is `BadFormat`, and goes before a conversion without a
 /// number, which is `MissingNumber`; both go before `TooBig`.
-#[tactic(auto, using(crate::proofs::IntLemmas::refused, crate::proofs::IntLemmas::accepted))]
 pub fn int_format(
     alloc: Global,
     n: &Numeric,
@@ -40,9 +39,22 @@ pub fn int_format(
     requires { list_all is_number numbers.now ≡ true }
     ensures { Answers (λ text. text) result (at_most max (ints n.now format.now numbers.now)) }
 {
-    match refusal(format, numbers.len()) {
-        Some(fault) => Err(fault),
-        None => Ok(ByteText::from_vec(pieces_text(alloc, n, format, numbers, max)?)),
+    match pieces_text(alloc, n, format, numbers, max) {
+        Ok(text) => Ok(ByteText::from_vec(text)),
+        Err(fault) => Err(first_fault(format, numbers.len(), fault)),
+    }
+}
+
+/// The fault of a format with so many numbers, which is that of its text where nothing is wrong.
+#[cold]
+#[inline(never)]
+#[tactic(auto, using(crate::proofs::IntLemmas::refused, crate::proofs::IntLemmas::accepted))]
+fn first_fault(format: &[u8], numbers: usize, fault: IntFault) -> IntFault
+    ensures { (max : ℕ) (text : List ℕ) → (refusal (pieces 0 0 format.now) numbers ≡ None → Refuses fault (within max text)) → Refuses result (at_most max (unless_refused (refusal (pieces 0 0 format.now) numbers) text)) }
+{
+    match refusal(format, numbers) {
+        Some(first) => first,
+        None => fault,
     }
 }
 
@@ -65,6 +77,7 @@ fn refusal(format: &[u8], numbers: usize) -> Option<IntFault>
 
 /// The numbers that a piece leaves of so many, and the place of the first one that is missing.
 #[tactic(auto, using(crate::proofs::IntLemmas::refusal_literal, crate::proofs::IntLemmas::refusal_number, crate::proofs::IntLemmas::refusal_lacking, crate::proofs::IntLemmas::refusal_missing))]
+#[inline(always)]
 fn behind_piece(
     piece: Piece,
     at: usize,
@@ -81,7 +94,8 @@ fn behind_piece(
     }
 }
 
-/// The text of a format without a refusal.
+/// The text of a format. A fault counts where no conversion is bad and no number is missing.
+#[inline(always)]
 fn pieces_text(
     alloc: Global,
     n: &Numeric,
@@ -89,40 +103,60 @@ fn pieces_text(
     numbers: &[i128],
     max: usize,
 ) -> Result<Vec<u8>, IntFault>
-    requires good { refusal (pieces 0 0 format.now) (length numbers.now) ≡ None }
-    requires numbers { list_all is_number numbers.now ≡ true }
-    ensures { Answers (λ text. text.items) result (within max (pieces_text n.now (good_pieces (pieces 0 0 format.now)) numbers.now)) }
+    requires { list_all is_number numbers.now ≡ true }
+    ensures text { IfOk result (λ text. at_most max (ints n.now format.now numbers.now) ≡ Ok text.items) }
+    ensures fault { IfErr result (λ e. refusal (pieces 0 0 format.now) (length numbers.now) ≡ None → Refuses e (within max (pieces_text n.now (good_pieces (pieces 0 0 format.now)) numbers.now))) }
 {
     let mut out = Vec::new(alloc);
     let mut at = 0;
     let mut left = numbers;
     while at < format.len() {
-        let Some((piece, used)) = piece_of(format[at], &format[at + 1..]) else {
-            unreachable!()
+        let Some((piece, used, behind)) = piece_at(format, at, left) else {
+            return Err(IntFault::BadFormat { at });
         };
         let room = max - out.len();
-        if let Err(fault) = add_piece(alloc, &mut out, n, piece, left, room) {
+        if let Err(fault) = add_piece(&mut out, n, piece, left, room) {
             return Err(fault);
         }
-        left = numbers_behind(piece, left);
+        left = behind;
         at += 1 + used;
     }
     Ok(out)
 }
 
-/// The numbers that a piece leaves.
-fn numbers_behind(piece: Piece, numbers: &[i128]) -> &[i128]
-    ensures { result.now ≡ numbers_behind piece numbers.now }
+/// The piece at a place, how many bytes behind that place belong to it, and the numbers that it
+/// leaves; `None` where it is bad or its number is missing.
+#[inline(always)]
+fn piece_at<'a>(format: &[u8], at: usize, numbers: &'a [i128]) -> Option<(Piece, usize, &'a [i128])>
+    requires { at < length format.now }
+    ensures pieces { IfSome result (λ r. pieces 0 at (drop at format.now) ≡ followed (at, r.0) (pieces 0 (at + (1 + r.1)) (drop (at + (1 + r.1)) format.now))) }
+    ensures within { IfSome result (λ r. at + (1 + r.1) ≤ length format.now) }
+    ensures behind { IfSome result (λ r. r.2.now ≡ numbers_behind r.0 numbers.now) }
+    ensures same { IfSome result (λ r. refusal (pieces 0 at (drop at format.now)) (length numbers.now) ≡ refusal (pieces 0 (at + (1 + r.1)) (drop (at + (1 + r.1)) format.now)) (length (numbers_behind r.0 numbers.now))) }
+    ensures none { result ≡ None → refusal (pieces 0 at (drop at format.now)) (length numbers.now) ≢ None }
+{
+    let (piece, used) = piece_of(format[at], &format[at + 1..])?;
+    let behind = numbers_behind(piece, numbers)?;
+    Some((piece, used, behind))
+}
+
+/// The numbers that a piece leaves, if its own is there.
+#[inline(always)]
+fn numbers_behind(piece: Piece, numbers: &[i128]) -> Option<&[i128]>
+    ensures is { IfSome result (λ r. r.now ≡ numbers_behind piece numbers.now) }
+    ensures same { IfSome result (λ r. (at : ℕ) (rest : Result (List (ℕ × Piece)) ℕ) → refusal (followed (at, piece) rest) (length numbers.now) ≡ refusal rest (length (numbers_behind piece numbers.now))) }
+    ensures none { result ≡ None → (at : ℕ) (rest : Result (List (ℕ × Piece)) ℕ) → refusal (followed (at, piece) rest) (length numbers.now) ≢ None }
 {
     match (piece, numbers) {
-        (Piece::Convert(_), [_, rest @ ..]) => rest,
-        _ => numbers,
+        (Piece::Literal(_), _) => Some(numbers),
+        (Piece::Convert(_), [_, rest @ ..]) => Some(rest),
+        (Piece::Convert(_), []) => None,
     }
 }
 
 /// Appends the text of a piece, if it has at most `room` bytes.
+#[inline(always)]
 fn add_piece(
-    alloc: Global,
     out: &mut Vec<u8>,
     n: &Numeric,
     piece: Piece,
@@ -137,7 +171,7 @@ fn add_piece(
 {
     match (piece, numbers) {
         (Piece::Literal(byte), _) => add_byte(out, byte, room),
-        (Piece::Convert(c), [value, ..]) => add_conversion(alloc, out, n, &c, *value, room),
+        (Piece::Convert(c), [value, ..]) => add_conversion(out, n, &c, *value, room),
         (Piece::Convert(_), []) => Ok(()),
     }
 }

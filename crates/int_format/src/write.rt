@@ -10,16 +10,15 @@ use crate::digits::write_digits;
 use crate::fault::IntFault;
 use crate::format::Conversion;
 use crate::layout::{Fill, Laid, laid_out, sizes_of};
-use digit_groups::group;
-use lc_base::ByteText;
+use digit_groups::group_into;
 use numeric_cat::Numeric;
-use std::alloc::{AllocError, Global};
-use std::mem::replace;
+use std::alloc::AllocError;
 
 /// The most digits of a conversion.
 const DIGITS: usize = 255;
 
 /// Appends the same byte so many times.
+#[inline(always)]
 fn add_repeated(out: &mut Vec<u8>, byte: u8, count: usize) -> Result<(), AllocError>
     ensures { OnOk result (out.new.items ≡ out.old.items ++ replicate count byte) }
 {
@@ -30,8 +29,8 @@ fn add_repeated(out: &mut Vec<u8>, byte: u8, count: usize) -> Result<(), AllocEr
 }
 
 /// Appends the last digits of a number, in groups.
+#[inline(always)]
 fn add_digits(
-    alloc: Global,
     out: &mut Vec<u8>,
     magnitude: u64,
     count: usize,
@@ -44,25 +43,16 @@ fn add_digits(
     let mut buffer = [0; DIGITS];
     let digits = &mut buffer[..count];
     write_digits(magnitude, digits);
-    let mut text = ByteText::from_vec(replace(out, Vec::new(alloc)));
-    let added = group(alloc, digits, sizes, sep, &mut text);
-    *out = text.into_vec();
-    added
+    group_into(out, digits, sizes, sep)
 }
 
 /// Appends the digits of a number that is laid out.
-fn add_number(
-    alloc: Global,
-    out: &mut Vec<u8>,
-    n: &Numeric,
-    c: &Conversion,
-    laid: &Laid,
-) -> Result<(), AllocError>
+#[inline(always)]
+fn add_number(out: &mut Vec<u8>, n: &Numeric, c: &Conversion, laid: &Laid) -> Result<(), AllocError>
     requires { laid.now.digits ≤ 255 }
     ensures { OnOk result (out.new.items ≡ out.old.items ++ grouped (last_digits laid.now.digits laid.now.magnitude) (sizes_of n.now c.now) n.now.thousands_sep) }
 {
     add_digits(
-        alloc,
         out,
         laid.magnitude,
         laid.digits,
@@ -72,13 +62,8 @@ fn add_number(
 }
 
 /// Appends the text of a number that is laid out.
-fn add_text(
-    alloc: Global,
-    out: &mut Vec<u8>,
-    n: &Numeric,
-    c: &Conversion,
-    laid: &Laid,
-) -> Result<(), AllocError>
+#[inline(always)]
+fn add_text(out: &mut Vec<u8>, n: &Numeric, c: &Conversion, laid: &Laid) -> Result<(), AllocError>
     requires { laid.now.digits ≤ 255 }
     ensures { OnOk result (out.new.items ≡ out.old.items ++ padded laid.now.fill laid.now.padding laid.now.sign.now (grouped (last_digits laid.now.digits laid.now.magnitude) (sizes_of n.now c.now) n.now.thousands_sep)) }
 {
@@ -86,24 +71,24 @@ fn add_text(
         Fill::Before => {
             add_repeated(out, b' ', laid.padding)?;
             out.extend_from_slice(laid.sign)?;
-            add_number(alloc, out, n, c, laid)
+            add_number(out, n, c, laid)
         }
         Fill::Between => {
             out.extend_from_slice(laid.sign)?;
             add_repeated(out, b'0', laid.padding)?;
-            add_number(alloc, out, n, c, laid)
+            add_number(out, n, c, laid)
         }
         Fill::Behind => {
             out.extend_from_slice(laid.sign)?;
-            add_number(alloc, out, n, c, laid)?;
+            add_number(out, n, c, laid)?;
             add_repeated(out, b' ', laid.padding)
         }
     }
 }
 
 /// Appends the text of a number, if it has at most `room` bytes.
+#[inline(always)]
 pub fn add_conversion(
-    alloc: Global,
     out: &mut Vec<u8>,
     n: &Numeric,
     c: &Conversion,
@@ -120,6 +105,6 @@ pub fn add_conversion(
     if laid.width > room as u128 {
         return Err(IntFault::TooBig);
     }
-    add_text(alloc, out, n, c, &laid)?;
+    add_text(out, n, c, &laid)?;
     Ok(())
 }

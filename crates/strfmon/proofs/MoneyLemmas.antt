@@ -66,12 +66,28 @@ unfolding pieces_text
 text_of_piece v at n p (Ok ps) amounts good = refl
 text_of_piece v at n p (Err e) amounts good = cc
 
-pub good_behind : (at : ℕ) (p : Piece) (r : Result (List (ℕ × Piece)) ℕ) (amounts : List MoneyAmount) → refusal (followed (at, p) r) (length amounts) ≡ None → refusal r (length (amounts_behind p amounts)) ≡ None
+-- a piece whose amount is there leaves the refusal of what stands behind it
+pub refusal_copied : (at b n : ℕ) (r : Result (List (ℕ × Piece)) ℕ) → refusal (followed (at, Literal b) r) n ≡ refusal r n
 unfolding missing
-good_behind at (Literal b) (Ok ps) amounts good = good
-good_behind at (Convert c) (Ok ps) [] good = cc
-good_behind at (Convert c) (Ok ps) (a ∷ amounts) good = good
-good_behind at p (Err e) amounts good = cc
+refusal_copied at b n (Ok ps) = refl
+refusal_copied at b n (Err e) = refl
+
+pub refusal_there : (at : ℕ) (c : Conversion) (r : Result (List (ℕ × Piece)) ℕ) (amounts : List MoneyAmount) → 1 ≤ length amounts → refusal (followed (at, Convert c) r) (length amounts) ≡ refusal r (length (amounts_behind (Convert c) amounts))
+unfolding missing
+refusal_there at c r [] some = absurd (omega arith)
+refusal_there at c (Ok ps) (a ∷ amounts) some = refl
+refusal_there at c (Err e) (a ∷ amounts) some = refl
+
+pub refusal_none_left : (at : ℕ) (c : Conversion) (r : Result (List (ℕ × Piece)) ℕ) (amounts : List MoneyAmount) → length amounts < 1 → refusal (followed (at, Convert c) r) (length amounts) ≡ None → ⊥
+unfolding missing
+refusal_none_left at c (Ok ps) [] none e = cc
+refusal_none_left at c (Err place) [] none e = cc
+refusal_none_left at c r (a ∷ amounts) none e = absurd (omega arith)
+
+-- nothing is refused where no byte is left
+pub refusal_at_end : (n : ℕ) → refusal (Ok []) n ≡ None
+unfolding missing
+refusal_at_end n = refl
 
 -- ---- widths
 

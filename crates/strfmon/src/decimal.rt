@@ -65,19 +65,38 @@ pub fn decimal_of(amount: Amount, precision: usize) -> Decimal
     }
 }
 
+/// How many digits a whole number below 10000 has, at least one.
+#[tactic(auto, using(crate::proofs::DecimalLemmas::one_digit, crate::proofs::DecimalLemmas::two_digits, crate::proofs::DecimalLemmas::three_digits, crate::proofs::DecimalLemmas::four_digits))]
+#[inline(always)]
+fn short_count(n: u64) -> usize
+    requires { n < 10000 }
+    ensures { result ≡ digit_count n }
+{
+    if n < 10 {
+        1
+    } else if n < 100 {
+        2
+    } else if n < 1000 {
+        3
+    } else {
+        4
+    }
+}
+
 /// How many digits a whole number has, at least one.
+#[inline]
 pub fn digit_count(n: u64) -> usize
     ensures is { result ≡ digit_count n }
     ensures some { 1 ≤ result }
     ensures few { result ≤ 20 }
 {
     let mut left = n;
-    let mut count = 1;
-    while left >= 10 {
-        left /= 10;
-        count += 1;
+    let mut count = 0;
+    while left >= 10000 {
+        left /= 10000;
+        count += 4;
     }
-    count
+    count + short_count(left)
 }
 
 /// Writes the last decimal digits of a number, as many as there is room for.

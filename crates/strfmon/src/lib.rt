@@ -1,9 +1,10 @@
 //! Amounts of money as text (XSH strfmon).
 #![tactic(auto)]
 
-ghost use Rattle.std.specs.Prelude.{◌≡◌, ◌+◌, ◌<◌, ◌≤◌, ◌++◌, ◌⊎◌, length, List, [], ◌∷◌, ℕ, Result, Err, None, option_map, OnOk, IfErr};
+ghost use Rattle.std.specs.Prelude.{◌≡◌, ◌≢◌, ◌+◌, ◌<◌, ◌≤◌, ◌++◌, ◌⊎◌, length, drop, List, [], ◌∷◌, ℕ, Result, Ok, Err, None, option_map, OnOk, IfOk, IfErr, IfSome};
 ghost use Rattle.strfmon.specs.Formats.{pieces, followed};
-ghost use Rattle.strfmon.specs.Money.{money, refusal, refusal_behind, fault_of, good_pieces, pieces_text, piece_text, amounts_behind, within, Answers};
+ghost use Rattle.strfmon.specs.Money.{money, refusal, refusal_behind, fault_of, good_pieces, pieces_text, piece_text, amounts_behind, within, unless_refused, Refuses, Answers};
+ghost use Rattle.strfmon.specs.Refusals.{MoneyRefusal};
 ghost use Rattle.strfmon.specs.declared.format.Piece.{Piece};
 ghost use Rattle.strfmon.specs.declared.fault.MoneyFault.TheVariants.{TooBig, Memory};
 
@@ -30,7 +31,6 @@ use write::add_conversion;
 /// A conversion is `%`, flags, a width, `#n`, `.p`, and `n` or `i`. A `%` that begins no conversion is
 /// `BadFormat`, and goes before a conversion without an amount, which is `MissingAmount`; both go
 /// before `TooBig`.
-#[tactic(auto, using(crate::proofs::MoneyLemmas::refused, crate::proofs::MoneyLemmas::accepted))]
 pub fn strfmon(
     alloc: Global,
     m: &Monetary,
@@ -40,9 +40,22 @@ pub fn strfmon(
 ) -> Result<ByteText, MoneyFault>
     ensures { Answers (λ text. text) result (money m.now format.now amounts.now max) }
 {
-    match refusal(format, amounts.len()) {
-        Some(fault) => Err(fault),
-        None => Ok(ByteText::from_vec(pieces_text(alloc, m, format, amounts, max)?)),
+    match pieces_text(alloc, m, format, amounts, max) {
+        Ok(text) => Ok(ByteText::from_vec(text)),
+        Err(fault) => Err(first_fault(format, amounts.len(), fault)),
+    }
+}
+
+/// The fault of a format with so many amounts, which is that of its text where nothing is wrong.
+#[cold]
+#[inline(never)]
+#[tactic(auto, using(crate::proofs::MoneyLemmas::refused, crate::proofs::MoneyLemmas::accepted))]
+fn first_fault(format: &[u8], amounts: usize, fault: MoneyFault) -> MoneyFault
+    ensures { (answer : Result (List ℕ) MoneyRefusal) → (refusal (pieces 0 0 format.now) amounts ≡ None → Refuses fault answer) → Refuses result (unless_refused (refusal (pieces 0 0 format.now) amounts) answer) }
+{
+    match refusal(format, amounts) {
+        Some(first) => first,
+        None => fault,
     }
 }
 
@@ -82,7 +95,8 @@ fn behind_piece(
     }
 }
 
-/// The text of a format without a refusal.
+/// The text of a format. A fault counts where no conversion is bad and no amount is missing.
+#[inline]
 fn pieces_text(
     alloc: Global,
     m: &Monetary,
@@ -90,41 +104,63 @@ fn pieces_text(
     amounts: &[Amount],
     max: usize,
 ) -> Result<Vec<u8>, MoneyFault>
-    requires { refusal (pieces 0 0 format.now) (length amounts.now) ≡ None }
-    ensures { Answers (λ text. text.items) result (within max (pieces_text m.now (good_pieces (pieces 0 0 format.now)) amounts.now)) }
+    ensures text { IfOk result (λ text. money m.now format.now amounts.now max ≡ Ok text.items) }
+    ensures fault { IfErr result (λ e. refusal (pieces 0 0 format.now) (length amounts.now) ≡ None → Refuses e (within max (pieces_text m.now (good_pieces (pieces 0 0 format.now)) amounts.now))) }
 {
     let mut out = Vec::new(alloc);
     let mut at = 0;
     let mut left = amounts;
     while at < format.len() {
-        let Some((piece, used)) = piece_of(format[at], &format[at + 1..]) else {
-            unreachable!()
+        let Some((piece, used, behind)) = piece_at(format, at, left) else {
+            return Err(MoneyFault::BadFormat { at });
         };
         let room = max - out.len();
-        if let Err(fault) = add_piece(alloc, &mut out, m, piece, left, room) {
+        if let Err(fault) = add_piece(&mut out, m, piece, left, room) {
             return Err(fault);
         }
-        left = amounts_behind(piece, left);
+        left = behind;
         at += 1 + used;
     }
     Ok(out)
 }
 
-/// The amounts that a piece leaves.
+/// The piece at a place, how many bytes behind that place belong to it, and the amounts that it
+/// leaves; `None` where it is bad or its amount is missing.
 #[inline(always)]
-fn amounts_behind(piece: Piece, amounts: &[Amount]) -> &[Amount]
-    ensures { result.now ≡ amounts_behind piece amounts.now }
+fn piece_at<'a>(
+    format: &[u8],
+    at: usize,
+    amounts: &'a [Amount],
+) -> Option<(Piece, usize, &'a [Amount])>
+    requires { at < length format.now }
+    ensures pieces { IfSome result (λ r. pieces 0 at (drop at format.now) ≡ followed (at, r.0) (pieces 0 (at + (1 + r.1)) (drop (at + (1 + r.1)) format.now))) }
+    ensures within { IfSome result (λ r. at + (1 + r.1) ≤ length format.now) }
+    ensures behind { IfSome result (λ r. r.2.now ≡ amounts_behind r.0 amounts.now) }
+    ensures same { IfSome result (λ r. refusal (pieces 0 at (drop at format.now)) (length amounts.now) ≡ refusal (pieces 0 (at + (1 + r.1)) (drop (at + (1 + r.1)) format.now)) (length (amounts_behind r.0 amounts.now))) }
+    ensures none { result ≡ None → refusal (pieces 0 at (drop at format.now)) (length amounts.now) ≢ None }
+{
+    let (piece, used) = piece_of(format[at], &format[at + 1..])?;
+    let behind = amounts_behind(piece, amounts)?;
+    Some((piece, used, behind))
+}
+
+/// The amounts that a piece leaves, if its own is there.
+#[inline(always)]
+fn amounts_behind(piece: Piece, amounts: &[Amount]) -> Option<&[Amount]>
+    ensures is { IfSome result (λ r. r.now ≡ amounts_behind piece amounts.now) }
+    ensures same { IfSome result (λ r. (at : ℕ) (rest : Result (List (ℕ × Piece)) ℕ) → refusal (followed (at, piece) rest) (length amounts.now) ≡ refusal rest (length (amounts_behind piece amounts.now))) }
+    ensures none { result ≡ None → (at : ℕ) (rest : Result (List (ℕ × Piece)) ℕ) → refusal (followed (at, piece) rest) (length amounts.now) ≢ None }
 {
     match (piece, amounts) {
-        (Piece::Convert(_), [_, rest @ ..]) => rest,
-        _ => amounts,
+        (Piece::Literal(_), _) => Some(amounts),
+        (Piece::Convert(_), [_, rest @ ..]) => Some(rest),
+        (Piece::Convert(_), []) => None,
     }
 }
 
 /// Appends the text of a piece, if it has at most `room` bytes.
 #[inline(always)]
 fn add_piece(
-    alloc: Global,
     out: &mut Vec<u8>,
     m: &Monetary,
     piece: Piece,
@@ -138,7 +174,7 @@ fn add_piece(
 {
     match (piece, amounts) {
         (Piece::Literal(byte), _) => add_byte(out, byte, room),
-        (Piece::Convert(c), [amount, ..]) => add_conversion(alloc, out, m, &c, *amount, room),
+        (Piece::Convert(c), [amount, ..]) => add_conversion(out, m, &c, *amount, room),
         (Piece::Convert(_), []) => Ok(()),
     }
 }

@@ -14,11 +14,9 @@ use crate::fault::MoneyFault;
 use crate::format::Conversion;
 use crate::layout::{Laid, laid_out, precision_of, radix_of, sizes_of};
 use crate::look::Look;
-use digit_groups::group;
-use lc_base::ByteText;
+use digit_groups::group_into;
 use monetary_cat::{MonText, Monetary};
-use std::alloc::{AllocError, Global};
-use std::mem::replace;
+use std::alloc::AllocError;
 
 /// The most digits of a u64.
 const DIGITS: usize = 20;
@@ -34,6 +32,7 @@ struct Spread {
 }
 
 /// Appends the same byte so many times.
+#[inline(always)]
 fn add_repeated(out: &mut Vec<u8>, byte: u8, count: usize) -> Result<(), AllocError>
     ensures { OnOk result (out.new.items ≡ out.old.items ++ replicate count byte) }
 {
@@ -57,22 +56,13 @@ fn add_digits(out: &mut Vec<u8>, n: u64, count: usize) -> Result<(), AllocError>
 
 /// Appends the digits of a number in groups.
 #[inline(always)]
-fn add_grouped(
-    alloc: Global,
-    out: &mut Vec<u8>,
-    n: u64,
-    sizes: &[i32],
-    sep: &[u8],
-) -> Result<(), AllocError>
+fn add_grouped(out: &mut Vec<u8>, n: u64, sizes: &[i32], sep: &[u8]) -> Result<(), AllocError>
     ensures { OnOk result (out.new.items ≡ out.old.items ++ grouped (last_digits (digit_count n) n) sizes.now sep.now) }
 {
     let mut buffer = [0; DIGITS];
     let digits = &mut buffer[..digit_count(n)];
     write_digits(n, digits);
-    let mut text = ByteText::from_vec(replace(out, Vec::new(alloc)));
-    let added = group(alloc, digits, sizes, sep, &mut text);
-    *out = text.into_vec();
-    added
+    group_into(out, digits, sizes, sep)
 }
 
 /// Appends the radix and the fraction, where there is one.
@@ -98,7 +88,6 @@ fn add_fraction(
 /// Appends the number of an amount.
 #[inline(always)]
 fn add_number(
-    alloc: Global,
     out: &mut Vec<u8>,
     m: &Monetary,
     c: &Conversion,
@@ -109,13 +98,12 @@ fn add_number(
     ensures { (a : MoneyAmount) → IsRounded decimal (precision_of m.now c.now) a → OnOk result (out.new.items ≡ out.old.items ++ number_text m.now c.now a) }
 {
     let sep = m.text(MonText::MonThousandsSep);
-    add_grouped(alloc, out, decimal.whole, sizes_of(m, c), sep)?;
+    add_grouped(out, decimal.whole, sizes_of(m, c), sep)?;
     add_fraction(out, m, precision_of(m, c), decimal)
 }
 
 /// Appends the text of an amount but for its field.
 fn add_text(
-    alloc: Global,
     out: &mut Vec<u8>,
     m: &Monetary,
     c: &Conversion,
@@ -130,7 +118,7 @@ fn add_text(
     add_repeated(out, b' ', spread.before)?;
     look.add(look.before, out)?;
     add_repeated(out, c.flags.fill.unwrap_or(b' '), spread.fill)?;
-    add_number(alloc, out, m, c, decimal)?;
+    add_number(out, m, c, decimal)?;
     look.add(look.after, out)?;
     add_repeated(out, b' ', spread.after)
 }
@@ -138,7 +126,6 @@ fn add_text(
 /// Appends the text of an amount in its field.
 #[inline(always)]
 fn add_in_field(
-    alloc: Global,
     out: &mut Vec<u8>,
     m: &Monetary,
     c: &Conversion,
@@ -151,11 +138,11 @@ fn add_in_field(
     ensures { (a : MoneyAmount) → IsRounded decimal (precision_of m.now c.now) a → OnOk result (out.new.items ≡ out.old.items ++ with_spaces c.now.flags.left spread.field (text_parts m.now c.now a (seen look.now) spread.before spread.fill spread.after)) }
 {
     if c.flags.left {
-        add_text(alloc, out, m, c, look, spread, decimal)?;
+        add_text(out, m, c, look, spread, decimal)?;
         add_repeated(out, b' ', spread.field)
     } else {
         add_repeated(out, b' ', spread.field)?;
-        add_text(alloc, out, m, c, look, spread, decimal)
+        add_text(out, m, c, look, spread, decimal)
     }
 }
 
@@ -180,7 +167,6 @@ fn spread_of(laid: &Laid) -> Spread
 /// Appends the text of an amount, if it has at most `room` bytes.
 #[inline(always)]
 pub fn add_conversion(
-    alloc: Global,
     out: &mut Vec<u8>,
     m: &Monetary,
     c: &Conversion,
@@ -198,6 +184,6 @@ pub fn add_conversion(
     }
     out.reserve((laid.layout.width + laid.field) as usize)?;
     let spread = spread_of(&laid);
-    add_in_field(alloc, out, m, c, &laid.look, spread, laid.decimal)?;
+    add_in_field(out, m, c, &laid.look, spread, laid.decimal)?;
     Ok(())
 }

@@ -1,7 +1,9 @@
 -- How many conversions are read of what is left of a format.
 use Rattle.std.proofs.Common.{◌≡◌, ℕ, zero, suc, ◌+◌, ◌-◌, ◌<◌, ◌≤◌, true, false, cond, leb, List, [], ◌∷◌, length, Option, Some, None, Result, Ok, Err, refl, ap, arith}
+use Rattle.std.specs.Option.{option_map}
 use Rattle.std.proofs.lemmas.Bool.{le-leb, lt-leb}
 use Rattle.time_cat.specs.declared.conversion.Conversion.{Conversion}
+use Rattle.time_cat.specs.declared.conversion.Shows.{Shows}
 use Rattle.time_cat.specs.Conversions.{conversion}
 use Rattle.time_cat.specs.Formats.{Piece, Literal, Converted, Wrong, pieces, rest_of, bad_place}
 use Rattle.time_cat.specs.Times.{TmValues}
@@ -77,6 +79,12 @@ plain_read v t inner o c some none = rw some (rw none refl)
 
 pub format_read : (v : TimeValues) (t : TmValues) (inner : List ℕ → ℕ) (o : Option Conversion) (c : Conversion) (format : List ℕ) → o ≡ Some c → format_for v t c.shows ≡ Some format → read_for v t inner o ≡ inner format
 format_read v t inner o c format some is = rw some (rw is refl)
+
+pub shown_read : (v : TimeValues) (t : TmValues) (inner : List ℕ → ℕ) (o : Option Conversion) (s : Shows) → option_map (λ (c : Conversion). c.shows) o ≡ Some s → format_for v t s ≡ None → read_for v t inner o ≡ 0
+shown_read v t inner None s is none = refl
+shown_read v t inner (Some c) s is none =
+    let same : c.shows ≡ s = cc in
+    rw same (rw none refl)
 
 -- ---- counts
 

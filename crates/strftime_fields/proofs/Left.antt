@@ -1,7 +1,9 @@
 -- What the pieces of a format give that are left at a place, and how many conversions they are.
 use Rattle.std.proofs.Common.{◌≡◌, ℕ, zero, suc, ◌+◌, ◌-◌, ◌<◌, List, [], ◌∷◌, ◌++◌, Option, Some, None, cond, refl, arith, count_by, flat_map}
+use Rattle.std.specs.Option.{option_map}
 use Rattle.std.proofs.lemmas.List.Sums.{sum_by-cons}
 use Rattle.time_cat.specs.declared.conversion.Conversion.{Conversion}
+use Rattle.time_cat.specs.declared.conversion.Shows.{Shows}
 use Rattle.time_cat.specs.Conversions.{conversion}
 use Rattle.time_cat.specs.Formats.{Piece, Literal, Converted, Wrong, pieces, rest_of, is_conversion}
 use Rattle.time_cat.specs.Times.{TmValues}
@@ -55,6 +57,12 @@ plain_conversion v t expand o c some none = rw some (rw none refl)
 
 pub format_conversion : (v : TimeValues) (t : TmValues) (expand : List ℕ → List ℕ) (o : Option Conversion) (c : Conversion) (format : List ℕ) → o ≡ Some c → format_for v t c.shows ≡ Some format → converted v t expand o ≡ expand format
 format_conversion v t expand o c format some is = rw some (rw is refl)
+
+pub shown_conversion : (v : TimeValues) (t : TmValues) (expand : List ℕ → List ℕ) (o : Option Conversion) (s : Shows) → option_map (λ (c : Conversion). c.shows) o ≡ Some s → format_for v t s ≡ None → converted v t expand o ≡ plain_text v t s
+shown_conversion v t expand None s is none = cc
+shown_conversion v t expand (Some c) s is none =
+    let same : c.shows ≡ s = cc in
+    rw same (rw none refl)
 
 -- ---- conversions
 

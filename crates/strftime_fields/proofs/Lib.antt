@@ -5,4 +5,5 @@ pub mod CalendarLemmas
 pub mod Counting
 pub mod Examples
 pub mod Left
+pub mod Numbers
 pub mod Offsets

@@ -2,7 +2,7 @@
 
 ghost use Rattle.std.specs.Prelude.{◌≡◌, ◌≤◌, length, decimal};
 ghost use Rattle.std.specs.Fmt.{signed_decimal};
-ghost use Rattle.time_cat.specs.Shown.{last_digit, two, three, four, laid_out};
+ghost use Rattle.time_cat.specs.Shown.{last_digit, two, three, four, laid_out, spaced};
 ghost use Rattle.strftime_fields.specs.Appending.{Appends};
 
 use crate::fault::TimeFault;
@@ -33,13 +33,56 @@ pub fn three(n: u32) -> [u8; 3]
     [last_digit(n / 100), last_digit(n / 10), last_digit(n)]
 }
 
-/// Adds a number without padding.
-pub fn put_bare(out: &mut Vec<u8>, max: usize, n: u32) -> Result<(), TimeFault>
+/// Adds the last two digits.
+#[inline(always)]
+pub fn put_two(out: &mut Vec<u8>, max: usize, n: u32) -> Result<(), TimeFault>
+    requires { length out.old.items ≤ max }
+    ensures { Appends max out.old.items (two n) out.new.items result }
+{
+    if max - out.len() < 2 {
+        return Err(TimeFault::TooBig);
+    }
+    out.push(last_digit(n / 10))?;
+    out.push(last_digit(n))?;
+    Ok(())
+}
+
+/// Adds the last four digits.
+fn put_four(out: &mut Vec<u8>, max: usize, n: u32) -> Result<(), TimeFault>
+    requires { length out.old.items ≤ max }
+    ensures { Appends max out.old.items (four n) out.new.items result }
+{
+    if max - out.len() < 4 {
+        return Err(TimeFault::TooBig);
+    }
+    out.push(last_digit(n / 1000))?;
+    out.push(last_digit(n / 100))?;
+    out.push(last_digit(n / 10))?;
+    out.push(last_digit(n))?;
+    Ok(())
+}
+
+/// Adds a number of any length.
+fn put_long(out: &mut Vec<u8>, max: usize, n: u32) -> Result<(), TimeFault>
     requires { length out.old.items ≤ max }
     ensures { Appends max out.old.items (decimal n) out.new.items result }
 {
     let mut buffer = Buffer::new();
     put(out, max, buffer.format(n).as_bytes())
+}
+
+/// Adds a number without padding.
+#[inline(never)]
+#[tactic(auto, using(crate::proofs::Numbers::four_digits))]
+pub fn put_bare(out: &mut Vec<u8>, max: usize, n: u32) -> Result<(), TimeFault>
+    requires { length out.old.items ≤ max }
+    ensures { Appends max out.old.items (decimal n) out.new.items result }
+{
+    if 1000 <= n && n <= 9999 {
+        put_four(out, max, n)
+    } else {
+        put_long(out, max, n)
+    }
 }
 
 /// Adds a number without padding, perhaps behind a `-`.
@@ -51,6 +94,28 @@ pub fn put_signed(out: &mut Vec<u8>, max: usize, n: i32) -> Result<(), TimeFault
     put(out, max, buffer.format(n).as_bytes())
 }
 
+/// Adds a number in three digits.
+#[inline(never)]
+fn put_three(out: &mut Vec<u8>, max: usize, n: u32) -> Result<(), TimeFault>
+    requires { length out.old.items ≤ max }
+    ensures { Appends max out.old.items (three n) out.new.items result }
+{
+    put(out, max, &three(n))
+}
+
+/// Adds a number in two places.
+#[inline(never)]
+fn put_spaced(out: &mut Vec<u8>, max: usize, n: u32) -> Result<(), TimeFault>
+    requires { length out.old.items ≤ max }
+    ensures { Appends max out.old.items (spaced n) out.new.items result }
+{
+    if n < 10 {
+        put(out, max, &[b' ', last_digit(n)])
+    } else {
+        put_two(out, max, n)
+    }
+}
+
 /// Adds a number as it is written.
 #[inline(always)]
 pub fn put_number(out: &mut Vec<u8>, max: usize, layout: Layout, n: u32) -> Result<(), TimeFault>
@@ -59,9 +124,8 @@ pub fn put_number(out: &mut Vec<u8>, max: usize, layout: Layout, n: u32) -> Resu
 {
     match layout {
         Layout::Bare => put_bare(out, max, n),
-        Layout::Two => put(out, max, &two(n)),
-        Layout::Three => put(out, max, &three(n)),
-        Layout::Spaced if n < 10 => put(out, max, &[b' ', last_digit(n)]),
-        Layout::Spaced => put(out, max, &two(n)),
+        Layout::Two => put_two(out, max, n),
+        Layout::Three => put_three(out, max, n),
+        Layout::Spaced => put_spaced(out, max, n),
     }
 }

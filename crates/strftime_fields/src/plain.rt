@@ -16,7 +16,8 @@ use crate::weeks::{behind_monday, iso_week, monday_week, sunday_week};
 use time_cat::{EraHit, Layout, Named, Quantity, Shows, Time, Tm};
 
 /// A number of a time.
-fn number(quantity: Quantity, tm: &Tm) -> u32
+#[inline(always)]
+pub fn number(quantity: Quantity, tm: &Tm) -> u32
     ensures { result ≡ value_of quantity tm.now }
 {
     match quantity {
@@ -48,7 +49,8 @@ fn alternative(t: &Time, n: u32) -> Option<&[u8]>
 }
 
 /// A name of the locale.
-fn name<'a>(t: &'a Time, tm: &Tm, named: Named) -> &'a [u8]
+#[inline(always)]
+pub fn name<'a>(t: &'a Time, tm: &Tm, named: Named) -> &'a [u8]
     ensures { result.now ≡ name_text t.now tm.now named }
 {
     match named {
@@ -154,7 +156,44 @@ fn offset_bytes(minutes: i32) -> [u8; 5]
     }
 }
 
+/// Adds month, day and year of the century.
+#[inline(never)]
+fn put_slashed_date(out: &mut Vec<u8>, max: usize, tm: &Tm) -> Result<(), TimeFault>
+    requires { length out.old.items ≤ max }
+    ensures { Appends max out.old.items (slashed_date tm.now) out.new.items result }
+{
+    put(out, max, &slashed_date(tm))
+}
+
+/// Adds year, month and day.
+#[inline(never)]
+fn put_dashed_date(out: &mut Vec<u8>, max: usize, tm: &Tm) -> Result<(), TimeFault>
+    requires { length out.old.items ≤ max }
+    ensures { Appends max out.old.items (dashed_date tm.now) out.new.items result }
+{
+    put(out, max, &dashed_date(tm))
+}
+
+/// Adds hour and minute.
+#[inline(never)]
+fn put_short_time(out: &mut Vec<u8>, max: usize, tm: &Tm) -> Result<(), TimeFault>
+    requires { length out.old.items ≤ max }
+    ensures { Appends max out.old.items (short_time tm.now) out.new.items result }
+{
+    put(out, max, &short_time(tm))
+}
+
+/// Adds hour, minute and second.
+#[inline(never)]
+fn put_full_time(out: &mut Vec<u8>, max: usize, tm: &Tm) -> Result<(), TimeFault>
+    requires { length out.old.items ≤ max }
+    ensures { Appends max out.old.items (full_time tm.now) out.new.items result }
+{
+    put(out, max, &full_time(tm))
+}
+
 /// Adds an offset, or nothing.
+#[inline(never)]
 fn put_offset(out: &mut Vec<u8>, max: usize, offset: Option<i32>) -> Result<(), TimeFault>
     requires { length out.old.items ≤ max }
     ensures { Appends max out.old.items (offset_text offset) out.new.items result }
@@ -185,6 +224,7 @@ fn or_plain<'a>(format: &'a [u8], plain: &'a [u8]) -> &'a [u8]
 }
 
 /// The format for which a conversion stands, if it stands for one. It has at most 16 conversions.
+#[inline(always)]
 pub fn format_for<'a>(t: &'a Time, tm: &Tm, shows: Shows) -> Option<&'a [u8]>
     ensures is { option_copied result ≡ format_for t.now tm.now shows }
     ensures few { IfSome result (λ format. count_by is_conversion (pieces format.now) ≤ 16) }
@@ -212,6 +252,7 @@ pub fn format_for<'a>(t: &'a Time, tm: &Tm, shows: Shows) -> Option<&'a [u8]>
 }
 
 /// Adds the era's name, or else the century.
+#[inline(never)]
 fn put_era_name(out: &mut Vec<u8>, max: usize, t: &Time, tm: &Tm) -> Result<(), TimeFault>
     requires { length out.old.items ≤ max }
     ensures { Appends max out.old.items (plain_text t.now tm.now EraName) out.new.items result }
@@ -223,6 +264,7 @@ fn put_era_name(out: &mut Vec<u8>, max: usize, t: &Time, tm: &Tm) -> Result<(), 
 }
 
 /// Adds the year in the era, or else the year of the century.
+#[inline(never)]
 fn put_era_year(out: &mut Vec<u8>, max: usize, t: &Time, tm: &Tm) -> Result<(), TimeFault>
     requires { length out.old.items ≤ max }
     ensures { Appends max out.old.items (plain_text t.now tm.now EraYear) out.new.items result }
@@ -234,6 +276,7 @@ fn put_era_year(out: &mut Vec<u8>, max: usize, t: &Time, tm: &Tm) -> Result<(), 
 }
 
 /// Adds an alternative digit, or else the number.
+#[inline(never)]
 fn put_alternative(
     out: &mut Vec<u8>,
     max: usize,
@@ -251,6 +294,7 @@ fn put_alternative(
 }
 
 /// Adds what a conversion gives that stands for no format.
+#[inline(always)]
 pub fn put_plain(
     out: &mut Vec<u8>,
     max: usize,
@@ -271,10 +315,10 @@ pub fn put_plain(
         Shows::EraName => put_era_name(out, max, t, tm),
         Shows::EraYear => put_era_year(out, max, t, tm),
         Shows::EraFull => put_bare(out, max, tm.year()),
-        Shows::SlashedDate => put(out, max, &slashed_date(tm)),
-        Shows::DashedDate => put(out, max, &dashed_date(tm)),
-        Shows::ShortTime => put(out, max, &short_time(tm)),
-        Shows::FullTime => put(out, max, &full_time(tm)),
+        Shows::SlashedDate => put_slashed_date(out, max, tm),
+        Shows::DashedDate => put_dashed_date(out, max, tm),
+        Shows::ShortTime => put_short_time(out, max, tm),
+        Shows::FullTime => put_full_time(out, max, tm),
         Shows::Offset => put_offset(out, max, tm.offset()),
         Shows::Zone => put(out, max, tm.zone()),
         Shows::Sign(byte) => put_byte(out, max, byte),

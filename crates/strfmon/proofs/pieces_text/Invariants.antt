@@ -5,8 +5,8 @@ use Rattle.strfmon.proofs.pieces_text.Given as goal
 
 abbrev pub invariant-loop-at : goal.invariant-loop-at
 invariant-loop-at l = record {
-  good : refusal (pieces 0 l.at (drop l.at l.format)) (length l.left) ≡ None;
-  text : pieces_text l.m (good_pieces (pieces 0 0 l.format)) l.amounts ≡ l.out.items ++ pieces_text l.m (good_pieces (pieces 0 l.at (drop l.at l.format))) l.left;
+  same : refusal (pieces 0 0 l.format) (length l.amounts) ≡ refusal (pieces 0 l.at (drop l.at l.format)) (length l.left);
+  text : refusal (pieces 0 0 l.format) (length l.amounts) ≡ None → pieces_text l.m (good_pieces (pieces 0 0 l.format)) l.amounts ≡ l.out.items ++ pieces_text l.m (good_pieces (pieces 0 l.at (drop l.at l.format))) l.left;
   room : length l.out.items ≤ l.max;
   within : l.at ≤ length l.format;
 }

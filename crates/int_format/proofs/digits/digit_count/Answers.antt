@@ -1,6 +1,6 @@
-use Rattle.std.proofs.Common.{◌≡◌, ◌+◌, ◌/◌, ◌≤◌, arith, ap}
+use Rattle.std.proofs.Common.{◌≡◌, ◌+◌, ◌/◌, ◌≤◌, arith}
 use Rattle.int_format.specs.Digits.{digit_count}
-use Rattle.int_format.proofs.DigitLemmas.{few_digits, more_digits}
+use Rattle.int_format.proofs.DigitLemmas.{few_digits, four_more_digits}
 use Rattle.int_format.proofs.digits.digit_count.Goals as goal
 
 pub overflow_add-count : goal.overflow_add-count
@@ -10,15 +10,18 @@ overflow_add-count c =
 
 pub loop-left-preserved : goal.loop-left-preserved
 loop-left-preserved c =
-    let more : digit_count c.loop-left.left ≡ digit_count (c.loop-left.left / 10) + 1 = more_digits c.loop-left.left (omega arith) in
+    let more : digit_count c.loop-left.left ≡ digit_count (c.loop-left.left / 10000) + 4 = four_more_digits c.loop-left.left (omega arith) in
     omega (arith, c.loop-left.invariant)
 
 pub returns-clause-is : goal.returns-clause-is
-returns-clause-is c =
-    let none : c.loop-left.left ≡ 0 = omega arith in
-    omega (arith, c.loop-left.invariant, ap (λ n. digit_count n) none)
+returns-clause-is c = omega (arith, c.loop-left.invariant, c.short_count.ensures)
 
 pub returns-clause-few : goal.returns-clause-few
 returns-clause-few c =
     let few : digit_count c.args.n ≤ 20 = few_digits c.args.n (omega arith) in
-    omega (arith, c.loop-left.invariant)
+    omega (arith, c.loop-left.invariant, c.short_count.ensures)
+
+pub overflow_add-result : goal.overflow_add-result
+overflow_add-result c =
+    let few : digit_count c.args.n ≤ 20 = few_digits c.args.n (omega arith) in
+    omega (arith, c.loop-left.invariant, c.short_count.ensures)
