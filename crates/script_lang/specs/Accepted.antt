@@ -1,5 +1,5 @@
 -- The accepted bundle, or the bundle's first fault (our own).
-use Rattle.std.specs.Prelude.{ℕ, ◌-◌, ◌<◌, ◌≤◌, ◌^◌, List, [], length, Option, Some, None, Ok, Err}
+use Rattle.std.specs.Prelude.{◌≡◌, ℕ, ◌-◌, ◌<◌, ◌≤◌, ◌^◌, true, List, [], length, Option, Some, None, Ok, Err}
 use Rattle.std.specs.List.{All}
 use Rattle.lc_base.specs.declared.block.Block.{Block}
 use Rattle.lc_base.specs.declared.block.Later.{Later}
@@ -9,9 +9,11 @@ use Rattle.lc_base.specs.Reading.{Reads, ◌>>=◌}
 use Rattle.script_lang.specs.declared.bundle.TheConstants.{CHARMAP_LIMIT, LOCALE_LIMIT, LATER_LIMIT, CATALOG_LIMIT, ROUND_LIMIT, COMMAND_LIMIT}
 use Rattle.script_commands.specs.declared.known.TheConstants.{THREAD_LIMIT}
 use Rattle.script_lang.specs.declared.bundle.Bundle.{Bundle}
+use Rattle.script_commands.specs.declared.command.Command.TheVariants.{Install}
 use Rattle.script_commands.specs.declared.command.Placed.{Placed}
 use Rattle.script_commands.specs.declared.known.Known.{Known}
 use Rattle.script_commands.specs.InRange.{IsInRange}
+use Rattle.script_commands.specs.Known.{has_key}
 use Rattle.script_lang.specs.declared.reading.Reading.{Reading}
 use Rattle.script_lang.specs.Reading.{at_first, lines_read}
 use Rattle.script_words.specs.Spans.{start}
@@ -62,3 +64,11 @@ pub record IsAccepted (b : Bundle) : Type 0 where
   pub later : All (λ (l : Later). IsSized l.block) b.later
   pub catalogs : All IsSized b.catalogs
   pub commands : All (IsPlaced (length b.threads) b.rounds) b.commands
+
+-- where a command installs a key, one of these later versions has it
+abbrev pub HasItsBlock : List Later → Placed → Type 0
+HasItsBlock later p = (key : List ℕ) → p.command ≡ Install key → has_key later key ≡ true
+
+-- each key that the bundle installs has a block of the bundle
+abbrev pub HasItsKeys : Bundle → Type 0
+HasItsKeys b = All (HasItsBlock b.later) b.commands

@@ -49,15 +49,26 @@ impl Bundle {
     ghost use Rattle.std.specs.Prelude.{◌≡◌, ◌^◌, ◌<◌, ◌≤◌, length, position, IfOk, IfSome};
     ghost use Rattle.std.specs.Str.{bytes_eq};
     ghost use Rattle.lc_base.specs.Reading.{Gives};
-    ghost use Rattle.script_lang.specs.Accepted.{bundle_of, IsAccepted};
+    ghost use Rattle.script_lang.specs.Accepted.{bundle_of, IsAccepted, HasItsKeys};
 
     /// Reads a bundle.
     ///
     /// The refusal is the first fault of the lines in order: `BadLine`, `OverLimit`, `NoEnd`. Where
     /// the lines have none, it is the first of the names in order of place: `NameTwice`, `NoCharmap`,
     /// `NoNative`, `NoThread`, `NoLater`.
-    #[tactic(auto, unfolding(crate::specs::Accepted::bundle_of))]
+    #[tactic(auto, using(crate::proofs::InstallLemmas::read_installed))]
     pub fn read(alloc: Global, text: &[u8]) -> Result<Bundle, TextFault>
+        requires { length text.now < 2 ^ 31 }
+        ensures is { Gives (λ bundle. bundle) result (bundle_of text.now) }
+        ensures accepted { IfOk result IsAccepted }
+        ensures keyed { IfOk result HasItsKeys }
+    {
+        Bundle::spelled(alloc, text)
+    }
+
+    /// The bundle that a text spells.
+    #[tactic(auto, unfolding(crate::specs::Accepted::bundle_of))]
+    fn spelled(alloc: Global, text: &[u8]) -> Result<Bundle, TextFault>
         requires { length text.now < 2 ^ 31 }
         ensures is { Gives (λ bundle. bundle) result (bundle_of text.now) }
         ensures accepted { IfOk result IsAccepted }

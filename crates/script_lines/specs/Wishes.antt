@@ -78,7 +78,7 @@ set_op library mask locale = named_numbers library locale mask >>= λ ns. Ok (ta
 abbrev pub setlocale_op : Catalog → Categories → List ℕ → Asks
 setlocale_op library categories locale = set_op library (categories_mask categories) locale
 
--- what a key installs. No accepted bundle installs a key without a block, so the first row never arises
+-- what a key installs. No accepted bundle installs a key without a block (`HasItsKeys`), so the first row never arises (`HasVersion`)
 abbrev pub install_of : Option (ℕ × Offered) → Asks
 install_of None = Err whys.Unset
 install_of (Some version) = Ok (table.Install version.0 version.1)

@@ -3,6 +3,7 @@ pub mod CatalogLines
 pub mod Examples
 pub mod Fronts
 pub mod IsolationExamples
+pub mod KeyLemmas
 pub mod LineLists
 pub mod OnlySerial
 pub mod OutcomeLemmas

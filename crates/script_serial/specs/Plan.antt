@@ -1,12 +1,15 @@
 -- The accepted bundle with its compiled locales and its message catalogs (our own).
-use Rattle.std.specs.Prelude.{ℕ, List, [], ◌∷◌, length, Ok}
+use Rattle.std.specs.Prelude.{◌≡◌, ℕ, List, [], ◌∷◌, length, Ok, IsSome}
+use Rattle.std.specs.List.{All}
 use Rattle.lc_base.specs.declared.block.Block.{Block}
 use Rattle.lc_base.specs.Reading.{Reads, ◌>>=◌}
 use Rattle.category_store.specs.Catalog.{Catalog}
-use Rattle.category_store.specs.Library.{catalog}
+use Rattle.category_store.specs.Library.{catalog, later}
 use Rattle.category_store.specs.Shelf.{IsNumbered, IsInstallable}
 use Rattle.msg_catalog.specs.declared.book.Message.{Message}
 use Rattle.msg_catalog.specs.Messages.{messages}
+use Rattle.script_commands.specs.declared.command.Command.TheVariants.{Install}
+use Rattle.script_commands.specs.declared.command.Placed.{Placed}
 use Rattle.script_lang.specs.declared.bundle.Bundle.{Bundle}
 use Rattle.script_lang.specs.Accepted.{IsAccepted, bundle_of}
 use Rattle.script_lines.specs.Catalogs.{Books}
@@ -54,8 +57,13 @@ counts_of text = plan_of text >>= λ plan. Ok (counts plan.bundle)
 
 -- ---- what holds of each plan
 
--- the bundle is accepted, and its names and keys are numbered
+-- what a command installs is there: it is never looked up in vain
+abbrev pub HasVersion : Catalog → Placed → Type 0
+HasVersion library p = (key : List ℕ) → p.command ≡ Install key → IsSome (later library key)
+
+-- the bundle is accepted, its names and keys are numbered, and each key that it installs has its version
 pub record IsSound (plan : PlanData) : Type 0 where
   pub accepted : IsAccepted plan.bundle
   pub numbered : IsNumbered plan.library
   pub installable : IsInstallable plan.library
+  pub installed : All (HasVersion plan.library) plan.bundle.commands
