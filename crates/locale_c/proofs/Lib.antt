@@ -1,0 +1,4 @@
+mod AnswerLemmas
+mod AsBox
+mod BufferLemmas
+mod NumberLemmas

@@ -1,0 +1,4 @@
+pub mod Hold
+pub mod Answers
+pub mod Items
+pub mod Conv

@@ -1,0 +1,162 @@
+//! Texts that an object gives, put into buffers of the caller.
+
+ghost use Rattle.std.specs.Prelude.{◌≡◌, IfOk, OnErr, length, true};
+ghost use Rattle.std.specs.List.{list_all};
+ghost use Rattle.int_format.specs.Ints.{is_number, at_most, ints};
+ghost use Rattle.strfmon.specs.Money.{money};
+ghost use Rattle.strftime_fields.specs.Answers.{answer};
+ghost use Rattle.shared_objects.specs.Objects.{numeric_in, monetary_in, time_in};
+ghost use Rattle.locale_c.specs.Items.{item_of};
+ghost use Rattle.locale_c.specs.Answers.{UnlessOk, item_told, money_told, amounts_told, tm_given, time_told, tm_told, ints_told, numbers_told};
+
+use crate::amounts::{LoAmount, amounts_given, are_scaled};
+use crate::answer::{
+    BAD_AMOUNT, BAD_FORMAT, LoAnswer, MISSING, NO_ITEM, TM_RANGE, TOO_SMALL, answered,
+};
+use crate::buffer::put_text;
+use crate::items::item_of;
+use crate::numbers::numbers_given;
+use crate::times::{LoTm, field_number, tm_given};
+use int_format::IntFault;
+use shared_objects::SharedObject;
+use std::alloc::{AllocError, Global};
+use strfmon::{Amount, MoneyFault};
+use strftime_fields::{TimeFault, Tm};
+
+/// Puts the text of an item into a buffer.
+pub fn put_item(
+    alloc: Global,
+    buffer: &mut [u8],
+    object: &SharedObject,
+    number: u32,
+) -> Result<LoAnswer, AllocError>
+    ensures told { IfOk result (λ a. (a, buffer.new) ≡ item_told buffer.old object.now (item_of number)) }
+    ensures kept { OnErr result (buffer.new ≡ buffer.old) }
+    ensures untouched { IfOk result (λ a. UnlessOk a (buffer.new ≡ buffer.old)) }
+{
+    match item_of(number) {
+        None => Ok(answered(NO_ITEM, 0)),
+        Some(item) => {
+            let text = object.nl_langinfo(alloc, item)?;
+            Ok(put_text(buffer, text.as_bytes()))
+        }
+    }
+}
+
+/// Puts the text of amounts that strfmon takes into a buffer.
+fn put_money(
+    alloc: Global,
+    buffer: &mut [u8],
+    object: &SharedObject,
+    format: &[u8],
+    amounts: &[Amount],
+) -> Result<LoAnswer, AllocError>
+    ensures told { IfOk result (λ a. (a, buffer.new) ≡ money_told buffer.old (money (monetary_in object.now) format.now amounts.now (length buffer.old))) }
+    ensures kept { OnErr result (buffer.new ≡ buffer.old) }
+    ensures untouched { IfOk result (λ a. UnlessOk a (buffer.new ≡ buffer.old)) }
+{
+    match object.strfmon(alloc, format, amounts, buffer.len()) {
+        Ok(text) => Ok(put_text(buffer, text.as_bytes())),
+        Err(MoneyFault::BadFormat { at }) => Ok(answered(BAD_FORMAT, at)),
+        Err(MoneyFault::MissingAmount { at }) => Ok(answered(MISSING, at)),
+        Err(MoneyFault::TooBig) => Ok(answered(TOO_SMALL, 0)),
+        Err(MoneyFault::Memory) => Err(AllocError),
+    }
+}
+
+/// Puts the text of amounts into a buffer.
+pub fn put_amounts(
+    alloc: Global,
+    buffer: &mut [u8],
+    object: &SharedObject,
+    format: &[u8],
+    amounts: &[LoAmount],
+) -> Result<LoAnswer, AllocError>
+    ensures told { IfOk result (λ a. (a, buffer.new) ≡ amounts_told buffer.old object.now format.now amounts.now) }
+    ensures kept { OnErr result (buffer.new ≡ buffer.old) }
+    ensures untouched { IfOk result (λ a. UnlessOk a (buffer.new ≡ buffer.old)) }
+{
+    if are_scaled(amounts) {
+        let given = amounts_given(alloc, amounts)?;
+        put_money(alloc, buffer, object, format, given.as_slice())
+    } else {
+        Ok(answered(BAD_AMOUNT, 0))
+    }
+}
+
+/// Puts the text of a time that strftime takes into a buffer.
+fn put_time(
+    alloc: Global,
+    buffer: &mut [u8],
+    object: &SharedObject,
+    format: &[u8],
+    tm: &Tm,
+) -> Result<LoAnswer, AllocError>
+    ensures told { IfOk result (λ a. (a, buffer.new) ≡ time_told buffer.old (answer (time_in object.now) tm.now format.now (length buffer.old))) }
+    ensures kept { OnErr result (buffer.new ≡ buffer.old) }
+    ensures untouched { IfOk result (λ a. UnlessOk a (buffer.new ≡ buffer.old)) }
+{
+    match object.strftime(alloc, format, tm, buffer.len()) {
+        Ok(text) => Ok(put_text(buffer, text.as_bytes())),
+        Err(TimeFault::BadFormat { at }) => Ok(answered(BAD_FORMAT, at)),
+        Err(TimeFault::TooBig) => Ok(answered(TOO_SMALL, 0)),
+        Err(TimeFault::Memory) => Err(AllocError),
+    }
+}
+
+/// Puts the text of a time into a buffer.
+pub fn put_tm(
+    alloc: Global,
+    buffer: &mut [u8],
+    object: &SharedObject,
+    format: &[u8],
+    tm: &LoTm,
+    zone: &[u8],
+) -> Result<LoAnswer, AllocError>
+    ensures told { IfOk result (λ a. (a, buffer.new) ≡ tm_told buffer.old object.now format.now (tm_given tm.now zone.now)) }
+    ensures kept { OnErr result (buffer.new ≡ buffer.old) }
+    ensures untouched { IfOk result (λ a. UnlessOk a (buffer.new ≡ buffer.old)) }
+{
+    match tm_given(alloc, tm, zone)? {
+        Ok(tm) => put_time(alloc, buffer, object, format, &tm),
+        Err(range) => Ok(answered(TM_RANGE, field_number(range.field))),
+    }
+}
+
+/// Puts the text of whole numbers that int_format takes into a buffer.
+fn put_ints(
+    alloc: Global,
+    buffer: &mut [u8],
+    object: &SharedObject,
+    format: &[u8],
+    numbers: &[i128],
+) -> Result<LoAnswer, AllocError>
+    requires { list_all is_number numbers.now ≡ true }
+    ensures told { IfOk result (λ a. (a, buffer.new) ≡ ints_told buffer.old (at_most (length buffer.old) (ints (numeric_in object.now) format.now numbers.now))) }
+    ensures kept { OnErr result (buffer.new ≡ buffer.old) }
+    ensures untouched { IfOk result (λ a. UnlessOk a (buffer.new ≡ buffer.old)) }
+{
+    match object.int_format(alloc, format, numbers, buffer.len()) {
+        Ok(text) => Ok(put_text(buffer, text.as_bytes())),
+        Err(IntFault::BadFormat { at }) => Ok(answered(BAD_FORMAT, at)),
+        Err(IntFault::MissingNumber { at }) => Ok(answered(MISSING, at)),
+        Err(IntFault::TooBig) => Ok(answered(TOO_SMALL, 0)),
+        Err(IntFault::Memory) => Err(AllocError),
+    }
+}
+
+/// Puts the text of whole numbers into a buffer.
+pub fn put_numbers(
+    alloc: Global,
+    buffer: &mut [u8],
+    object: &SharedObject,
+    format: &[u8],
+    numbers: &[i64],
+) -> Result<LoAnswer, AllocError>
+    ensures told { IfOk result (λ a. (a, buffer.new) ≡ numbers_told buffer.old object.now format.now numbers.now) }
+    ensures kept { OnErr result (buffer.new ≡ buffer.old) }
+    ensures untouched { IfOk result (λ a. UnlessOk a (buffer.new ≡ buffer.old)) }
+{
+    let given = numbers_given(alloc, numbers)?;
+    put_ints(alloc, buffer, object, format, given.as_slice())
+}

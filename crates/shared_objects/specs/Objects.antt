@@ -1,0 +1,125 @@
+-- Objects over one library: what they are composed of, and the categories of each (XSH newlocale, duplocale).
+use Rattle.std.specs.Prelude.{◌≡◌, ℕ, Bool, not, ◌&&◌, List, slice_get, slice_index, Option, None, Some, unwrap_or, Result, Ok, Err}
+use Rattle.std.specs.List.{find}
+use Rattle.lc_base.specs.declared.category.Category.{Category}
+use Rattle.lc_base.specs.declared.category.Category.TheVariants.{Ctype, Numeric, Monetary, Time, Messages}
+use Rattle.lc_base.specs.Categories.{categories}
+use Rattle.lc_base.specs.Mask.{includes}
+use Rattle.lc_base.specs.Reading.{Reads, ◌>>=◌}
+use Rattle.mask_compose.specs.Parts.{Parts, part_of, composed}
+use Rattle.mask_compose.specs.Offer.{Offered}
+use Rattle.ctype_classes.specs.CtypeValues.{CtypeValues}
+use Rattle.numeric_cat.specs.NumericValues.{NumericValues}
+use Rattle.monetary_cat.specs.MonetaryValues.{MonetaryValues}
+use Rattle.time_cat.specs.TimeValues.{TimeValues}
+use Rattle.messages_cat.specs.MessagesValues.{MessagesValues}
+use Rattle.compiled_categories.specs.Locale.{Locale}
+use Rattle.category_store.specs.Catalog.{Catalog}
+use Rattle.category_store.specs.Library.{catalog, locale_at, numbers, posix_object, no_offer, opening}
+use Rattle.script_lang.specs.declared.bundle.Bundle.{Bundle}
+use Rattle.script_lang.specs.Accepted.{bundle_of}
+use Rattle.shared_objects.specs.declared.fault.NewFault.{NewFault}
+use Rattle.shared_objects.specs.declared.fault.NewFault.TheVariants.{NoData, Memory}
+use Rattle.shared_objects.specs.Shared.{Shared}
+
+-- ---- a library that is read
+
+-- the library of a bundle; its script is no part of it
+abbrev pub catalog_of : Bundle → Reads Catalog
+catalog_of b = catalog b.charmaps b.locales b.later b.native
+
+-- the library of a text in the form of a bundle, or its first fault
+abbrev pub catalog_in : List ℕ → Reads Catalog
+catalog_in text = bundle_of text >>= catalog_of
+
+-- the POSIX object over a library
+abbrev pub first_object : Catalog → Shared
+first_object library = record { library = library; object = posix_object }
+
+-- the POSIX object over the library of a text, or its first fault
+abbrev pub object_in : List ℕ → Reads Shared
+object_in text = catalog_in text >>= λ library. Ok (first_object library)
+
+-- ---- newlocale
+
+abbrev pub category_index : Category → ℕ
+category_index Ctype = 0
+category_index Numeric = 1
+category_index Monetary = 2
+category_index Time = 3
+category_index Messages = 4
+
+-- the name's number for a category
+abbrev pub number_for : List ℕ → Category → ℕ
+number_for ns category = slice_index ns (category_index category)
+
+-- what the name with a number offers
+abbrev pub offer_of : Catalog → ℕ → Offered
+offer_of library number = unwrap_or (slice_get (opening library) number) no_offer
+
+-- whether the mask has a category that the offer of its name lacks
+abbrev pub is_lacking : Catalog → ℕ → List ℕ → Category → Bool
+is_lacking library mask ns category = includes mask category && not (includes (offer_of library (number_for ns category)).available category)
+
+-- the first category of the mask that the offer of its name lacks, or none
+abbrev pub lacking : Catalog → ℕ → List ℕ → Option Category
+lacking library mask ns = find (is_lacking library mask ns) categories
+
+-- the part that the offer of a category's name has
+abbrev pub picked_part : Catalog → List ℕ → Category → ℕ
+picked_part library ns category = part_of (offer_of library (number_for ns category)).object category
+
+-- the parts that the offers of names have
+abbrev pub picked : Catalog → List ℕ → Parts
+picked library ns = record {
+  ctype = picked_part library ns Ctype;
+  numeric = picked_part library ns Numeric;
+  monetary = picked_part library ns Monetary;
+  time = picked_part library ns Time;
+  messages = picked_part library ns Messages;
+}
+
+-- an object, unless a category lacks data
+abbrev pub unless_lacking : Option Category → Shared → Result Shared Category
+unless_lacking (Some category) object = Err category
+unless_lacking None object = Ok object
+
+-- the object with the parts of names in the categories of the mask, and those of the base in the others
+abbrev pub composed_from : Shared → ℕ → List ℕ → Result Shared Category
+composed_from base mask ns =
+    unless_lacking (lacking base.library mask ns) (record { library = base.library; object = composed mask (picked base.library ns) base.object })
+
+-- the object of the numbers that a name has, or the first category whose name no block has
+abbrev pub from_numbers : Shared → ℕ → Result (List ℕ) Category → Result Shared Category
+from_numbers base mask (Ok ns) = composed_from base mask ns
+from_numbers base mask (Err category) = Err category
+
+-- the object of a name, a mask and a base, or the first category of the mask without data
+abbrev pub new_object : Shared → ℕ → List ℕ → Result Shared Category
+new_object base mask name = from_numbers base mask (numbers base.library name mask)
+
+-- a result is the wanted one, unless memory is wanting
+abbrev pub Composes : Result Shared NewFault → Result Shared Category → Type 0
+Composes (Ok object) wanted = wanted ≡ Ok object
+Composes (Err (NoData category)) wanted = wanted ≡ Err category
+Composes (Err Memory) wanted = Unit {0}
+
+-- ---- the categories of an object, each as its locale has it
+
+abbrev pub compiled_in : Shared → Category → Locale
+compiled_in o category = locale_at o.library (part_of o.object category)
+
+abbrev pub ctype_in : Shared → CtypeValues
+ctype_in o = (compiled_in o Ctype).ctype
+
+abbrev pub numeric_in : Shared → NumericValues
+numeric_in o = (compiled_in o Numeric).numeric
+
+abbrev pub monetary_in : Shared → MonetaryValues
+monetary_in o = (compiled_in o Monetary).monetary
+
+abbrev pub time_in : Shared → TimeValues
+time_in o = (compiled_in o Time).time
+
+abbrev pub messages_in : Shared → MessagesValues
+messages_in o = (compiled_in o Messages).messages

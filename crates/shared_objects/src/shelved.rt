@@ -1,0 +1,155 @@
+//! A library with what its names offer.
+
+ghost use Rattle.std.specs.Prelude.{◌≡◌, IfOk, ◌<◌};
+ghost use Rattle.std.specs.List.{find};
+ghost use Rattle.lc_base.specs.declared.category.Category.{Category};
+ghost use Rattle.category_store.specs.Library.{locale_at};
+ghost use Rattle.shared_objects.specs.Objects.{category_index, number_for, offer_of, is_lacking, lacking, picked_part, picked};
+
+use category_store::{Compiled, Library, Share};
+use lc_base::{CATEGORIES, Category, List, Mask};
+use mask_compose::{Object, Offer};
+use std::alloc::{AllocError, Global};
+use std::marker::Model;
+
+/// A library with what its names offer.
+#[derive(Drop)]
+pub struct Shelved {
+    library: Library,
+    offers: List<Offer<Share>>,
+}
+
+impl Model for Shelved {
+    ghost use Rattle.std.specs.Prelude.{◌≡◌};
+    ghost use Rattle.category_store.specs.Catalog.{Catalog};
+    ghost use Rattle.category_store.specs.Library.{opening};
+
+    ghost Value = { Catalog };
+
+    ghost view = { λ s. s.library };
+
+    ghost invariant = { λ s. s.offers ≡ opening s.library };
+}
+
+impl Shelved {
+    /// A library with what its names offer at first.
+    pub fn of(alloc: Global, library: Library) -> Result<Shelved, AllocError>
+        ensures { IfOk result (λ s. s ≡ library) }
+    {
+        let offers = library.opening(alloc)?;
+        Ok(Shelved { library, offers })
+    }
+
+    /// The compiled locale of a share.
+    pub fn compiled(&self, share: Share) -> Compiled<'_>
+        ensures { result ≡ locale_at self.now share.number }
+    {
+        self.library.compiled(share)
+    }
+
+    /// The numbers of names, as the library gives them.
+    pub(crate) fn library(&self) -> &Library
+        ensures { result.now ≡ self.now }
+    {
+        &self.library
+    }
+
+    /// What the name with a number offers.
+    fn offer_of(&self, number: u32) -> Offer<Share>
+        ensures { result ≡ offer_of self.now number }
+    {
+        match self.offers.as_slice().get(number as usize) {
+            Some(offer) => offer.share(),
+            None => Offer {
+                object: self.library.posix(),
+                available: no_category(),
+            },
+        }
+    }
+
+    /// Whether the mask has a category that the offer of its name lacks.
+    fn is_lacking(&self, mask: Mask, numbers: &[u32; 5], category: Category) -> bool
+        ensures { result ≡ is_lacking self.now mask numbers.now category }
+    {
+        let offer = self.offer_of(number_for(numbers, category));
+        mask.has(category) && !offer.available.has(category)
+    }
+
+    /// The first of the categories that the mask has and the offer of its name lacks.
+    fn first_lacking(
+        &self,
+        mask: Mask,
+        numbers: &[u32; 5],
+        categories: &[Category],
+    ) -> Option<Category>
+        ensures { result ≡ find (is_lacking self.now mask numbers.now) categories.now }
+    {
+        for category in categories {
+            if self.is_lacking(mask, numbers, *category) {
+                return Some(*category);
+            }
+        }
+        None
+    }
+
+    /// The first category of the mask that the offer of its name lacks.
+    pub(crate) fn lacking(&self, mask: Mask, numbers: &[u32; 5]) -> Option<Category>
+        ensures { result ≡ lacking self.now mask numbers.now }
+    {
+        self.first_lacking(mask, numbers, &CATEGORIES)
+    }
+
+    /// The part that the offer of a category's name has.
+    fn picked_part(&self, numbers: &[u32; 5], category: Category) -> Share
+        ensures { result.number ≡ picked_part self.now numbers.now category }
+    {
+        *self
+            .offer_of(number_for(numbers, category))
+            .object
+            .part(category)
+    }
+
+    /// The parts that the offers of names have.
+    pub(crate) fn picked(&self, numbers: &[u32; 5]) -> Object<Share>
+        ensures { result ≡ picked self.now numbers.now }
+    {
+        Object::of(
+            self.picked_part(numbers, Category::Ctype),
+            self.picked_part(numbers, Category::Numeric),
+            self.picked_part(numbers, Category::Monetary),
+            self.picked_part(numbers, Category::Time),
+            self.picked_part(numbers, Category::Messages),
+        )
+    }
+}
+
+/// The empty mask.
+fn no_category() -> Mask
+    ensures { result ≡ 0 }
+{
+    match Mask::of_bits(0) {
+        Some(mask) => mask,
+        None => unreachable!(),
+    }
+}
+
+/// The name's number for a category.
+fn number_for(numbers: &[u32; 5], category: Category) -> u32
+    ensures { result ≡ number_for numbers.now category }
+{
+    numbers[category_index(category)]
+}
+
+/// The place of a category in their order.
+fn category_index(category: Category) -> usize
+    ensures index { result ≡ category_index category }
+    ensures small { result < 5 }
+{
+    match category {
+        Category::Ctype => 0,
+        Category::Numeric => 1,
+        Category::Monetary => 2,
+        Category::Time => 3,
+        Category::Messages => 4,
+    }
+}
