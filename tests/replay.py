@@ -11,8 +11,8 @@ have a history of their own, of which the same holds; a message is the one that 
 first line that is wrong, and ends with 1.
 
 With a program, its `serial` must print the same replies, reads and versions included: for a script of the same
-calls in the order of their places, or, where a bundle has too few rounds for that order, for one that makes each
-object that was read anew.
+calls in the order of their places, or, where there is none, as a bundle has too few rounds for that order, for one
+that makes each object that was read anew.
 """
 import subprocess
 import sys
@@ -478,12 +478,13 @@ class Check:
     def catalog_places(self):
         """The places of calls on catalogs: each once; going up along a thread and from round to round."""
         lines = [line for line in self.lines if line.catalog is not None]
-        want(sorted(line.catalog for line in lines) == list(range(len(lines))), "each place of a call on catalogs once")
-        before, number, last, top = {}, 0, -1, -1
+        before, number, last, top, taken = {}, 0, -1, -1, set()
         for line in lines:
             if line.round != number:
                 number, last = line.round, top
+            want_line(line, line.catalog < len(lines) and line.catalog not in taken, "a place of its own")
             want_line(line, before.get(line.thread, -1) < line.catalog and last < line.catalog, "a later place")
+            taken.add(line.catalog)
             before[line.thread] = line.catalog
             top = max(top, line.catalog)
 
@@ -655,7 +656,9 @@ class Check:
 
     def in_order_of_places(self):
         """The steps with their threads in the order of the places; one without a place once its version is made,
-        and a call on catalogs behind those of lower places."""
+        and a call on catalogs behind those of lower places. None where one tells a version that is older than the
+        newest one there: a thread may see a version, and then make a call on catalogs behind those of a thread that
+        saw a newer one."""
         order, count = [], len(self.steps)
         queues = [list(enumerate(steps)) for steps in self.steps]
         moments, last, following = [(-1, 0)] * count, (-1, 0, 0), 0
@@ -677,6 +680,8 @@ class Check:
                     if step.line.catalog is not None:
                         stage += (at, stage) == last[:2] and rank < last[2]
                         last = (at, stage, rank)
+                    if step.place is None and step.line.version not in (None, self.sets[at + 1]):
+                        return None
                     moments[who] = (at, stage)
                     order.append((at, step.place is None, stage, rank, number, who, step))
             want(len(order) > before, "the two histories agree with the order along the threads")
@@ -710,7 +715,7 @@ class Serial:
     def judges(self, check):
         """Compares what was told with what `serial` tells."""
         order = check.in_order_of_places()
-        script = script_in_order(check.bundle, order)
+        script = script_in_order(check.bundle, order) if order is not None else None
         if script is None:
             return self.judges_anew(check.bundle, check.said)
         lines = self.lines(script, self.rows)
