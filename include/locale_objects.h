@@ -15,7 +15,8 @@
  * Texts are given by a pointer and a number of bytes, need no NUL, and may have any bytes. Buffers are
  * given with their size. A text that a call gives stands at the front of the buffer with a NUL behind
  * it, and `n` is its length without the NUL. It is never cut: where text and NUL do not fit, the answer
- * is LO_TOO_SMALL. Under any code but LO_OK the buffer is as it was.
+ * is LO_TOO_SMALL. Under any code but LO_OK a buffer for a text is as it was; that of lo_read is for the
+ * line of a fault.
  *
  * No pointer may be null, a text or a buffer of 0 bytes included; two that a call writes or takes as a
  * handle may not overlap one another, nor its other arguments. No size may be over PTRDIFF_MAX. Nothing
