@@ -60,6 +60,42 @@ pub fn width_of(n: usize, sizes: &[i32], sep_len: usize) -> usize
     n + separators(n, sizes_used(sizes)) * sep_len
 }
 
+/// Writes a piece over the bytes before `end`, and says where it begins.
+#[inline(always)]
+pub fn write_before(target: &mut [u8], end: usize, piece: &[u8]) -> usize
+    requires room { length piece.now ≤ end }
+    requires within { end ≤ length target.old }
+    ensures begins { result + length piece.now ≡ end }
+    ensures written { drop result target.new ≡ piece.now ++ drop end target.old }
+{
+    let mut at = end;
+    let mut left = piece.len();
+    while left > 0 {
+        at -= 1;
+        left -= 1;
+        target[at] = piece[left];
+    }
+    at
+}
+
+/// Writes digits over the bytes before `end`, with `sep` between their groups as [`group`] has it,
+/// and says where they begin.
+#[inline(always)]
+pub fn write_grouped(
+    target: &mut [u8],
+    end: usize,
+    digits: &[u8],
+    sizes: &[i32],
+    sep: &[u8],
+) -> usize
+    requires room { length (grouped digits.now sizes.now sep.now) ≤ end }
+    requires within { end ≤ length target.old }
+    ensures begins { result + length (grouped digits.now sizes.now sep.now) ≡ end }
+    ensures written { drop result target.new ≡ grouped digits.now sizes.now sep.now ++ drop end target.old }
+{
+    write_groups(target, end, digits, sizes_used(sizes), sep)
+}
+
 /// The sizes before the first 0.
 #[inline]
 fn sizes_used(sizes: &[i32]) -> &[i32]
@@ -115,41 +151,35 @@ fn separators(n: usize, sizes: &[i32]) -> usize
     count
 }
 
-/// Writes a piece over the bytes before `end`, and says where it begins.
+/// Writes grouped digits over the bytes before `end`, from their end on, and says where they begin.
 #[inline(always)]
-fn write_before(target: &mut [u8], end: usize, piece: &[u8]) -> usize
-    requires room { length piece.now ≤ end }
+fn write_groups(target: &mut [u8], end: usize, digits: &[u8], sizes: &[i32], sep: &[u8]) -> usize
+    requires sizes { list_all is_size sizes.now ≡ true }
+    requires room { length digits.now + separators sizes.now (length digits.now) * length sep.now ≤ end }
     requires within { end ≤ length target.old }
-    ensures begins { result + length piece.now ≡ end }
-    ensures written { drop result target.new ≡ piece.now ++ drop end target.old }
+    ensures begins { result + (length digits.now + separators sizes.now (length digits.now) * length sep.now) ≡ end }
+    ensures written { drop result target.new ≡ separated digits.now sizes.now sep.now ++ drop end target.old }
 {
     let mut at = end;
-    let mut left = piece.len();
-    while left > 0 {
-        at -= 1;
-        left -= 1;
-        target[at] = piece[left];
+    let mut left = digits.len();
+    let mut rest = sizes;
+    while let Some(size) = last_group(rest, left) {
+        at = write_before(target, at, &digits[left - size..left]);
+        at = write_before(target, at, sep);
+        left -= size;
+        rest = before_last(rest);
     }
-    at
+    write_before(target, at, &digits[..left])
 }
 
-/// Writes grouped digits over bytes, from their end on.
-#[inline]
-fn write_groups(target: &mut [u8], digits: &[u8], sizes: &[i32], sep: &[u8])
+/// Writes grouped digits over bytes that are just as many.
+#[inline(always)]
+fn fill_groups(target: &mut [u8], digits: &[u8], sizes: &[i32], sep: &[u8])
     requires sizes { list_all is_size sizes.now ≡ true }
     requires room { length target.old ≡ length digits.now + separators sizes.now (length digits.now) * length sep.now }
     ensures { target.new ≡ separated digits.now sizes.now sep.now }
 {
-    let mut end = target.len();
-    let mut left = digits.len();
-    let mut rest = sizes;
-    while let Some(size) = last_group(rest, left) {
-        end = write_before(target, end, &digits[left - size..left]);
-        end = write_before(target, end, sep);
-        left -= size;
-        rest = before_last(rest);
-    }
-    write_before(target, end, &digits[..left]);
+    write_groups(target, target.len(), digits, sizes, sep);
 }
 
 /// Where a list of `start` bytes ends once grouped digits stand behind it, if there can be so many.
@@ -176,7 +206,7 @@ fn add_separated(
     let start = out.len();
     let end = end_of(start, digits.len(), count, sep.len()).ok_or(AllocError)?;
     out.resize(end, 0)?;
-    write_groups(&mut out[start..], digits, sizes, sep);
+    fill_groups(&mut out[start..], digits, sizes, sep);
     Ok(())
 }
 

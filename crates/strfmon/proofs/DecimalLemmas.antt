@@ -1,7 +1,7 @@
 -- Powers of ten and decimal digits.
-use Rattle.std.proofs.Common.{◌≡◌, ℕ, suc, zero, ◌+◌, ◌-◌, ◌/◌, ◌%◌, ◌^◌, ◌<◌, ◌≤◌, [], ◌∷◌, ◌++◌, length, replicate, lit<, lit≤, arith, refl, ap}
+use Rattle.std.proofs.Common.{◌≡◌, ℕ, suc, zero, ◌+◌, ◌-◌, ◌/◌, ◌%◌, ◌^◌, ◌<◌, ◌≤◌, List, [], ◌∷◌, ◌++◌, length, take, drop, replicate, lit<, lit≤, arith, refl, ap, ◌∙◌}
 use Rattle.std.proofs.Math.Nat.{pow-le-pow_right, one-le-pow, div-le_self}
-use Rattle.std.proofs.lemmas.List.{length-append, length-replicate}
+use Rattle.std.proofs.lemmas.List.{length-append, length-replicate, take-append-le, take_all}
 use Rattle.std.proofs.lemmas.Int.Digits.{length-digits_of_step, length-digits_of-le}
 use Rattle.std.specs.Int.Digits.{digits_of}
 use Rattle.strfmon.specs.MoneyAmount.{MoneyAmount}
@@ -69,6 +69,15 @@ pub length-last_digits : (k n : ℕ) → length (last_digits k n) ≡ k
 unfolding last_digits
 length-last_digits zero n = refl
 length-last_digits (suc k) n = omega (arith, length-append (last_digits k (n / 10)) ((48 + n % 10) ∷ []), length-last_digits k (n / 10))
+
+-- digits that are written from the start on
+pub first_digits : (new rest : List ℕ) (at k n : ℕ) → at + k ≡ k → drop at new ≡ last_digits k n ++ rest → k ≡ digit_count n → take k new ≡ last_digits (digit_count n) n
+first_digits new rest at k n begins written count =
+    let none : at ≡ 0 = omega (arith, begins) in
+    let whole : new ≡ last_digits k n ++ rest = rw none at written in
+    let size : length (last_digits k n) ≡ k = length-last_digits k n in
+    let most : take k (last_digits k n ++ rest) ≡ last_digits k n = take-append-le k (last_digits k n) rest (omega (arith, size)) ∙ take_all k (last_digits k n) (omega (arith, size)) in
+    ap (λ t. take k t) whole ∙ most ∙ ap (λ j. last_digits j n) count
 
 pub length-fraction_digits : (p : ℕ) (a : MoneyAmount) → length (fraction_digits p a) ≡ p
 length-fraction_digits p a =

@@ -1,10 +1,12 @@
 -- Formats, one piece after another.
-use Rattle.std.proofs.Common.{◌≡◌, ℕ, suc, zero, ◌+◌, ◌-◌, ◌<◌, ◌≤◌, List, [], ◌∷◌, length, take, drop, get_or, Option, Some, None, Ok, Err, Bool, arith, refl, ap, ◌∙◌, sym}
+use Rattle.std.proofs.Common.{◌≡◌, ℕ, suc, zero, ◌+◌, ◌-◌, ◌<◌, ◌≤◌, List, [], ◌∷◌, length, take, drop, get_or, Option, Some, None, Ok, Err, Bool, true, false, arith, refl, ap, subst, ◌∙◌, sym}
+use Rattle.std.specs.Prelude.{◌==◌, if◌then◌else◌}
+use Rattle.std.proofs.lemmas.Bool.Decides.{nat_tests}
 use Rattle.std.proofs.Math.Seq.{drop-cons}
 use Rattle.std.proofs.lemmas.List.{take_rest, drop-drop, drop_all}
 use Rattle.strfmon.specs.declared.format.Flags.{Flags}
 use Rattle.strfmon.specs.declared.format.Piece.{Piece}
-use Rattle.strfmon.specs.Formats.{further, with_flag, flags_behind, flags, number, number_after, is_international, conversion, piece, pieces, followed}
+use Rattle.strfmon.specs.Formats.{further, with_flag, flags_behind, flags, number_behind, number, number_after, is_international, conversion, plain, piece, pieces, followed}
 
 -- ---- flags
 
@@ -121,3 +123,35 @@ pub no_letter_there : (bs : List ℕ) (f : Flags) (a w d : ℕ) (n : Option ℕ)
     flags bs ≡ Some (f, a) → number (drop a bs) ≡ Some (w, d) → number_after 35 (drop (a + d) bs) ≡ Some (n, x) → number_after 46 (drop (a + d + x) bs) ≡ Some (p, y) → is_international (drop (a + d + x + y) bs) ≡ None → conversion bs ≡ None
 unfolding conversion
 no_letter_there bs f a w d n x p y e1 e2 e3 e4 e5 = rw (e1, e2, e3, e4, e5) refl
+
+-- a letter at once
+letter_n : (cs : List ℕ) → conversion (110 ∷ cs) ≡ Some (plain false, 1)
+unfolding conversion flags_behind number_behind
+letter_n [] = refl
+letter_n (c ∷ cs) = refl
+
+letter_i : (cs : List ℕ) → conversion (105 ∷ cs) ≡ Some (plain true, 1)
+unfolding conversion flags_behind number_behind
+letter_i [] = refl
+letter_i (c ∷ cs) = refl
+
+other_letter : (c : ℕ) (cs : List ℕ) (i : Bool) → (if c == 110 then Some false else None) ≡ Some i → conversion (c ∷ cs) ≡ Some (plain i, 1)
+other_letter c cs i e =
+    (elim (c == 110) as (λ b. (c == 110) ≡ b → (if b then Some false else None) ≡ Some i → conversion (c ∷ cs) ≡ Some (plain i, 1)) [
+      | true ↦ λ h g.
+          let same : 110 ≡ c = grind (arith, nat_tests) in
+          let flag : false ≡ i = cc in
+          subst (λ (x : ℕ). conversion (x ∷ cs) ≡ Some (plain i, 1)) same (letter_n cs ∙ ap (λ b. Some (plain b, 1)) flag)
+      | false ↦ λ h g. cc
+    ]) refl e
+
+pub plain_letter : (bs : List ℕ) (i : Bool) → is_international bs ≡ Some i → conversion bs ≡ Some (plain i, 1)
+plain_letter [] i e = cc
+plain_letter (c ∷ cs) i e =
+    (elim (c == 105) as (λ b. (c == 105) ≡ b → (if b then Some true else if c == 110 then Some false else None) ≡ Some i → conversion (c ∷ cs) ≡ Some (plain i, 1)) [
+      | true ↦ λ h g.
+          let same : 105 ≡ c = grind (arith, nat_tests) in
+          let flag : true ≡ i = cc in
+          subst (λ (x : ℕ). conversion (x ∷ cs) ≡ Some (plain i, 1)) same (letter_i cs ∙ ap (λ b. Some (plain b, 1)) flag)
+      | false ↦ λ h g. other_letter c cs i g
+    ]) refl e

@@ -2,4 +2,5 @@ pub mod CellLemmas
 pub mod DecimalLemmas
 pub mod FormatLemmas
 pub mod MoneyLemmas
+pub mod PartLemmas
 mod Examples

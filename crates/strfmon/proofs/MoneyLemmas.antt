@@ -1,5 +1,5 @@
 -- Refusals and texts, one piece after another.
-use Rattle.std.proofs.Common.{◌≡◌, ℕ, suc, zero, ◌+◌, ◌-◌, ◌/◌, ◌^◌, ◌≤◌, ◌<◌, max, List, [], ◌∷◌, ◌++◌, length, Option, Some, None, Result, Ok, Err, Bool, true, false, ◌⊎◌, inl, inr, subst, arith, refl, ap, ◌∙◌, sym}
+use Rattle.std.proofs.Common.{◌≡◌, ℕ, suc, zero, ◌+◌, ◌-◌, ◌/◌, ◌^◌, ◌≤◌, ◌<◌, max, List, [], ◌∷◌, ◌++◌, length, replicate, Option, Some, None, Result, Ok, Err, Bool, true, false, ◌⊎◌, inl, inr, subst, arith, refl, ap, ◌∙◌, sym}
 use Rattle.std.specs.Prelude.{option_map, nat_lt, ◌==◌, not}
 use Rattle.std.proofs.lemmas.Bool.Decides.{nat_tests}
 use Rattle.monetary_cat.specs.MonetaryValues.{MonetaryValues, text_of}
@@ -10,12 +10,13 @@ use Rattle.strfmon.specs.declared.fault.MoneyFault.{MoneyFault}
 use Rattle.strfmon.specs.declared.fault.MoneyFault.TheVariants as faults
 use Rattle.strfmon.specs.Refusals.{MoneyRefusal, BadFormat, MissingAmount, TooBig}
 use Rattle.strfmon.specs.MoneyAmount.{MoneyAmount}
-use Rattle.std.proofs.lemmas.List.{length-append, length-replicate, append-nil}
+use Rattle.std.proofs.lemmas.List.{length-append, length-replicate, append-nil, append_assoc}
 use Rattle.digit_groups.specs.Groups.{grouped}
 use Rattle.monetary_cat.specs.declared.keys.MonText.TheVariants.{MonThousandsSep}
 use Rattle.strfmon.proofs.DecimalLemmas.{length-fraction_digits, length-last_digits}
 use Rattle.strfmon.specs.declared.decimal.Decimal.{Decimal}
-use Rattle.strfmon.specs.Decimals.{whole_digits, fraction_digits, digit_count, magnitude, fraction_kept, IsRounded}
+use Rattle.strfmon.specs.Shown.{shown_fraction, shown_number, shown_parts}
+use Rattle.strfmon.specs.Decimals.{last_digits, whole_digits, fraction_digits, digit_count, magnitude, fraction_kept, IsRounded}
 use Rattle.strfmon.specs.Looks.{Look, look_of, parts_text}
 use Rattle.strfmon.specs.Formats.{followed}
 use Rattle.strfmon.specs.Money.{refusal, good_pieces, pieces_text, piece_text, amounts_behind, missing, refusal_behind, within, Refuses, fraction_text, radix_of, precision_of, sizes_of, text_parts, text_with, aligned_text, conversion_text, in_field, with_spaces, spaces, is_negative, pad_count, aligned_digits, fill_count, fault_of, unless_refused}
@@ -124,6 +125,27 @@ text_laid_out v c a own other digits before fill after d b f g = rw (b, f, g, �
 
 both_looks : (v : MonetaryValues) (c : Conversion) (a : MoneyAmount) (own other : Look) → own ≡ look_of v c (is_negative a) → other ≡ look_of v c (not (is_negative a)) → text_with v c a own other ≡ aligned_text v c a
 both_looks v c a own other o p = ap (λ l. text_with v c a l other) o ∙ ap (λ l. text_with v c a (look_of v c (is_negative a)) l) p
+
+-- the text of an amount is that of its decimal
+pub shown_amount : (v : MonetaryValues) (c : Conversion) (a : MoneyAmount) (d : Decimal) (l : Look) (before fill after : ℕ) → IsRounded d (precision_of v c) a → d.precision ≡ precision_of v c → shown_parts v c d l before fill after ≡ text_parts v c a l before fill after
+shown_amount v c a d l before fill after r p = rw (r.kept_is, r.magnitude_is, r.whole_is, p) refl
+
+-- the bytes of the text of a decimal
+fraction_shown : (v : MonetaryValues) (d : Decimal) → 0 < d.precision → shown_fraction v d ≡ radix_of v ++ (last_digits d.kept d.magnitude ++ replicate (d.precision - d.kept) 48)
+fraction_shown v d some = let no : (d.precision == 0) ≡ false = grind (arith, nat_tests) in rw no refl
+
+pub length-shown_fraction : (v : MonetaryValues) (d : Decimal) → 0 < d.precision → d.kept ≤ d.precision → length (shown_fraction v d) ≡ length (radix_of v) + d.precision
+length-shown_fraction v d some short =
+    let digits : List ℕ = last_digits d.kept d.magnitude ++ replicate (d.precision - d.kept) 48 in
+    omega (arith, ap length (fraction_shown v d some), length-append (radix_of v) digits, length-append (last_digits d.kept d.magnitude) (replicate (d.precision - d.kept) 48), length-last_digits d.kept d.magnitude, length-replicate {A = ℕ} (d.precision - d.kept) 48)
+
+-- six texts before another
+pub six_before : (a b c d e f rest : List ℕ) → a ++ (b ++ (c ++ (d ++ (e ++ (f ++ rest))))) ≡ (a ++ b ++ c ++ d ++ e ++ f) ++ rest
+six_before a b c d e f rest = simp append_assoc refl
+
+pub length-shown_parts : (v : MonetaryValues) (c : Conversion) (d : Decimal) (l : Look) (before fill after : ℕ) →
+    length (shown_parts v c d l before fill after) ≡ before + length (parts_text l l.before) + fill + length (shown_number v c d) + length (parts_text l l.after) + after
+length-shown_parts v c d l before fill after = simp (length-append, length-replicate) refl
 
 in_field_of : (left : Bool) (w n : ℕ) (t u : List ℕ) → t ≡ u → n ≡ w - length t → with_spaces left n t ≡ in_field left w u
 in_field_of left w n t u same e = ap (λ k. with_spaces left k t) e ∙ ap (λ x. in_field left w x) same

@@ -113,6 +113,10 @@ conversion bs = do
   international ← is_international (drop (f.1 + w.1 + n.1 + p.1) bs)
   Some (record { flags = f.0; width = w.0; whole_digits = n.0; precision = p.0; international = international }, f.1 + w.1 + n.1 + p.1 + 1)
 
+-- the conversion of a letter with nothing before it
+abbrev pub plain : Bool → Conversion
+plain international = record { flags = no_flags; width = 0; whole_digits = None; precision = None; international = international }
+
 -- what a `%` begins: `%%`, which is a `%`, or a conversion
 abbrev pub behind_percent : List ℕ → Option (Piece × ℕ)
 behind_percent [] = None

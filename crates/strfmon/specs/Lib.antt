@@ -6,3 +6,4 @@ pub mod Looks
 pub mod Seen
 pub mod Refusals
 pub mod Money
+pub mod Shown

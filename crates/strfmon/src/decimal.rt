@@ -1,6 +1,6 @@
 //! Amounts in decimal digits.
 
-ghost use Rattle.std.specs.Prelude.{◌≡◌, ◌+◌, ◌-◌, ◌^◌, ◌/◌, ◌<◌, ◌≤◌, length};
+ghost use Rattle.std.specs.Prelude.{◌≡◌, ◌+◌, ◌-◌, ◌^◌, ◌/◌, ◌<◌, ◌≤◌, ◌++◌, length, drop};
 ghost use Rattle.strfmon.specs.Decimals.{rounded, last_digits, digit_count, IsRounded};
 
 use crate::amount::Amount;
@@ -8,12 +8,16 @@ use crate::amount::Amount;
 /// An amount whose fraction is rounded.
 #[derive(Clone, Copy, Debug)]
 pub struct Decimal {
+    /// How many fraction digits are shown.
+    pub precision: usize,
     /// The magnitude, in units of the last fraction digit that is kept.
     pub magnitude: u64,
     /// How many fraction digits are kept.
     pub kept: usize,
     /// The whole part of the magnitude.
     pub whole: u64,
+    /// How many digits the whole part has.
+    pub digits: usize,
 }
 
 /// 10^exponent.
@@ -51,17 +55,21 @@ fn rounded(n: u64, d: u64) -> u64
 #[inline(always)]
 pub fn decimal_of(amount: Amount, precision: usize) -> Decimal
     ensures is { IsRounded result precision amount }
-    ensures few { result.kept ≤ 18 }
-    ensures short { result.kept ≤ precision }
-    ensures fits { result.whole ≤ 2 ^ 63 + 1 }
+    ensures precision { result.precision ≡ precision }
+    ensures short { result.kept ≤ result.precision }
+    ensures digits { result.digits ≡ digit_count result.whole }
+    ensures most { result.digits ≤ 20 }
 {
     let scale = usize::from(amount.scale());
     let kept = precision.min(scale);
     let magnitude = rounded(amount.units().unsigned_abs(), power(scale - kept));
+    let whole = magnitude / power(kept);
     Decimal {
+        precision,
         magnitude,
         kept,
-        whole: magnitude / power(kept),
+        whole,
+        digits: digit_count(whole),
     }
 }
 
@@ -99,15 +107,22 @@ pub fn digit_count(n: u64) -> usize
     count + short_count(left)
 }
 
-/// Writes the last decimal digits of a number, as many as there is room for.
-pub fn write_digits(n: u64, target: &mut [u8])
-    ensures { target.new ≡ last_digits (length target.old) n }
+/// Writes the last decimal digits of a number over the bytes before `end`, and says where they begin.
+#[inline(always)]
+pub fn write_digits(target: &mut [u8], end: usize, n: u64, count: usize) -> usize
+    requires room { count ≤ end }
+    requires within { end ≤ length target.old }
+    ensures begins { result + count ≡ end }
+    ensures written { drop result target.new ≡ last_digits count n ++ drop end target.old }
 {
+    let mut at = end;
     let mut left = n;
-    let mut at = target.len();
-    while at > 0 {
+    let mut missing = count;
+    while missing > 0 {
+        missing -= 1;
         at -= 1;
         target[at] = b'0' + (left % 10) as u8;
         left /= 10;
     }
+    at
 }

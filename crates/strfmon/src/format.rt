@@ -1,7 +1,7 @@
 //! Formats of amounts (XSH strfmon).
 
 ghost use Rattle.std.specs.Prelude.{◌≡◌, ◌+◌, ◌<◌, ◌≤◌, length, IfSome};
-ghost use Rattle.strfmon.specs.Formats.{mark_of, with_mark, with_fill, with_flag, flags, number, number_after, is_international, conversion, behind_percent, piece};
+ghost use Rattle.strfmon.specs.Formats.{mark_of, with_mark, with_fill, with_flag, flags, number, number_after, is_international, conversion, behind_percent, piece, plain};
 
 /// How the sign of an amount shows.
 #[derive(Clone, Copy, Debug, PartialEq, Eq)]
@@ -215,7 +215,7 @@ fn is_international(bytes: &[u8]) -> Option<bool>
 }
 
 /// The conversion that bytes behind a `%` begin with, and how many bytes it takes.
-#[inline(always)]
+#[inline(never)]
 fn conversion_of(bytes: &[u8]) -> Option<(Conversion, usize)>
     ensures is { result ≡ conversion bytes.now }
     ensures within { IfSome result (λ r. r.1 ≤ length bytes.now) }
@@ -238,6 +238,32 @@ fn conversion_of(bytes: &[u8]) -> Option<(Conversion, usize)>
     Some((conversion, at + 1))
 }
 
+/// The conversion of a letter with nothing before it.
+#[inline(always)]
+fn plain_conversion(international: bool) -> Conversion
+    ensures { result ≡ plain international }
+{
+    Conversion {
+        flags: NO_FLAGS,
+        width: 0,
+        whole_digits: None,
+        precision: None,
+        international,
+    }
+}
+
+/// The same as `conversion_of`, at once where a letter stands behind the `%`.
+#[inline(always)]
+fn quick_conversion(bytes: &[u8]) -> Option<(Conversion, usize)>
+    ensures is { result ≡ conversion bytes.now }
+    ensures within { IfSome result (λ r. r.1 ≤ length bytes.now) }
+{
+    match is_international(bytes) {
+        Some(international) => Some((plain_conversion(international), 1)),
+        None => conversion_of(bytes),
+    }
+}
+
 /// What a `%` begins, and how many bytes behind it belong to it.
 #[inline(always)]
 fn behind_percent(bytes: &[u8]) -> Option<(Piece, usize)>
@@ -247,7 +273,7 @@ fn behind_percent(bytes: &[u8]) -> Option<(Piece, usize)>
     if *bytes.first()? == b'%' {
         return Some((Piece::Literal(b'%'), 1));
     }
-    let (conversion, used) = conversion_of(bytes)?;
+    let (conversion, used) = quick_conversion(bytes)?;
     Some((Piece::Convert(conversion), used))
 }
 

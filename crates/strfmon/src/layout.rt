@@ -3,14 +3,15 @@
 ghost use Rattle.std.specs.Prelude.{◌≡◌, ◌+◌, ◌^◌, ◌<◌, ◌≤◌, ◌-◌, not, length, List, ℕ, IfSome};
 ghost use Rattle.std.specs.Option.{ForSome};
 ghost use Rattle.digit_groups.specs.Groups.{grouped, grouped_width};
-ghost use Rattle.strfmon.specs.Decimals.{whole_digits, IsRounded};
+ghost use Rattle.strfmon.specs.Decimals.{whole_digits, digit_count};
 ghost use Rattle.strfmon.specs.Looks.{look_of, parts_text};
-ghost use Rattle.strfmon.specs.Money.{precision_of, sizes_of, radix_of, fraction_text, aligned_digits, fill_count, pad_count, text_parts, text_with, with_spaces, conversion_text};
+ghost use Rattle.strfmon.specs.Money.{precision_of, sizes_of, radix_of, fraction_text, aligned_digits, fill_count, pad_count, text_with, with_spaces, conversion_text};
+ghost use Rattle.strfmon.specs.Shown.{shown_parts};
 ghost use Rattle.strfmon.specs.MoneyAmount.{MoneyAmount};
 ghost use Rattle.strfmon.specs.Seen.{seen};
 
 use crate::amount::Amount;
-use crate::decimal::{Decimal, decimal_of, digit_count};
+use crate::decimal::{Decimal, decimal_of};
 use crate::format::Conversion;
 use crate::look::{Look, given, look_of};
 use digit_groups::width_of;
@@ -42,7 +43,7 @@ pub struct Laid<'a> {
 
 /// The fraction digits of a conversion.
 #[inline(always)]
-pub fn precision_of(m: &Monetary, c: &Conversion) -> usize
+fn precision_of(m: &Monetary, c: &Conversion) -> usize
     ensures is { result ≡ precision_of m.now c.now }
     ensures small { result < 2 ^ 32 }
 {
@@ -167,27 +168,29 @@ fn fraction_width(m: &Monetary, precision: usize) -> u128
     radix_of(m).len() as u128 + precision as u128
 }
 
-/// The layout of an amount of this sign with so many whole digits.
+/// The layout of an amount of this sign.
 #[inline(always)]
-pub fn layout_of(m: &Monetary, c: &Conversion, own: &Look, negative: bool, digits: usize) -> Layout
-    requires few { digits ≤ 255 }
+fn layout_of(m: &Monetary, c: &Conversion, own: &Look, negative: bool, decimal: Decimal) -> Layout
+    requires few { decimal.digits ≤ 20 }
+    requires precision { decimal.precision ≡ precision_of m.now c.now }
+    requires small { decimal.precision < 2 ^ 32 }
     requires own_before { length own.now.before.now ≤ 3 }
     requires own_after { length own.now.after.now ≤ 3 }
-    ensures before { result.before ≡ pad_count (aligned_digits c.now digits) (parts_text (seen own.now) own.now.before.now) (parts_text (look_of m.now c.now (not negative)) (look_of m.now c.now (not negative)).before) }
-    ensures fill { result.fill ≡ fill_count m.now c.now digits (aligned_digits c.now digits) }
-    ensures after { result.after ≡ pad_count (aligned_digits c.now digits) (parts_text (seen own.now) own.now.after.now) (parts_text (look_of m.now c.now (not negative)) (look_of m.now c.now (not negative)).after) }
+    ensures before { result.before ≡ pad_count (aligned_digits c.now decimal.digits) (parts_text (seen own.now) own.now.before.now) (parts_text (look_of m.now c.now (not negative)) (look_of m.now c.now (not negative)).before) }
+    ensures fill { result.fill ≡ fill_count m.now c.now decimal.digits (aligned_digits c.now decimal.digits) }
+    ensures after { result.after ≡ pad_count (aligned_digits c.now decimal.digits) (parts_text (seen own.now) own.now.after.now) (parts_text (look_of m.now c.now (not negative)) (look_of m.now c.now (not negative)).after) }
     ensures within { result.before + result.fill + result.after ≤ result.width }
     ensures fits { result.width < 2 ^ 82 }
-    ensures width { (a : MoneyAmount) → length (whole_digits (precision_of m.now c.now) a) ≡ digits → result.width ≡ length (text_with m.now c.now a (seen own.now) (look_of m.now c.now (not negative))) }
+    ensures width { (a : MoneyAmount) → length (whole_digits (precision_of m.now c.now) a) ≡ decimal.digits → result.width ≡ length (text_with m.now c.now a (seen own.now) (look_of m.now c.now (not negative))) }
 {
-    let aligned = aligned_digits(c, digits);
+    let aligned = aligned_digits(c, decimal.digits);
     let own_before = own.width(own.before);
     let own_after = own.width(own.after);
     let (before, after) = pads_of(m, c, negative, aligned, own_before, own_after);
-    let fill = fill_count(m, c, digits, aligned);
+    let fill = fill_count(m, c, decimal.digits, aligned);
     let sep = m.text(MonText::MonThousandsSep);
-    let whole = grouped_width(digits, sizes_of(m, c), sep);
-    let fraction = fraction_width(m, precision_of(m, c));
+    let whole = grouped_width(decimal.digits, sizes_of(m, c), sep);
+    let fraction = fraction_width(m, decimal.precision);
     Layout {
         before,
         fill,
@@ -207,10 +210,10 @@ fn field_spaces(width: u8, text: u128) -> u128
 /// An amount laid out in a conversion.
 #[inline(always)]
 pub fn laid_out<'a>(m: &'a Monetary, c: &Conversion, amount: Amount) -> Laid<'a>
-    ensures few { result.decimal.kept ≤ 18 }
-    ensures short { result.decimal.kept ≤ precision_of m.now c.now }
-    ensures rounded { IsRounded result.decimal (precision_of m.now c.now) amount }
-    ensures text { with_spaces c.now.flags.left result.field (text_parts m.now c.now amount (seen result.look) result.layout.before result.layout.fill result.layout.after) ≡ conversion_text m.now c.now amount }
+    ensures digits { result.decimal.digits ≡ digit_count result.decimal.whole }
+    ensures few { result.decimal.digits ≤ 20 }
+    ensures short { result.decimal.kept ≤ result.decimal.precision }
+    ensures text { with_spaces c.now.flags.left result.field (shown_parts m.now c.now result.decimal (seen result.look) result.layout.before result.layout.fill result.layout.after) ≡ conversion_text m.now c.now amount }
     ensures width { result.layout.width + result.field ≡ length (conversion_text m.now c.now amount) }
     ensures within { result.layout.before + result.layout.fill + result.layout.after ≤ result.layout.width }
     ensures fits { result.layout.width + result.field < 2 ^ 127 }
@@ -218,7 +221,7 @@ pub fn laid_out<'a>(m: &'a Monetary, c: &Conversion, amount: Amount) -> Laid<'a>
     let negative = amount.is_negative();
     let own = look_of(m, c, negative);
     let decimal = decimal_of(amount, precision_of(m, c));
-    let layout = layout_of(m, c, &own, negative, digit_count(decimal.whole));
+    let layout = layout_of(m, c, &own, negative, decimal);
     Laid {
         look: own,
         decimal,

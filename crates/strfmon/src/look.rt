@@ -1,13 +1,13 @@
 //! How an amount of one sign looks (XSH strfmon, XBD 7.3.3).
 
-ghost use Rattle.std.specs.Prelude.{◌≡◌, ◌+◌, ◌*◌, ◌^◌, ◌<◌, ◌≤◌, length, ◌++◌, take, drop, OnOk};
+ghost use Rattle.std.specs.Prelude.{◌≡◌, ◌+◌, ◌*◌, ◌^◌, ◌<◌, ◌≤◌, length, ◌++◌, take, drop};
 ghost use Rattle.strfmon.specs.Looks.{given, local_numbers, international_numbers, numbers_of, wants_parentheses, minus_sign, plus_sign, sign_of, symbol_of, space_of, position_of, separation_of, look_of, parts_text, part_text};
 ghost use Rattle.strfmon.specs.Seen.{seen};
 
 use crate::cells::{Part, cell};
 use crate::format::{Conversion, Signs};
+use digit_groups::write_before;
 use monetary_cat::{MonNumber, MonText, Monetary};
-use std::alloc::AllocError;
 
 /// cs_precedes, sep_by_space and sign_posn.
 #[derive(Clone, Copy, Debug)]
@@ -231,13 +231,20 @@ impl<'a> Look<'a> {
         width
     }
 
-    /// Appends parts.
-    pub fn add(&self, parts: &[Part], out: &mut Vec<u8>) -> Result<(), AllocError>
-        ensures { OnOk result (out.new.items ≡ out.old.items ++ parts_text (seen self.now) parts.now) }
+    /// Writes parts over the bytes before `end`, and says where they begin.
+    #[inline(always)]
+    pub fn write(&self, parts: &[Part], target: &mut [u8], end: usize) -> usize
+        requires room { length (parts_text (seen self.now) parts.now) ≤ end }
+        requires within { end ≤ length target.old }
+        ensures begins { result + length (parts_text (seen self.now) parts.now) ≡ end }
+        ensures written { drop result target.new ≡ parts_text (seen self.now) parts.now ++ drop end target.old }
     {
-        for part in parts {
-            out.extend_from_slice(self.part(*part))?;
+        let mut at = end;
+        let mut left = parts.len();
+        while left > 0 {
+            left -= 1;
+            at = write_before(target, at, self.part(parts[left]));
         }
-        Ok(())
+        at
     }
 }

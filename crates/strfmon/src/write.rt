@@ -1,22 +1,21 @@
-//! The text of an amount, written (XSH strfmon).
+//! The text of an amount, written from its end on (XSH strfmon).
 
-ghost use Rattle.std.specs.Prelude.{◌≡◌, ◌+◌, ◌^◌, ◌<◌, ◌≤◌, ◌⊎◌, length, ◌++◌, replicate, Err, OnOk, IfErr};
+ghost use Rattle.std.specs.Prelude.{◌≡◌, ◌+◌, ◌^◌, ◌<◌, ◌≤◌, ◌⊎◌, length, ◌++◌, drop, replicate, Err, OnOk, IfErr};
 ghost use Rattle.digit_groups.specs.Groups.{grouped};
-ghost use Rattle.strfmon.specs.Decimals.{last_digits, digit_count, IsRounded};
-ghost use Rattle.strfmon.specs.Money.{precision_of, number_text, fraction_text, text_parts, with_spaces, conversion_text};
-ghost use Rattle.strfmon.specs.MoneyAmount.{MoneyAmount};
+ghost use Rattle.strfmon.specs.Decimals.{last_digits, digit_count};
+ghost use Rattle.strfmon.specs.Money.{with_spaces, conversion_text};
+ghost use Rattle.strfmon.specs.Shown.{shown_fraction, shown_number, shown_parts};
 ghost use Rattle.strfmon.specs.Seen.{seen};
 ghost use Rattle.strfmon.specs.declared.fault.MoneyFault.TheVariants.{TooBig, Memory};
 
 use crate::amount::Amount;
-use crate::decimal::{Decimal, digit_count, write_digits};
+use crate::decimal::{Decimal, write_digits};
 use crate::fault::MoneyFault;
 use crate::format::Conversion;
-use crate::layout::{Laid, laid_out, precision_of, radix_of, sizes_of};
+use crate::layout::{Laid, laid_out, radix_of, sizes_of};
 use crate::look::Look;
-use digit_groups::group_into;
+use digit_groups::{write_before, write_grouped};
 use monetary_cat::{MonText, Monetary};
-use std::alloc::AllocError;
 
 /// The most digits of a u64.
 const DIGITS: usize = 20;
@@ -31,119 +30,150 @@ struct Spread {
     field: usize,
 }
 
-/// Appends the same byte so many times.
+/// Writes the same byte so many times over the bytes before `end`, and says where they begin.
 #[inline(always)]
-fn add_repeated(out: &mut Vec<u8>, byte: u8, count: usize) -> Result<(), AllocError>
-    ensures { OnOk result (out.new.items ≡ out.old.items ++ replicate count byte) }
+fn write_repeated(target: &mut [u8], end: usize, byte: u8, count: usize) -> usize
+    requires room { count ≤ end }
+    requires within { end ≤ length target.old }
+    ensures begins { result + count ≡ end }
+    ensures written { drop result target.new ≡ replicate count byte ++ drop end target.old }
 {
+    let mut at = end;
     for _ in 0..count {
-        out.push(byte)?;
+        at -= 1;
+        target[at] = byte;
     }
-    Ok(())
+    at
 }
 
-/// Appends the last digits of a number.
+/// Writes the radix and the fraction, where there is one, over the bytes before `end`, and says where
+/// they begin.
 #[inline(always)]
-fn add_digits(out: &mut Vec<u8>, n: u64, count: usize) -> Result<(), AllocError>
-    requires { count ≤ 20 }
-    ensures { OnOk result (out.new.items ≡ out.old.items ++ last_digits count n) }
+fn write_fraction(target: &mut [u8], end: usize, m: &Monetary, decimal: Decimal) -> usize
+    requires short { decimal.kept ≤ decimal.precision }
+    requires room { length (shown_fraction m.now decimal) ≤ end }
+    requires within { end ≤ length target.old }
+    ensures begins { result + length (shown_fraction m.now decimal) ≡ end }
+    ensures written { drop result target.new ≡ shown_fraction m.now decimal ++ drop end target.old }
+{
+    if decimal.precision == 0 {
+        return end;
+    }
+    let zeros = write_repeated(target, end, b'0', decimal.precision - decimal.kept);
+    let digits = write_digits(target, zeros, decimal.magnitude, decimal.kept);
+    write_before(target, digits, radix_of(m))
+}
+
+/// Writes the digits of a number in groups over the bytes before `end`, and says where they begin.
+#[inline(always)]
+fn write_whole(target: &mut [u8], end: usize, decimal: Decimal, sizes: &[i32], sep: &[u8]) -> usize
+    requires digits { decimal.digits ≡ digit_count decimal.whole }
+    requires few { decimal.digits ≤ 20 }
+    requires room { length (grouped (last_digits (digit_count decimal.whole) decimal.whole) sizes.now sep.now) ≤ end }
+    requires within { end ≤ length target.old }
+    ensures begins { result + length (grouped (last_digits (digit_count decimal.whole) decimal.whole) sizes.now sep.now) ≡ end }
+    ensures written { drop result target.new ≡ grouped (last_digits (digit_count decimal.whole) decimal.whole) sizes.now sep.now ++ drop end target.old }
 {
     let mut buffer = [0; DIGITS];
-    let digits = &mut buffer[..count];
-    write_digits(n, digits);
-    out.extend_from_slice(digits)
+    write_digits(&mut buffer, decimal.digits, decimal.whole, decimal.digits);
+    write_grouped(target, end, &buffer[..decimal.digits], sizes, sep)
 }
 
-/// Appends the digits of a number in groups.
+/// Writes the number of an amount over the bytes before `end`, and says where it begins.
 #[inline(always)]
-fn add_grouped(out: &mut Vec<u8>, n: u64, sizes: &[i32], sep: &[u8]) -> Result<(), AllocError>
-    ensures { OnOk result (out.new.items ≡ out.old.items ++ grouped (last_digits (digit_count n) n) sizes.now sep.now) }
-{
-    let mut buffer = [0; DIGITS];
-    let digits = &mut buffer[..digit_count(n)];
-    write_digits(n, digits);
-    group_into(out, digits, sizes, sep)
-}
-
-/// Appends the radix and the fraction, where there is one.
-#[inline(always)]
-fn add_fraction(
-    out: &mut Vec<u8>,
-    m: &Monetary,
-    precision: usize,
-    decimal: Decimal,
-) -> Result<(), AllocError>
-    requires few { decimal.kept ≤ 18 }
-    requires short { decimal.kept ≤ precision }
-    ensures { (a : MoneyAmount) → IsRounded decimal precision a → OnOk result (out.new.items ≡ out.old.items ++ fraction_text m.now precision a) }
-{
-    if precision == 0 {
-        return Ok(());
-    }
-    out.extend_from_slice(radix_of(m))?;
-    add_digits(out, decimal.magnitude, decimal.kept)?;
-    add_repeated(out, b'0', precision - decimal.kept)
-}
-
-/// Appends the number of an amount.
-#[inline(always)]
-fn add_number(
-    out: &mut Vec<u8>,
+fn write_number(
+    target: &mut [u8],
+    end: usize,
     m: &Monetary,
     c: &Conversion,
     decimal: Decimal,
-) -> Result<(), AllocError>
-    requires few { decimal.kept ≤ 18 }
-    requires short { decimal.kept ≤ precision_of m.now c.now }
-    ensures { (a : MoneyAmount) → IsRounded decimal (precision_of m.now c.now) a → OnOk result (out.new.items ≡ out.old.items ++ number_text m.now c.now a) }
+) -> usize
+    requires digits { decimal.digits ≡ digit_count decimal.whole }
+    requires few { decimal.digits ≤ 20 }
+    requires short { decimal.kept ≤ decimal.precision }
+    requires room { length (shown_number m.now c.now decimal) ≤ end }
+    requires within { end ≤ length target.old }
+    ensures begins { result + length (shown_number m.now c.now decimal) ≡ end }
+    ensures written { drop result target.new ≡ shown_number m.now c.now decimal ++ drop end target.old }
 {
+    let radix = write_fraction(target, end, m, decimal);
     let sep = m.text(MonText::MonThousandsSep);
-    add_grouped(out, decimal.whole, sizes_of(m, c), sep)?;
-    add_fraction(out, m, precision_of(m, c), decimal)
+    write_whole(target, radix, decimal, sizes_of(m, c), sep)
 }
 
-/// Appends the text of an amount but for its field.
-fn add_text(
-    out: &mut Vec<u8>,
-    m: &Monetary,
-    c: &Conversion,
-    look: &Look,
-    spread: Spread,
-    decimal: Decimal,
-) -> Result<(), AllocError>
-    requires few { decimal.kept ≤ 18 }
-    requires short { decimal.kept ≤ precision_of m.now c.now }
-    ensures { (a : MoneyAmount) → IsRounded decimal (precision_of m.now c.now) a → OnOk result (out.new.items ≡ out.old.items ++ text_parts m.now c.now a (seen look.now) spread.before spread.fill spread.after) }
-{
-    add_repeated(out, b' ', spread.before)?;
-    look.add(look.before, out)?;
-    add_repeated(out, c.flags.fill.unwrap_or(b' '), spread.fill)?;
-    add_number(out, m, c, decimal)?;
-    look.add(look.after, out)?;
-    add_repeated(out, b' ', spread.after)
-}
-
-/// Appends the text of an amount in its field.
+/// Writes the text of an amount but for its field over the bytes before `end`, and says where it
+/// begins.
 #[inline(always)]
-fn add_in_field(
-    out: &mut Vec<u8>,
+fn write_text(
+    target: &mut [u8],
+    end: usize,
     m: &Monetary,
     c: &Conversion,
     look: &Look,
     spread: Spread,
     decimal: Decimal,
-) -> Result<(), AllocError>
-    requires few { decimal.kept ≤ 18 }
-    requires short { decimal.kept ≤ precision_of m.now c.now }
-    ensures { (a : MoneyAmount) → IsRounded decimal (precision_of m.now c.now) a → OnOk result (out.new.items ≡ out.old.items ++ with_spaces c.now.flags.left spread.field (text_parts m.now c.now a (seen look.now) spread.before spread.fill spread.after)) }
+) -> usize
+    requires digits { decimal.digits ≡ digit_count decimal.whole }
+    requires few { decimal.digits ≤ 20 }
+    requires short { decimal.kept ≤ decimal.precision }
+    requires room { length (shown_parts m.now c.now decimal (seen look.now) spread.before spread.fill spread.after) ≤ end }
+    requires within { end ≤ length target.old }
+    ensures begins { result + length (shown_parts m.now c.now decimal (seen look.now) spread.before spread.fill spread.after) ≡ end }
+    ensures written { drop result target.new ≡ shown_parts m.now c.now decimal (seen look.now) spread.before spread.fill spread.after ++ drop end target.old }
+{
+    let behind = write_repeated(target, end, b' ', spread.after);
+    let after = look.write(look.after, target, behind);
+    let number = write_number(target, after, m, c, decimal);
+    let fill = write_repeated(target, number, c.flags.fill.unwrap_or(b' '), spread.fill);
+    let before = look.write(look.before, target, fill);
+    write_repeated(target, before, b' ', spread.before)
+}
+
+/// Writes the text of an amount in its field over the bytes before `end`, and says where it begins.
+#[inline(always)]
+fn write_in_field(
+    target: &mut [u8],
+    end: usize,
+    m: &Monetary,
+    c: &Conversion,
+    look: &Look,
+    spread: Spread,
+    decimal: Decimal,
+) -> usize
+    requires digits { decimal.digits ≡ digit_count decimal.whole }
+    requires few { decimal.digits ≤ 20 }
+    requires short { decimal.kept ≤ decimal.precision }
+    requires room { length (with_spaces c.now.flags.left spread.field (shown_parts m.now c.now decimal (seen look.now) spread.before spread.fill spread.after)) ≤ end }
+    requires within { end ≤ length target.old }
+    ensures begins { result + length (with_spaces c.now.flags.left spread.field (shown_parts m.now c.now decimal (seen look.now) spread.before spread.fill spread.after)) ≡ end }
+    ensures written { drop result target.new ≡ with_spaces c.now.flags.left spread.field (shown_parts m.now c.now decimal (seen look.now) spread.before spread.fill spread.after) ++ drop end target.old }
 {
     if c.flags.left {
-        add_text(out, m, c, look, spread, decimal)?;
-        add_repeated(out, b' ', spread.field)
+        let behind = write_repeated(target, end, b' ', spread.field);
+        write_text(target, behind, m, c, look, spread, decimal)
     } else {
-        add_repeated(out, b' ', spread.field)?;
-        add_text(out, m, c, look, spread, decimal)
+        let text = write_text(target, end, m, c, look, spread, decimal);
+        write_repeated(target, text, b' ', spread.field)
     }
+}
+
+/// Writes the text of an amount in its field over bytes that are just as many.
+#[inline(always)]
+fn fill_field(
+    target: &mut [u8],
+    m: &Monetary,
+    c: &Conversion,
+    look: &Look,
+    spread: Spread,
+    decimal: Decimal,
+)
+    requires digits { decimal.digits ≡ digit_count decimal.whole }
+    requires few { decimal.digits ≤ 20 }
+    requires short { decimal.kept ≤ decimal.precision }
+    requires room { length target.old ≡ length (with_spaces c.now.flags.left spread.field (shown_parts m.now c.now decimal (seen look.now) spread.before spread.fill spread.after)) }
+    ensures { target.new ≡ with_spaces c.now.flags.left spread.field (shown_parts m.now c.now decimal (seen look.now) spread.before spread.fill spread.after) }
+{
+    write_in_field(target, target.len(), m, c, look, spread, decimal);
 }
 
 /// What aligns an amount that is laid out.
@@ -182,8 +212,18 @@ pub fn add_conversion(
     if laid.layout.width + laid.field > room as u128 {
         return Err(MoneyFault::TooBig);
     }
-    out.reserve((laid.layout.width + laid.field) as usize)?;
-    let spread = spread_of(&laid);
-    add_in_field(out, m, c, &laid.look, spread, laid.decimal)?;
+    let start = out.len();
+    let end = start
+        .checked_add((laid.layout.width + laid.field) as usize)
+        .ok_or(MoneyFault::Memory)?;
+    out.resize(end, 0)?;
+    fill_field(
+        &mut out[start..],
+        m,
+        c,
+        &laid.look,
+        spread_of(&laid),
+        laid.decimal,
+    );
     Ok(())
 }

@@ -1,13 +1,13 @@
 -- The answers of strftime.
 use Rattle.std.proofs.Common.{◌≡◌, ℕ, ◌<◌, ◌≤◌, true, false, leb, List, [], length, Some, None, Ok, Err, refl, sym, ap, ◌∙◌, subst, arith}
 use Rattle.std.proofs.lemmas.Bool.{le-leb, lt-leb}
-use Rattle.strftime_fields.specs.declared.fault.TimeFault.{TimeFault}
-use Rattle.strftime_fields.specs.declared.fault.TimeFault.TheVariants as faults
+use Rattle.strftime_fields.specs.declared.output.Stop.{Stop}
+use Rattle.strftime_fields.specs.declared.output.Stop.TheVariants as stops
 use Rattle.time_cat.specs.Formats.{pieces, bad_place}
 use Rattle.time_cat.specs.Times.{TmValues}
 use Rattle.time_cat.specs.TimeValues.{TimeValues}
 use Rattle.time_cat.specs.Shown.{expanded}
-use Rattle.strftime_fields.specs.Appending.{Appends}
+use Rattle.strftime_fields.specs.Appending.{Appends, fault_of}
 use Rattle.strftime_fields.specs.Answers.{limited, answer, Answers}
 use Rattle.strftime_fields.specs.Refusals.{BadFormat, TooBig}
 
@@ -32,7 +32,6 @@ answers_text v t format max new good added =
     text_of v t format max good ∙ (fits max (expanded 5 v t format) short ∙ ap (λ (x : List ℕ). Ok x) (sym added.0))
 
 -- a text that could not be added
-pub answers_fault : (v : TimeValues) (t : TmValues) (format : List ℕ) (max : ℕ) (old new : List ℕ) (e : TimeFault) → bad_place (pieces format) ≡ None → old ≡ [] → Appends max old (expanded 5 v t format) new (Err e) → Answers (Err e) (answer v t format max)
-answers_fault v t format max old new faults.TooBig good empty long = text_of v t format max good ∙ too_big max (expanded 5 v t format) (omega (arith, ap length empty, long))
-answers_fault v t format max old new faults.Memory good empty none = tt
-answers_fault v t format max old new (faults.BadFormat at) good empty none = absurd none
+pub answers_fault : (v : TimeValues) (t : TmValues) (format : List ℕ) (max : ℕ) (old new : List ℕ) (e : Stop) → bad_place (pieces format) ≡ None → old ≡ [] → Appends max old (expanded 5 v t format) new (Err e) → Answers (Err (fault_of e)) (answer v t format max)
+answers_fault v t format max old new stops.TooBig good empty long = text_of v t format max good ∙ too_big max (expanded 5 v t format) (omega (arith, ap length empty, long))
+answers_fault v t format max old new stops.Memory good empty none = tt

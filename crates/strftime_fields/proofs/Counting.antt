@@ -1,18 +1,22 @@
 -- How many conversions are read of what is left of a format.
-use Rattle.std.proofs.Common.{◌≡◌, ℕ, zero, suc, ◌+◌, ◌-◌, ◌<◌, ◌≤◌, true, false, cond, leb, List, [], ◌∷◌, length, Option, Some, None, Result, Ok, Err, refl, ap, arith}
-use Rattle.std.specs.Option.{option_map}
+use Rattle.std.proofs.Common.{◌≡◌, ℕ, zero, suc, ◌+◌, ◌-◌, ◌<◌, ◌≤◌, true, false, cond, leb, List, [], ◌∷◌, length, Option, Some, None, Result, Ok, Err, refl, ap, subst, arith}
 use Rattle.std.proofs.lemmas.Bool.{le-leb, lt-leb}
 use Rattle.time_cat.specs.declared.conversion.Conversion.{Conversion}
-use Rattle.time_cat.specs.declared.conversion.Shows.{Shows}
 use Rattle.time_cat.specs.Conversions.{conversion}
-use Rattle.time_cat.specs.Formats.{Piece, Literal, Converted, Wrong, pieces, rest_of, bad_place}
+use Rattle.time_cat.specs.declared.step.Step.{Step}
+use Rattle.time_cat.specs.declared.step.Step.TheVariants as steps
+use Rattle.time_cat.specs.Formats.{Piece, Literal, Converted, Wrong, pieces, rest_of, bad_place, counted, IsStep}
 use Rattle.time_cat.specs.Times.{TmValues}
 use Rattle.time_cat.specs.TimeValues.{TimeValues}
 use Rattle.time_cat.specs.Shown.{expanded, converted, piece_text, format_for, conversions_of}
-use Rattle.strftime_fields.specs.declared.fault.TimeFault.{TimeFault}
-use Rattle.strftime_fields.specs.declared.fault.TimeFault.TheVariants.{BadFormat, TooBig, Memory}
-use Rattle.strftime_fields.specs.Appending.{Appends}
+use Rattle.strftime_fields.specs.declared.output.Stop.{Stop}
+use Rattle.strftime_fields.specs.declared.output.Stop.TheVariants as stops
+use Rattle.strftime_fields.specs.declared.read.Short.{Short}
+use Rattle.strftime_fields.specs.declared.read.Short.TheVariants.{Byte, Plain}
+use Rattle.strftime_fields.specs.Appending.{Appends, CountsTo, fault_of}
 use Rattle.strftime_fields.specs.Cost.{read_for, piece_reads, pieces_read, reads, cost, Counts}
+use Rattle.strftime_fields.specs.Reading.{IsShort, IsFormatless, width, short_text}
+use Rattle.strftime_fields.proofs.Left.{plain_conversion}
 
 -- of what is left at a place, behind so many bytes of the text
 unfoldable pub reads_left : ℕ → ℕ → TimeValues → TmValues → ℕ → List ℕ → ℕ → ℕ
@@ -80,25 +84,17 @@ plain_read v t inner o c some none = rw some (rw none refl)
 pub format_read : (v : TimeValues) (t : TmValues) (inner : List ℕ → ℕ) (o : Option Conversion) (c : Conversion) (format : List ℕ) → o ≡ Some c → format_for v t c.shows ≡ Some format → read_for v t inner o ≡ inner format
 format_read v t inner o c format some is = rw some (rw is refl)
 
-pub shown_read : (v : TimeValues) (t : TmValues) (inner : List ℕ → ℕ) (o : Option Conversion) (s : Shows) → option_map (λ (c : Conversion). c.shows) o ≡ Some s → format_for v t s ≡ None → read_for v t inner o ≡ 0
-shown_read v t inner None s is none = refl
-shown_read v t inner (Some c) s is none =
-    let same : c.shows ≡ s = cc in
-    rw same (rw none refl)
-
 -- ---- counts
 
-pub counts_same : {A : Type 0} (r : Result A TimeFault) (wanted steps : ℕ) → steps ≡ wanted → Counts r wanted steps
+pub counts_same : (r : Result (Unit {0}) Stop) (wanted steps : ℕ) → steps ≡ wanted → CountsTo r wanted steps
 counts_same (Ok x) wanted steps is = is
-counts_same (Err Memory) wanted steps is = omega (arith, is)
-counts_same (Err TooBig) wanted steps is = is
-counts_same (Err (BadFormat at)) wanted steps is = is
+counts_same (Err stops.TooBig) wanted steps is = is
+counts_same (Err stops.Memory) wanted steps is = omega (arith, is)
 
--- a fault counts the same, whatever there is else
-pub counts_fault : (A B : Type 0) (e : TimeFault) (wanted steps : ℕ) → Counts {A = A} (Err e) wanted steps → Counts {A = B} (Err e) wanted steps
-counts_fault A B Memory wanted steps is = is
-counts_fault A B TooBig wanted steps is = is
-counts_fault A B (BadFormat at) wanted steps is = is
+-- the same of the fault of a text that is given up
+pub counts_fault : (A : Type 0) (e : Stop) (wanted steps : ℕ) → CountsTo (Err e) wanted steps → Counts {A = A} (Err (fault_of e)) wanted steps
+counts_fault A stops.TooBig wanted steps is = is
+counts_fault A stops.Memory wanted steps is = is
 
 -- the price of a format with a wrong `%`, and of one without
 pub cost_wrong : (v : TimeValues) (t : TmValues) (format : List ℕ) (max at : ℕ) → bad_place (pieces format) ≡ Some at → cost v t format max ≡ conversions_of format
@@ -108,7 +104,22 @@ pub cost_right : (v : TimeValues) (t : TmValues) (format : List ℕ) (max : ℕ)
 cost_right v t format max good = rw good refl
 
 -- where a piece can't be added, nothing is read behind it
-pub counts_stop : (max : ℕ) (out piece new : List ℕ) (e : TimeFault) (here rest total steps : ℕ) → Appends max out piece new (Err e) → Counts {A = Unit {0}} (Err e) here steps → here + rest ≡ total → (max < length out + length piece → rest ≡ 0) → Counts {A = Unit {0}} (Err e) total steps
-counts_stop max out piece new TooBig here rest total steps long is whole none = omega (arith, is, whole, none long)
-counts_stop max out piece new Memory here rest total steps lacking is whole none = omega (arith, is, whole)
-counts_stop max out piece new (BadFormat at) here rest total steps impossible is whole none = absurd impossible
+pub counts_stop : (max : ℕ) (out piece new : List ℕ) (e : Stop) (here rest total steps : ℕ) → Appends max out piece new (Err e) → CountsTo (Err e) here steps → here + rest ≡ total → (max < length out + length piece → rest ≡ 0) → CountsTo (Err e) total steps
+counts_stop max out piece new stops.TooBig here rest total steps long is whole none = omega (arith, is, whole, none long)
+counts_stop max out piece new stops.Memory here rest total steps lacking is whole none = omega (arith, is, whole)
+
+-- ---- pieces that are told at first sight
+
+pub short_reads : (max levels : ℕ) (v : TimeValues) (t : TmValues) (before : ℕ) (format : List ℕ) (at : ℕ) (s : Step) (short : Short) → IsStep format at s → IsShort at s short → IsFormatless v t short → before ≤ max
+    → reads_left max levels v t before format at ≡ counted s + reads_left max levels v t (before + length (short_text v t short)) format (at + width short)
+short_reads max levels v t before format at s (Byte c) stands is none fits =
+    let here : IsStep format at (steps.Byte c) = subst (λ (x : Step). IsStep format at x) is stands in
+    let left = reads_at_byte max levels v t before format at c (at + 1) here.1 in
+    rw is (omega (arith, left))
+short_reads max levels v t before format at s (Plain letter found) stands is none fits =
+    let here : IsStep format at (steps.Conv 0 letter found.rank (at + 2)) = subst (λ (x : Step). IsStep format at x) is.0 stands in
+    let left = reads_at_conversion max levels v t before format at 0 letter found.rank (at + 2) here.2 fits in
+    let gives = plain_conversion v t (expanded (levels - 1) v t) (conversion 0 letter) found is.1 none in
+    let more = plain_read v t (reads max (levels - 1) v t before) (conversion 0 letter) found is.1 none in
+    let left' = rw gives at left in
+    rw is.0 (omega (arith, left', more))

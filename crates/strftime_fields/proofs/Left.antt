@@ -1,14 +1,17 @@
 -- What the pieces of a format give that are left at a place, and how many conversions they are.
-use Rattle.std.proofs.Common.{◌≡◌, ℕ, zero, suc, ◌+◌, ◌-◌, ◌<◌, List, [], ◌∷◌, ◌++◌, Option, Some, None, cond, refl, arith, count_by, flat_map}
-use Rattle.std.specs.Option.{option_map}
+use Rattle.std.proofs.Common.{◌≡◌, ℕ, zero, suc, ◌+◌, ◌-◌, ◌<◌, List, [], ◌∷◌, ◌++◌, Option, Some, None, cond, refl, ap, ◌∙◌, subst, arith, count_by, flat_map, length, ◌≤◌}
 use Rattle.std.proofs.lemmas.List.Sums.{sum_by-cons}
 use Rattle.time_cat.specs.declared.conversion.Conversion.{Conversion}
-use Rattle.time_cat.specs.declared.conversion.Shows.{Shows}
 use Rattle.time_cat.specs.Conversions.{conversion}
-use Rattle.time_cat.specs.Formats.{Piece, Literal, Converted, Wrong, pieces, rest_of, is_conversion}
+use Rattle.time_cat.specs.declared.step.Step.{Step}
+use Rattle.time_cat.specs.declared.step.Step.TheVariants as steps
+use Rattle.time_cat.specs.Formats.{Piece, Literal, Converted, Wrong, pieces, rest_of, is_conversion, bad_place, counted, IsStep}
 use Rattle.time_cat.specs.Times.{TmValues}
 use Rattle.time_cat.specs.TimeValues.{TimeValues}
 use Rattle.time_cat.specs.Shown.{expanded, converted, piece_text, format_for, plain_text, conversions_of}
+use Rattle.strftime_fields.specs.declared.read.Short.{Short}
+use Rattle.strftime_fields.specs.declared.read.Short.TheVariants.{Byte, Plain}
+use Rattle.strftime_fields.specs.Reading.{IsShort, IsFormatless, width, short_text}
 
 -- ---- texts
 
@@ -58,12 +61,6 @@ plain_conversion v t expand o c some none = rw some (rw none refl)
 pub format_conversion : (v : TimeValues) (t : TmValues) (expand : List ℕ → List ℕ) (o : Option Conversion) (c : Conversion) (format : List ℕ) → o ≡ Some c → format_for v t c.shows ≡ Some format → converted v t expand o ≡ expand format
 format_conversion v t expand o c format some is = rw some (rw is refl)
 
-pub shown_conversion : (v : TimeValues) (t : TmValues) (expand : List ℕ → List ℕ) (o : Option Conversion) (s : Shows) → option_map (λ (c : Conversion). c.shows) o ≡ Some s → format_for v t s ≡ None → converted v t expand o ≡ plain_text v t s
-shown_conversion v t expand None s is none = cc
-shown_conversion v t expand (Some c) s is none =
-    let same : c.shows ≡ s = cc in
-    rw same (rw none refl)
-
 -- ---- conversions
 
 unfoldable pub conversions_left : List ℕ → ℕ → ℕ
@@ -82,3 +79,41 @@ unfolding conversions_left
 conversions_at_conversion format at modifier letter rank next is =
     let more : count_by is_conversion (Converted modifier letter rank ∷ rest_of format next) ≡ 1 + count_by is_conversion (rest_of format next) = sum_by-cons (λ (p : Piece). cond (is_conversion p) 1 0) (Converted modifier letter rank) (rest_of format next) in
     rw is (omega (arith, more))
+
+-- ---- pieces that are told at first sight
+
+pub short_within : (format : List ℕ) (at : ℕ) (s : Step) (short : Short) → IsStep format at s → IsShort at s short → at + width short ≤ length format
+short_within format at s (Byte c) stands is =
+    let here : IsStep format at (steps.Byte c) = subst (λ (x : Step). IsStep format at x) is stands in
+    omega (arith, here.0)
+short_within format at s (Plain letter found) stands is =
+    let here : IsStep format at (steps.Conv 0 letter found.rank (at + 2)) = subst (λ (x : Step). IsStep format at x) is.0 stands in
+    here.1
+
+pub short_left : (levels : ℕ) (v : TimeValues) (t : TmValues) (format : List ℕ) (at : ℕ) (s : Step) (short : Short) → IsStep format at s → IsShort at s short → IsFormatless v t short → text_left levels v t format at ≡ short_text v t short ++ text_left levels v t format (at + width short)
+short_left levels v t format at s (Byte c) stands is none =
+    let here : IsStep format at (steps.Byte c) = subst (λ (x : Step). IsStep format at x) is stands in
+    text_at_byte levels v t format at c (at + 1) here.1
+short_left levels v t format at s (Plain letter found) stands is none =
+    let here : IsStep format at (steps.Conv 0 letter found.rank (at + 2)) = subst (λ (x : Step). IsStep format at x) is.0 stands in
+    let gives = plain_conversion v t (expanded (levels - 1) v t) (conversion 0 letter) found is.1 none in
+    text_at_conversion levels v t format at 0 letter found.rank (at + 2) here.2 ∙ ap (λ (x : List ℕ). x ++ text_left levels v t format (at + 2)) gives
+
+pub short_bad : (format : List ℕ) (at : ℕ) (s : Step) (short : Short) → IsStep format at s → IsShort at s short → bad_place (rest_of format at) ≡ bad_place (rest_of format (at + width short))
+short_bad format at s (Byte c) stands is =
+    let here : IsStep format at (steps.Byte c) = subst (λ (x : Step). IsStep format at x) is stands in
+    rw here.1 refl
+short_bad format at s (Plain letter found) stands is =
+    let here : IsStep format at (steps.Conv 0 letter found.rank (at + 2)) = subst (λ (x : Step). IsStep format at x) is.0 stands in
+    rw here.2 refl
+
+pub short_conversions : (format : List ℕ) (at : ℕ) (s : Step) (short : Short) → IsStep format at s → IsShort at s short → count_by is_conversion (rest_of format at) ≡ counted s + count_by is_conversion (rest_of format (at + width short))
+unfolding conversions_left
+short_conversions format at s (Byte c) stands is =
+    let here : IsStep format at (steps.Byte c) = subst (λ (x : Step). IsStep format at x) is stands in
+    let left = conversions_at_byte format at c (at + 1) here.1 in
+    rw is (omega (arith, left))
+short_conversions format at s (Plain letter found) stands is =
+    let here : IsStep format at (steps.Conv 0 letter found.rank (at + 2)) = subst (λ (x : Step). IsStep format at x) is.0 stands in
+    let left = conversions_at_conversion format at 0 letter found.rank (at + 2) here.2 in
+    rw is.0 (omega (arith, left))

@@ -7,3 +7,5 @@ pub mod Examples
 pub mod Left
 pub mod Numbers
 pub mod Offsets
+pub mod Pairs
+pub mod Shorts

@@ -2,4 +2,5 @@ pub mod Appending
 pub mod Answers
 pub mod Calendar
 pub mod Cost
+pub mod Reading
 pub mod Refusals

@@ -5,10 +5,13 @@ ghost use Rattle.std.specs.Fmt.{signed_decimal};
 ghost use Rattle.time_cat.specs.Shown.{last_digit, two, three, four, laid_out, spaced};
 ghost use Rattle.strftime_fields.specs.Appending.{Appends};
 
-use crate::fault::TimeFault;
-use crate::output::put;
+use crate::output::{Stop, put};
 use itoa::Buffer;
 use time_cat::Layout;
+
+/// The two digits of each number from 0 to 99.
+static PAIRS: [u8; 200] =
+    *b"00010203040506070809101112131415161718192021222324252627282930313233343536373839404142434445464748495051525354555657585960616263646566676869707172737475767778798081828384858687888990919293949596979899";
 
 /// The last decimal digit.
 #[inline(always)]
@@ -19,11 +22,13 @@ pub fn last_digit(n: u32) -> u8
 }
 
 /// The last two digits.
+#[tactic(auto, using(crate::proofs::Pairs::two_of_pair))]
 #[inline(always)]
 pub fn two(n: u32) -> [u8; 2]
     ensures { result ≡ two n }
 {
-    [last_digit(n / 10), last_digit(n)]
+    let from = (n % 100) as usize * 2;
+    [PAIRS[from], PAIRS[from + 1]]
 }
 
 /// The last three digits.
@@ -35,35 +40,35 @@ pub fn three(n: u32) -> [u8; 3]
 
 /// Adds the last two digits.
 #[inline(always)]
-pub fn put_two(out: &mut Vec<u8>, max: usize, n: u32) -> Result<(), TimeFault>
+pub fn put_two(out: &mut Vec<u8>, max: usize, n: u32) -> Result<(), Stop>
     requires { length out.old.items ≤ max }
     ensures { Appends max out.old.items (two n) out.new.items result }
 {
     if max - out.len() < 2 {
-        return Err(TimeFault::TooBig);
+        return Err(Stop::TooBig);
     }
-    out.push(last_digit(n / 10))?;
-    out.push(last_digit(n))?;
+    let [tens, ones] = two(n);
+    out.push(tens)?;
+    out.push(ones)?;
     Ok(())
 }
 
 /// Adds the last four digits.
-fn put_four(out: &mut Vec<u8>, max: usize, n: u32) -> Result<(), TimeFault>
+#[tactic(auto, using(crate::proofs::Pairs::four_of_pairs))]
+#[inline(always)]
+fn put_four(out: &mut Vec<u8>, max: usize, n: u32) -> Result<(), Stop>
     requires { length out.old.items ≤ max }
     ensures { Appends max out.old.items (four n) out.new.items result }
 {
-    if max - out.len() < 4 {
-        return Err(TimeFault::TooBig);
+    match put_two(out, max, n / 100) {
+        Ok(()) => put_two(out, max, n),
+        Err(stop) => Err(stop),
     }
-    out.push(last_digit(n / 1000))?;
-    out.push(last_digit(n / 100))?;
-    out.push(last_digit(n / 10))?;
-    out.push(last_digit(n))?;
-    Ok(())
 }
 
 /// Adds a number of any length.
-fn put_long(out: &mut Vec<u8>, max: usize, n: u32) -> Result<(), TimeFault>
+#[inline(never)]
+fn put_long(out: &mut Vec<u8>, max: usize, n: u32) -> Result<(), Stop>
     requires { length out.old.items ≤ max }
     ensures { Appends max out.old.items (decimal n) out.new.items result }
 {
@@ -72,9 +77,9 @@ fn put_long(out: &mut Vec<u8>, max: usize, n: u32) -> Result<(), TimeFault>
 }
 
 /// Adds a number without padding.
-#[inline(never)]
+#[inline(always)]
 #[tactic(auto, using(crate::proofs::Numbers::four_digits))]
-pub fn put_bare(out: &mut Vec<u8>, max: usize, n: u32) -> Result<(), TimeFault>
+pub fn put_bare(out: &mut Vec<u8>, max: usize, n: u32) -> Result<(), Stop>
     requires { length out.old.items ≤ max }
     ensures { Appends max out.old.items (decimal n) out.new.items result }
 {
@@ -86,7 +91,7 @@ pub fn put_bare(out: &mut Vec<u8>, max: usize, n: u32) -> Result<(), TimeFault>
 }
 
 /// Adds a number without padding, perhaps behind a `-`.
-pub fn put_signed(out: &mut Vec<u8>, max: usize, n: i32) -> Result<(), TimeFault>
+pub fn put_signed(out: &mut Vec<u8>, max: usize, n: i32) -> Result<(), Stop>
     requires { length out.old.items ≤ max }
     ensures { Appends max out.old.items (signed_decimal n) out.new.items result }
 {
@@ -96,7 +101,7 @@ pub fn put_signed(out: &mut Vec<u8>, max: usize, n: i32) -> Result<(), TimeFault
 
 /// Adds a number in three digits.
 #[inline(never)]
-fn put_three(out: &mut Vec<u8>, max: usize, n: u32) -> Result<(), TimeFault>
+fn put_three(out: &mut Vec<u8>, max: usize, n: u32) -> Result<(), Stop>
     requires { length out.old.items ≤ max }
     ensures { Appends max out.old.items (three n) out.new.items result }
 {
@@ -105,7 +110,7 @@ fn put_three(out: &mut Vec<u8>, max: usize, n: u32) -> Result<(), TimeFault>
 
 /// Adds a number in two places.
 #[inline(never)]
-fn put_spaced(out: &mut Vec<u8>, max: usize, n: u32) -> Result<(), TimeFault>
+fn put_spaced(out: &mut Vec<u8>, max: usize, n: u32) -> Result<(), Stop>
     requires { length out.old.items ≤ max }
     ensures { Appends max out.old.items (spaced n) out.new.items result }
 {
@@ -118,7 +123,7 @@ fn put_spaced(out: &mut Vec<u8>, max: usize, n: u32) -> Result<(), TimeFault>
 
 /// Adds a number as it is written.
 #[inline(always)]
-pub fn put_number(out: &mut Vec<u8>, max: usize, layout: Layout, n: u32) -> Result<(), TimeFault>
+pub fn put_number(out: &mut Vec<u8>, max: usize, layout: Layout, n: u32) -> Result<(), Stop>
     requires { length out.old.items ≤ max }
     ensures { Appends max out.old.items (laid_out layout n) out.new.items result }
 {

@@ -1,17 +1,19 @@
 //! Formats within formats.
 
-ghost use Rattle.std.specs.Prelude.{◌≡◌, ◌+◌, ◌≤◌, length, Some, IfSome, option_map};
+ghost use Rattle.std.specs.Prelude.{◌≡◌, ◌+◌, ◌≤◌, length, drop, IfSome, IsNone};
 ghost use Rattle.time_cat.specs.Conversions.{conversion};
+ghost use Rattle.time_cat.specs.Formats.{step};
 ghost use Rattle.time_cat.specs.Shown.{expanded, converted};
-ghost use Rattle.strftime_fields.specs.Appending.{Appends};
-ghost use Rattle.strftime_fields.specs.Cost.{read_for, reads, Counts};
+ghost use Rattle.strftime_fields.specs.Appending.{Appends, CountsTo};
+ghost use Rattle.strftime_fields.specs.Cost.{read_for, reads};
+ghost use Rattle.strftime_fields.specs.Reading.{IsShort, IsFormatless, width, short_text};
 
-use crate::digits::put_two;
-use crate::fault::TimeFault;
-use crate::output::{put, put_byte};
+use crate::digits::put_number;
+use crate::output::{Stop, put, put_byte};
 use crate::plain::{format_for, name, number, put_plain};
+use crate::read::{Short, short_at, width};
 use std::sync::ledger::Ledger;
-use time_cat::{Layout, Shows, Step, Steps, Time, Tm, conversion_of, step_at};
+use time_cat::{Shows, Step, Steps, Time, Tm, conversion_of, step_at};
 
 /// Adds what a format gives, with so many formats within one another.
 #[cycle(expand)]
@@ -23,55 +25,94 @@ pub fn put_format<L: Ledger>(
     format: &[u8],
     steps: &mut Steps<L>,
     out: &mut Vec<u8>,
-) -> Result<(), TimeFault>
+) -> Result<(), Stop>
     requires { length out.old.items ≤ max }
     ensures text { Appends max out.old.items (expanded levels t.now tm.now format.now) out.new.items result }
-    ensures steps { Counts result (steps.old + reads max levels t.now tm.now (length out.old.items) format.now) steps.new }
+    ensures steps { CountsTo result (steps.old + reads max levels t.now tm.now (length out.old.items) format.now) steps.new }
 {
     if levels == 0 {
         return Ok(());
     }
     let mut at = 0;
     'reading: loop {
-        match step_at(format, at, steps) {
-            Step::End => return Ok(()),
-            Step::Bad => return Ok(()),
-            Step::Byte(byte) => {
-                put_byte(out, max, byte)?;
-                at += 1;
+        match put_short(out, max, t, tm, format, at) {
+            Some(added) => {
+                // The piece is known already: this counts it.
+                let _step = step_at(format, at, steps);
+                match added.outcome {
+                    Ok(()) => at = added.next,
+                    Err(stop) => return Err(stop),
+                }
             }
-            Step::Conv {
-                modifier,
-                letter,
-                next,
-                ..
-            } => {
-                put_conversion(levels - 1, t, tm, max, modifier, letter, steps, out)?;
-                at = next;
-            }
+            None => match step_at(format, at, steps) {
+                Step::End => return Ok(()),
+                Step::Bad => return Ok(()),
+                Step::Byte(byte) => {
+                    put_byte(out, max, byte)?;
+                    at += 1;
+                }
+                Step::Conv {
+                    modifier,
+                    letter,
+                    next,
+                    ..
+                } => {
+                    put_conversion(levels - 1, t, tm, max, modifier, letter, steps, out)?;
+                    at = next;
+                }
+            },
         }
     }
 }
 
-/// What a conversion without a modifier gives, if it is one.
-#[inline(always)]
-fn plain_shows(modifier: u8, letter: u8) -> Option<Shows>
-    ensures { IfSome result (λ shows. option_map (λ c. c.shows) (conversion modifier letter) ≡ Some shows) }
-{
-    match modifier {
-        0 => match conversion_of(0, letter) {
-            None => None,
-            Some(found) => Some(found.shows),
-        },
-        _ => None,
-    }
+/// A piece that was added at first sight.
+#[derive(Clone, Copy, Debug, PartialEq, Eq)]
+struct Added {
+    short: Short,
+    /// Where the bytes behind it begin.
+    next: usize,
+    outcome: Result<(), Stop>,
 }
 
-/// Adds what a conversion gives, with so many formats within one another. Names and numbers of two
-/// digits go the shortest way.
-#[cycle(expand)]
+/// Adds what the piece gives that stands at a place, if it is a byte, or a name or a number without a
+/// modifier.
 #[inline(always)]
-#[tactic(auto, using(crate::proofs::Left::shown_conversion, crate::proofs::Counting::shown_read))]
+fn put_short(
+    out: &mut Vec<u8>,
+    max: usize,
+    t: &Time,
+    tm: &Tm,
+    format: &[u8],
+    at: usize,
+) -> Option<Added>
+    requires short { length out.old.items ≤ max }
+    requires within { at ≤ length format.now }
+    ensures piece { IfSome result (λ r. IsShort at (step at (drop at format.now)) r.short) }
+    ensures next { IfSome result (λ r. r.next ≡ at + width r.short) }
+    ensures formatless { IfSome result (λ r. IsFormatless t.now tm.now r.short) }
+    ensures text { IfSome result (λ r. Appends max out.old.items (short_text t.now tm.now r.short) out.new.items r.outcome) }
+    ensures unchanged { IsNone result → out.new.items ≡ out.old.items }
+{
+    let short = short_at(format, at)?;
+    let next = at + width(short);
+    let outcome = match short {
+        Short::Byte(byte) => put_byte(out, max, byte),
+        Short::Plain { found, .. } => match found.shows {
+            Shows::Name(named) => put(out, max, name(t, tm, named)),
+            Shows::Number(quantity, layout) => put_number(out, max, layout, number(quantity, tm)),
+            _ => return None,
+        },
+    };
+    Some(Added {
+        short,
+        next,
+        outcome,
+    })
+}
+
+/// Adds what any conversion gives, with so many formats within one another.
+#[cycle(expand)]
+#[inline(never)]
 fn put_conversion<L: Ledger>(
     levels: u8,
     t: &Time,
@@ -81,60 +122,10 @@ fn put_conversion<L: Ledger>(
     letter: u8,
     steps: &mut Steps<L>,
     out: &mut Vec<u8>,
-) -> Result<(), TimeFault>
+) -> Result<(), Stop>
     requires { length out.old.items ≤ max }
     ensures text { Appends max out.old.items (converted t.now tm.now (expanded levels t.now tm.now) (conversion modifier letter)) out.new.items result }
-    ensures steps { Counts result (steps.old + read_for t.now tm.now (reads max levels t.now tm.now (length out.old.items)) (conversion modifier letter)) steps.new }
-{
-    match plain_shows(modifier, letter) {
-        Some(Shows::Name(named)) => put(out, max, name(t, tm, named)),
-        Some(Shows::Number(quantity, Layout::Two)) => put_two(out, max, number(quantity, tm)),
-        _ => match put_any(levels, t, tm, max, modifier, letter, steps, out) {
-            Ok(()) => Ok(()),
-            Err(fault) => Err(fault),
-        },
-    }
-}
-
-/// The same for any conversion. Without a modifier its letter leads straight to what it adds.
-#[cycle(expand)]
-#[inline(always)]
-fn put_any<L: Ledger>(
-    levels: u8,
-    t: &Time,
-    tm: &Tm,
-    max: usize,
-    modifier: u8,
-    letter: u8,
-    steps: &mut Steps<L>,
-    out: &mut Vec<u8>,
-) -> Result<(), TimeFault>
-    requires { length out.old.items ≤ max }
-    ensures text { Appends max out.old.items (converted t.now tm.now (expanded levels t.now tm.now) (conversion modifier letter)) out.new.items result }
-    ensures steps { Counts result (steps.old + read_for t.now tm.now (reads max levels t.now tm.now (length out.old.items)) (conversion modifier letter)) steps.new }
-{
-    match modifier {
-        0 => put_found(levels, t, tm, max, 0, letter, steps, out),
-        _ => put_modified(levels, t, tm, max, modifier, letter, steps, out),
-    }
-}
-
-/// The same in the place of a call.
-#[cycle(expand)]
-#[inline(always)]
-fn put_found<L: Ledger>(
-    levels: u8,
-    t: &Time,
-    tm: &Tm,
-    max: usize,
-    modifier: u8,
-    letter: u8,
-    steps: &mut Steps<L>,
-    out: &mut Vec<u8>,
-) -> Result<(), TimeFault>
-    requires { length out.old.items ≤ max }
-    ensures text { Appends max out.old.items (converted t.now tm.now (expanded levels t.now tm.now) (conversion modifier letter)) out.new.items result }
-    ensures steps { Counts result (steps.old + read_for t.now tm.now (reads max levels t.now tm.now (length out.old.items)) (conversion modifier letter)) steps.new }
+    ensures steps { CountsTo result (steps.old + read_for t.now tm.now (reads max levels t.now tm.now (length out.old.items)) (conversion modifier letter)) steps.new }
 {
     match conversion_of(modifier, letter) {
         None => Ok(()),
@@ -143,24 +134,4 @@ fn put_found<L: Ledger>(
             Some(format) => put_format(levels, t, tm, max, format, steps, out),
         },
     }
-}
-
-/// The same by a call.
-#[cycle(expand)]
-#[inline(never)]
-fn put_modified<L: Ledger>(
-    levels: u8,
-    t: &Time,
-    tm: &Tm,
-    max: usize,
-    modifier: u8,
-    letter: u8,
-    steps: &mut Steps<L>,
-    out: &mut Vec<u8>,
-) -> Result<(), TimeFault>
-    requires { length out.old.items ≤ max }
-    ensures text { Appends max out.old.items (converted t.now tm.now (expanded levels t.now tm.now) (conversion modifier letter)) out.new.items result }
-    ensures steps { Counts result (steps.old + read_for t.now tm.now (reads max levels t.now tm.now (length out.old.items)) (conversion modifier letter)) steps.new }
-{
-    put_found(levels, t, tm, max, modifier, letter, steps, out)
 }

@@ -6,6 +6,7 @@ mod expand;
 mod fault;
 mod output;
 mod plain;
+mod read;
 mod text;
 mod weeks;
 

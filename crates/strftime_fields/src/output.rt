@@ -1,18 +1,56 @@
 //! A text that is given up as soon as it is too long.
 
-ghost use Rattle.std.specs.Prelude.{◌≤◌, ◌∷◌, [], length};
-ghost use Rattle.strftime_fields.specs.Appending.{Appends};
+ghost use Rattle.std.specs.Prelude.{◌≡◌, ◌≤◌, ◌∷◌, [], length};
+ghost use Rattle.strftime_fields.specs.declared.output.Stop.TheVariants.{Memory};
+ghost use Rattle.strftime_fields.specs.Appending.{Appends, fault_of};
 
 use crate::fault::TimeFault;
+use std::alloc::{AllocError, AllocFailed};
+
+/// Why a text is given up. It is as small as can be, since each piece of a text is asked for it.
+#[derive(Clone, Copy, Debug, PartialEq, Eq)]
+pub enum Stop {
+    /// The text is longer than it may be.
+    TooBig,
+    /// Memory was wanting.
+    Memory,
+}
+
+impl From<AllocError> for Stop {
+    ghost from_gives = { λ _ s. s ≡ Memory };
+
+    fn from(_e: AllocError) -> Stop {
+        Stop::Memory
+    }
+}
+
+impl<T: Drop> From<AllocFailed<T>> for Stop {
+    ghost from_gives = { λ _ s. s ≡ Memory };
+
+    fn from(_e: AllocFailed<T>) -> Stop {
+        Stop::Memory
+    }
+}
+
+impl From<Stop> for TimeFault {
+    ghost from_gives = { λ s e. e ≡ fault_of s };
+
+    fn from(stop: Stop) -> TimeFault {
+        match stop {
+            Stop::TooBig => TimeFault::TooBig,
+            Stop::Memory => TimeFault::Memory,
+        }
+    }
+}
 
 /// Adds bytes, unless the text would be longer than `max`.
 #[inline(always)]
-pub fn put(out: &mut Vec<u8>, max: usize, bytes: &[u8]) -> Result<(), TimeFault>
+pub fn put(out: &mut Vec<u8>, max: usize, bytes: &[u8]) -> Result<(), Stop>
     requires { length out.old.items ≤ max }
     ensures { Appends max out.old.items bytes.now out.new.items result }
 {
     if bytes.len() > max - out.len() {
-        return Err(TimeFault::TooBig);
+        return Err(Stop::TooBig);
     }
     out.extend_from_slice(bytes)?;
     Ok(())
@@ -20,12 +58,12 @@ pub fn put(out: &mut Vec<u8>, max: usize, bytes: &[u8]) -> Result<(), TimeFault>
 
 /// Adds a byte, unless the text would be longer than `max`.
 #[inline(always)]
-pub fn put_byte(out: &mut Vec<u8>, max: usize, byte: u8) -> Result<(), TimeFault>
+pub fn put_byte(out: &mut Vec<u8>, max: usize, byte: u8) -> Result<(), Stop>
     requires { length out.old.items ≤ max }
     ensures { Appends max out.old.items (byte ∷ []) out.new.items result }
 {
     if out.len() == max {
-        return Err(TimeFault::TooBig);
+        return Err(Stop::TooBig);
     }
     out.push(byte)?;
     Ok(())

@@ -10,8 +10,7 @@ ghost use Rattle.time_cat.specs.Shown.{quantity as value_of, alternative, name_t
 ghost use Rattle.strftime_fields.specs.Appending.{Appends};
 
 use crate::digits::{last_digit, put_bare, put_number, put_signed, two};
-use crate::fault::TimeFault;
-use crate::output::{put, put_byte};
+use crate::output::{Stop, put, put_byte};
 use crate::weeks::{behind_monday, iso_week, monday_week, sunday_week};
 use time_cat::{EraHit, Layout, Named, Quantity, Shows, Time, Tm};
 
@@ -158,7 +157,7 @@ fn offset_bytes(minutes: i32) -> [u8; 5]
 
 /// Adds month, day and year of the century.
 #[inline(never)]
-fn put_slashed_date(out: &mut Vec<u8>, max: usize, tm: &Tm) -> Result<(), TimeFault>
+fn put_slashed_date(out: &mut Vec<u8>, max: usize, tm: &Tm) -> Result<(), Stop>
     requires { length out.old.items ≤ max }
     ensures { Appends max out.old.items (slashed_date tm.now) out.new.items result }
 {
@@ -167,7 +166,7 @@ fn put_slashed_date(out: &mut Vec<u8>, max: usize, tm: &Tm) -> Result<(), TimeFa
 
 /// Adds year, month and day.
 #[inline(never)]
-fn put_dashed_date(out: &mut Vec<u8>, max: usize, tm: &Tm) -> Result<(), TimeFault>
+fn put_dashed_date(out: &mut Vec<u8>, max: usize, tm: &Tm) -> Result<(), Stop>
     requires { length out.old.items ≤ max }
     ensures { Appends max out.old.items (dashed_date tm.now) out.new.items result }
 {
@@ -176,7 +175,7 @@ fn put_dashed_date(out: &mut Vec<u8>, max: usize, tm: &Tm) -> Result<(), TimeFau
 
 /// Adds hour and minute.
 #[inline(never)]
-fn put_short_time(out: &mut Vec<u8>, max: usize, tm: &Tm) -> Result<(), TimeFault>
+fn put_short_time(out: &mut Vec<u8>, max: usize, tm: &Tm) -> Result<(), Stop>
     requires { length out.old.items ≤ max }
     ensures { Appends max out.old.items (short_time tm.now) out.new.items result }
 {
@@ -185,7 +184,7 @@ fn put_short_time(out: &mut Vec<u8>, max: usize, tm: &Tm) -> Result<(), TimeFaul
 
 /// Adds hour, minute and second.
 #[inline(never)]
-fn put_full_time(out: &mut Vec<u8>, max: usize, tm: &Tm) -> Result<(), TimeFault>
+fn put_full_time(out: &mut Vec<u8>, max: usize, tm: &Tm) -> Result<(), Stop>
     requires { length out.old.items ≤ max }
     ensures { Appends max out.old.items (full_time tm.now) out.new.items result }
 {
@@ -194,7 +193,7 @@ fn put_full_time(out: &mut Vec<u8>, max: usize, tm: &Tm) -> Result<(), TimeFault
 
 /// Adds an offset, or nothing.
 #[inline(never)]
-fn put_offset(out: &mut Vec<u8>, max: usize, offset: Option<i32>) -> Result<(), TimeFault>
+fn put_offset(out: &mut Vec<u8>, max: usize, offset: Option<i32>) -> Result<(), Stop>
     requires { length out.old.items ≤ max }
     ensures { Appends max out.old.items (offset_text offset) out.new.items result }
 {
@@ -253,7 +252,7 @@ pub fn format_for<'a>(t: &'a Time, tm: &Tm, shows: Shows) -> Option<&'a [u8]>
 
 /// Adds the era's name, or else the century.
 #[inline(never)]
-fn put_era_name(out: &mut Vec<u8>, max: usize, t: &Time, tm: &Tm) -> Result<(), TimeFault>
+fn put_era_name(out: &mut Vec<u8>, max: usize, t: &Time, tm: &Tm) -> Result<(), Stop>
     requires { length out.old.items ≤ max }
     ensures { Appends max out.old.items (plain_text t.now tm.now EraName) out.new.items result }
 {
@@ -265,7 +264,7 @@ fn put_era_name(out: &mut Vec<u8>, max: usize, t: &Time, tm: &Tm) -> Result<(), 
 
 /// Adds the year in the era, or else the year of the century.
 #[inline(never)]
-fn put_era_year(out: &mut Vec<u8>, max: usize, t: &Time, tm: &Tm) -> Result<(), TimeFault>
+fn put_era_year(out: &mut Vec<u8>, max: usize, t: &Time, tm: &Tm) -> Result<(), Stop>
     requires { length out.old.items ≤ max }
     ensures { Appends max out.old.items (plain_text t.now tm.now EraYear) out.new.items result }
 {
@@ -283,7 +282,7 @@ fn put_alternative(
     t: &Time,
     layout: Layout,
     n: u32,
-) -> Result<(), TimeFault>
+) -> Result<(), Stop>
     requires { length out.old.items ≤ max }
     ensures { Appends max out.old.items (or_text (alternative t.now.alt_digits n) (laid_out layout n)) out.new.items result }
 {
@@ -295,13 +294,7 @@ fn put_alternative(
 
 /// Adds what a conversion gives that stands for no format.
 #[inline(always)]
-pub fn put_plain(
-    out: &mut Vec<u8>,
-    max: usize,
-    t: &Time,
-    tm: &Tm,
-    shows: Shows,
-) -> Result<(), TimeFault>
+pub fn put_plain(out: &mut Vec<u8>, max: usize, t: &Time, tm: &Tm, shows: Shows) -> Result<(), Stop>
     requires { length out.old.items ≤ max }
     ensures { Appends max out.old.items (plain_text t.now tm.now shows) out.new.items result }
 {

@@ -8,6 +8,7 @@ ghost use Rattle.strftime_fields.specs.Cost.{cost, Counts};
 
 use crate::expand::put_format;
 use crate::fault::TimeFault;
+use crate::read::{short_at, width};
 use lc_base::ByteText;
 use std::alloc::Global;
 use std::marker::Brand;
@@ -28,11 +29,18 @@ fn bad_byte<L: Ledger>(format: &[u8], steps: &mut Steps<L>) -> Option<usize>
 {
     let mut at = 0;
     'reading: loop {
-        match step_at(format, at, steps) {
-            Step::End => return None,
-            Step::Bad => return Some(at),
-            Step::Byte(_) => at += 1,
-            Step::Conv { next, .. } => at = next,
+        match short_at(format, at) {
+            Some(short) => {
+                // The piece is known already: this counts it.
+                let _step = step_at(format, at, steps);
+                at += width(short);
+            }
+            None => match step_at(format, at, steps) {
+                Step::End => return None,
+                Step::Bad => return Some(at),
+                Step::Byte(_) => at += 1,
+                Step::Conv { next, .. } => at = next,
+            },
         }
     }
 }

@@ -4,13 +4,13 @@ use Rattle.digit_groups.specs.Groups.{separators, separated, last_group, before_
 use Rattle.digit_groups.proofs.GroupLemmas.{IsStep, step, step_count, step_cut, end_count, end_plain}
 use Rattle.digit_groups.proofs.write_groups.Goals as goal
 
-pub write_before-end-requires-in-Some-clause-room : goal.write_before-end-requires-in-Some-clause-room
-write_before-end-requires-in-Some-clause-room c =
+pub write_before-at-requires-in-Some-clause-room : goal.write_before-at-requires-in-Some-clause-room
+write_before-at-requires-in-Some-clause-room c =
     let is : IsStep c.loop-size.rest.now c.loop-size.left c.in-Some.size = step _ _ _ c.loop-size.invariant.sizes (sym c.last_group.ensures ∙ c.in-Some.is) in
     let count : separators c.loop-size.rest.now c.loop-size.left ≡ separators (before_last c.loop-size.rest.now) (c.loop-size.left - c.in-Some.size) + 1 = step_count _ _ _ is in
     let wide : separators c.loop-size.rest.now c.loop-size.left * length c.args.sep.now ≡ separators (before_last c.loop-size.rest.now) (c.loop-size.left - c.in-Some.size) * length c.args.sep.now + length c.args.sep.now = ap (λ n. n * length c.args.sep.now) count ∙ omega arith in
     let size : length (take (c.loop-size.left - (c.loop-size.left - c.in-Some.size)) (drop (c.loop-size.left - c.in-Some.size) c.args.digits.now)) ≡ c.in-Some.size = omega (arith, is.less, c.loop-size.invariant.within, length-take (c.loop-size.left - (c.loop-size.left - c.in-Some.size)) (drop (c.loop-size.left - c.in-Some.size) c.args.digits.now), length-drop (c.loop-size.left - c.in-Some.size) c.args.digits.now) in
-    omega (arith, is.less, c.write_before-end.ensures.begins, c.loop-size.invariant.front)
+    omega (arith, is.less, c.write_before-at.ensures.begins, c.loop-size.invariant.front)
 
 pub loop-size-preserved : goal.loop-size-preserved
 loop-size-preserved c =
@@ -21,25 +21,29 @@ loop-size-preserved c =
     let rest : separators c.before_last-rest.result.now (c.loop-size.left - c.in-Some.size) * length c.args.sep.now ≡ separators (before_last c.loop-size.rest.now) (c.loop-size.left - c.in-Some.size) * length c.args.sep.now = ap (λ s. separators s (c.loop-size.left - c.in-Some.size) * length c.args.sep.now) c.before_last-rest.ensures in
     let cut = step_cut c.loop-size.rest.now c.loop-size.left c.in-Some.size c.args.digits.now c.args.sep.now is c.loop-size.invariant.within in
     let group : List ℕ = take (c.loop-size.left - (c.loop-size.left - c.in-Some.size)) (drop (c.loop-size.left - c.in-Some.size) c.args.digits.now) in
-    let written : drop c.write_before-end-in-Some.result c.write_before-end-in-Some.new.target ≡ c.args.sep.now ++ (group ++ drop c.loop-size.end c.loop-size.target) = c.write_before-end-in-Some.ensures.written ∙ ap (λ t. c.args.sep.now ++ t) c.write_before-end.ensures.written in
+    let written : drop c.write_before-at-in-Some.result c.write_before-at-in-Some.new.target ≡ c.args.sep.now ++ (group ++ drop c.loop-size.at c.loop-size.target) = c.write_before-at-in-Some.ensures.written ∙ ap (λ t. c.args.sep.now ++ t) c.write_before-at.ensures.written in
     record {
       sizes = rw c.before_last-rest.ensures is.rest;
       within = omega (arith, c.loop-size.invariant.within);
       room = omega arith;
-      front = omega (arith, is.less, c.write_before-end.ensures.begins, c.write_before-end-in-Some.ensures.begins, c.loop-size.invariant.front);
+      front = omega (arith, is.less, c.write_before-at.ensures.begins, c.write_before-at-in-Some.ensures.begins, c.loop-size.invariant.front);
       back = c.loop-size.invariant.back
-          ∙ ap (λ t. t ++ drop c.loop-size.end c.loop-size.target) cut
+          ∙ ap (λ t. t ++ drop c.loop-size.at c.loop-size.target) cut
           ∙ simp append_assoc
           (rw (c.before_last-rest.ensures, written) refl);
     }
 
-pub returns : goal.returns
-returns c =
+pub returns-clause-begins : goal.returns-clause-begins
+returns-clause-begins c =
     let last : last_group c.loop-size.rest.now c.loop-size.left ≡ None = sym c.last_group.ensures ∙ c.in_default.is in
     let none : separators c.loop-size.rest.now c.loop-size.left ≡ 0 = end_count _ _ c.loop-size.invariant.sizes last in
     let wide : separators c.loop-size.rest.now c.loop-size.left * length c.args.sep.now ≡ 0 = ap (λ n. n * length c.args.sep.now) none ∙ omega arith in
     let size : length (take c.loop-size.left c.args.digits.now) ≡ c.loop-size.left = omega (arith, c.loop-size.invariant.within, length-take c.loop-size.left c.args.digits.now) in
+    omega (arith, c.write_before.ensures.begins, c.loop-size.invariant.front)
+
+pub returns-clause-written : goal.returns-clause-written
+returns-clause-written c =
+    let last : last_group c.loop-size.rest.now c.loop-size.left ≡ None = sym c.last_group.ensures ∙ c.in_default.is in
+    let size : length (take c.loop-size.left c.args.digits.now) ≡ c.loop-size.left = omega (arith, c.loop-size.invariant.within, length-take c.loop-size.left c.args.digits.now) in
     let plain : separated (take c.loop-size.left c.args.digits.now) c.loop-size.rest.now c.args.sep.now ≡ take c.loop-size.left c.args.digits.now = end_plain _ _ c.args.sep.now c.loop-size.invariant.sizes (rw size last) in
-    let begin : c.write_before.result ≡ 0 = omega (arith, c.write_before.ensures.begins, c.loop-size.invariant.front) in
-    let written : c.write_before.new.target ≡ take c.loop-size.left c.args.digits.now ++ drop c.loop-size.end c.loop-size.target = rw begin at c.write_before.ensures.written in
-    written ∙ sym (c.loop-size.invariant.back ∙ ap (λ t. t ++ drop c.loop-size.end c.loop-size.target) plain)
+    c.write_before.ensures.written ∙ sym (c.loop-size.invariant.back ∙ ap (λ t. t ++ drop c.loop-size.at c.loop-size.target) plain)

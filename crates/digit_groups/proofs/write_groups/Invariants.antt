@@ -7,9 +7,9 @@ abbrev pub invariant-loop-size : goal.invariant-loop-size
 invariant-loop-size l = record {
   sizes : list_all is_size l.rest ≡ true;
   within : l.left ≤ length l.digits;
-  room : l.end ≤ length l.target;
-  front : l.end ≡ l.left + separators l.rest l.left * length l.sep;
-  back : separated l.digits l.sizes l.sep ≡ separated (take l.left l.digits) l.rest l.sep ++ drop l.end l.target;
+  room : l.at ≤ length l.target;
+  front : l.at + (length l.digits + separators l.sizes (length l.digits) * length l.sep) ≡ l.end + (l.left + separators l.rest l.left * length l.sep);
+  back : separated l.digits l.sizes l.sep ++ drop l.end l.initial.target ≡ separated (take l.left l.digits) l.rest l.sep ++ drop l.at l.target;
 }
 
 abbrev pub decreases-loop-size : goal.decreases-loop-size

@@ -1,4 +1,4 @@
-use Rattle.std.proofs.Common.{◌≡◌, ℕ, List, length, arith}
+use Rattle.std.proofs.Common.{length, arith}
 use Rattle.strfmon.proofs.MoneyLemmas.{refusal_copied, refusal_there, refusal_none_left}
 use Rattle.strfmon.proofs.amounts_behind.Goals as goal
 

@@ -4,27 +4,28 @@ use Rattle.strfmon.specs.Decimals.{last_digits}
 use Rattle.strfmon.proofs.DecimalLemmas.{digit_before}
 use Rattle.strfmon.proofs.decimal.write_digits.Goals as goal
 
-pub loop-at-preserved : goal.loop-at-preserved
-loop-at-preserved c =
-    let digit : ℕ = 48 + c.loop-at.left % 10 in
-    let front : List ℕ = last_digits (c.loop-at.at - 1) (c.loop-at.left / 10) in
-    let less : c.loop-at.at - 1 < length c.loop-at.target = omega (arith, c.loop-at.invariant.within) in
-    let same : c.loop-at.at - 1 + 1 ≡ c.loop-at.at = omega arith in
-    let put : drop (c.loop-at.at - 1) (slice_set c.loop-at.target (c.loop-at.at - 1) digit) ≡ digit ∷ drop c.loop-at.at c.loop-at.target =
-    drop-set c.loop-at.target (c.loop-at.at - 1) digit less ∙ ap (λ n. digit ∷ drop n c.loop-at.target) same in
+pub loop-missing-preserved : goal.loop-missing-preserved
+loop-missing-preserved c =
+    let digit : ℕ = 48 + c.loop-missing.left % 10 in
+    let front : List ℕ = last_digits (c.loop-missing.missing - 1) (c.loop-missing.left / 10) in
+    let less : c.loop-missing.at - 1 < length c.loop-missing.target = omega (arith, c.loop-missing.invariant.within, c.loop-missing.invariant.place, c.requires.room) in
+    let same : c.loop-missing.at - 1 + 1 ≡ c.loop-missing.at = omega (arith, c.loop-missing.invariant.place, c.requires.room) in
+    let put : drop (c.loop-missing.at - 1) (slice_set c.loop-missing.target (c.loop-missing.at - 1) digit) ≡ digit ∷ drop c.loop-missing.at c.loop-missing.target =
+    drop-set c.loop-missing.target (c.loop-missing.at - 1) digit less ∙ ap (λ n. digit ∷ drop n c.loop-missing.target) same in
     record {
-      written = ap (λ n. last_digits n c.args.n) (length-set c.loop-at.target (c.loop-at.at - 1) digit)
-          ∙ c.loop-at.invariant.written
-          ∙ ap (λ t. t ++ drop c.loop-at.at c.loop-at.target) (digit_before c.loop-at.at c.loop-at.left (omega arith))
-          ∙ append_assoc front (digit ∷ []) (drop c.loop-at.at c.loop-at.target)
+      written = c.loop-missing.invariant.written
+          ∙ ap (λ t. t ++ drop c.loop-missing.at c.loop-missing.target) (digit_before c.loop-missing.missing c.loop-missing.left (omega arith))
+          ∙ append_assoc front (digit ∷ []) (drop c.loop-missing.at c.loop-missing.target)
           ∙ ap (λ t. front ++ t) (sym put);
-      within = omega (arith, c.loop-at.invariant.within, length-set c.loop-at.target (c.loop-at.at - 1) digit);
+      place = omega (arith, c.loop-missing.invariant.place, c.requires.room);
+      within = omega (arith, c.loop-missing.invariant.within, length-set c.loop-missing.target (c.loop-missing.at - 1) digit);
     }
 
-pub returns : goal.returns
+pub returns-clause-begins : goal.returns-clause-begins
+returns-clause-begins c = omega (arith, c.loop-missing.invariant.place)
+
+pub returns-clause-written : goal.returns-clause-written
 unfolding last_digits
-returns c =
-    let none : c.loop-at.at ≡ 0 = omega arith in
-    let written : last_digits (length c.loop-at.target) c.args.n ≡ c.loop-at.target = rw none at c.loop-at.invariant.written in
-    let same : length c.loop-at.target ≡ length c.args.target.now = omega arith in
-    sym written ∙ ap (λ n. last_digits n c.args.n) same
+returns-clause-written c =
+    let none : c.loop-missing.missing ≡ 0 = omega arith in
+    sym (rw none at c.loop-missing.invariant.written)

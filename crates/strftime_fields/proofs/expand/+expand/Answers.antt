@@ -1,10 +1,13 @@
-use Rattle.std.proofs.Common.{◌≡◌, ◌+◌, ◌-◌, ◌<◌, [], ◌∷◌, ◌++◌, length, Err, refl, sym, ap, ◌∙◌, arith, length-append}
+use Rattle.std.proofs.Common.{◌≡◌, ◌+◌, ◌-◌, ◌<◌, ◌≤◌, [], ◌∷◌, ◌++◌, length, Err, refl, sym, ap, ◌∙◌, arith, length-append}
 use Rattle.std.proofs.lemmas.Result.{err_from_is_err_and}
 use Rattle.time_cat.specs.Conversions.{conversion}
 use Rattle.time_cat.specs.Shown.{expanded, converted}
 use Rattle.strftime_fields.proofs.Adding.{goes_on, stops, ends}
-use Rattle.strftime_fields.proofs.Left.{text_left, text_at_start, text_at_end, text_at_wrong, text_at_byte, text_at_conversion, no_levels}
-use Rattle.strftime_fields.proofs.Counting.{reads_left, reads_at_start, reads_at_end, reads_at_wrong, reads_at_byte, reads_at_conversion, none_left, no_levels_read, counts_same, counts_stop}
+use Rattle.time_cat.specs.Formats.{counted}
+use Rattle.strftime_fields.specs.Cost.{reads}
+use Rattle.strftime_fields.specs.Reading.{IsShort, width, short_text}
+use Rattle.strftime_fields.proofs.Left.{short_within, short_left, text_left, text_at_start, text_at_end, text_at_wrong, text_at_byte, text_at_conversion, no_levels}
+use Rattle.strftime_fields.proofs.Counting.{short_reads, reads_left, reads_at_start, reads_at_end, reads_at_wrong, reads_at_byte, reads_at_conversion, none_left, no_levels_read, counts_same, counts_stop}
 use Rattle.strftime_fields.proofs.expand.+expand.Goals as goal
 
 pub put_format-returns-then-levels-eq0-clause-text : goal.put_format-returns-then-levels-eq0-clause-text
@@ -25,25 +28,35 @@ put_format-reading-init g t c =
 
 pub put_format-returns-in-End-clause-text : goal.put_format-returns-in-End-clause-text
 put_format-returns-in-End-clause-text g t c =
+    let same : c.put_short.new.out.items ≡ c.reading.out.items = c.in-None.ensures.unchanged refl in
+    let whole : c.put_short.new.out.items ++ text_left c.args.levels c.args.t.now c.args.tm.now c.args.format.now c.reading.at ≡ c.args.out.now.items ++ expanded c.args.levels c.args.t.now c.args.tm.now c.args.format.now = rw same c.reading.invariant.text in
+    let short : length c.put_short.new.out.items ≤ c.args.max = rw same c.reading.invariant.short in
     let none = text_at_end c.args.levels c.args.t.now c.args.tm.now c.args.format.now c.reading.at c.in-End.ensures.stands in
-    ends c.args.max c.args.out.now.items (expanded c.args.levels c.args.t.now c.args.tm.now c.args.format.now) c.reading.out.items (text_left c.args.levels c.args.t.now c.args.tm.now c.args.format.now c.reading.at) c.reading.invariant.text none c.reading.invariant.short
+    ends c.args.max c.args.out.now.items (expanded c.args.levels c.args.t.now c.args.tm.now c.args.format.now) c.put_short.new.out.items (text_left c.args.levels c.args.t.now c.args.tm.now c.args.format.now c.reading.at) whole none short
 
 pub put_format-returns-in-Bad-clause-text : goal.put_format-returns-in-Bad-clause-text
 put_format-returns-in-Bad-clause-text g t c =
+    let same : c.put_short.new.out.items ≡ c.reading.out.items = c.in-None.ensures.unchanged refl in
+    let whole : c.put_short.new.out.items ++ text_left c.args.levels c.args.t.now c.args.tm.now c.args.format.now c.reading.at ≡ c.args.out.now.items ++ expanded c.args.levels c.args.t.now c.args.tm.now c.args.format.now = rw same c.reading.invariant.text in
+    let short : length c.put_short.new.out.items ≤ c.args.max = rw same c.reading.invariant.short in
     let none = text_at_wrong c.args.levels c.args.t.now c.args.tm.now c.args.format.now c.reading.at c.in-Bad.ensures.stands in
-    ends c.args.max c.args.out.now.items (expanded c.args.levels c.args.t.now c.args.tm.now c.args.format.now) c.reading.out.items (text_left c.args.levels c.args.t.now c.args.tm.now c.args.format.now c.reading.at) c.reading.invariant.text none c.reading.invariant.short
+    ends c.args.max c.args.out.now.items (expanded c.args.levels c.args.t.now c.args.tm.now c.args.format.now) c.put_short.new.out.items (text_left c.args.levels c.args.t.now c.args.tm.now c.args.format.now c.reading.at) whole none short
 
 pub put_format-returns-in_err-put_byte-in-Byte-clause-text : goal.put_format-returns-in_err-put_byte-in-Byte-clause-text
 put_format-returns-in_err-put_byte-in-Byte-clause-text g t c =
+    let same : c.put_short.new.out.items ≡ c.reading.out.items = c.in-None.ensures.unchanged refl in
+    let whole : c.put_short.new.out.items ++ text_left c.args.levels c.args.t.now c.args.tm.now c.args.format.now c.reading.at ≡ c.args.out.now.items ++ expanded c.args.levels c.args.t.now c.args.tm.now c.args.format.now = rw same c.reading.invariant.text in
     let p = err_from_is_err_and c.from_residual.result c.from_residual.ensures.1 in
     let left = text_at_byte c.args.levels c.args.t.now c.args.tm.now c.args.format.now c.reading.at c.in-Byte.byte (c.reading.at + 1) c.in-Byte.ensures.stands.1 in
-    rw (p.1, p.2) (stops c.args.max c.args.out.now.items (expanded c.args.levels c.args.t.now c.args.tm.now c.args.format.now) c.reading.out.items c.put_byte.new.out.items c.put_byte.new.out.items (c.in-Byte.byte ∷ []) (text_left c.args.levels c.args.t.now c.args.tm.now c.args.format.now (c.reading.at + 1)) c.in_err-put_byte-in-Byte.field-0.0 (ap (λ x. c.reading.out.items ++ x) (sym left) ∙ c.reading.invariant.text) c.in_err-put_byte-in-Byte.ensures)
+    rw (p.1, p.2) (stops c.args.max c.args.out.now.items (expanded c.args.levels c.args.t.now c.args.tm.now c.args.format.now) c.put_short.new.out.items c.put_byte.new.out.items c.put_byte.new.out.items (c.in-Byte.byte ∷ []) (text_left c.args.levels c.args.t.now c.args.tm.now c.args.format.now (c.reading.at + 1)) c.in_err-put_byte-in-Byte.field-0.0 (ap (λ x. c.put_short.new.out.items ++ x) (sym left) ∙ whole) c.in_err-put_byte-in-Byte.ensures)
 
 pub put_format-returns-in_err-put_conversion-in-Conv-clause-text : goal.put_format-returns-in_err-put_conversion-in-Conv-clause-text
 put_format-returns-in_err-put_conversion-in-Conv-clause-text g t c =
+    let same : c.put_short.new.out.items ≡ c.reading.out.items = c.in-None.ensures.unchanged refl in
+    let whole : c.put_short.new.out.items ++ text_left c.args.levels c.args.t.now c.args.tm.now c.args.format.now c.reading.at ≡ c.args.out.now.items ++ expanded c.args.levels c.args.t.now c.args.tm.now c.args.format.now = rw same c.reading.invariant.text in
     let p = err_from_is_err_and c.from_residual-in_err-put_conversion-in-Conv.result c.from_residual-in_err-put_conversion-in-Conv.ensures.1 in
     let left = text_at_conversion c.args.levels c.args.t.now c.args.tm.now c.args.format.now c.reading.at c.in-Conv.modifier c.in-Conv.letter _ c.in-Conv.next c.in-Conv.ensures.stands.2 in
-    rw (p.1, p.2) (stops c.args.max c.args.out.now.items (expanded c.args.levels c.args.t.now c.args.tm.now c.args.format.now) c.reading.out.items c.put_conversion.new.out.items c.put_conversion.new.out.items (converted c.args.t.now c.args.tm.now (expanded (c.args.levels - 1) c.args.t.now c.args.tm.now) (conversion c.in-Conv.modifier c.in-Conv.letter)) (text_left c.args.levels c.args.t.now c.args.tm.now c.args.format.now c.in-Conv.next) c.in_err-put_conversion-in-Conv.field-0.0 (ap (λ x. c.reading.out.items ++ x) (sym left) ∙ c.reading.invariant.text) c.in_err-put_conversion-in-Conv.ensures.text)
+    rw (p.1, p.2) (stops c.args.max c.args.out.now.items (expanded c.args.levels c.args.t.now c.args.tm.now c.args.format.now) c.put_short.new.out.items c.put_conversion.new.out.items c.put_conversion.new.out.items (converted c.args.t.now c.args.tm.now (expanded (c.args.levels - 1) c.args.t.now c.args.tm.now) (conversion c.in-Conv.modifier c.in-Conv.letter)) (text_left c.args.levels c.args.t.now c.args.tm.now c.args.format.now c.in-Conv.next) c.in_err-put_conversion-in-Conv.field-0.0 (ap (λ x. c.put_short.new.out.items ++ x) (sym left) ∙ whole) c.in_err-put_conversion-in-Conv.ensures.text)
 
 pub put_format-returns-then-levels-eq0-clause-steps : goal.put_format-returns-then-levels-eq0-clause-steps
 put_format-returns-then-levels-eq0-clause-steps g t c =
@@ -62,50 +75,104 @@ put_format-returns-in-Bad-clause-steps g t c =
 
 pub put_format-returns-in_err-put_byte-in-Byte-clause-steps : goal.put_format-returns-in_err-put_byte-in-Byte-clause-steps
 put_format-returns-in_err-put_byte-in-Byte-clause-steps g t c =
+    let same : c.put_short.new.out.items ≡ c.reading.out.items = c.in-None.ensures.unchanged refl in
+    let counts : c.reading.steps + reads_left c.args.max c.args.levels c.args.t.now c.args.tm.now (length c.put_short.new.out.items) c.args.format.now c.reading.at ≡ c.args.steps.now + reads c.args.max c.args.levels c.args.t.now c.args.tm.now (length c.args.out.now.items) c.args.format.now = rw same c.reading.invariant.steps in
     let p = err_from_is_err_and c.from_residual.result c.from_residual.ensures.1 in
-    let left = reads_at_byte c.args.max c.args.levels c.args.t.now c.args.tm.now (length c.reading.out.items) c.args.format.now c.reading.at c.in-Byte.byte (c.reading.at + 1) c.in-Byte.ensures.stands.1 in
-    let rest = reads_left c.args.max c.args.levels c.args.t.now c.args.tm.now (length c.reading.out.items + 1) c.args.format.now (c.reading.at + 1) in
-    rw (p.1, p.2) (counts_stop c.args.max c.reading.out.items (c.in-Byte.byte ∷ []) c.put_byte.new.out.items c.in_err-put_byte-in-Byte.field-0.0 c.reading.steps rest _ _
+    let left = reads_at_byte c.args.max c.args.levels c.args.t.now c.args.tm.now (length c.put_short.new.out.items) c.args.format.now c.reading.at c.in-Byte.byte (c.reading.at + 1) c.in-Byte.ensures.stands.1 in
+    let rest = reads_left c.args.max c.args.levels c.args.t.now c.args.tm.now (length c.put_short.new.out.items + 1) c.args.format.now (c.reading.at + 1) in
+    rw (p.1, p.2) (counts_stop c.args.max c.put_short.new.out.items (c.in-Byte.byte ∷ []) c.put_byte.new.out.items c.in_err-put_byte-in-Byte.field-0.0 c.reading.steps rest _ _
     c.in_err-put_byte-in-Byte.ensures
-    (counts_same {A = Unit {0}} (Err c.in_err-put_byte-in-Byte.field-0.0) c.reading.steps _ (omega (arith, c.in-Byte.ensures.counted)))
-    (omega (arith, left, c.reading.invariant.steps))
-    (λ long. none_left c.args.max c.args.levels c.args.t.now c.args.tm.now (length c.reading.out.items + 1) c.args.format.now (c.reading.at + 1) long))
+    (counts_same (Err c.in_err-put_byte-in-Byte.field-0.0) c.reading.steps _ (omega (arith, c.in-Byte.ensures.counted)))
+    (omega (arith, left, counts))
+    (λ long. none_left c.args.max c.args.levels c.args.t.now c.args.tm.now (length c.put_short.new.out.items + 1) c.args.format.now (c.reading.at + 1) long))
 
 pub put_format-returns-in_err-put_conversion-in-Conv-clause-steps : goal.put_format-returns-in_err-put_conversion-in-Conv-clause-steps
 put_format-returns-in_err-put_conversion-in-Conv-clause-steps g t c =
+    let same : c.put_short.new.out.items ≡ c.reading.out.items = c.in-None.ensures.unchanged refl in
+    let short : length c.put_short.new.out.items ≤ c.args.max = rw same c.reading.invariant.short in
+    let counts : c.reading.steps + reads_left c.args.max c.args.levels c.args.t.now c.args.tm.now (length c.put_short.new.out.items) c.args.format.now c.reading.at ≡ c.args.steps.now + reads c.args.max c.args.levels c.args.t.now c.args.tm.now (length c.args.out.now.items) c.args.format.now = rw same c.reading.invariant.steps in
     let p = err_from_is_err_and c.from_residual-in_err-put_conversion-in-Conv.result c.from_residual-in_err-put_conversion-in-Conv.ensures.1 in
-    let left = reads_at_conversion c.args.max c.args.levels c.args.t.now c.args.tm.now (length c.reading.out.items) c.args.format.now c.reading.at c.in-Conv.modifier c.in-Conv.letter _ c.in-Conv.next c.in-Conv.ensures.stands.2 c.reading.invariant.short in
+    let left = reads_at_conversion c.args.max c.args.levels c.args.t.now c.args.tm.now (length c.put_short.new.out.items) c.args.format.now c.reading.at c.in-Conv.modifier c.in-Conv.letter _ c.in-Conv.next c.in-Conv.ensures.stands.2 short in
     let piece = converted c.args.t.now c.args.tm.now (expanded (c.args.levels - 1) c.args.t.now c.args.tm.now) (conversion c.in-Conv.modifier c.in-Conv.letter) in
-    let rest = reads_left c.args.max c.args.levels c.args.t.now c.args.tm.now (length c.reading.out.items + length piece) c.args.format.now c.in-Conv.next in
-    rw (p.1, p.2) (counts_stop c.args.max c.reading.out.items piece c.put_conversion.new.out.items c.in_err-put_conversion-in-Conv.field-0.0 _ rest _ _
+    let rest = reads_left c.args.max c.args.levels c.args.t.now c.args.tm.now (length c.put_short.new.out.items + length piece) c.args.format.now c.in-Conv.next in
+    rw (p.1, p.2) (counts_stop c.args.max c.put_short.new.out.items piece c.put_conversion.new.out.items c.in_err-put_conversion-in-Conv.field-0.0 _ rest _ _
     c.in_err-put_conversion-in-Conv.ensures.text
     c.in_err-put_conversion-in-Conv.ensures.steps
-    (omega (arith, left, c.reading.invariant.steps, c.in-Conv.ensures.counted))
-    (λ long. none_left c.args.max c.args.levels c.args.t.now c.args.tm.now (length c.reading.out.items + length piece) c.args.format.now c.in-Conv.next long))
+    (omega (arith, left, counts, c.in-Conv.ensures.counted))
+    (λ long. none_left c.args.max c.args.levels c.args.t.now c.args.tm.now (length c.put_short.new.out.items + length piece) c.args.format.now c.in-Conv.next long))
 
 pub put_format-reading-preserved-in-Byte : goal.put_format-reading-preserved-in-Byte
 put_format-reading-preserved-in-Byte g t c =
+    let same : c.put_short.new.out.items ≡ c.reading.out.items = c.in-None.ensures.unchanged refl in
+    let whole : c.put_short.new.out.items ++ text_left c.args.levels c.args.t.now c.args.tm.now c.args.format.now c.reading.at ≡ c.args.out.now.items ++ expanded c.args.levels c.args.t.now c.args.tm.now c.args.format.now = rw same c.reading.invariant.text in
+    let counts : c.reading.steps + reads_left c.args.max c.args.levels c.args.t.now c.args.tm.now (length c.put_short.new.out.items) c.args.format.now c.reading.at ≡ c.args.steps.now + reads c.args.max c.args.levels c.args.t.now c.args.tm.now (length c.args.out.now.items) c.args.format.now = rw same c.reading.invariant.steps in
     let left = text_at_byte c.args.levels c.args.t.now c.args.tm.now c.args.format.now c.reading.at c.in-Byte.byte (c.reading.at + 1) c.in-Byte.ensures.stands.1 in
-    let reads = reads_at_byte c.args.max c.args.levels c.args.t.now c.args.tm.now (length c.reading.out.items) c.args.format.now c.reading.at c.in-Byte.byte (c.reading.at + 1) c.in-Byte.ensures.stands.1 in
-    let longer : length c.put_byte.new.out.items ≡ length c.reading.out.items + 1 = ap length c.in_ok-put_byte-in-Byte.ensures.0 ∙ length-append c.reading.out.items (c.in-Byte.byte ∷ []) in
+    let more = reads_at_byte c.args.max c.args.levels c.args.t.now c.args.tm.now (length c.put_short.new.out.items) c.args.format.now c.reading.at c.in-Byte.byte (c.reading.at + 1) c.in-Byte.ensures.stands.1 in
+    let longer : length c.put_byte.new.out.items ≡ length c.put_short.new.out.items + 1 = ap length c.in_ok-put_byte-in-Byte.ensures.0 ∙ length-append c.put_short.new.out.items (c.in-Byte.byte ∷ []) in
     record {
       within = omega (arith, c.in-Byte.ensures.stands.0);
       some = c.reading.invariant.some;
       short = c.in_ok-put_byte-in-Byte.ensures.1;
-      text = goes_on c.args.out.now.items (expanded c.args.levels c.args.t.now c.args.tm.now c.args.format.now) c.reading.out.items c.put_byte.new.out.items (c.in-Byte.byte ∷ []) (text_left c.args.levels c.args.t.now c.args.tm.now c.args.format.now (c.reading.at + 1)) (ap (λ x. c.reading.out.items ++ x) (sym left) ∙ c.reading.invariant.text) c.in_ok-put_byte-in-Byte.ensures.0;
-      steps = rw longer (omega (arith, reads, c.reading.invariant.steps, c.in-Byte.ensures.counted));
+      text = goes_on c.args.out.now.items (expanded c.args.levels c.args.t.now c.args.tm.now c.args.format.now) c.put_short.new.out.items c.put_byte.new.out.items (c.in-Byte.byte ∷ []) (text_left c.args.levels c.args.t.now c.args.tm.now c.args.format.now (c.reading.at + 1)) (ap (λ x. c.put_short.new.out.items ++ x) (sym left) ∙ whole) c.in_ok-put_byte-in-Byte.ensures.0;
+      steps = rw longer (omega (arith, more, counts, c.in-Byte.ensures.counted));
     }
 
 pub put_format-reading-preserved : goal.put_format-reading-preserved
 put_format-reading-preserved g t c =
+    let same : c.put_short.new.out.items ≡ c.reading.out.items = c.in-None.ensures.unchanged refl in
+    let whole : c.put_short.new.out.items ++ text_left c.args.levels c.args.t.now c.args.tm.now c.args.format.now c.reading.at ≡ c.args.out.now.items ++ expanded c.args.levels c.args.t.now c.args.tm.now c.args.format.now = rw same c.reading.invariant.text in
+    let short : length c.put_short.new.out.items ≤ c.args.max = rw same c.reading.invariant.short in
+    let counts : c.reading.steps + reads_left c.args.max c.args.levels c.args.t.now c.args.tm.now (length c.put_short.new.out.items) c.args.format.now c.reading.at ≡ c.args.steps.now + reads c.args.max c.args.levels c.args.t.now c.args.tm.now (length c.args.out.now.items) c.args.format.now = rw same c.reading.invariant.steps in
     let left = text_at_conversion c.args.levels c.args.t.now c.args.tm.now c.args.format.now c.reading.at c.in-Conv.modifier c.in-Conv.letter _ c.in-Conv.next c.in-Conv.ensures.stands.2 in
     let piece = converted c.args.t.now c.args.tm.now (expanded (c.args.levels - 1) c.args.t.now c.args.tm.now) (conversion c.in-Conv.modifier c.in-Conv.letter) in
-    let reads = reads_at_conversion c.args.max c.args.levels c.args.t.now c.args.tm.now (length c.reading.out.items) c.args.format.now c.reading.at c.in-Conv.modifier c.in-Conv.letter _ c.in-Conv.next c.in-Conv.ensures.stands.2 c.reading.invariant.short in
-    let longer : length c.put_conversion.new.out.items ≡ length c.reading.out.items + length piece = ap length c.in_ok-put_conversion-in-Conv.ensures.text.0 ∙ length-append c.reading.out.items piece in
+    let more = reads_at_conversion c.args.max c.args.levels c.args.t.now c.args.tm.now (length c.put_short.new.out.items) c.args.format.now c.reading.at c.in-Conv.modifier c.in-Conv.letter _ c.in-Conv.next c.in-Conv.ensures.stands.2 short in
+    let longer : length c.put_conversion.new.out.items ≡ length c.put_short.new.out.items + length piece = ap length c.in_ok-put_conversion-in-Conv.ensures.text.0 ∙ length-append c.put_short.new.out.items piece in
     record {
       within = c.in-Conv.ensures.stands.1;
       some = c.reading.invariant.some;
       short = c.in_ok-put_conversion-in-Conv.ensures.text.1;
-      text = goes_on c.args.out.now.items (expanded c.args.levels c.args.t.now c.args.tm.now c.args.format.now) c.reading.out.items c.put_conversion.new.out.items (converted c.args.t.now c.args.tm.now (expanded (c.args.levels - 1) c.args.t.now c.args.tm.now) (conversion c.in-Conv.modifier c.in-Conv.letter)) (text_left c.args.levels c.args.t.now c.args.tm.now c.args.format.now c.in-Conv.next) (ap (λ x. c.reading.out.items ++ x) (sym left) ∙ c.reading.invariant.text) c.in_ok-put_conversion-in-Conv.ensures.text.0;
-      steps = rw longer (omega (arith, reads, c.reading.invariant.steps, c.in_ok-put_conversion-in-Conv.ensures.steps, c.in-Conv.ensures.counted));
+      text = goes_on c.args.out.now.items (expanded c.args.levels c.args.t.now c.args.tm.now c.args.format.now) c.put_short.new.out.items c.put_conversion.new.out.items (converted c.args.t.now c.args.tm.now (expanded (c.args.levels - 1) c.args.t.now c.args.tm.now) (conversion c.in-Conv.modifier c.in-Conv.letter)) (text_left c.args.levels c.args.t.now c.args.tm.now c.args.format.now c.in-Conv.next) (ap (λ x. c.put_short.new.out.items ++ x) (sym left) ∙ whole) c.in_ok-put_conversion-in-Conv.ensures.text.0;
+      steps = rw longer (omega (arith, more, counts, c.in_ok-put_conversion-in-Conv.ensures.steps, c.in-Conv.ensures.counted));
     }
+
+pub put_format-reading-preserved-in-Ok : goal.put_format-reading-preserved-in-Ok
+put_format-reading-preserved-in-Ok g t c =
+    let step = c.step_at-step in
+    let added = c.in-Some.added in
+    let piece : IsShort c.reading.at step.result added.short = rw step.ensures.exact c.in-Some.ensures.piece in
+    let left = short_left c.args.levels c.args.t.now c.args.tm.now c.args.format.now c.reading.at step.result added.short step.ensures.stands piece c.in-Some.ensures.formatless in
+    let more = short_reads c.args.max c.args.levels c.args.t.now c.args.tm.now (length c.reading.out.items) c.args.format.now c.reading.at step.result added.short step.ensures.stands piece c.in-Some.ensures.formatless c.reading.invariant.short in
+    let within = short_within c.args.format.now c.reading.at step.result added.short step.ensures.stands piece in
+    let grown = rw c.in-Ok.is at c.in-Some.ensures.text in
+    let longer : length c.put_short.new.out.items ≡ length c.reading.out.items + length (short_text c.args.t.now c.args.tm.now added.short) = ap length grown.0 ∙ length-append c.reading.out.items (short_text c.args.t.now c.args.tm.now added.short) in
+    record {
+      within = rw c.in-Some.ensures.next within;
+      some = c.reading.invariant.some;
+      short = grown.1;
+      text = rw c.in-Some.ensures.next (goes_on c.args.out.now.items (expanded c.args.levels c.args.t.now c.args.tm.now c.args.format.now) c.reading.out.items c.put_short.new.out.items (short_text c.args.t.now c.args.tm.now added.short) (text_left c.args.levels c.args.t.now c.args.tm.now c.args.format.now (c.reading.at + width added.short)) (ap (λ x. c.reading.out.items ++ x) (sym left) ∙ c.reading.invariant.text) grown.0);
+      steps = rw (c.in-Some.ensures.next, longer) (omega (arith, more, c.reading.invariant.steps, step.ensures.counted));
+    }
+
+pub put_format-returns-in-Err-clause-text : goal.put_format-returns-in-Err-clause-text
+put_format-returns-in-Err-clause-text g t c =
+    let step = c.step_at-step in
+    let added = c.in-Some.added in
+    let piece : IsShort c.reading.at step.result added.short = rw step.ensures.exact c.in-Some.ensures.piece in
+    let left = short_left c.args.levels c.args.t.now c.args.tm.now c.args.format.now c.reading.at step.result added.short step.ensures.stands piece c.in-Some.ensures.formatless in
+    let kept = rw c.in-Err.is at c.in-Some.ensures.text in
+    stops c.args.max c.args.out.now.items (expanded c.args.levels c.args.t.now c.args.tm.now c.args.format.now) c.reading.out.items c.put_short.new.out.items c.put_short.new.out.items (short_text c.args.t.now c.args.tm.now added.short) (text_left c.args.levels c.args.t.now c.args.tm.now c.args.format.now (c.reading.at + width added.short)) c.in-Err.stop (ap (λ x. c.reading.out.items ++ x) (sym left) ∙ c.reading.invariant.text) kept
+
+pub put_format-returns-in-Err-clause-steps : goal.put_format-returns-in-Err-clause-steps
+put_format-returns-in-Err-clause-steps g t c =
+    let step = c.step_at-step in
+    let added = c.in-Some.added in
+    let piece : IsShort c.reading.at step.result added.short = rw step.ensures.exact c.in-Some.ensures.piece in
+    let more = short_reads c.args.max c.args.levels c.args.t.now c.args.tm.now (length c.reading.out.items) c.args.format.now c.reading.at step.result added.short step.ensures.stands piece c.in-Some.ensures.formatless c.reading.invariant.short in
+    let text = short_text c.args.t.now c.args.tm.now added.short in
+    let rest = reads_left c.args.max c.args.levels c.args.t.now c.args.tm.now (length c.reading.out.items + length text) c.args.format.now (c.reading.at + width added.short) in
+    let kept = rw c.in-Err.is at c.in-Some.ensures.text in
+    counts_stop c.args.max c.reading.out.items text c.put_short.new.out.items c.in-Err.stop (c.reading.steps + counted step.result) rest _ _
+    kept
+    (counts_same (Err c.in-Err.stop) (c.reading.steps + counted step.result) _ step.ensures.counted)
+    (omega (arith, more, c.reading.invariant.steps))
+    (λ long. none_left c.args.max c.args.levels c.args.t.now c.args.tm.now (length c.reading.out.items + length text) c.args.format.now (c.reading.at + width added.short) long)

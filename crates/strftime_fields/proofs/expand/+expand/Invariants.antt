@@ -19,16 +19,7 @@ abbrev pub decreases-put_format-reading : goal.decreases-put_format-reading
 decreases-put_format-reading g l = length l.format - l.at
 
 abbrev pub decreases-put_format : goal.decreases-put_format
-decreases-put_format g l = 5 * l.levels
+decreases-put_format g l = 2 * l.levels
 
 abbrev pub decreases-put_conversion : goal.decreases-put_conversion
-decreases-put_conversion g l = 5 * l.levels + 4
-
-abbrev pub decreases-put_any : goal.decreases-put_any
-decreases-put_any g l = 5 * l.levels + 3
-
-abbrev pub decreases-put_modified : goal.decreases-put_modified
-decreases-put_modified g l = 5 * l.levels + 2
-
-abbrev pub decreases-put_found : goal.decreases-put_found
-decreases-put_found g l = 5 * l.levels + 1
+decreases-put_conversion g l = 2 * l.levels + 1

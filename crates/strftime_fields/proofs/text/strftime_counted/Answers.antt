@@ -25,7 +25,7 @@ returns-in_err-put_format-clause-steps g c =
     let right = cost_right c.args.t.now c.args.tm.now c.args.format.now c.args.max (sym c.in_default.ensures.is) in
     let read = rw c.in_ok-out.ensures.items at c.in_err-put_format.ensures.steps in
     let whole : c.bad_byte.new.steps + reads c.args.max 5 c.args.t.now c.args.tm.now 0 c.args.format.now ≡ c.args.steps.now + cost c.args.t.now c.args.tm.now c.args.format.now c.args.max = omega (arith, right, c.in_default.ensures.steps) in
-    rw (p.1, p.2, sym whole) (counts_fault (Unit {0}) (List ℕ) c.in_err-put_format.field-0.0 _ _ read)
+    rw (p.1, p.2, sym whole) (counts_fault (List ℕ) c.in_err-put_format.field-0.0 _ _ read)
 
 pub returns-clause-steps : goal.returns-clause-steps
 returns-clause-steps g c =

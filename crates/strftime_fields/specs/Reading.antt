@@ -1,0 +1,30 @@
+-- Pieces of a format that are told at first sight.
+use Rattle.std.specs.Prelude.{◌≡◌, ℕ, ◌+◌, List, [], ◌∷◌, Some, None}
+use Rattle.time_cat.specs.declared.step.Step.{Step}
+use Rattle.time_cat.specs.declared.step.Step.TheVariants as steps
+use Rattle.time_cat.specs.Conversions.{conversion}
+use Rattle.time_cat.specs.Times.{TmValues}
+use Rattle.time_cat.specs.TimeValues.{TimeValues}
+use Rattle.time_cat.specs.Shown.{plain_text, format_for}
+use Rattle.strftime_fields.specs.declared.read.Short.{Short}
+use Rattle.strftime_fields.specs.declared.read.Short.TheVariants.{Byte, Plain}
+
+-- how many bytes of the format a piece takes
+abbrev pub width : Short → ℕ
+width (Byte c) = 1
+width (Plain letter found) = 2
+
+-- the step at a place is this piece
+abbrev pub IsShort : ℕ → Step → Short → Type 0
+IsShort at s (Byte c) = s ≡ steps.Byte c
+IsShort at s (Plain letter found) = (s ≡ steps.Conv 0 letter found.rank (at + 2)) × (conversion 0 letter ≡ Some found)
+
+-- it stands for no format
+abbrev pub IsFormatless : TimeValues → TmValues → Short → Type 0
+IsFormatless v t (Byte c) = Unit {0}
+IsFormatless v t (Plain letter found) = format_for v t found.shows ≡ None
+
+-- what it gives then
+abbrev pub short_text : TimeValues → TmValues → Short → List ℕ
+short_text v t (Byte c) = c ∷ []
+short_text v t (Plain letter found) = plain_text v t found.shows

@@ -1,0 +1,50 @@
+//! Pieces of a format that are told at first sight.
+
+ghost use Rattle.std.specs.Prelude.{◌≡◌, ◌≤◌, length, drop, IfSome};
+ghost use Rattle.time_cat.specs.Formats.{step};
+ghost use Rattle.strftime_fields.specs.Reading.{IsShort, width};
+
+use time_cat::{Conversion, conversion_of};
+
+/// A piece of a format that needs no second look.
+#[derive(Clone, Copy, Debug, PartialEq, Eq)]
+pub enum Short {
+    /// A byte that stands for itself.
+    Byte(u8),
+    /// A conversion without a modifier.
+    Plain { letter: u8, found: Conversion },
+}
+
+/// The piece that stands at a place, if it is a byte or a conversion without a modifier.
+#[tactic(auto, using(crate::proofs::Shorts::no_modifier))]
+#[inline(always)]
+pub fn short_at(format: &[u8], at: usize) -> Option<Short>
+    requires { at ≤ length format.now }
+    ensures { IfSome result (IsShort at (step at (drop at format.now))) }
+{
+    match &format[at..] {
+        [] => None,
+        [b'%', rest @ ..] => match rest {
+            [] => None,
+            [letter, ..] => match conversion_of(0, *letter) {
+                None => None,
+                Some(found) => Some(Short::Plain {
+                    letter: *letter,
+                    found,
+                }),
+            },
+        },
+        [byte, ..] => Some(Short::Byte(*byte)),
+    }
+}
+
+/// How many bytes of the format a piece takes.
+#[inline(always)]
+pub fn width(short: Short) -> usize
+    ensures { result ≡ width short }
+{
+    match short {
+        Short::Byte(_) => 1,
+        Short::Plain { .. } => 2,
+    }
+}
