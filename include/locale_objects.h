@@ -72,7 +72,7 @@ enum {
     LO_TM_RANGE = 12,
     /* There is no item with the number. */
     LO_NO_ITEM = 13,
-    /* The locale has no class with the name. */
+    /* The locale has no class with the name or the number. */
     LO_NO_CLASS = 14,
     /* The text does not meet the format at byte `n` of the text. */
     LO_MISMATCH = 15
@@ -237,6 +237,19 @@ lo_answer lo_int_format_l(char *buffer, size_t size, lo_object *object, const ch
  * LO_NO_OBJECT, LO_NO_CLASS.
  */
 lo_answer lo_iswctype_l(uint32_t value, const char *class_name, size_t length, lo_object *object);
+
+/*
+ * The number of the class with a name (XSH wctype_l) as `n`, for lo_isclass_l, which need not look for the
+ * name. It is of the locale of the object's LC_CTYPE. LO_NO_OBJECT, LO_NO_CLASS.
+ */
+lo_answer lo_wctype_l(const char *class_name, size_t length, lo_object *object);
+
+/*
+ * Whether a wide character is of the class with a number: as lo_iswctype_l answers by the name. A number
+ * that another locale gave is one of this locale: that of a class that may have another name, or of none,
+ * which is LO_NO_CLASS. LO_NO_OBJECT, LO_NO_CLASS.
+ */
+lo_answer lo_isclass_l(uint32_t value, size_t class_number, lo_object *object);
 
 /* The upper and the lower case of a wide character as `n` (XSH towupper_l, towlower_l). LO_NO_OBJECT. */
 lo_answer lo_towupper_l(uint32_t value, lo_object *object);

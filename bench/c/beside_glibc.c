@@ -23,6 +23,7 @@ enum { MOST_THREADS = 4 };
 typedef struct side {
     lo_object object;
     locale_t locale;
+    size_t our_alpha;
     wctype_t alpha;
 } side;
 
@@ -74,6 +75,13 @@ static size_t their_langinfo(side *s, char *text, int times) {
 static size_t our_class(side *s, char *text, int times) {
     size_t n = 0;
     *text = 0;
+    while (times-- > 0) n = lo_isclass_l('q', s->our_alpha, &s->object).n;
+    return n;
+}
+
+static size_t our_named_class(side *s, char *text, int times) {
+    size_t n = 0;
+    *text = 0;
     while (times-- > 0) n = lo_iswctype_l('q', "alpha", 5, &s->object).n;
     return n;
 }
@@ -82,6 +90,13 @@ static size_t their_class(side *s, char *text, int times) {
     size_t n = 0;
     *text = 0;
     while (times-- > 0) n = iswctype_l(L'q', s->alpha, s->locale) != 0;
+    return n;
+}
+
+static size_t their_named_class(side *s, char *text, int times) {
+    size_t n = 0;
+    *text = 0;
+    while (times-- > 0) n = iswctype_l(L'q', wctype_l("alpha", s->locale), s->locale) != 0;
     return n;
 }
 
@@ -128,6 +143,7 @@ static const struct row {
     { "strftime " LONG_FORMAT, our_strftime, their_strftime, 200000 },
     { "nl_langinfo D_T_FMT", our_langinfo, their_langinfo, 1000000 },
     { "iswctype alpha", our_class, their_class, 2000000 },
+    { "iswctype, wctype alpha", our_named_class, their_named_class, 2000000 },
     { "newlocale, freelocale", our_new, their_new, 100000 },
     { "duplocale, freelocale", our_dup, their_dup, 500000 },
 };
@@ -191,6 +207,7 @@ int main(int count, char **words) {
             fputs("no locale us: run this by bench/c/run\n", stderr);
             return 1;
         }
+        sides[i].our_alpha = lo_wctype_l("alpha", 5, &sides[i].object).n;
         sides[i].alpha = wctype_l("alpha", sides[i].locale);
     }
     printf("%-30s %7s %10s %10s %8s\n", "calls", "threads", "this, ns", "glibc, ns", "ratio");

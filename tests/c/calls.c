@@ -144,6 +144,29 @@ static void format_numbers(lo_object *us) {
     CHECK(is(lo_int_format_l(text, sizeof text, &nothing, "%d", 2, numbers, 2), LO_NO_OBJECT, 0));
 }
 
+static void ask_class_numbers(lo_object *us) {
+    static const char *const names[] = { "upper", "lower", "alpha", "digit", "alnum", "space", "cntrl",
+                                         "punct", "graph", "print", "xdigit", "blank", "vowel" };
+    enum { COUNT = sizeof names / sizeof *names };
+    lo_object nothing = LO_NOTHING;
+    for (int i = 0; i < COUNT; i++) {
+        lo_answer number = lo_wctype_l(names[i], strlen(names[i]), us);
+        CHECK(is(number, LO_OK, number.n) && number.n < COUNT);
+        for (uint32_t value = 0; value < 0x180; value++) {
+            lo_answer named = lo_iswctype_l(value, names[i], strlen(names[i]), us);
+            CHECK(is(lo_isclass_l(value, number.n, us), LO_OK, named.n));
+        }
+    }
+    size_t vowel = lo_wctype_l("vowel", 5, us).n;
+    CHECK(is(lo_isclass_l('e', vowel, us), LO_OK, 1));
+    CHECK(is(lo_isclass_l('f', vowel, us), LO_OK, 0));
+    CHECK(is(lo_isclass_l('e', COUNT, us), LO_NO_CLASS, 0));
+    CHECK(is(lo_isclass_l('e', SIZE_MAX, us), LO_NO_CLASS, 0));
+    CHECK(is(lo_isclass_l('e', vowel, &nothing), LO_NO_OBJECT, 0));
+    CHECK(is(lo_wctype_l("consonant", 9, us), LO_NO_CLASS, 0));
+    CHECK(is(lo_wctype_l("vowel", 5, &nothing), LO_NO_OBJECT, 0));
+}
+
 static void ask_items_and_classes(lo_object *us) {
     lo_object nothing = LO_NOTHING;
     char text[64];
@@ -156,6 +179,7 @@ static void ask_items_and_classes(lo_object *us) {
     CHECK(is(lo_iswctype_l('f', "vowel", 5, us), LO_OK, 0));
     CHECK(is(lo_iswctype_l('f', "consonant", 9, us), LO_NO_CLASS, 0));
     CHECK(is(lo_iswctype_l('f', "vowel", 5, &nothing), LO_NO_OBJECT, 0));
+    ask_class_numbers(us);
     CHECK(is(lo_towupper_l('q', us), LO_OK, 'Q'));
     CHECK(is(lo_towlower_l('Q', us), LO_OK, 'q'));
     CHECK(is(lo_towupper_l('q', &nothing), LO_NO_OBJECT, 0));

@@ -9,7 +9,8 @@ use Rattle.keyword_lists.specs.declared.source.Value.{Value}
 use Rattle.keyword_lists.specs.declared.source.Value.TheVariants.{Text, Chars, Pair}
 use Rattle.keyword_lists.specs.declared.source.Entry.{Entry}
 use Rattle.ctype_classes.specs.Characters.{characters}
-use Rattle.ctype_classes.specs.Classes.{members_of}
+use Rattle.ctype_classes.specs.Named.{place_of}
+use Rattle.ctype_classes.specs.Classes.{Classes, members_of, numbered_answer}
 use Rattle.ctype_classes.specs.Lists.{classes_of}
 use Rattle.ctype_classes.specs.Exclusions.{all_kept_apart}
 use Rattle.ctype_classes.specs.Case.{upper_pairs, lower_pairs, map_of, image}
@@ -116,6 +117,21 @@ demo_not_mapped = refl
 -- an empty toupper maps nothing, and then tolower neither
 empty_pairs : lower_pairs (line 2 (codes "toupper") [] ∷ []) ≡ []
 empty_pairs = refl
+
+-- ---- classes by their numbers
+
+abbrev two_classes : Classes
+two_classes = (codes "upper", (65, 90) ∷ []) ∷ (codes "vowel", (97, 97) ∷ (101, 101) ∷ []) ∷ []
+
+second_class : place_of two_classes (codes "vowel") ≡ Some 1
+second_class = refl
+
+no_place : place_of two_classes (codes "vowe") ≡ None
+no_place = refl
+
+by_number : numbered_answer two_classes 1 101 ∷ numbered_answer two_classes 1 100 ∷ numbered_answer two_classes 0 101 ∷ numbered_answer two_classes 2 101 ∷ []
+    ≡ Some true ∷ Some false ∷ Some false ∷ None ∷ []
+by_number = refl
 
 -- ---- refusals
 

@@ -1,3 +1,4 @@
+mod ClassLaw
 mod Examples
 pub mod NamedLemmas
 pub mod LineLemmas

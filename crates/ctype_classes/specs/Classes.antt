@@ -1,5 +1,5 @@
 -- The classes of a locale, each with its members (XBD 7.3.1).
-use Rattle.std.specs.Prelude.{ℕ, Bool, List, [], ◌∷◌, ◌++◌, Option, Some, None, unwrap_or, option_map}
+use Rattle.std.specs.Prelude.{ℕ, Bool, List, [], ◌∷◌, ◌++◌, slice_get, Option, Some, None, unwrap_or, option_map}
 use Rattle.lc_base.specs.declared.place.Place.{Place}
 use Rattle.class_ranges.specs.Ranges.{Range, covers}
 use Rattle.charmap_reader.specs.Portable.{Name, first_named}
@@ -49,3 +49,7 @@ twelve_classes set entries = with_classes set entries [] class_table
 -- whether a value is in a class; none where there is no such class
 abbrev pub class_answer : Classes → Name → ℕ → Option Bool
 class_answer classes name w = option_map (λ members. covers members w) (first_named classes name)
+
+-- whether a value is in the class with a number, its place from 0; none where no class has the number
+abbrev pub numbered_answer : Classes → ℕ → ℕ → Option Bool
+numbered_answer classes number w = option_map (λ entry. covers entry.1 w) (slice_get classes number)

@@ -1,10 +1,11 @@
 //! The category.
 
-ghost use Rattle.std.specs.Prelude.{◌≡◌, ℕ, List, unwrap_or, IfOk};
+ghost use Rattle.std.specs.Prelude.{◌≡◌, ℕ, List, unwrap_or, IfOk, IfSome};
 ghost use Rattle.lc_base.specs.Reading.{Gives};
 ghost use Rattle.charmap_reader.specs.CodedSet.{set_name};
 ghost use Rattle.ctype_classes.specs.Case.{image, first_image, upper_pairs, lower_pairs};
-ghost use Rattle.ctype_classes.specs.Classes.{class_answer};
+ghost use Rattle.ctype_classes.specs.Named.{place_of};
+ghost use Rattle.ctype_classes.specs.Classes.{class_answer, numbered_answer};
 ghost use Rattle.ctype_classes.specs.Members.{membership};
 ghost use Rattle.ctype_classes.specs.Excluded.{is_in, IsFirstExcluded, AreAllApart, Names};
 ghost use Rattle.ctype_classes.specs.Ctype.{ctype_with, ctype_values, posix_values};
@@ -116,6 +117,24 @@ impl Ctype {
         ensures { result ≡ class_answer self.now.classes class.now w }
     {
         let members = self.classes.get(class)?;
+        Some(members.contains(w))
+    }
+
+    /// The number of a class, from 0 (XSH wctype). `None` exactly where the locale has no such class.
+    #[tactic(auto, using(crate::proofs::ClassLaw::numbered_alike))]
+    pub fn class_number(&self, class: &[u8]) -> Option<usize>
+        ensures number { result ≡ place_of self.now.classes class.now }
+        ensures same { IfSome result (λ n. (w : ℕ) → numbered_answer self.now.classes n w ≡ class_answer self.now.classes class.now w) }
+    {
+        self.classes.place(class)
+    }
+
+    /// Whether a character with this wide value is in the class with a number (XSH iswctype). `None`
+    /// exactly where no class of the locale has the number.
+    pub fn is_in(&self, number: usize, w: u32) -> Option<bool>
+        ensures { result ≡ numbered_answer self.now.classes number w }
+    {
+        let members = self.classes.at(number)?;
         Some(members.contains(w))
     }
 

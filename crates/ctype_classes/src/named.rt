@@ -1,9 +1,9 @@
 //! Names and what they name.
 
-ghost use Rattle.std.specs.Prelude.{◌≡◌, [], IfOk};
+ghost use Rattle.std.specs.Prelude.{◌≡◌, [], slice_get, option_map, IfOk};
 ghost use Rattle.std.specs.Option.{option_copied};
 ghost use Rattle.charmap_reader.specs.Portable.{first_named};
-ghost use Rattle.ctype_classes.specs.Named.{with_named};
+ghost use Rattle.ctype_classes.specs.Named.{with_named, place_of};
 
 use lc_base::ByteText;
 use std::alloc::{AllocError, Global};
@@ -45,6 +45,21 @@ impl<V> Named<V> {
     {
         let place = *self.places.get(name)?;
         Some(&self.entries[place].1)
+    }
+
+    /// The place of a name, from 0.
+    pub fn place(&self, name: &[u8]) -> Option<usize>
+        ensures { result ≡ place_of self.now name.now }
+    {
+        self.places.get(name).copied()
+    }
+
+    /// What the name at a place names.
+    pub fn at(&self, place: usize) -> Option<&V>
+        ensures { option_copied result ≡ option_map (λ entry. entry.1) (slice_get self.now place) }
+    {
+        let entry = self.entries.get(place)?;
+        Some(&entry.1)
     }
 
     /// The names with one more, unless it is there already.

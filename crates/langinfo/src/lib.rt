@@ -1,9 +1,11 @@
 //! What a program asks of a locale by nl_langinfo and localeconv (XSH nl_langinfo, localeconv).
 #![tactic(auto)]
 
+mod categories;
 mod conv;
 mod items;
 mod keyword;
 
+pub use categories::Categories;
 pub use conv::{Lconv, localeconv};
-pub use items::nl_langinfo;
+pub use items::{item_text, nl_langinfo};

@@ -1,4 +1,5 @@
 mod AnswerLemmas
 mod AsBox
 mod BufferLemmas
+mod Examples
 mod NumberLemmas

@@ -1,4 +1,4 @@
--- What each call answers (XSH newlocale, duplocale, freelocale, strfmon, strftime, nl_langinfo, localeconv, iswctype, towupper, towlower,
+-- What each call answers (XSH newlocale, duplocale, freelocale, strfmon, strftime, nl_langinfo, localeconv, wctype, iswctype, towupper, towlower,
 -- fprintf and strptime; the codes are our own).
 use Rattle.std.specs.Prelude.{◌≡◌, ℕ, ◌+◌, ℤ, pos, neg_ℤ, Bool, true, false, nat_lt, nat_eq, min, List, ◌∷◌, ◌++◌, length, drop, map, Option, None, Some, is_some, Result, Ok, Err, if◌then◌else◌}
 use Rattle.std.specs.List.{list_all}
@@ -129,6 +129,12 @@ abbrev pub flag : Bool → ℕ
 flag true = 1
 flag false = 0
 
+-- the number of a class
+abbrev pub number_told : Option ℕ → LoAnswer
+number_told None = answered NO_CLASS 0
+number_told (Some number) = answered OK number
+
+-- whether a value is of a class
 abbrev pub class_told : Option Bool → LoAnswer
 class_told None = answered NO_CLASS 0
 class_told (Some is) = answered OK (flag is)

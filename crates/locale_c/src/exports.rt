@@ -3,13 +3,14 @@
 //! Each takes what a handle holds out, asks it, and puts it back.
 
 ghost use Rattle.std.specs.Prelude.{◌≡◌, ◌<◌, ◌≤◌, ◌^◌, length, None, IsSome};
-ghost use Rattle.ctype_classes.specs.Classes.{class_answer};
+ghost use Rattle.ctype_classes.specs.Named.{place_of};
+ghost use Rattle.ctype_classes.specs.Classes.{class_answer, numbered_answer};
 ghost use Rattle.ctype_classes.specs.Case.{image};
 ghost use Rattle.shared_objects.specs.Objects.{object_in, ctype_in};
 ghost use Rattle.locale_c.specs.declared.answer.TheConstants.{OK, TAKEN, TOO_LONG};
 ghost use Rattle.locale_c.specs.Conv.{conv_text, conv_in, lconv_by};
 ghost use Rattle.locale_c.specs.Items.{item_of};
-ghost use Rattle.locale_c.specs.Answers.{answered, UnlessMemory, UnlessOk, of_object, by_object, told, IsRead, into_handle, new_made, shared_made, class_told, item_told, amounts_told, tm_given, tm_told, numbers_told, scan_by};
+ghost use Rattle.locale_c.specs.Answers.{answered, UnlessMemory, UnlessOk, of_object, by_object, told, IsRead, into_handle, new_made, shared_made, number_told, class_told, item_told, amounts_told, tm_given, tm_told, numbers_told, scan_by};
 
 use crate::amounts::LoAmount;
 use crate::answer::{LoAnswer, NO_OBJECT, OK, TAKEN, TOO_LONG, answered, or_memory};
@@ -17,7 +18,7 @@ use crate::conv::{LoLconv, put_conv};
 use crate::fault::LoPlace;
 use crate::handle::LoObject;
 use crate::parsed::{LoParsed, put_fields};
-use crate::reads::{class_told, compose_into, read_into, share_into};
+use crate::reads::{class_told, compose_into, number_told, read_into, share_into};
 use crate::texts::{put_amounts, put_item, put_numbers, put_tm};
 use crate::times::LoTm;
 use std::alloc::Global;
@@ -240,7 +241,44 @@ pub extern "C" fn lo_iswctype_l(
     match object.take(alloc) {
         None => answered(NO_OBJECT, 0),
         Some(held) => {
-            let answer = class_told(&held, class, value);
+            let answer = class_told(held.is(class, value));
+            object.put(held);
+            answer
+        }
+    }
+}
+
+/// Gives the number of a class (XSH wctype_l).
+#[unsafe(no_mangle)]
+pub extern "C" fn lo_wctype_l(alloc: Global, class: &[u8], object: &mut LoObject) -> LoAnswer
+    ensures same { object.new.hold.object ≡ object.old.hold.object }
+    ensures told { result ≡ by_object object.old.hold.object (λ o. number_told (place_of (ctype_in o).classes class.now)) }
+{
+    match object.take(alloc) {
+        None => answered(NO_OBJECT, 0),
+        Some(held) => {
+            let answer = number_told(held.class_number(class));
+            object.put(held);
+            answer
+        }
+    }
+}
+
+/// Says whether a character is of the class with a number (XSH iswctype_l).
+#[unsafe(no_mangle)]
+pub extern "C" fn lo_isclass_l(
+    alloc: Global,
+    value: u32,
+    number: usize,
+    object: &mut LoObject,
+) -> LoAnswer
+    ensures same { object.new.hold.object ≡ object.old.hold.object }
+    ensures told { result ≡ by_object object.old.hold.object (λ o. class_told (numbered_answer (ctype_in o).classes number value)) }
+{
+    match object.take(alloc) {
+        None => answered(NO_OBJECT, 0),
+        Some(held) => {
+            let answer = class_told(held.is_in(number, value));
             object.put(held);
             answer
         }

@@ -1,9 +1,8 @@
 //! Objects that are made, and what is asked of one without a buffer.
 
 ghost use Rattle.std.specs.Prelude.{◌≡◌, ◌<◌, ◌^◌, length, None, OnErr, IfOk};
-ghost use Rattle.ctype_classes.specs.Classes.{class_answer};
-ghost use Rattle.shared_objects.specs.Objects.{object_in, new_object, ctype_in};
-ghost use Rattle.locale_c.specs.Answers.{UnlessOk, IsRead, class_told, new_of, composed_made, made};
+ghost use Rattle.shared_objects.specs.Objects.{object_in, new_object};
+ghost use Rattle.locale_c.specs.Answers.{UnlessOk, IsRead, number_told, class_told, new_of, composed_made, made};
 
 use crate::answer::{BAD_MASK, LoAnswer, NO_CLASS, NO_DATA, OK, answered};
 use crate::fault::{LoPlace, place_of, put_fault};
@@ -109,11 +108,21 @@ pub fn share_into(
     fill(alloc, out, again)
 }
 
-/// Whether a character is of a class: 1 or 0.
-pub fn class_told(object: &SharedObject, class: &[u8], value: u32) -> LoAnswer
-    ensures { result ≡ class_told (class_answer (ctype_in object.now).classes class.now value) }
+/// The number of a class.
+pub fn number_told(number: Option<usize>) -> LoAnswer
+    ensures { result ≡ number_told number }
 {
-    match object.is(class, value) {
+    match number {
+        None => answered(NO_CLASS, 0),
+        Some(number) => answered(OK, number),
+    }
+}
+
+/// Whether a character is of a class: 1 or 0.
+pub fn class_told(is: Option<bool>) -> LoAnswer
+    ensures { result ≡ class_told is }
+{
+    match is {
         None => answered(NO_CLASS, 0),
         Some(true) => answered(OK, 1),
         Some(false) => answered(OK, 0),

@@ -37,8 +37,8 @@ pub fn put_item(
     match item_of(number) {
         None => Ok(answered(NO_ITEM, 0)),
         Some(item) => {
-            let text = object.nl_langinfo(alloc, item)?;
-            Ok(put_text(buffer, text.as_bytes()))
+            let text = object.item_text(alloc, item)?;
+            Ok(put_text(buffer, text.as_slice()))
         }
     }
 }

@@ -1,8 +1,10 @@
 //! What an object is asked for.
 
-ghost use Rattle.std.specs.Prelude.{◌≡◌, true, IfOk};
+ghost use Rattle.std.specs.Prelude.{◌≡◌, ℕ, true, IfOk, IfSome};
+ghost use Rattle.std.specs.Cow.{cow_slice_items};
 ghost use Rattle.std.specs.List.{list_all};
-ghost use Rattle.ctype_classes.specs.Classes.{class_answer};
+ghost use Rattle.ctype_classes.specs.Named.{place_of};
+ghost use Rattle.ctype_classes.specs.Classes.{class_answer, numbered_answer};
 ghost use Rattle.ctype_classes.specs.Case.{image};
 ghost use Rattle.strfmon.specs.Money.{money};
 ghost use Rattle.strfmon.specs.Money as strfmon;
@@ -18,53 +20,72 @@ ghost use Rattle.shared_objects.specs.Objects.{ctype_in, numeric_in, monetary_in
 use crate::object::SharedObject;
 use ctype_classes::Ctype;
 use int_format::{IntFault, int_format};
-use langinfo::{Lconv, localeconv, nl_langinfo};
+use langinfo::{Categories, Lconv, item_text, localeconv, nl_langinfo};
 use lc_base::{ByteText, Category, Item};
 use messages_cat::Messages;
 use monetary_cat::Monetary;
 use numeric_cat::Numeric;
 use std::alloc::{AllocError, Global};
+use std::borrow::CowSlice;
 use strfmon::{Amount, MoneyFault, strfmon};
 use strftime_fields::{TimeFault, Tm, strftime};
 use strptime_fields::{Parsed, ScanFault, strptime};
 use time_cat::Time;
 
-impl SharedObject {
-    fn ctype(&self) -> &Ctype
-        ensures { result.now ≡ ctype_in self.now }
-    {
+impl Categories for SharedObject {
+    ghost ctype_of = { ctype_in };
+
+    ghost numeric_of = { numeric_in };
+
+    ghost monetary_of = { monetary_in };
+
+    ghost time_of = { time_in };
+
+    ghost messages_of = { messages_in };
+
+    fn ctype(&self) -> &Ctype {
         self.compiled(Category::Ctype).ctype()
     }
 
-    fn numeric(&self) -> &Numeric
-        ensures { result.now ≡ numeric_in self.now }
-    {
+    fn numeric(&self) -> &Numeric {
         self.compiled(Category::Numeric).numeric()
     }
 
-    fn monetary(&self) -> &Monetary
-        ensures { result.now ≡ monetary_in self.now }
-    {
+    fn monetary(&self) -> &Monetary {
         self.compiled(Category::Monetary).monetary()
     }
 
-    fn time(&self) -> &Time
-        ensures { result.now ≡ time_in self.now }
-    {
+    fn time(&self) -> &Time {
         self.compiled(Category::Time).time()
     }
 
-    fn messages(&self) -> &Messages
-        ensures { result.now ≡ messages_in self.now }
-    {
+    fn messages(&self) -> &Messages {
         self.compiled(Category::Messages).messages()
     }
+}
 
+impl SharedObject {
     /// Whether a character is of a class, where there is such a class (XSH iswctype).
     pub fn is(&self, class: &[u8], value: u32) -> Option<bool>
         ensures { result ≡ class_answer (ctype_in self.now).classes class.now value }
     {
         self.ctype().is(class, value)
+    }
+
+    /// The number of a class, where there is such a class (XSH wctype).
+    pub fn class_number(&self, class: &[u8]) -> Option<usize>
+        ensures number { result ≡ place_of (ctype_in self.now).classes class.now }
+        ensures same { IfSome result (λ n. (w : ℕ) → numbered_answer (ctype_in self.now).classes n w ≡ class_answer (ctype_in self.now).classes class.now w) }
+    {
+        self.ctype().class_number(class)
+    }
+
+    /// Whether a character is of the class with a number, where there is such a class (XSH
+    /// iswctype).
+    pub fn is_in(&self, number: usize, value: u32) -> Option<bool>
+        ensures { result ≡ numbered_answer (ctype_in self.now).classes number value }
+    {
+        self.ctype().is_in(number, value)
     }
 
     /// The upper case of a character (XSH towupper).
@@ -94,6 +115,17 @@ impl SharedObject {
             self.messages(),
             item,
         )
+    }
+
+    /// What an item is (XSH nl_langinfo), lent where no sign stands before it.
+    pub fn item_text(
+        &self,
+        alloc: Global,
+        item: Item,
+    ) -> Result<CowSlice<'_, u8, Global>, AllocError>
+        ensures { IfOk result (λ t. cow_slice_items t ≡ info (ctype_in self.now) (numeric_in self.now) (monetary_in self.now) (time_in self.now) (messages_in self.now) item) }
+    {
+        item_text(alloc, self, item)
     }
 
     /// How numbers and amounts are written (XSH localeconv).

@@ -1,0 +1,181 @@
+-- Answers, buffers, handles, items and fields, by their definitions.
+use Rattle.std.specs.Prelude.{◌≡◌, ℕ, pos, neg_ℤ, true, false, List, [], ◌∷◌, ◌++◌, replicate, codes, Some, None, Ok, Err, refl}
+use Rattle.std.specs.Fmt.{digits}
+use Rattle.lc_base.specs.declared.category.Category.TheVariants.{Time}
+use Rattle.lc_base.specs.declared.item.Item.TheVariants as items
+use Rattle.lc_base.specs.declared.place.Place.{Place}
+use Rattle.lc_base.specs.declared.reason.LinePart.TheVariants.{Directive}
+use Rattle.lc_base.specs.declared.reason.Reason.TheVariants.{BadLine}
+use Rattle.strfmon.specs.Refusals as money_refusals
+use Rattle.time_cat.specs.Times.{time_of}
+use Rattle.strptime_fields.specs.declared.fault.ScanFault.TheVariants.{Mismatch}
+use Rattle.langinfo.specs.declared.conv.Lconv.{Lconv}
+use Rattle.shared_objects.specs.Shared.{Shared}
+use Rattle.shared_objects.specs.Objects.{first_object}
+use Rattle.locale_c.specs.declared.answer.TheConstants.{OK, NO_OBJECT, TAKEN, BAD_TEXT, BAD_MASK, NO_DATA, TOO_SMALL, BAD_FORMAT, MISSING, BAD_AMOUNT, TM_RANGE, NO_ITEM, NO_CLASS, MISMATCH}
+use Rattle.locale_c.specs.declared.times.LoTm.{LoTm}
+use Rattle.locale_c.specs.declared.parsed.LoParsed.{LoParsed}
+use Rattle.locale_c.specs.Items.{item_of}
+use Rattle.locale_c.specs.Conv.{conv_text, lconv_of}
+use Rattle.locale_c.specs.Answers.{answered, told, of_object, by_object, fault_told, IsRead, into_handle, not_made, new_made, shared_made, number_told, class_told, item_told, amount_of, money_told, amounts_told, offset_of, tm_given, tm_told, fields_of, scan_told, scan_by}
+
+-- the POSIX object over a library without locales
+abbrev posix : Shared
+posix = first_object (record { locales = []; names = []; first = []; keys = []; native = 0 })
+
+-- ---- texts in buffers
+
+-- room for the text and its NUL, and what stands behind them
+fits : told (codes "xxxxxx") (codes "abc") ≡ (answered OK 3, codes "abc" ++ 0 ∷ codes "xx")
+fits = refl
+
+one_byte_too_few : told (codes "xxx") (codes "abc") ≡ (answered TOO_SMALL 0, codes "xxx")
+one_byte_too_few = refl
+
+-- an empty text has a NUL as well
+no_room_for_nul : told [] [] ≡ (answered TOO_SMALL 0, [])
+no_room_for_nul = refl
+
+-- ---- a text that is refused
+
+abbrev at : ℕ → ℕ → Place
+at line column = record { line = line; column = column }
+
+-- `n` is the length of the line, its newline included
+fault_line : fault_told (replicate 32 120) (at 2 1) (BadLine Directive) ≡ (answered BAD_TEXT 31, codes "refused: 2:1 BadLine directive\n" ++ 0 ∷ [])
+unfolding digits
+fault_line = refl
+
+fault_without_room : fault_told (replicate 31 120) (at 2 1) (BadLine Directive) ≡ (answered TOO_SMALL 0, replicate 31 120)
+unfolding digits
+fault_without_room = refl
+
+-- an object leaves the buffer as it was
+read_whole : IsRead (Ok posix) (answered OK 0) (Some posix) (record { line = 7; column = 7 }) (codes "x") (codes "x")
+read_whole = (refl, refl, refl)
+
+read_refused : IsRead (Err (at 2 1, BadLine Directive)) (answered TOO_SMALL 0) None (record { line = 2; column = 1 }) (codes "x") (codes "x")
+unfolding digits
+read_refused = (refl, refl, refl)
+
+-- ---- handles
+
+taken : into_handle (Some posix) (not_made NO_OBJECT 0) ≡ (answered TAKEN 0, Some posix)
+taken = refl
+
+without_base : into_handle None (new_made None 31 (codes "us")) ≡ (answered NO_OBJECT 0, None)
+without_base = refl
+
+bad_mask : new_made (Some posix) 32 (codes "POSIX") ≡ (answered BAD_MASK 0, None)
+bad_mask = refl
+
+whole_mask : new_made (Some posix) 31 (codes "POSIX") ≡ (answered OK 0, Some posix)
+whole_mask = refl
+
+-- `n` is the mask of the category
+no_data : new_made (Some posix) 24 (codes "us") ≡ (answered NO_DATA 8, None)
+no_data = refl
+
+shared : shared_made (Some posix) ≡ (answered OK 0, Some posix)
+shared = refl
+
+nothing_to_share : shared_made None ≡ (answered NO_OBJECT 0, None)
+nothing_to_share = refl
+
+-- ---- classes and items
+
+classes : class_told (Some true) ∷ class_told (Some false) ∷ class_told None ∷ number_told (Some 12) ∷ number_told None ∷ []
+    ≡ answered OK 1 ∷ answered OK 0 ∷ answered NO_CLASS 0 ∷ answered OK 12 ∷ answered NO_CLASS 0 ∷ []
+classes = refl
+
+without_object : by_object None (λ o. answered OK 1) ≡ answered NO_OBJECT 0
+without_object = refl
+
+text_without_object : of_object (codes "x") None (λ o. told (codes "x") []) ≡ (answered NO_OBJECT 0, codes "x")
+text_without_object = refl
+
+-- the first item, one within, and the last, by the order of <langinfo.h>
+numbered_items : item_of 0 ∷ item_of 1 ∷ item_of 7 ∷ item_of 54 ∷ item_of 55 ∷ []
+    ≡ Some items.Codeset ∷ Some items.DTFmt ∷ Some items.Day1 ∷ Some items.Crncystr ∷ None ∷ []
+unfolding item_of
+numbered_items = refl
+
+no_item : item_told (codes "x") posix None ≡ (answered NO_ITEM 0, codes "x")
+no_item = refl
+
+-- ---- amounts and times
+
+money_faults : money_told (codes "x") (Err (money_refusals.BadFormat 3)) ∷ money_told (codes "x") (Err (money_refusals.MissingAmount 3)) ∷ money_told (codes "x") (Err money_refusals.TooBig) ∷ []
+    ≡ (answered BAD_FORMAT 3, codes "x") ∷ (answered MISSING 3, codes "x") ∷ (answered TOO_SMALL 0, codes "x") ∷ []
+money_faults = refl
+
+-- a scale that is too large goes before a fault of the format
+scale_first : amounts_told (codes "x") posix (codes "%") (record { units = pos 1; scale = 19 } ∷ []) ≡ (answered BAD_AMOUNT 0, codes "x")
+scale_first = refl
+
+abbrev sunday : LoTm
+sunday = record { year = pos 2021; mon = pos 1; mday = pos 3; hour = pos 14; min = pos 5; sec = pos 6; wday = pos 0; yday = pos 2; has_offset = true; offset = pos 60 }
+
+unknown_offset : offset_of (record sunday { has_offset = false }) ≡ None
+unknown_offset = refl
+
+-- the number of a field, from 1; the offset is the ninth
+month_out_of_range : tm_told (codes "x") posix (codes "%") (tm_given (record sunday { mon = pos 13 }) []) ≡ (answered TM_RANGE 2, codes "x")
+unfolding time_of
+month_out_of_range = refl
+
+offset_out_of_range : tm_told (codes "x") posix (codes "%") (tm_given (record sunday { offset = pos 1440 }) []) ≡ (answered TM_RANGE 9, codes "x")
+unfolding time_of
+offset_out_of_range = refl
+
+-- a field that is not told is -1
+fields_told : fields_of (record { year = Some (pos 2021); mon = Some 1; mday = Some 3; hour = None; min = None; sec = None; wday = Some 0; yday = None })
+    ≡ record { year = pos 2021; mon = pos 1; mday = pos 3; hour = neg_ℤ (pos 1); min = neg_ℤ (pos 1); sec = neg_ℤ (pos 1); wday = pos 0; yday = neg_ℤ (pos 1) }
+fields_told = refl
+
+abbrev fives : LoParsed
+fives = record { year = pos 5; mon = pos 5; mday = pos 5; hour = pos 5; min = pos 5; sec = pos 5; wday = pos 5; yday = pos 5 }
+
+mismatch_keeps : scan_told fives (Err (Mismatch 4)) ≡ (answered MISMATCH 4, fives)
+mismatch_keeps = refl
+
+scan_without_object : scan_by fives None (codes "%d") (codes "7") ≡ (answered NO_OBJECT 0, fives)
+scan_without_object = refl
+
+-- ---- localeconv
+
+abbrev fields : Lconv
+fields = record {
+  decimal_point = codes ",";
+  thousands_sep = [];
+  grouping = 3 ∷ [];
+  int_curr_symbol = codes "EUR ";
+  currency_symbol = codes "E";
+  mon_decimal_point = codes ",";
+  mon_thousands_sep = codes ".";
+  mon_grouping = 3 ∷ 127 ∷ [];
+  positive_sign = [];
+  negative_sign = codes "-";
+  int_frac_digits = 2;
+  frac_digits = 127;
+  p_cs_precedes = 0;
+  p_sep_by_space = 1;
+  n_cs_precedes = 0;
+  n_sep_by_space = 1;
+  p_sign_posn = 3;
+  n_sign_posn = 4;
+  int_p_cs_precedes = 1;
+  int_n_cs_precedes = 1;
+  int_p_sep_by_space = 0;
+  int_n_sep_by_space = 0;
+  int_p_sign_posn = 2;
+  int_n_sign_posn = 1;
+}
+
+-- a NUL between two texts, and none behind the last
+ten_texts : conv_text fields ≡ codes "," ++ 0 ∷ 0 ∷ 3 ∷ 0 ∷ codes "EUR " ++ 0 ∷ codes "E" ++ 0 ∷ codes "," ++ 0 ∷ codes "." ++ 0 ∷ 3 ∷ 127 ∷ 0 ∷ 0 ∷ codes "-"
+ten_texts = refl
+
+lengths : (lconv_of fields).int_curr_symbol ∷ (lconv_of fields).currency_symbol ∷ (lconv_of fields).mon_grouping ∷ (lconv_of fields).positive_sign ∷ (lconv_of fields).n_sign_posn ∷ (lconv_of fields).int_n_sign_posn ∷ []
+    ≡ 4 ∷ 1 ∷ 2 ∷ 0 ∷ 4 ∷ 1 ∷ []
+lengths = refl

@@ -1,0 +1,114 @@
+-- Objects over a small library: what newlocale gives, and what is read of an object.
+use Rattle.std.proofs.Common.{ap}
+use Rattle.std.specs.Prelude.{◌≡◌, ℕ, pos, List, [], ◌∷◌, codes, None, Ok, Err, refl}
+use Rattle.lc_base.specs.declared.place.Place.{Place}
+use Rattle.lc_base.specs.declared.reason.Reason.{Reason}
+use Rattle.lc_base.specs.Reading.{Reads, ◌>>=◌}
+use Rattle.lc_base.specs.declared.category.Category.TheVariants.{Ctype, Time}
+use Rattle.monetary_cat.specs.Monetary as monetary
+use Rattle.time_cat.specs.Values as time
+use Rattle.mask_compose.specs.Parts.{Parts}
+use Rattle.compiled_categories.specs.Locale.{Locale, posix_locale}
+use Rattle.category_store.specs.Catalog.{Catalog}
+use Rattle.script_lang.specs.declared.bundle.Bundle.{Bundle}
+use Rattle.script_lang.specs.Accepted.{bundle_of}
+use Rattle.shared_objects.specs.Shared.{Shared}
+use Rattle.shared_objects.specs.Objects.{catalog_of, first_object, object_in, new_object, ctype_in, numeric_in, monetary_in, time_in, messages_in}
+
+-- a locale with the categories of a mask
+abbrev locale : List ℕ → ℕ → Locale
+locale name mask = record posix_locale { name = name; available = mask }
+
+-- a locale with all categories, and the native one, which has LC_NUMERIC alone
+abbrev library : Catalog
+library = record {
+  locales = locale (codes "us") 31 ∷ locale (codes "half") 2 ∷ [];
+  names = (codes "us", 1) ∷ (codes "half", 2) ∷ [];
+  first = (codes "us", 1) ∷ (codes "half", 2) ∷ [];
+  keys = [];
+  native = 2;
+}
+
+abbrev parts : ℕ → ℕ → ℕ → ℕ → ℕ → Parts
+parts c n m t g = record { ctype = c; numeric = n; monetary = m; time = t; messages = g }
+
+abbrev object : Parts → Shared
+object ps = record { library = library; object = ps }
+
+-- ---- a library that is read
+
+-- a bundle that is refused gives its own fault
+bundle_first : (text : List ℕ) (fault : Place × Reason) → bundle_of text ≡ Err fault → object_in text ≡ Err fault
+bundle_first text fault h = ap (λ (b : Reads Bundle). (b >>= catalog_of) >>= λ (l : Catalog). Ok (first_object l)) h
+
+-- no locale, whatever the threads and rounds of the script are
+no_blocks : (threads : List (List ℕ)) (rounds : ℕ) → catalog_of (record { charmaps = []; locales = []; later = []; catalogs = []; native = None; threads = threads; rounds = rounds; commands = [] })
+    ≡ Ok (record { locales = []; names = []; first = []; keys = []; native = 0 })
+no_blocks threads rounds = refl
+
+-- ---- newlocale
+
+-- the first object has the POSIX locale in each category
+first_is_posix : first_object library ≡ object (parts 0 0 0 0 0)
+first_is_posix = refl
+
+all_categories : new_object (first_object library) 31 (codes "us") ≡ Ok (object (parts 1 1 1 1 1))
+all_categories = refl
+
+-- a category outside of the mask keeps what the base has
+others_of_the_base : new_object (object (parts 1 1 0 1 0)) 2 (codes "half") ≡ Ok (object (parts 1 2 0 1 0))
+others_of_the_base = refl
+
+posix_by_name : new_object (object (parts 1 2 1 1 1)) 9 (codes "POSIX") ≡ Ok (object (parts 0 2 1 0 1))
+posix_by_name = refl
+
+-- the first category of the mask for which there is no data
+no_ctype : new_object (first_object library) 31 (codes "half") ≡ Err Ctype
+no_ctype = refl
+
+no_time : new_object (first_object library) 26 (codes "half") ≡ Err Time
+no_time = refl
+
+no_locale : new_object (first_object library) 24 (codes "de") ≡ Err Time
+no_locale = refl
+
+-- an empty mask asks for nothing, and an empty name for the native locale
+empty_mask : new_object (object (parts 1 2 0 1 0)) 0 (codes "de") ≡ Ok (object (parts 1 2 0 1 0))
+empty_mask = refl
+
+native : new_object (first_object library) 2 [] ≡ Ok (object (parts 0 2 0 0 0))
+native = refl
+
+-- each category has its own part of a mixed name
+mixed : new_object (first_object library) 19 (codes "LC_CTYPE=us;LC_NUMERIC=half;LC_MONETARY=de;LC_TIME=de;LC_MESSAGES=us") ≡ Ok (object (parts 1 2 0 0 1))
+mixed = refl
+
+-- ---- the categories of an object
+
+-- a locale that differs from the POSIX locale in each category
+abbrev marked : Locale
+marked = record posix_locale {
+  ctype = record { codeset = codes "marked"; classes = []; upper = []; lower = [] };
+  numeric = record { decimal_point = codes "marked"; thousands_sep = []; grouping = [] };
+  monetary = record monetary.posix_values { mon_grouping = pos 9 ∷ [] };
+  time = record time.posix_values { era_list = codes "marked" };
+  messages = record { yesexpr = codes "marked"; noexpr = [] };
+}
+
+abbrev with_marked : Parts → Shared
+with_marked ps = record { library = record { locales = marked ∷ []; names = []; first = []; keys = []; native = 0 }; object = ps }
+
+own_ctype : (ctype_in (with_marked (parts 1 0 0 0 0))).codeset ≡ codes "marked"
+own_ctype = refl
+
+own_numeric : (numeric_in (with_marked (parts 0 1 0 0 0))).decimal_point ≡ codes "marked"
+own_numeric = refl
+
+own_monetary : (monetary_in (with_marked (parts 0 0 1 0 0))).mon_grouping ≡ pos 9 ∷ []
+own_monetary = refl
+
+own_time : (time_in (with_marked (parts 0 0 0 1 0))).era_list ≡ codes "marked"
+own_time = refl
+
+own_messages : (messages_in (with_marked (parts 0 0 0 0 1))).yesexpr ≡ codes "marked"
+own_messages = refl
