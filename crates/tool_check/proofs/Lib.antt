@@ -1,0 +1,5 @@
+pub mod SectionLemmas
+pub mod FoundLemmas
+pub mod SummaryLemmas
+pub mod CheckedLemmas
+mod Examples

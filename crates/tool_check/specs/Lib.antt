@@ -1,0 +1,5 @@
+pub mod Sections
+pub mod Texts
+pub mod Found
+pub mod Summary
+pub mod Checked

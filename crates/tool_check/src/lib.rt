@@ -1,0 +1,10 @@
+//! Sources and charmaps that are checked, and what they have.
+#![tactic(auto)]
+
+mod checked;
+mod faults;
+mod sections;
+mod summary;
+mod texts;
+
+pub use checked::{Checking, check_file};

@@ -1,0 +1,172 @@
+//! What accepted files have.
+
+ghost use Rattle.std.specs.Prelude.{◌≡◌, ◌+◌, ◌≤◌, ◌^◌, ◌++◌, length, map, drop, OnOk, codes};
+ghost use Rattle.std.specs.List.{flat_map};
+ghost use Rattle.std.specs.Fmt.{decimal};
+ghost use Rattle.charmap_reader.specs.CodedSet.{set_name};
+ghost use Rattle.tool_check.specs.Summary.{row, accepted_line, body_text, section_row, count_below, is_in_class, class_count, class_row, standard_classes, charmap_summary, locale_summary, name_seen};
+
+use charmap_reader::Charset;
+use ctype_classes::Ctype;
+use keyword_lists::{Body, Section};
+use std::alloc::AllocError;
+use tool_words::push_number;
+
+/// The blanks between a name that is empty and what stands behind it.
+const BLANKS: &[u8] = b"            ";
+
+/// The classes that each locale has.
+const CLASSES: [&[u8]; 12] = [
+    b"upper", b"lower", b"alpha", b"digit", b"alnum", b"space", b"cntrl", b"punct", b"graph",
+    b"print", b"xdigit", b"blank",
+];
+
+/// Adds the summary of a charmap.
+pub fn push_charmap(output: &mut Vec<u8>, path: &[u8], charset: &Charset) -> Result<(), AllocError>
+    ensures { OnOk result (output.new.items ≡ output.old.items ++ charmap_summary path.now charset.now) }
+{
+    push_accepted(output, path)?;
+    push_charset(output, charset)
+}
+
+/// Adds the summary of a locale.
+pub fn push_locale(
+    output: &mut Vec<u8>,
+    path: &[u8],
+    sections: &[Section],
+    charset: &Charset,
+    ctype: &Ctype,
+) -> Result<(), AllocError>
+    ensures { OnOk result (output.new.items ≡ output.old.items ++ locale_summary path.now sections.now charset.now ctype.now.classes) }
+{
+    push_accepted(output, path)?;
+    push_sections(output, sections)?;
+    push_charset(output, charset)?;
+    push_standard_classes(output, ctype, charset)
+}
+
+/// Adds the line with which the summary of a file begins.
+fn push_accepted(output: &mut Vec<u8>, path: &[u8]) -> Result<(), AllocError>
+    ensures { OnOk result (output.new.items ≡ output.old.items ++ accepted_line path.now) }
+{
+    output.extend_from_slice(path)?;
+    output.extend_from_slice(b": accepted\n")
+}
+
+fn push_charset(output: &mut Vec<u8>, charset: &Charset) -> Result<(), AllocError>
+    ensures { OnOk result (output.new.items ≡ output.old.items ++ row (codes "charset") (set_name charset.now)) }
+{
+    push_name(output, b"charset")?;
+    output.extend_from_slice(charset.name())?;
+    output.extend_from_slice(b"\n")
+}
+
+/// Adds a name and the blanks behind it.
+fn push_name(output: &mut Vec<u8>, name: &[u8]) -> Result<(), AllocError>
+    ensures { OnOk result (output.new.items ≡ output.old.items ++ name.now ++ drop (length name.now) (codes "            ")) }
+{
+    output.extend_from_slice(name)?;
+    if name.len() < BLANKS.len() {
+        output.extend_from_slice(&BLANKS[name.len()..])?;
+    }
+    Ok(())
+}
+
+/// Adds a row for each section.
+fn push_sections(output: &mut Vec<u8>, sections: &[Section]) -> Result<(), AllocError>
+    ensures { OnOk result (output.new.items ≡ output.old.items ++ flat_map section_row sections.now) }
+{
+    for section in sections {
+        push_name(output, section.category.name())?;
+        push_body(output, &section.body)?;
+        output.push(b'\n')?;
+    }
+    Ok(())
+}
+
+/// Adds what a section says.
+fn push_body(output: &mut Vec<u8>, body: &Body) -> Result<(), AllocError>
+    ensures { OnOk result (output.new.items ≡ output.old.items ++ body_text body.now) }
+{
+    match body {
+        Body::Copy(_, name) => {
+            output.extend_from_slice(b"copy of ")?;
+            output.extend_from_slice(name.as_bytes())
+        }
+        Body::Entries(entries) => {
+            push_number(output, entries.len() as u64)?;
+            output.extend_from_slice(b" keywords")
+        }
+    }
+}
+
+/// Adds how many characters each class has that each locale has.
+#[tactic(auto, unfolding(crate::specs::Summary::standard_classes))]
+fn push_standard_classes(
+    output: &mut Vec<u8>,
+    ctype: &Ctype,
+    charset: &Charset,
+) -> Result<(), AllocError>
+    ensures { OnOk result (output.new.items ≡ output.old.items ++ flat_map (class_row charset.now ctype.now.classes) standard_classes) }
+{
+    push_classes(output, ctype, charset, &CLASSES)
+}
+
+/// Adds how many characters each of these classes has.
+fn push_classes(
+    output: &mut Vec<u8>,
+    ctype: &Ctype,
+    charset: &Charset,
+    classes: &[&[u8]],
+) -> Result<(), AllocError>
+    ensures { OnOk result (output.new.items ≡ output.old.items ++ flat_map (class_row charset.now ctype.now.classes) (map name_seen classes.now)) }
+{
+    for class in classes {
+        push_name(output, class)?;
+        push_number(output, class_count(ctype, charset, class))?;
+        output.push(b'\n')?;
+    }
+    Ok(())
+}
+
+/// How many characters a class has.
+fn class_count(ctype: &Ctype, charset: &Charset, class: &[u8]) -> u64
+    ensures { result ≡ class_count charset.now ctype.now.classes class.now }
+{
+    let mut count = 0;
+    let mut from = 0u32;
+    while let Some((first, last)) = charset.run_from(from) {
+        count += member_count(ctype, class, first, last);
+        match last.checked_add(1) {
+            Some(next) => from = next,
+            None => return count,
+        }
+    }
+    count
+}
+
+/// How many wide values of a run are in a class.
+fn member_count(ctype: &Ctype, class: &[u8], first: u32, last: u32) -> u64
+    requires { first ≤ last }
+    ensures is { count_below (is_in_class ctype.now.classes class.now) first + result ≡ count_below (is_in_class ctype.now.classes class.now) (last + 1) }
+    ensures few { first + result ≤ last + 1 }
+    ensures within { last + 1 ≤ 2 ^ 32 }
+{
+    let mut count = 0;
+    for value in first..last {
+        if is_in_class(ctype, class, value) {
+            count += 1;
+        }
+    }
+    if is_in_class(ctype, class, last) {
+        count += 1;
+    }
+    count
+}
+
+/// Whether a wide value is in a class.
+fn is_in_class(ctype: &Ctype, class: &[u8], value: u32) -> bool
+    ensures { result ≡ is_in_class ctype.now.classes class.now value }
+{
+    ctype.is(class, value).unwrap_or(false)
+}

@@ -1,0 +1,78 @@
+//! The commands as the parser of words takes them.
+
+use crate::rows::{ArgRow, COMMANDS, CommandRow, LOCALE_ARGS, Takes};
+use clap::{Arg, ArgAction, Command};
+use std::alloc::{AllocError, Global};
+
+/// The program, with all of its commands.
+pub fn tool_command<'a>(alloc: Global) -> Result<Command<'a>, AllocError> {
+    let program = Command::new(alloc, "locale_tool")
+        .version("1.0")
+        .about("Formats, reads and checks by locale sources")
+        .subcommand_required(true)
+        .arg_required_else_help(true);
+    with_commands(alloc, program, &COMMANDS)
+}
+
+/// A program with the commands of rows.
+fn with_commands<'a>(
+    alloc: Global,
+    program: Command<'a>,
+    rows: &[CommandRow],
+) -> Result<Command<'a>, AllocError> {
+    let mut program = program;
+    for row in rows {
+        program = program.subcommand(command_of(alloc, row)?)?;
+    }
+    Ok(program)
+}
+
+/// The command of a row.
+fn command_of<'a>(alloc: Global, row: &CommandRow) -> Result<Command<'a>, AllocError> {
+    let command = Command::new(alloc, row.name).about(row.about);
+    let command = if row.reads_locale {
+        with_args(alloc, command, &LOCALE_ARGS)?
+    } else {
+        command
+    };
+    with_args(alloc, command, row.args)
+}
+
+/// A command with the arguments of rows.
+fn with_args<'a>(
+    alloc: Global,
+    command: Command<'a>,
+    rows: &[ArgRow],
+) -> Result<Command<'a>, AllocError> {
+    let mut command = command;
+    for row in rows {
+        command = command.arg(arg_of(alloc, row))?;
+    }
+    Ok(command)
+}
+
+/// The argument of a row.
+fn arg_of<'a>(alloc: Global, row: &ArgRow) -> Arg<'a> {
+    let arg = Arg::new(alloc, row.name).help(row.help);
+    match row.takes {
+        Takes::Word => arg.value_name(row.name).required(true),
+        Takes::MaybeWord => arg.value_name(row.name),
+        Takes::Words => words_arg(arg.value_name(row.name)),
+        Takes::SomeWords => words_arg(arg.value_name(row.name))
+            .num_args(1..)
+            .required(true),
+        Takes::File(None) => arg.long(row.name).value_name("FILE"),
+        Takes::File(Some(letter)) => arg.long(row.name).value_name("FILE").short(letter),
+        Takes::Folders => arg
+            .long(row.name)
+            .value_name("DIR")
+            .action(ArgAction::Append),
+        Takes::Flag => arg.long(row.name).action(ArgAction::SetTrue),
+    }
+}
+
+fn words_arg<'a>(arg: Arg<'a>) -> Arg<'a> {
+    arg.num_args(0..)
+        .action(ArgAction::Append)
+        .allow_negative_numbers(true)
+}

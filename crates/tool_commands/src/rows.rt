@@ -1,0 +1,239 @@
+//! The table of commands.
+
+/// A command: what it is for, and its arguments.
+#[derive(Clone, Copy)]
+pub struct CommandRow {
+    pub name: &'static str,
+    pub about: &'static str,
+    /// Whether it reads a locale, and so has the options that say which.
+    pub reads_locale: bool,
+    pub args: &'static [ArgRow],
+}
+
+/// An argument of a command.
+#[derive(Clone, Copy)]
+pub struct ArgRow {
+    pub name: &'static str,
+    pub takes: Takes,
+    pub help: &'static str,
+}
+
+/// What an argument takes.
+#[derive(Clone, Copy)]
+pub enum Takes {
+    /// A word that has to be there.
+    Word,
+    /// A word that may be there.
+    MaybeWord,
+    /// Words, of which there may be any number.
+    Words,
+    /// Words, of which there is at least one.
+    SomeWords,
+    /// A file behind the argument's name, or behind a letter.
+    File(Option<char>),
+    /// A folder behind the argument's name, which may be given again.
+    Folders,
+    /// Nothing.
+    Flag,
+}
+
+const CHARMAP: ArgRow = ArgRow {
+    name: "charmap",
+    takes: Takes::File(None),
+    help: "The charmap in which sources are read; without it they are in UTF-8",
+};
+
+const PATH: ArgRow = ArgRow {
+    name: "path",
+    takes: Takes::Folders,
+    help: "Where the file of a locale is that a `copy` names; may be given again",
+};
+
+const CHARACTERS: ArgRow = ArgRow {
+    name: "CHARACTER",
+    takes: Takes::SomeWords,
+    help: "A character, as itself, as U+00E9 or as a number",
+};
+
+const BUNDLES: ArgRow = ArgRow {
+    name: "BUNDLE",
+    takes: Takes::SomeWords,
+    help: "A bundle with a script",
+};
+
+const EXPLAIN: ArgRow = ArgRow {
+    name: "explain",
+    takes: Takes::Flag,
+    help: "Prints the command behind each line, and counts refusals",
+};
+
+const STRICT: ArgRow = ArgRow {
+    name: "strict",
+    takes: Takes::Flag,
+    help: "Ends with status 1 where a command is refused",
+};
+
+/// The options that say which locale is read.
+pub const LOCALE_ARGS: [ArgRow; 3] = [
+    ArgRow {
+        name: "locale",
+        takes: Takes::File(Some('l')),
+        help: "The source of the locale; without it the POSIX locale is read",
+    },
+    CHARMAP,
+    PATH,
+];
+
+/// The commands.
+pub const COMMANDS: [CommandRow; 13] = [
+    CommandRow {
+        name: "money",
+        about: "Prints amounts of money by a format of strfmon",
+        reads_locale: true,
+        args: &[
+            ArgRow {
+                name: "FORMAT",
+                takes: Takes::Word,
+                help: "A format, as `%n` or `%i`",
+            },
+            ArgRow {
+                name: "AMOUNT",
+                takes: Takes::Words,
+                help: "An amount, as 1234.56",
+            },
+        ],
+    },
+    CommandRow {
+        name: "time",
+        about: "Prints a time by a format of strftime",
+        reads_locale: true,
+        args: &[
+            ArgRow {
+                name: "FORMAT",
+                takes: Takes::Word,
+                help: "A format, as `%c`",
+            },
+            ArgRow {
+                name: "WHEN",
+                takes: Takes::MaybeWord,
+                help: "A time, as 2024-06-19T17:30:00-04:00[America/New_York] or `now`, which is the default",
+            },
+        ],
+    },
+    CommandRow {
+        name: "number",
+        about: "Prints whole numbers by a format of printf",
+        reads_locale: true,
+        args: &[
+            ArgRow {
+                name: "FORMAT",
+                takes: Takes::Word,
+                help: "A format, as `%'d`",
+            },
+            ArgRow {
+                name: "NUMBER",
+                takes: Takes::Words,
+                help: "A whole number",
+            },
+        ],
+    },
+    CommandRow {
+        name: "info",
+        about: "Prints items of nl_langinfo",
+        reads_locale: true,
+        args: &[ArgRow {
+            name: "ITEM",
+            takes: Takes::Words,
+            help: "An item, as D_FMT; without one, all of them with their names",
+        }],
+    },
+    CommandRow {
+        name: "conv",
+        about: "Prints how numbers and amounts are written, a field a line",
+        reads_locale: true,
+        args: &[],
+    },
+    CommandRow {
+        name: "parse",
+        about: "Prints the fields of a time that a text has by a format of strptime",
+        reads_locale: true,
+        args: &[
+            ArgRow {
+                name: "FORMAT",
+                takes: Takes::Word,
+                help: "A format, as `%x`",
+            },
+            ArgRow {
+                name: "TEXT",
+                takes: Takes::Word,
+                help: "The text",
+            },
+        ],
+    },
+    CommandRow {
+        name: "class",
+        about: "Prints whether characters are in a class",
+        reads_locale: true,
+        args: &[
+            ArgRow {
+                name: "NAME",
+                takes: Takes::Word,
+                help: "A class, as alpha",
+            },
+            CHARACTERS,
+        ],
+    },
+    CommandRow {
+        name: "upper",
+        about: "Prints the upper case of characters",
+        reads_locale: true,
+        args: &[CHARACTERS],
+    },
+    CommandRow {
+        name: "lower",
+        about: "Prints the lower case of characters",
+        reads_locale: true,
+        args: &[CHARACTERS],
+    },
+    CommandRow {
+        name: "check",
+        about: "Checks locale sources, and charmaps, which have a line `CHARMAP`",
+        reads_locale: false,
+        args: &[
+            ArgRow {
+                name: "FILE",
+                takes: Takes::SomeWords,
+                help: "A source or a charmap",
+            },
+            CHARMAP,
+            PATH,
+            ArgRow {
+                name: "summary",
+                takes: Takes::Flag,
+                help: "Prints what each file has that is accepted",
+            },
+        ],
+    },
+    CommandRow {
+        name: "explain",
+        about: "Prints the rule of a reason, what breaks it and what keeps it",
+        reads_locale: false,
+        args: &[ArgRow {
+            name: "REASON",
+            takes: Takes::SomeWords,
+            help: "A reason or a refusal, as BadNumber or OverLimit list",
+        }],
+    },
+    CommandRow {
+        name: "run",
+        about: "Runs the scripts of bundles, the threads of a round beside each other",
+        reads_locale: false,
+        args: &[BUNDLES, EXPLAIN, STRICT],
+    },
+    CommandRow {
+        name: "serial",
+        about: "Runs the scripts of bundles on one thread",
+        reads_locale: false,
+        args: &[BUNDLES, EXPLAIN, STRICT],
+    },
+];

@@ -1,0 +1,10 @@
+//! What each reason and refusal says: the rule, an example that breaks it, and one that keeps it.
+#![tactic(auto)]
+
+mod explain;
+mod names;
+mod table;
+
+pub use explain::{explained, rule_of};
+pub use names::name_of;
+pub use table::{ROW_COUNT, Row, row_at};

@@ -1,0 +1,78 @@
+//! What the files give.
+
+use crate::sized::{are_sized, is_sized};
+use crate::sources::Sources;
+use category_store::Library;
+use charmap_reader::{Charset, read_charmap};
+use keyword_lists::Section;
+use lc_base::{Block, Limit, List, Place, Reason, TextFault};
+use locale_reader::read_locale;
+use std::alloc::Global;
+
+/// What is refused of files that are more, or larger, than readers take.
+const TOO_MANY: TextFault = TextFault::At(
+    Place { line: 1, column: 1 },
+    Reason::OverLimit(Limit::Locales),
+);
+
+/// The most locales of a library.
+const LOCALE_LIMIT: usize = 64;
+
+/// The charset of the first charmap; without one UTF-8, and that of the POSIX locale where there is
+/// no source.
+pub fn charset_of(alloc: Global, sources: &Sources) -> Result<Charset, TextFault> {
+    match sources.charmaps.as_slice() {
+        [block, ..] => listed_charset(alloc, block),
+        [] if sources.locales.is_empty() => Ok(Charset::portable(alloc)?),
+        [] => Ok(Charset::utf8(alloc)?),
+    }
+}
+
+fn listed_charset(alloc: Global, block: &Block) -> Result<Charset, TextFault> {
+    if !is_sized(block) {
+        return Err(TOO_MANY);
+    }
+    read_charmap(
+        alloc,
+        block.name.as_bytes(),
+        block.text.as_bytes(),
+        block.first_line,
+    )
+}
+
+/// The compiled locales of files: the i-th source has the number i, from 1.
+pub fn library_of(alloc: Global, sources: &Sources) -> Result<Library, TextFault> {
+    sized_library(alloc, &sources.charmaps, &sources.locales)
+}
+
+/// The compiled locales of blocks, if they are of the sizes that readers take.
+#[tactic(auto, using(crate::proofs::SizeLemmas::none_later_sized))]
+pub fn sized_library(
+    alloc: Global,
+    charmaps: &List<Block>,
+    locales: &List<Block>,
+) -> Result<Library, TextFault> {
+    if locales.len() > LOCALE_LIMIT {
+        return Err(TOO_MANY);
+    }
+    if !are_sized(charmaps.as_slice()) || !are_sized(locales.as_slice()) {
+        return Err(TOO_MANY);
+    }
+    let later = List::of(Vec::new(alloc));
+    Library::build(alloc, charmaps, locales, &later, None)
+}
+
+/// The sections of the first source.
+pub fn sections_of(
+    alloc: Global,
+    sources: &Sources,
+    charset: &Charset,
+) -> Result<List<Section>, TextFault> {
+    match sources.locales.as_slice() {
+        [block, ..] if is_sized(block) => {
+            let read = read_locale(alloc, block.text.as_bytes(), block.first_line, charset)?;
+            Ok(read.sections)
+        }
+        _ => Ok(List::of(Vec::new(alloc))),
+    }
+}

@@ -1,0 +1,16 @@
+//! Locale sources and charmaps that stand in files, and the locales that they give.
+#![tactic(auto)]
+
+mod compiled;
+mod copies;
+mod files;
+mod loading;
+mod shown;
+mod sized;
+mod sources;
+
+pub use compiled::{charset_of, library_of, sections_of, sized_library};
+pub use files::{FILE_LIMIT, file_text};
+pub use loading::{Wanted, load};
+pub use shown::{fault_message, fault_problem, text_problem};
+pub use sources::Sources;

@@ -1,0 +1,189 @@
+//! The files that a command reads.
+
+use crate::compiled::charset_of;
+use crate::copies::copied_names;
+use crate::files::file_text;
+use crate::shown::fault_problem;
+use crate::sources::Sources;
+use charmap_reader::Charset;
+use lc_base::{Block, ByteText};
+use locale_sources::is_posix;
+use std::alloc::{AllocError, Global};
+use std::fs;
+use std::rt::Files;
+use tool_words::Problem;
+
+/// The most files of locales.
+const FILES_MOST: usize = 64;
+
+/// The files that the words of a command name.
+#[derive(Clone, Copy)]
+pub struct Wanted<'a> {
+    /// The source of a locale.
+    pub locale: Option<&'a str>,
+    pub charmap: Option<&'a str>,
+    /// Where the files of copied locales are looked for.
+    pub folders: &'a [&'a str],
+}
+
+/// Reads the files of a command: its charmap, its locale, and those of the locales that are copied.
+pub fn load<R: Files>(rt: &R, alloc: Global, wanted: &Wanted<'_>) -> Result<Sources, Problem> {
+    let mut sources = Sources::new(alloc);
+    match load_into(rt, alloc, wanted, &mut sources) {
+        Ok(()) => Ok(sources),
+        Err(problem) => Err(problem),
+    }
+}
+
+fn load_into<R: Files>(
+    rt: &R,
+    alloc: Global,
+    wanted: &Wanted<'_>,
+    sources: &mut Sources,
+) -> Result<(), Problem> {
+    add_charmap(rt, alloc, wanted.charmap, sources)?;
+    add_first(rt, alloc, wanted.locale, sources)?;
+    match charset_of(alloc, sources) {
+        Ok(charset) => add_copies(rt, alloc, wanted.folders, &charset, sources),
+        Err(fault) => Err(fault_problem(alloc, sources, fault)),
+    }
+}
+
+fn add_charmap<R: Files>(
+    rt: &R,
+    alloc: Global,
+    path: Option<&str>,
+    sources: &mut Sources,
+) -> Result<(), Problem> {
+    match path {
+        Some(path) => {
+            let text = file_text(rt, alloc, path)?;
+            Ok(sources.add_charmap(alloc, path, text)?)
+        }
+        None => Ok(()),
+    }
+}
+
+fn add_first<R: Files>(
+    rt: &R,
+    alloc: Global,
+    path: Option<&str>,
+    sources: &mut Sources,
+) -> Result<(), Problem> {
+    match path {
+        Some(path) => add_file(rt, alloc, path, sources),
+        None => Ok(()),
+    }
+}
+
+/// Adds the file of a locale.
+fn add_file<R: Files>(
+    rt: &R,
+    alloc: Global,
+    path: &str,
+    sources: &mut Sources,
+) -> Result<(), Problem> {
+    let charset = charset_name(alloc, sources.charmaps.as_slice())?;
+    let text = file_text(rt, alloc, path)?;
+    Ok(sources.add_locale(alloc, path, charset.as_bytes(), text)?)
+}
+
+/// The name of the charset in which sources are read.
+fn charset_name(alloc: Global, charmaps: &[Block]) -> Result<ByteText, AllocError> {
+    match charmaps {
+        [] => ByteText::of(alloc, b"UTF-8"),
+        [block, ..] => ByteText::of(alloc, block.name.as_bytes()),
+    }
+}
+
+/// Adds the files of the locales that are copied, and of those that they copy in turn.
+fn add_copies<R: Files>(
+    rt: &R,
+    alloc: Global,
+    folders: &[&str],
+    charset: &Charset,
+    sources: &mut Sources,
+) -> Result<(), Problem> {
+    for number in 0..FILES_MOST {
+        let names = names_at(alloc, sources.locales.as_slice(), number, charset)?;
+        add_named(rt, alloc, folders, names.as_slice(), sources)?;
+    }
+    Ok(())
+}
+
+/// The names of the locales that the source with a number copies.
+fn names_at(
+    alloc: Global,
+    locales: &[Block],
+    number: usize,
+    charset: &Charset,
+) -> Result<Vec<ByteText>, AllocError> {
+    match locales.get(number) {
+        Some(block) => copied_names(alloc, block, charset),
+        None => Ok(Vec::new(alloc)),
+    }
+}
+
+/// Adds the files of locales that are not there yet.
+fn add_named<R: Files>(
+    rt: &R,
+    alloc: Global,
+    folders: &[&str],
+    names: &[ByteText],
+    sources: &mut Sources,
+) -> Result<(), Problem> {
+    for name in names {
+        if !is_there(sources.locales.as_slice(), name.as_bytes()) {
+            add_found(rt, alloc, folders, name.as_bytes(), sources)?;
+        }
+    }
+    Ok(())
+}
+
+/// Whether a name needs no file.
+fn is_there(locales: &[Block], name: &[u8]) -> bool {
+    is_posix(name) || locales.len() >= FILES_MOST || has_name(locales, name)
+}
+
+fn has_name(locales: &[Block], name: &[u8]) -> bool {
+    for block in locales {
+        if block.name.as_bytes() == name {
+            return true;
+        }
+    }
+    false
+}
+
+/// Adds the file of a locale from the first folder that has it.
+fn add_found<R: Files>(
+    rt: &R,
+    alloc: Global,
+    folders: &[&str],
+    name: &[u8],
+    sources: &mut Sources,
+) -> Result<(), Problem> {
+    for folder in folders {
+        let path = path_in(alloc, folder, name)?;
+        if is_file(rt, path.as_str()) {
+            return add_file(rt, alloc, path.as_str(), sources);
+        }
+    }
+    Ok(())
+}
+
+fn is_file<R: Files>(rt: &R, path: &str) -> bool {
+    match fs::metadata(rt, path) {
+        Ok(found) => found.is_file(),
+        Err(_) => false,
+    }
+}
+
+/// The path of a file in a folder; just the folder where the name is no text.
+fn path_in(alloc: Global, folder: &str, name: &[u8]) -> Result<String, AllocError> {
+    let mut path = String::from_str(alloc, folder)?;
+    if let Ok(name) = str::from_utf8(name) {
+        path.push_str("/")?;
+        path.push_str(name)?;
+    }
+    Ok(path)
+}

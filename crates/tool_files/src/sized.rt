@@ -1,0 +1,24 @@
+//! Blocks of the sizes that readers take.
+
+ghost use Rattle.std.specs.Prelude.{◌≡◌, true, All, IsTrue};
+ghost use Rattle.source_blocks.specs.Blocks.{IsSized};
+
+use lc_base::Block;
+
+/// Whether readers take a block.
+pub fn is_sized(block: &Block) -> bool
+    ensures { IsTrue result → IsSized block.now }
+{
+    block.text.as_bytes().len() < 2_147_483_648 && block.first_line < 2_147_483_648
+}
+
+/// Whether readers take each block.
+#[tactic(auto, using(crate::proofs::SizeLemmas::none_sized, crate::proofs::SizeLemmas::one_more_sized))]
+pub fn are_sized(blocks: &[Block]) -> bool
+    ensures { IsTrue result → All IsSized blocks.now }
+{
+    match blocks {
+        [] => true,
+        [first, rest @ ..] => is_sized(first) && are_sized(rest),
+    }
+}

@@ -1,0 +1,47 @@
+-- What commands print, on small examples.
+use Rattle.std.proofs.Common.{◌≡◌, ℕ, List, [], ◌∷◌, ◌++◌, map, true, Some, None, Ok, Err, refl}
+use Rattle.std.specs.Prelude.{codes}
+use Rattle.script_words.specs.Tables.{items_table}
+use Rattle.tool_reads.specs.Answers.{WrongWord, NoAnswer, Defined, each_of}
+use Rattle.tool_reads.specs.Printed.{item_names, field, number_field, sizes_text, zeros, class_text}
+
+-- without words each item of the table is printed, in its order
+all_items : item_names ≡ map (λ row. row.0) items_table
+unfolding items_table
+all_items = refl
+
+a_field : field (codes "decimal_point") (codes "\",\"") ≡ codes "decimal_point=\",\"" ++ 10 ∷ []
+unfolding field
+a_field = refl
+
+an_absent_field : number_field (codes "wday") None ≡ []
+an_absent_field = refl
+
+no_sizes : sizes_text [] ≡ []
+no_sizes = refl
+
+-- `U+E9` is the name U00E9, `U+1F600` the name U0001F600
+zeros_of_two : zeros 2 ≡ 48 ∷ 48 ∷ []
+zeros_of_two = refl
+
+zeros_of_five : zeros 5 ≡ 48 ∷ 48 ∷ 48 ∷ []
+zeros_of_five = refl
+
+a_class : class_text (codes "A") (Some true) ≡ Ok (codes "A yes" ++ 10 ∷ [])
+a_class = refl
+
+no_class : class_text (codes "A") None ≡ Err NoAnswer
+no_class = refl
+
+-- one-byte words alone
+abbrev short : List ℕ → Defined (List ℕ)
+short [] = Ok []
+short (c ∷ []) = Ok (c ∷ [])
+short (c ∷ d ∷ cs) = Err WrongWord
+
+two_words : each_of short ((1 ∷ []) ∷ (2 ∷ []) ∷ []) ≡ Ok (1 ∷ 2 ∷ [])
+two_words = refl
+
+-- one wrong word, and nothing is printed
+wrong_behind_right : each_of short ((1 ∷ []) ∷ (1 ∷ 1 ∷ []) ∷ []) ≡ Err WrongWord
+wrong_behind_right = refl

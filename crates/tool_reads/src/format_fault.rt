@@ -1,0 +1,76 @@
+//! Formats and texts that are refused.
+
+ghost use Rattle.std.specs.Prelude.{◌∷◌, [], ◌++◌, Ok};
+ghost use Rattle.tool_reads.specs.Answers.{Answers, IsOf, NoAnswer};
+
+use lc_base::ByteText;
+use std::alloc::{AllocError, Global};
+use tool_explain::rule_of;
+use tool_words::{Problem, Spot, push_fault};
+
+/// The most bytes that a command prints of a format.
+pub const TEXT_MOST: usize = 1_048_576;
+
+/// The problem of a word of the command line at one of its bytes, counted from 0.
+pub fn spot_problem(alloc: Global, name: &[u8], word: &[u8], at: usize, reason: &str) -> Problem
+    ensures { IsOf result NoAnswer }
+{
+    match spot_message(alloc, name, word, at, reason) {
+        Ok(message) => Problem::Refused(message),
+        Err(_) => Problem::Memory,
+    }
+}
+
+fn spot_message(
+    alloc: Global,
+    name: &[u8],
+    word: &[u8],
+    at: usize,
+    reason: &str,
+) -> Result<ByteText, AllocError> {
+    let mut message = Vec::new(alloc);
+    let spot = Spot {
+        file: name,
+        line: 1,
+        column: column_of(at),
+        source: word,
+    };
+    push_fault(
+        &mut message,
+        &spot,
+        reason.as_bytes(),
+        rule_of(reason).as_bytes(),
+    )?;
+    Ok(ByteText::from_vec(message))
+}
+
+/// The column of a byte that is counted from 0.
+fn column_of(at: usize) -> u32 {
+    match u32::try_from(at) {
+        Ok(at) => at.saturating_add(1),
+        Err(_) => u32::MAX,
+    }
+}
+
+/// The problem of a text that is too long.
+pub fn size_problem(alloc: Global) -> Problem
+    ensures { IsOf result NoAnswer }
+{
+    let message = ByteText::of(
+        alloc,
+        b"locale_tool: TooBig: the text has more than 1048576 bytes\n",
+    );
+    match message {
+        Ok(message) => Problem::Refused(message),
+        Err(_) => Problem::Memory,
+    }
+}
+
+/// A text with a newline behind it.
+pub fn with_newline(text: ByteText) -> Result<ByteText, Problem>
+    ensures { Answers (λ line. line) result (Ok (text ++ 10 ∷ [])) }
+{
+    let mut bytes = text.into_vec();
+    bytes.push(b'\n')?;
+    Ok(ByteText::from_vec(bytes))
+}

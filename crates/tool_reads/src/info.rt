@@ -1,0 +1,207 @@
+//! The items of a locale.
+
+ghost use Rattle.std.specs.Prelude.{◌≡◌, ◌++◌, Ok, IfOk, IfErr, OnOk, map};
+ghost use Rattle.langinfo.specs.Items.{info};
+ghost use Rattle.script_out.specs.Output.{quoted};
+ghost use Rattle.script_words.specs.Tables.{first_named, items_table};
+ghost use Rattle.tool_reads.specs.Answers.{Answers, Tells, beside, each_of, value_or_wrong};
+ghost use Rattle.tool_reads.specs.Printed.{field, info_lines, item_names, named_line, plain_line};
+
+use crate::quoting::push_quoted;
+use crate::wrong_word::usage_problem;
+use ctype_classes::Ctype;
+use langinfo::nl_langinfo;
+use lc_base::{ByteText, Item};
+use messages_cat::Messages;
+use monetary_cat::Monetary;
+use numeric_cat::Numeric;
+use script_words::item_named;
+use std::alloc::{AllocError, Global};
+use time_cat::Time;
+use tool_words::Problem;
+
+/// What an item is.
+const WANTED: &[u8] =
+    b"there is no such item; `locale_tool info` prints all of them with their names";
+
+/// The names of all items.
+const NAMES: [&str; 55] = [
+    "CODESET",
+    "RADIXCHAR",
+    "THOUSEP",
+    "YESEXPR",
+    "NOEXPR",
+    "CRNCYSTR",
+    "D_T_FMT",
+    "D_FMT",
+    "T_FMT",
+    "T_FMT_AMPM",
+    "AM_STR",
+    "PM_STR",
+    "DAY_1",
+    "DAY_2",
+    "DAY_3",
+    "DAY_4",
+    "DAY_5",
+    "DAY_6",
+    "DAY_7",
+    "ABDAY_1",
+    "ABDAY_2",
+    "ABDAY_3",
+    "ABDAY_4",
+    "ABDAY_5",
+    "ABDAY_6",
+    "ABDAY_7",
+    "MON_1",
+    "MON_2",
+    "MON_3",
+    "MON_4",
+    "MON_5",
+    "MON_6",
+    "MON_7",
+    "MON_8",
+    "MON_9",
+    "MON_10",
+    "MON_11",
+    "MON_12",
+    "ABMON_1",
+    "ABMON_2",
+    "ABMON_3",
+    "ABMON_4",
+    "ABMON_5",
+    "ABMON_6",
+    "ABMON_7",
+    "ABMON_8",
+    "ABMON_9",
+    "ABMON_10",
+    "ABMON_11",
+    "ABMON_12",
+    "ERA",
+    "ALT_DIGITS",
+    "ERA_D_FMT",
+    "ERA_T_FMT",
+    "ERA_D_T_FMT",
+];
+
+/// The categories of a locale.
+#[derive(Clone, Copy)]
+pub struct Categories<'a> {
+    pub ctype: &'a Ctype,
+    pub numeric: &'a Numeric,
+    pub monetary: &'a Monetary,
+    pub time: &'a Time,
+    pub messages: &'a Messages,
+}
+
+/// The text of each item in a line; without names each item as `NAME="TEXT"` (XSH nl_langinfo).
+///
+/// A word that names no item is a wrong word.
+pub fn info_lines(
+    alloc: Global,
+    locale: &Categories<'_>,
+    names: &[&str],
+) -> Result<ByteText, Problem>
+    ensures { Answers (λ lines. lines) result (info_lines (λ item. info locale.entry.now.ctype.now locale.entry.now.numeric.now locale.entry.now.monetary.now locale.entry.now.time.now locale.entry.now.messages.now item) (map (λ name. name.now) names.entry.now)) }
+{
+    match names {
+        [] => all_named(alloc, locale),
+        _ => plain_lines(alloc, locale, names),
+    }
+}
+
+fn all_named(alloc: Global, locale: &Categories<'_>) -> Result<ByteText, Problem>
+    ensures { Answers (λ lines. lines) result (each_of (named_line (λ item. info locale.entry.now.ctype.now locale.entry.now.numeric.now locale.entry.now.monetary.now locale.entry.now.time.now locale.entry.now.messages.now item)) item_names) }
+{
+    named_lines(alloc, locale, &NAMES)
+}
+
+#[tactic(auto, using(crate::proofs::AnswerLemmas::one_more_line, crate::proofs::AnswerLemmas::no_line, crate::proofs::AnswerLemmas::last_line))]
+fn plain_lines(alloc: Global, locale: &Categories<'_>, names: &[&str]) -> Result<ByteText, Problem>
+    ensures { Answers (λ lines. lines) result (each_of (plain_line (λ item. info locale.entry.now.ctype.now locale.entry.now.numeric.now locale.entry.now.monetary.now locale.entry.now.time.now locale.entry.now.messages.now item)) (map (λ name. name.now) names.entry.now)) }
+{
+    let mut lines = Vec::new(alloc);
+    for name in names {
+        push_plain(alloc, &mut lines, locale, name)?;
+    }
+    Ok(ByteText::from_vec(lines))
+}
+
+#[tactic(auto, using(crate::proofs::AnswerLemmas::told, crate::proofs::AnswerLemmas::passed_on))]
+fn push_plain(
+    alloc: Global,
+    lines: &mut Vec<u8>,
+    locale: &Categories<'_>,
+    name: &str,
+) -> Result<(), Problem>
+    ensures added { OnOk result (beside lines.old.items (plain_line (λ item. info locale.entry.now.ctype.now locale.entry.now.numeric.now locale.entry.now.monetary.now locale.entry.now.time.now locale.entry.now.messages.now item) name.now) ≡ Ok lines.new.items) }
+    ensures told { IfErr result (λ problem. Tells problem (plain_line (λ item. info locale.entry.now.ctype.now locale.entry.now.numeric.now locale.entry.now.monetary.now locale.entry.now.time.now locale.entry.now.messages.now item) name.now)) }
+{
+    let item = item_of(alloc, name)?;
+    let text = text_of(alloc, locale, item)?;
+    lines.extend_from_slice(text.as_bytes())?;
+    lines.extend_from_slice(b"\n")?;
+    Ok(())
+}
+
+#[tactic(auto, using(crate::proofs::AnswerLemmas::one_more_line, crate::proofs::AnswerLemmas::no_line, crate::proofs::AnswerLemmas::last_line))]
+fn named_lines(alloc: Global, locale: &Categories<'_>, names: &[&str]) -> Result<ByteText, Problem>
+    ensures { Answers (λ lines. lines) result (each_of (named_line (λ item. info locale.entry.now.ctype.now locale.entry.now.numeric.now locale.entry.now.monetary.now locale.entry.now.time.now locale.entry.now.messages.now item)) (map (λ name. name.now) names.entry.now)) }
+{
+    let mut lines = Vec::new(alloc);
+    for name in names {
+        push_named(alloc, &mut lines, locale, name)?;
+    }
+    Ok(ByteText::from_vec(lines))
+}
+
+#[tactic(auto, using(crate::proofs::AnswerLemmas::told, crate::proofs::AnswerLemmas::passed_on))]
+fn push_named(
+    alloc: Global,
+    lines: &mut Vec<u8>,
+    locale: &Categories<'_>,
+    name: &str,
+) -> Result<(), Problem>
+    ensures added { OnOk result (beside lines.old.items (named_line (λ item. info locale.entry.now.ctype.now locale.entry.now.numeric.now locale.entry.now.monetary.now locale.entry.now.time.now locale.entry.now.messages.now item) name.now) ≡ Ok lines.new.items) }
+    ensures told { IfErr result (λ problem. Tells problem (named_line (λ item. info locale.entry.now.ctype.now locale.entry.now.numeric.now locale.entry.now.monetary.now locale.entry.now.time.now locale.entry.now.messages.now item) name.now)) }
+{
+    let item = item_of(alloc, name)?;
+    let text = text_of(alloc, locale, item)?;
+    push_quoted_field(lines, name.as_bytes(), text.as_bytes())?;
+    Ok(())
+}
+
+/// Adds a line `NAME="TEXT"`.
+#[tactic(auto, unfolding(crate::specs::Printed::field))]
+pub fn push_quoted_field(lines: &mut Vec<u8>, name: &[u8], text: &[u8]) -> Result<(), AllocError>
+    ensures { OnOk result (lines.new.items ≡ lines.old.items ++ field name.now (quoted text.now)) }
+{
+    lines.extend_from_slice(name)?;
+    lines.extend_from_slice(b"=")?;
+    push_quoted(lines, text)?;
+    lines.extend_from_slice(b"\n")
+}
+
+/// The item that a word names.
+#[tactic(auto, using(crate::proofs::AnswerLemmas::told))]
+fn item_of(alloc: Global, name: &str) -> Result<Item, Problem>
+    ensures { Answers (λ item. item) result (value_or_wrong (first_named items_table name.now)) }
+{
+    match item_named(name.as_bytes()) {
+        Some(item) => Ok(item),
+        None => Err(usage_problem(alloc, name.as_bytes(), WANTED)),
+    }
+}
+
+fn text_of(alloc: Global, locale: &Categories<'_>, item: Item) -> Result<ByteText, AllocError>
+    ensures { IfOk result (λ text. text ≡ info locale.entry.now.ctype.now locale.entry.now.numeric.now locale.entry.now.monetary.now locale.entry.now.time.now locale.entry.now.messages.now item) }
+{
+    nl_langinfo(
+        alloc,
+        locale.ctype,
+        locale.numeric,
+        locale.monetary,
+        locale.time,
+        locale.messages,
+        item,
+    )
+}

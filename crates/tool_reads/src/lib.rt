@@ -1,0 +1,22 @@
+//! What the commands of the tool print that read a locale.
+#![tactic(auto)]
+
+mod characters;
+mod conv;
+mod format_fault;
+mod info;
+mod money;
+mod number;
+mod parse;
+mod quoting;
+mod time;
+mod wrong_word;
+
+pub use characters::{class_lines, lower_lines, upper_lines};
+pub use conv::conv_lines;
+pub use info::{Categories, info_lines};
+pub use money::money_line;
+pub use number::number_line;
+pub use parse::parsed_lines;
+pub use time::time_line;
+pub use wrong_word::usage_problem;

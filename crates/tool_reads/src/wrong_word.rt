@@ -1,0 +1,38 @@
+//! Words of the command line that are wrong.
+
+ghost use Rattle.std.specs.Prelude.{◌≡◌};
+ghost use Rattle.tool_reads.specs.Answers.{IsOf, WrongWord, NoAnswer};
+
+use lc_base::ByteText;
+use std::alloc::{AllocError, Global};
+use tool_words::Problem;
+
+/// The problem of a word, with what is wanted.
+pub fn usage_problem(alloc: Global, word: &[u8], wanted: &[u8]) -> Problem
+    ensures { IsOf result WrongWord }
+{
+    match message_of(alloc, word, wanted) {
+        Ok(message) => Problem::Usage(message),
+        Err(_) => Problem::Memory,
+    }
+}
+
+/// The problem of a word that the locale does not know.
+pub fn unknown_problem(alloc: Global, word: &[u8], reason: &[u8]) -> Problem
+    ensures { IsOf result NoAnswer }
+{
+    match message_of(alloc, word, reason) {
+        Ok(message) => Problem::Refused(message),
+        Err(_) => Problem::Memory,
+    }
+}
+
+fn message_of(alloc: Global, word: &[u8], wanted: &[u8]) -> Result<ByteText, AllocError> {
+    let mut message = Vec::new(alloc);
+    message.extend_from_slice(b"locale_tool: ")?;
+    message.extend_from_slice(word)?;
+    message.extend_from_slice(b": ")?;
+    message.extend_from_slice(wanted)?;
+    message.extend_from_slice(b"\n")?;
+    Ok(ByteText::from_vec(message))
+}

@@ -1,0 +1,4 @@
+pub mod CommandLemmas
+pub mod ExplainedLemmas
+pub mod WrittenLemmas
+mod Examples

@@ -1,0 +1,4 @@
+pub mod Commands
+pub mod Explained
+pub mod Played
+pub mod Laws

@@ -1,0 +1,148 @@
+//! Times as they are written.
+
+use crate::clock::now_tm;
+use crate::fields::{civil_tm, zoned_tm};
+use jiff::Zoned;
+use jiff::civil::DateTime;
+use jiff::tz::TimeZoneDatabase;
+use lc_base::ByteText;
+use std::alloc::{AllocError, Global};
+use std::rt::{Env, Files};
+use std::time::Clock;
+use time_cat::Tm;
+use tool_words::Problem;
+
+/// What a time is.
+const WANTED: &[u8] =
+    b": a time is `now`, or as `2024-06-19`, `2024-06-19T17:30:00`, `2024-06-19T17:30:00-04:00` or `2024-06-19T17:30:00-04:00[America/New_York]`\n";
+
+/// The fields of a time: of `now`, of a text as RFC 9557 has it, or of one without an offset.
+pub fn tm_of<R: Files + Env + Clock + AllocGlobal + Clone + Drop>(
+    rt: &R,
+    when: &str,
+) -> Result<Tm, Problem> {
+    if when.as_bytes() == b"now".as_slice() {
+        return now_tm(rt);
+    }
+    if when.as_bytes().ends_with(b"]") {
+        return named_zone_tm(rt, when);
+    }
+    written_tm(rt.alloc(), when)
+}
+
+/// A time with a zone in brackets.
+fn named_zone_tm<R: Files + Env + AllocGlobal + Clone + Drop>(
+    rt: &R,
+    when: &str,
+) -> Result<Tm, Problem> {
+    match TimeZoneDatabase::from_env(rt) {
+        Ok(database) => zoned_text_tm(rt.alloc(), &database, when, when),
+        Err(_) => zoned_text_tm(rt.alloc(), &TimeZoneDatabase::new(rt.alloc()), when, when),
+    }
+}
+
+/// The fields of a text with a zone, which stands for a word of the command line.
+fn zoned_text_tm(
+    alloc: Global,
+    database: &TimeZoneDatabase,
+    text: &str,
+    word: &str,
+) -> Result<Tm, Problem> {
+    match Zoned::parse(database, text) {
+        Ok(time) => zoned_tm(alloc, &time),
+        Err(_) => Err(when_problem(alloc, word.as_bytes())),
+    }
+}
+
+/// A time without brackets, with an offset or without one.
+fn written_tm(alloc: Global, when: &str) -> Result<Tm, Problem> {
+    match offset_of(when.as_bytes()) {
+        Some(offset) => offset_tm(alloc, when, offset),
+        None => match when.parse::<DateTime>() {
+            Ok(time) => civil_tm(alloc, time, None, ""),
+            Err(_) => Err(when_problem(alloc, when.as_bytes())),
+        },
+    }
+}
+
+/// A time with an offset, which is its zone.
+fn offset_tm(alloc: Global, when: &str, offset: &[u8]) -> Result<Tm, Problem> {
+    let text = with_zone(alloc, when, offset)?;
+    let database = TimeZoneDatabase::new(alloc);
+    zoned_text_tm(alloc, &database, text.as_str(), when)
+}
+
+/// A time with its offset as a zone in brackets.
+fn with_zone(alloc: Global, when: &str, offset: &[u8]) -> Result<String, AllocError> {
+    let mut text = String::from_str(alloc, when)?;
+    text.push_str("[")?;
+    match str::from_utf8(offset) {
+        Ok(zone) => text.push_str(zone)?,
+        Err(_) => text.push_str("UTC")?,
+    }
+    text.push_str("]")?;
+    Ok(text)
+}
+
+/// The offset that a time ends with; `UTC` for a `Z`.
+fn offset_of(when: &[u8]) -> Option<&[u8]> {
+    match when {
+        [.., b'Z' | b'z'] => Some(b"UTC"),
+        _ => sign_on(when),
+    }
+}
+
+/// The offset of a date and a clock: `+04`, `+0400`, `+04:00` or `+04:00:00`.
+fn sign_on(when: &[u8]) -> Option<&[u8]> {
+    if !has_clock(when) {
+        return None;
+    }
+    tail_of(when, 9)
+        .or(tail_of(when, 6))
+        .or(tail_of(when, 5))
+        .or(tail_of(when, 3))
+}
+
+fn has_clock(when: &[u8]) -> bool {
+    for byte in when {
+        if is_separator(*byte) {
+            return true;
+        }
+    }
+    false
+}
+
+/// The last bytes, so many of them, if a sign begins them.
+fn tail_of(when: &[u8], size: usize) -> Option<&[u8]> {
+    let at = when.len().checked_sub(size)?;
+    let tail = &when[at..];
+    match tail {
+        [sign, ..] if is_sign(*sign) => Some(tail),
+        _ => None,
+    }
+}
+
+/// Whether a byte stands between a date and a clock.
+fn is_separator(byte: u8) -> bool {
+    byte == b'T' || byte == b't' || byte == b' '
+}
+
+fn is_sign(byte: u8) -> bool {
+    byte == b'+' || byte == b'-'
+}
+
+/// The problem of a word that is no time.
+pub fn when_problem(alloc: Global, word: &[u8]) -> Problem {
+    match when_message(alloc, word) {
+        Ok(message) => Problem::Usage(message),
+        Err(_) => Problem::Memory,
+    }
+}
+
+fn when_message(alloc: Global, word: &[u8]) -> Result<ByteText, AllocError> {
+    let mut message = Vec::new(alloc);
+    message.extend_from_slice(b"locale_tool: ")?;
+    message.extend_from_slice(word)?;
+    message.extend_from_slice(WANTED)?;
+    Ok(ByteText::from_vec(message))
+}

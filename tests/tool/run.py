@@ -1,0 +1,195 @@
+#!/usr/bin/env python3
+"""run.py WORK [PROGRAM]: runs the tool on the cases of the file `cases`, in a folder WORK, and compares both
+streams and the status. With PROGRAM, a built one, it also runs what a try does not: standard output that is
+full, words that are no text, and the count on a terminal. Without it the tool is built once, unproved. Prints
+what differs, and a line of counts; the status is 1 where one differs."""
+import os
+import pty
+import re
+import shutil
+import subprocess
+import sys
+import threading
+import time
+
+HERE = os.path.dirname(os.path.abspath(__file__))
+CRATE = f"{HERE}/../../crates/locale_tool"
+
+
+class Case:
+    """The words of a run, and what it has to write to each stream: lines, or parts that have to stand there."""
+
+    def __init__(self, name, status, words=(), messages=()):
+        self.name, self.status = name, int(status)
+        self.words, self.output, self.messages = [*words], [], [*messages]
+        self.output_parts, self.message_parts = [], []
+
+    def fault(self, status, output, told):
+        """What differs; None where nothing does."""
+        if status != self.status:
+            return f"status {status} in place of {self.status}"
+        if not is_right(output, self.output, self.output_parts):
+            return "other output"
+        if not is_right(told, self.messages, self.message_parts):
+            return "other messages"
+        return None
+
+
+def is_right(written, wanted, parts):
+    text = written.decode(errors="replace")
+    return all(it in text for it in parts) and (bool(parts) or text == lines(wanted).decode())
+
+
+def cases_of(path):
+    cases = []
+    for line in open(path, encoding="utf-8").read().splitlines():
+        if line.startswith("#"):
+            continue
+        if line.startswith("@ "):
+            cases.append(Case(*line[2:].split(" ")))
+        elif line.startswith(">"):
+            cases[-1].output.append(line[1:])
+        elif line.startswith("<"):
+            cases[-1].output_parts.append(line[1:])
+        elif line.startswith("!"):
+            cases[-1].messages.append(line[1:])
+        elif line.startswith("~"):
+            cases[-1].message_parts.append(line[1:])
+        else:
+            cases[-1].words.append(line)
+    return cases
+
+
+def lines(of):
+    return "".join(f"{it}\n" for it in of).encode()
+
+
+def show(name, fault, output=b"", told=b""):
+    print(f"tool case {name}: {fault}")
+    sys.stdout.write(output.decode(errors="replace") + told.decode(errors="replace"))
+
+
+def run_built(program, cases, work):
+    """The names of the cases that differ, of the built program."""
+    wrong = []
+    for case in cases:
+        ended = subprocess.run([program, *case.words], cwd=work, capture_output=True, timeout=120)
+        fault = case.fault(ended.returncode, ended.stdout, ended.stderr)
+        if fault:
+            wrong.append(case.name)
+            show(case.name, fault, ended.stdout, ended.stderr)
+    return wrong
+
+
+def run_unproved(cases, work):
+    """The same, of a build without proofs, which is named `program`: without a file NAME.stdout both streams of
+    a case are printed."""
+    folder = f"{work}/tool_cases"
+    os.makedirs(folder)
+    for case in cases:
+        open(f"{folder}/{case.name}", "w").close()
+        with open(f"{folder}/{case.name}.args", "wb") as it:
+            it.write(lines(case.words))
+    words = ["rt", "try", "--steps", "1", "--cases", folder]
+    for name in sorted(os.listdir(f"{work}/files")):
+        words += ["--data", f"files/{name}={work}/files/{name}"]
+    said = subprocess.run(words, cwd=CRATE, capture_output=True)
+    outputs = dict(re.findall(rb"^== (\w+)\n(.*?)(?=^== \w+\n|\Z)", said.stdout, re.M | re.S))
+    told, came = b"", {}
+    for line in said.stderr.splitlines(keepends=True):
+        found = re.match(rb"case=(\w+) run=ended status=(\d+) ", line)
+        if found:
+            came[found[1].decode()] = int(found[2]), outputs.get(found[1], b""), told
+        told = b"" if line.startswith(b"case=") else told + line
+    if not came:
+        print(said.stderr.decode(errors="replace")[-3000:])
+        return [case.name for case in cases]
+    wrong = []
+    for case in cases:
+        status, *texts = came.get(case.name, (None, b"", b""))
+        got = status, *(it.replace(b"Usage: program", b"Usage: locale_tool") for it in texts)
+        fault = case.fault(*got)
+        if fault:
+            wrong.append(case.name)
+            show(case.name, fault, *got[1:])
+    return wrong
+
+
+def status_on_full_device(program, work):
+    with open("/dev/full", "wb") as full:
+        ended = subprocess.run([program, "conv"], cwd=work, stdout=full, stderr=subprocess.PIPE)
+    return ended.returncode, ended.stderr
+
+
+def status_of_no_text(program, work):
+    ended = subprocess.run([program, b"\xff"], cwd=work, capture_output=True)
+    return ended.returncode, ended.stderr
+
+
+def feed(path, text):
+    """Gives a text to each reader of a pipe, two thirds of a second late."""
+    while True:
+        with open(path, "wb") as pipe:
+            time.sleep(0.7)
+            pipe.write(text)
+        # so that the reader meets the end before the pipe is opened again
+        time.sleep(1)
+
+
+def told_of_slow_files(program, work, is_terminal):
+    """What goes to standard error while two files are checked that take more than a second."""
+    slow = f"{work}/slow_{is_terminal}"
+    os.mkfifo(slow)
+    text = b"LC_TIME\nEND LC_TIME\n"
+    threading.Thread(target=feed, args=(slow, text), daemon=True).start()
+    here, there = pty.openpty() if is_terminal else os.pipe()
+    run = subprocess.Popen([program, "check", slow, slow, "files/base"], cwd=work, stderr=there)
+    os.close(there)
+    told = b""
+    while True:
+        try:
+            read = os.read(here, 4096)
+        except OSError:
+            break
+        if not read:
+            break
+        told += read
+    return run.wait(), told
+
+
+def run_streams(program, work):
+    """The names of what differs where a stream is full, words are no text, or work is long."""
+    wrong = []
+    wanted = {
+        "full_device": (status_on_full_device(program, work), (3, b"locale_tool: standard output could not be written\n")),
+        "no_text": (status_of_no_text(program, work), (2, b"locale_tool: a word is no UTF-8 text\n")),
+        "no_terminal": (told_of_slow_files(program, work, False), (0, b"")),
+    }
+    for name, (came, want) in wanted.items():
+        if came != want:
+            wrong.append(name)
+            show(name, came)
+    status, told = told_of_slow_files(program, work, True)
+    if status != 0 or b"2 of 3 files" not in told or not told.endswith(b"\r\x1b[K"):
+        wrong.append("terminal")
+        show("terminal", (status, told))
+    return wrong, len(wanted) + 1
+
+
+def main(work, program=None):
+    cases = cases_of(f"{HERE}/cases")
+    os.makedirs(work, exist_ok=True)
+    shutil.copytree(f"{HERE}/files", f"{work}/files")
+    with open(f"{work}/files/large", "wb") as it:
+        it.write(b"%" * 20_000_000)
+    cases.append(Case("large_file", 1, ["money", "-l", "files/large", "%n", "1"], ["locale_tool: files/large: it has more than 16777216 bytes"]))
+    count, wrong = len(cases), []
+    if program:
+        wrong, more = run_streams(program, work)
+        count += more
+    wrong += run_built(program, cases, work) if program else run_unproved(cases, work)
+    print(f"tool: {count - len(wrong)} of {count} cases")
+    return 1 if wrong else 0
+
+
+sys.exit(main(*sys.argv[1:]))
