@@ -1,5 +1,4 @@
 pub mod Longer
 pub mod Calls
 pub mod Refusals
-pub mod Rounds
 pub mod Examples

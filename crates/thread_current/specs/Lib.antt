@@ -2,4 +2,3 @@ pub mod Seen
 pub mod Thread
 pub mod Causes
 pub mod Mine
-pub mod Rounds

@@ -4,11 +4,7 @@
 mod held;
 mod locales;
 mod mine;
-#[cfg(test)]
-mod rows;
 mod shared;
-#[cfg(test)]
-mod tests;
 
 pub use held::Held;
 pub use locales::{Ask, Locales};

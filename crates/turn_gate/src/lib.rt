@@ -8,11 +8,7 @@ mod open;
 mod rule;
 mod seat;
 mod steps;
-#[cfg(test)]
-mod tests;
 mod turns;
-#[cfg(test)]
-mod waking;
 
 pub use entry::Entry;
 pub use machine::Machine;

@@ -3,11 +3,10 @@ ghost use Rattle.std.specs.Prelude.{◌≡◌, ℕ, ◌+◌, ◌*◌, ◌<◌, �
 ghost use Rattle.std.specs.List.{range_with_len};
 ghost use Rattle.turn_gate.specs.Callers.{IsSeatOf};
 ghost use Rattle.handle_table.specs.Table.{IsOpening};
-ghost use Rattle.thread_current.specs.declared.tests.TheConstants.{ENTRIES};
+ghost use Rattle.thread_tests.specs.declared.threads.TheConstants.{ENTRIES};
 ghost use Rattle.thread_current.specs.Thread.{IsThreadOf, first_thread};
-ghost use Rattle.thread_current.specs.Rounds.{MayMake};
+ghost use Rattle.thread_tests.specs.Rounds.{MayMake};
 
-use crate::{Locales, Mine, Shared};
 use handle_table::{Named, Table};
 use lc_base::{CATEGORIES, List, Mask};
 use mask_compose::{Object, Offer, Part};
@@ -15,6 +14,7 @@ use std::alloc::{AllocError, Global};
 use std::sync::Wait;
 use std::test::Fail;
 use std::thread::{Threads, join};
+use thread_current::{Locales, Mine, Shared};
 use turn_gate::Seat;
 
 /// How many objects each thread makes.

@@ -3,7 +3,7 @@ use Rattle.std.proofs.Common.{◌≡◌, ℕ, ◌+◌, ◌≤◌, length, refl, 
 use Rattle.turn_gate.specs.Callers.{Gate}
 use Rattle.handle_table.specs.Entry.{Op, Reply, Setting}
 use Rattle.thread_current.specs.Thread.{Thread, Answered, SawMore, KeepsHolds, first_thread}
-use Rattle.thread_current.specs.Rounds.{MayMake}
+use Rattle.thread_tests.specs.Rounds.{MayMake}
 
 pub starts : (gate : Gate Setting) (n left : ℕ) → left ≤ gate.terms.quota → MayMake gate left (first_thread gate n)
 starts gate n left fits = record { thread = (refl, refl); quota = omega arith; empty = λ h. refl }

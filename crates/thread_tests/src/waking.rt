@@ -1,16 +1,16 @@
 //! The test that a release wakes those who sleep.
 ghost use Rattle.std.specs.Prelude.{◌≡◌, ◌<◌, length};
 ghost use Rattle.turn_gate.specs.Callers.{IsSeatOf, first_caller};
-ghost use Rattle.turn_gate.specs.declared.waking.TheConstants.{CALLERS};
+ghost use Rattle.thread_tests.specs.declared.waking.TheConstants.{CALLERS};
 
-use crate::tests::{close_four, four_of};
-use crate::{Machine, Seat, Turns};
+use crate::turns::{close_four, four_of};
 use std::alloc::Global;
 use std::sync::atomic::{AtomicU64, Ordering};
 use std::sync::{Arc, Wait};
 use std::test::Fail;
 use std::thread;
 use std::thread::{Threads, join};
+use turn_gate::{Machine, Seat, Turns};
 
 /// How many callers there are.
 const CALLERS: u32 = 4;
@@ -25,7 +25,7 @@ struct Holder {
 
 impl Machine for Holder {
     ghost use Rattle.std.specs.Prelude.{◌≡◌, ◌<◌, length};
-    ghost use Rattle.turn_gate.specs.declared.waking.TheConstants.{CALLERS};
+    ghost use Rattle.thread_tests.specs.declared.waking.TheConstants.{CALLERS};
 
     type Op = ();
 

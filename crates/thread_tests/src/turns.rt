@@ -4,12 +4,12 @@ ghost use Rattle.std.specs.Prelude.{map};
 ghost use Rattle.std.specs.List.{range_with_len};
 ghost use Rattle.turn_gate.specs.Callers.{IsSeatOf, first_caller};
 
-use crate::{Machine, Seat, Turns};
 use lc_base::List;
 use std::alloc::{AllocError, Global};
 use std::sync::Wait;
 use std::test::Fail;
 use std::thread::{Threads, join};
+use turn_gate::{Machine, Seat, Turns};
 
 /// A register, whose calls write a number and reply with the one before. Its version counts the
 /// calls that changed it.

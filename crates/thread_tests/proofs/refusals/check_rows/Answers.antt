@@ -1,6 +1,6 @@
 use Rattle.std.proofs.Common.{◌+◌, ◌-◌, ◌*◌, arith}
-use Rattle.thread_current.proofs.Rounds.{makes_fewer}
-use Rattle.thread_current.proofs.rows.check_rows.Goals as goal
+use Rattle.thread_tests.proofs.Rounds.{makes_fewer}
+use Rattle.thread_tests.proofs.refusals.check_rows.Goals as goal
 
 pub refusal-why-requires-clause-may : goal.refusal-why-requires-clause-may
 refusal-why-requires-clause-may g c =

@@ -3,10 +3,9 @@ ghost use Rattle.std.specs.Prelude.{◌≡◌, ℕ, ◌+◌, ◌<◌, ◌≤◌,
 ghost use Rattle.std.specs.List.{range_with_len};
 ghost use Rattle.handle_table.specs.Table.{IsOpening};
 ghost use Rattle.thread_current.specs.Thread.{first_thread};
-ghost use Rattle.thread_current.specs.Rounds.{MayMake};
+ghost use Rattle.thread_tests.specs.Rounds.{MayMake};
 
-use crate::tests::{Number, offered};
-use crate::{Fault, Mine, Shared};
+use crate::threads::{Number, offered};
 use handle_table::{Handle, Named, Refusal};
 use lc_base::{Category, List, Mask};
 use mask_compose::{Object, Offer};
@@ -14,6 +13,7 @@ use std::alloc::{AllocError, Global};
 use std::process::Abort;
 use std::sync::Wait;
 use std::test::Fail;
+use thread_current::{Fault, Mine, Shared};
 
 // Three names: the POSIX locale, one with all categories, and one with numbers alone.
 fn three_names(alloc: Global) -> Result<List<Offer<Number>>, AllocError>

@@ -1,7 +1,7 @@
 use Rattle.std.proofs.Common.{ℕ, ◌+◌, arith}
-use Rattle.thread_current.specs.Rounds.{MayMake}
-use Rattle.thread_current.proofs.Rounds.{makes_fewer}
-use Rattle.thread_current.proofs.tests.round.Goals as goal
+use Rattle.thread_tests.specs.Rounds.{MayMake}
+use Rattle.thread_tests.proofs.Rounds.{makes_fewer}
+use Rattle.thread_tests.proofs.threads.round.Goals as goal
 
 pub select-selected-requires : goal.select-selected-requires
 select-selected-requires g c =

@@ -1,7 +1,7 @@
 use Rattle.std.proofs.Common.{◌+◌, ◌-◌, ◌*◌, ◌∙◌, arith}
-use Rattle.thread_current.specs.Rounds.{MayMake}
-use Rattle.thread_current.proofs.Rounds.{makes_fewer}
-use Rattle.thread_current.proofs.tests.make_all.Goals as goal
+use Rattle.thread_tests.specs.Rounds.{MayMake}
+use Rattle.thread_tests.proofs.Rounds.{makes_fewer}
+use Rattle.thread_tests.proofs.threads.make_all.Goals as goal
 
 pub loop-i-preserved : goal.loop-i-preserved
 loop-i-preserved g c =

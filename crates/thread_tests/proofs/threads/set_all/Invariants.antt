@@ -1,6 +1,6 @@
 use Rattle.std.proofs.Common.{◌≡◌, ◌-◌}
-use Rattle.thread_current.specs.Rounds.{MayMake}
-use Rattle.thread_current.proofs.tests.set_all.Given as goal
+use Rattle.thread_tests.specs.Rounds.{MayMake}
+use Rattle.thread_tests.proofs.threads.set_all.Given as goal
 
 abbrev pub invariant-loop-i : goal.invariant-loop-i
 invariant-loop-i g l = MayMake l.shared (20001 - l.i) l.mine × (l.mine.number ≡ l.fn.mine.number)
