@@ -9,7 +9,7 @@ use Rattle.lc_base.specs.Reading.{Reads, ◌>>=◌}
 use Rattle.charmap_reader.specs.CodedSet.{CodedSet}
 use Rattle.keyword_lists.specs.declared.source.Value.{Value}
 use Rattle.keyword_lists.specs.declared.source.Value.TheVariants.{Chars}
-use Rattle.locale_reader.specs.declared.keywords.Element.{Element}
+use Rattle.keyword_table.specs.declared.row.Element.{Element}
 use Rattle.locale_reader.specs.Values.{Placed, one_character, is_dots, range_end, members, followed, element, several}
 use Rattle.locale_reader.specs.Steps.{member, first_member}
 

@@ -8,8 +8,7 @@ use Rattle.src_lines.specs.Words.{first_word}
 use Rattle.src_lines.specs.Places.{Logical, start, closes_line}
 use Rattle.charmap_reader.specs.CodedSet.{CodedSet}
 use Rattle.keyword_lists.specs.declared.source.Section.{Section}
-use Rattle.locale_reader.specs.Keywords.{category_named}
-use Rattle.locale_reader.specs.Source.{with_section, closed_at, section_from, outside, sections_of}
+use Rattle.locale_reader.specs.Source.{category_named, with_section, closed_at, section_from, outside, sections_of}
 
 -- the place of an end, counted from the first line of the text
 none_from : (k : ℕ) (o : Option ℕ) → None ≡ option_map (λ (n : ℕ). k + n) o → o ≡ None

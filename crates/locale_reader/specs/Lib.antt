@@ -1,6 +1,5 @@
 pub use Rattle.lc_base.specs.Lines
 pub use Rattle.lc_base.specs.Reading
-pub mod Keywords
 pub mod Values
 pub mod Steps
 pub mod Opened

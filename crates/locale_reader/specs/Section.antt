@@ -9,18 +9,18 @@ use Rattle.src_lines.specs.declared.line.Line.{Line}
 use Rattle.src_lines.specs.Words.{first_word}
 use Rattle.src_lines.specs.Places.{Logical}
 use Rattle.src_lines.specs.Tokens.{tokens}
-use Rattle.charmap_reader.specs.Portable.{Name, first_named}
+use Rattle.charmap_reader.specs.Portable.{Name}
 use Rattle.charmap_reader.specs.CodedSet.{CodedSet}
 use Rattle.keyword_lists.specs.declared.source.Body.{Body}
-use Rattle.locale_reader.specs.declared.keywords.Operands.{Operands}
-use Rattle.locale_reader.specs.declared.keywords.Operands.TheVariants.{Copied, Characters, One, Several, PassedOver}
-use Rattle.locale_reader.specs.Keywords.{keywords}
+use Rattle.keyword_table.specs.declared.row.Operands.{Operands}
+use Rattle.keyword_table.specs.declared.row.Operands.TheVariants.{Copied, Characters, One, Several, PassedOver}
+use Rattle.keyword_table.specs.LookUp.{takes_of}
 use Rattle.locale_reader.specs.Opened.{Opened, nothing, is_copy, is_charclass, is_given, is_begun, is_declared, with_entry, body_of}
 use Rattle.locale_reader.specs.Values.{word, element, one, several, members}
 
 -- what a keyword takes: that of the table, or for a declared class characters
 abbrev pub operands_of : Category → Opened → Name → Option Operands
-operands_of category s name = option_or (first_named (keywords category) name) (if is_declared s name then Some Characters else None)
+operands_of category s name = option_or (takes_of category name) (if is_declared s name then Some Characters else None)
 
 -- what a line adds whose keyword takes these operands
 unfoldable pub taken : CodedSet → Opened → Line → Operands → Reads Opened

@@ -1,10 +1,12 @@
 -- Locale sources: the keyword lists of their sections, or the first broken rule (XBD 7.3).
-use Rattle.std.specs.Prelude.{ℕ, zero, suc, ◌+◌, Bool, ◌==◌, List, [], ◌∷◌, ◌++◌, take, position, Option, Some, None, Ok, Err, if◌then◌else◌}
+use Rattle.std.specs.Prelude.{ℕ, zero, suc, ◌+◌, Bool, ◌==◌, List, [], ◌∷◌, ◌++◌, find, take, position, Option, Some, None, Ok, Err, if◌then◌else◌}
 use Rattle.std.specs.List.{list_any}
+use Rattle.std.specs.Str.{bytes_eq}
 use Rattle.lc_base.specs.declared.place.Place.{Place}
 use Rattle.lc_base.specs.declared.category.Category.{Category}
 use Rattle.lc_base.specs.declared.reason.Reason.{Reason}
 use Rattle.lc_base.specs.declared.reason.Reason.TheVariants.{NoEnd, SectionTwice, UnknownKeyword}
+use Rattle.lc_base.specs.Categories.{categories, category_name}
 use Rattle.lc_base.specs.Mask.{category_bit}
 use Rattle.lc_base.specs.Reading.{Reads, ◌>>=◌}
 use Rattle.src_lines.specs.declared.signs.Kind.TheVariants.{Locale}
@@ -12,11 +14,15 @@ use Rattle.src_lines.specs.Words.{first_word, second_word}
 use Rattle.src_lines.specs.Places.{Logical, start, closes_line}
 use Rattle.src_lines.specs.Logical.{ends_head, front}
 use Rattle.src_lines.specs.Tokens.{tokens}
+use Rattle.charmap_reader.specs.Portable.{Name}
 use Rattle.charmap_reader.specs.CodedSet.{CodedSet}
 use Rattle.keyword_lists.specs.declared.source.Section.{Section}
 use Rattle.keyword_lists.specs.declared.source.LocaleSource.{LocaleSource}
-use Rattle.locale_reader.specs.Keywords.{category_named}
 use Rattle.locale_reader.specs.Section.{body}
+
+-- the category of a name
+abbrev pub category_named : Name → Option Category
+category_named name = find (λ c. bytes_eq (category_name c) name) categories
 
 -- whether a line opens a section: one word that begins with LC_
 abbrev pub opens_section : Logical → Bool

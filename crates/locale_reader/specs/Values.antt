@@ -17,9 +17,9 @@ use Rattle.charmap_reader.specs.CodedSet.{CodedSet, named, encoded, valued}
 use Rattle.src_lines.specs.Pieces.{only_bytes}
 use Rattle.keyword_lists.specs.declared.source.Value.{Value}
 use Rattle.keyword_lists.specs.declared.source.Value.TheVariants.{Text, Number, Chars, Pair}
+use Rattle.keyword_table.specs.declared.row.Element.{Element}
+use Rattle.keyword_table.specs.declared.row.Element.TheVariants.{CasePair, Word, Quote, Whole}
 use Rattle.locale_reader.specs.declared.text.TheConstants.{TEXT_LIMIT}
-use Rattle.locale_reader.specs.declared.keywords.Element.{Element}
-use Rattle.locale_reader.specs.declared.keywords.Element.TheVariants.{CasePair, Word, Quote, Whole}
 
 -- an operand with the place of its first byte
 abbrev pub Placed : Type 0

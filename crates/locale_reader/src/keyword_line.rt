@@ -8,11 +8,11 @@ ghost use Rattle.locale_reader.specs.Opened.{is_copy, nothing};
 ghost use Rattle.locale_reader.specs.Section.{operands_of, taken, allowed, is_passed_over, keyword_line, keyword_lines, copies_category, body};
 
 use crate::character::members;
-use crate::keywords::{Operands, keyword_operands};
 use crate::opened::{Opened, is_charclass, is_copy};
 use crate::value::{copied_name, one, several};
 use charmap_reader::Charset;
 use keyword_lists::{Body, Values};
+use keyword_table::{Operands, takes_of};
 use lc_base::{Category, Reason, TextFault};
 use src_lines::{Line, Lines};
 use std::alloc::Global;
@@ -21,7 +21,7 @@ use std::alloc::Global;
 fn operands_of(category: Category, opened: &Opened, name: &[u8]) -> Option<Operands>
     ensures { result ≡ operands_of category opened.now name.now }
 {
-    match keyword_operands(category, name) {
+    match takes_of(category, name) {
         Some(operands) => Some(operands),
         None if opened.is_declared(name) => Some(Operands::Characters),
         None => None,

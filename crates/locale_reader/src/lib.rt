@@ -3,7 +3,6 @@
 
 mod character;
 mod keyword_line;
-mod keywords;
 mod locale;
 mod number;
 mod opened;

@@ -5,11 +5,11 @@ ghost use Rattle.lc_base.specs.Reading.{Gives};
 ghost use Rattle.locale_reader.specs.Values.{word, element, one, several};
 
 use crate::character::case_pair;
-use crate::keywords::Element;
 use crate::number::number;
 use crate::text::{quote, word};
 use charmap_reader::Charset;
 use keyword_lists::{Value, Values};
+use keyword_table::Element;
 use lc_base::{ByteText, Place, Reason, TextFault};
 use src_lines::Operand;
 use std::alloc::Global;

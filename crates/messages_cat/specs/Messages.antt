@@ -1,15 +1,16 @@
 -- The values of LC_MESSAGES's keywords (XBD 7.3.6).
 use Rattle.std.specs.Prelude.{List, [], codes, Ok}
+use Rattle.lc_base.specs.declared.category.Category.TheVariants as categories
 use Rattle.lc_base.specs.Reading.{Reads}
 use Rattle.keyword_lists.specs.declared.source.Entry.{Entry}
-use Rattle.keyword_values.specs.Keywords.{operands, text_or}
+use Rattle.keyword_values.specs.Keywords.{text_value}
 use Rattle.messages_cat.specs.MessagesValues.{MessagesValues}
 
 -- the values, where each keyword that is absent has its POSIX value
 abbrev pub values_of : List Entry → MessagesValues
 values_of list = record {
-  yesexpr = text_or (codes "^[yY]") (operands list (codes "yesexpr"));
-  noexpr = text_or (codes "^[nN]") (operands list (codes "noexpr"));
+  yesexpr = text_value categories.Messages list (codes "yesexpr");
+  noexpr = text_value categories.Messages list (codes "noexpr");
 }
 
 -- the values of the POSIX locale

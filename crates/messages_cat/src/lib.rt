@@ -6,15 +6,10 @@ ghost use Rattle.lc_base.specs.Reading.{Gives};
 ghost use Rattle.messages_cat.specs.Messages.{messages_values, values_of, posix_values};
 
 use keyword_lists::Entry;
-use keyword_values::text_or;
-use lc_base::{ByteText, List, TextFault};
+use keyword_values::text_value;
+use lc_base::{ByteText, Category, List, TextFault};
 use std::alloc::{AllocError, Global};
 use std::marker::Model;
-
-/// What a user answers in the POSIX locale to say yes, and no: extended regular expressions.
-const POSIX_YES: &[u8] = b"^[yY]";
-
-const POSIX_NO: &[u8] = b"^[nN]";
 
 /// The values of the keywords of `LC_MESSAGES`, of the locale or else of the POSIX locale.
 #[derive(Debug, Drop)]
@@ -38,20 +33,14 @@ impl Messages {
     pub fn build(alloc: Global, entries: &List<Entry>) -> Result<Messages, TextFault>
         ensures { Gives (λ m. m) result (messages_values entries.now) }
     {
-        Ok(Messages {
-            yesexpr: text_or(alloc, POSIX_YES, entries, b"yesexpr")?,
-            noexpr: text_or(alloc, POSIX_NO, entries, b"noexpr")?,
-        })
+        Ok(values_of(alloc, entries.as_slice())?)
     }
 
     /// The category of the POSIX locale.
     pub fn posix(alloc: Global) -> Result<Messages, AllocError>
         ensures { IfOk result (λ m. m ≡ posix_values) }
     {
-        Ok(Messages {
-            yesexpr: ByteText::of(alloc, POSIX_YES)?,
-            noexpr: ByteText::of(alloc, POSIX_NO)?,
-        })
+        values_of(alloc, &[])
     }
 
     /// The extended regular expression of an answer that says yes.
@@ -67,4 +56,14 @@ impl Messages {
     {
         self.noexpr.as_bytes()
     }
+}
+
+/// The values that a keyword list gives.
+fn values_of(alloc: Global, entries: &[Entry]) -> Result<Messages, AllocError>
+    ensures { IfOk result (λ m. m ≡ values_of entries.now) }
+{
+    Ok(Messages {
+        yesexpr: text_value(alloc, Category::Messages, entries, b"yesexpr")?,
+        noexpr: text_value(alloc, Category::Messages, entries, b"noexpr")?,
+    })
 }

@@ -1,49 +1,21 @@
 -- The values of LC_MONETARY's keywords (XBD 7.3.3).
-use Rattle.std.specs.Prelude.{ℕ, negsuc, pos, ℤ, List, [], ◌∷◌, codes, Option, Some, None, Ok, Err}
-use Rattle.lc_base.specs.declared.place.Place.{Place}
-use Rattle.lc_base.specs.declared.reason.Reason.{Reason}
-use Rattle.lc_base.specs.Reading.{Reads}
+use Rattle.std.specs.Prelude.{ℕ, ℤ, List, [], codes, Ok}
+use Rattle.lc_base.specs.declared.category.Category.TheVariants as categories
+use Rattle.lc_base.specs.Reading.{Reads, ◌>>=◌}
 use Rattle.keyword_lists.specs.declared.source.Entry.{Entry}
-use Rattle.keyword_values.specs.declared.Rule.{Rule}
-use Rattle.keyword_values.specs.declared.Rule.TheVariants.{AnyText, EmptyOrFour, Between}
-use Rattle.keyword_values.specs.Keywords.{operands, text_or, number_or, numbers_or}
-use Rattle.keyword_values.specs.Rules.{first_fault}
+use Rattle.keyword_values.specs.Keywords.{text_value, number_value, numbers_value}
+use Rattle.keyword_values.specs.Rules.{checked}
 use Rattle.monetary_cat.specs.declared.values.Texts.{Texts}
 use Rattle.monetary_cat.specs.declared.values.Numbers.{Numbers}
 use Rattle.monetary_cat.specs.MonetaryValues.{MonetaryValues}
 
--- the keywords, with what their operands must be
-abbrev pub rules : List (List ℕ × Rule)
-rules =
-    (codes "int_curr_symbol", EmptyOrFour) ∷
-    (codes "currency_symbol", AnyText) ∷
-    (codes "mon_decimal_point", AnyText) ∷
-    (codes "mon_thousands_sep", AnyText) ∷
-    (codes "mon_grouping", Between (negsuc 0) (pos 126)) ∷
-    (codes "positive_sign", AnyText) ∷
-    (codes "negative_sign", AnyText) ∷
-    (codes "int_frac_digits", Between (negsuc 0) (pos 18)) ∷
-    (codes "frac_digits", Between (negsuc 0) (pos 18)) ∷
-    (codes "p_cs_precedes", Between (negsuc 0) (pos 1)) ∷
-    (codes "p_sep_by_space", Between (negsuc 0) (pos 2)) ∷
-    (codes "n_cs_precedes", Between (negsuc 0) (pos 1)) ∷
-    (codes "n_sep_by_space", Between (negsuc 0) (pos 2)) ∷
-    (codes "p_sign_posn", Between (negsuc 0) (pos 4)) ∷
-    (codes "n_sign_posn", Between (negsuc 0) (pos 4)) ∷
-    (codes "int_p_cs_precedes", Between (negsuc 0) (pos 1)) ∷
-    (codes "int_n_cs_precedes", Between (negsuc 0) (pos 1)) ∷
-    (codes "int_p_sep_by_space", Between (negsuc 0) (pos 2)) ∷
-    (codes "int_n_sep_by_space", Between (negsuc 0) (pos 2)) ∷
-    (codes "int_p_sign_posn", Between (negsuc 0) (pos 4)) ∷
-    (codes "int_n_sign_posn", Between (negsuc 0) (pos 4)) ∷ []
-
--- a text, where the POSIX value is empty
+-- a text
 unfoldable pub text : List Entry → List ℕ → List ℕ
-text list keyword = text_or [] (operands list keyword)
+text list keyword = text_value categories.Monetary list keyword
 
--- a number, where the POSIX value is -1
+-- a number
 unfoldable pub number : List Entry → List ℕ → ℤ
-number list keyword = number_or (negsuc 0) (operands list keyword)
+number list keyword = number_value categories.Monetary list keyword
 
 -- the values, where each keyword that is absent has its POSIX value
 abbrev pub texts_of : List Entry → Texts
@@ -81,7 +53,7 @@ international_of list = record {
 abbrev pub values_of : List Entry → MonetaryValues
 values_of list = record {
   texts = texts_of list;
-  mon_grouping = numbers_or (negsuc 0 ∷ []) (operands list (codes "mon_grouping"));
+  mon_grouping = numbers_value categories.Monetary list (codes "mon_grouping");
   local = local_of list;
   international = international_of list;
 }
@@ -90,11 +62,6 @@ values_of list = record {
 abbrev pub posix_values : MonetaryValues
 posix_values = values_of []
 
--- values, unless a rule is broken
-abbrev pub unless : {A : Type 0} → Option (Place × Reason) → A → Reads A
-unless None x = Ok x
-unless (Some fault) x = Err fault
-
 -- the values that a keyword list defines, or its first broken rule
 abbrev pub monetary_values : List Entry → Reads MonetaryValues
-monetary_values list = unless (first_fault rules list) (values_of list)
+monetary_values list = checked categories.Monetary list >>= λ _. Ok (values_of list)

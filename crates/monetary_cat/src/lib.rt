@@ -3,12 +3,11 @@
 
 ghost use Rattle.std.specs.Prelude.{◌≡◌, IfOk};
 ghost use Rattle.lc_base.specs.Reading.{Gives};
-ghost use Rattle.keyword_values.specs.Rules.{first_fault};
-ghost use Rattle.monetary_cat.specs.Monetary.{rules, monetary_values, posix_values, values_of};
+ghost use Rattle.monetary_cat.specs.Monetary.{monetary_values, posix_values, values_of};
 
 use keyword_lists::Entry;
-use keyword_values::{Rule, first_fault, numbers_or};
-use lc_base::{List, Place, Reason, TextFault};
+use keyword_values::{check, numbers_value};
+use lc_base::{Category, List, TextFault};
 use std::alloc::{AllocError, Global};
 use std::marker::Model;
 
@@ -17,31 +16,6 @@ mod values;
 
 pub use keys::{MonNumber, MonText};
 use values::{Numbers, Texts, international_of, local_of, texts_of};
-
-/// The keywords, with what their operands must be.
-const RULES: [(&[u8], Rule); 21] = [
-    (b"int_curr_symbol", Rule::EmptyOrFour),
-    (b"currency_symbol", Rule::AnyText),
-    (b"mon_decimal_point", Rule::AnyText),
-    (b"mon_thousands_sep", Rule::AnyText),
-    (b"mon_grouping", Rule::Between(-1, 126)),
-    (b"positive_sign", Rule::AnyText),
-    (b"negative_sign", Rule::AnyText),
-    (b"int_frac_digits", Rule::Between(-1, 18)),
-    (b"frac_digits", Rule::Between(-1, 18)),
-    (b"p_cs_precedes", Rule::Between(-1, 1)),
-    (b"p_sep_by_space", Rule::Between(-1, 2)),
-    (b"n_cs_precedes", Rule::Between(-1, 1)),
-    (b"n_sep_by_space", Rule::Between(-1, 2)),
-    (b"p_sign_posn", Rule::Between(-1, 4)),
-    (b"n_sign_posn", Rule::Between(-1, 4)),
-    (b"int_p_cs_precedes", Rule::Between(-1, 1)),
-    (b"int_n_cs_precedes", Rule::Between(-1, 1)),
-    (b"int_p_sep_by_space", Rule::Between(-1, 2)),
-    (b"int_n_sep_by_space", Rule::Between(-1, 2)),
-    (b"int_p_sign_posn", Rule::Between(-1, 4)),
-    (b"int_n_sign_posn", Rule::Between(-1, 4)),
-];
 
 /// The values of the keywords of `LC_MONETARY`, of the locale or else of the POSIX locale.
 #[derive(Debug, Drop)]
@@ -76,17 +50,15 @@ impl Monetary {
     pub fn build(alloc: Global, entries: &List<Entry>) -> Result<Monetary, TextFault>
         ensures { Gives (λ m. m) result (monetary_values entries.now) }
     {
-        match fault_of(entries) {
-            Some((place, reason)) => Err(TextFault::At(place, reason)),
-            None => Ok(values_of(alloc, entries)?),
-        }
+        check(Category::Monetary, entries.as_slice())?;
+        Ok(values_of(alloc, entries.as_slice())?)
     }
 
     /// The category of the POSIX locale.
     pub fn posix(alloc: Global) -> Result<Monetary, AllocError>
         ensures { IfOk result (λ m. m ≡ posix_values) }
     {
-        values_of(alloc, &List::of(Vec::new(alloc)))
+        values_of(alloc, &[])
     }
 
     /// The text of a keyword.
@@ -133,20 +105,13 @@ impl Monetary {
     }
 }
 
-/// The first operand that breaks the rule of its keyword.
-fn fault_of(entries: &List<Entry>) -> Option<(Place, Reason)>
-    ensures { result ≡ first_fault rules entries.now }
-{
-    first_fault(&RULES, entries)
-}
-
 /// The values that a keyword list gives, good or not.
-fn values_of(alloc: Global, entries: &List<Entry>) -> Result<Monetary, AllocError>
+fn values_of(alloc: Global, entries: &[Entry]) -> Result<Monetary, AllocError>
     ensures { IfOk result (λ m. m ≡ values_of entries.now) }
 {
     Ok(Monetary {
         texts: texts_of(alloc, entries)?,
-        mon_grouping: numbers_or(alloc, -1, entries, b"mon_grouping")?,
+        mon_grouping: numbers_value(alloc, Category::Monetary, entries, b"mon_grouping")?,
         local: local_of(entries),
         international: international_of(entries),
     })

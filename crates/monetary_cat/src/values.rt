@@ -5,8 +5,8 @@ ghost use Rattle.std.specs.Int.{w32};
 ghost use Rattle.monetary_cat.specs.Monetary.{text, number, texts_of, local_of, international_of};
 
 use keyword_lists::Entry;
-use keyword_values::{number_or, text_or};
-use lc_base::{ByteText, List};
+use keyword_values::{number_value, text_value};
+use lc_base::{ByteText, Category};
 use std::alloc::{AllocError, Global};
 
 /// The texts.
@@ -32,25 +32,25 @@ pub struct Numbers {
     pub n_sign_posn: i32,
 }
 
-/// The text of a keyword, which is empty in the POSIX locale.
+/// The text of a keyword.
 #[tactic(auto, unfolding(crate::specs::Monetary::text))]
-fn text(alloc: Global, entries: &List<Entry>, keyword: &[u8]) -> Result<ByteText, AllocError>
+fn text(alloc: Global, entries: &[Entry], keyword: &[u8]) -> Result<ByteText, AllocError>
     ensures { IfOk result (λ t. t ≡ text entries.now keyword.now) }
 {
-    text_or(alloc, b"", entries, keyword)
+    text_value(alloc, Category::Monetary, entries, keyword)
 }
 
-/// The number of a keyword, which is -1 in the POSIX locale.
+/// The number of a keyword.
 #[tactic(auto, unfolding(crate::specs::Monetary::number))]
-fn number(entries: &List<Entry>, keyword: &[u8]) -> i32
+fn number(entries: &[Entry], keyword: &[u8]) -> i32
     ensures is { result ≡ number entries.now keyword.now }
     ensures fits { FitsSigned w32 result }
 {
-    number_or(-1, entries, keyword)
+    number_value(Category::Monetary, entries, keyword)
 }
 
 /// The texts that a keyword list gives.
-pub fn texts_of(alloc: Global, entries: &List<Entry>) -> Result<Texts, AllocError>
+pub fn texts_of(alloc: Global, entries: &[Entry]) -> Result<Texts, AllocError>
     ensures { IfOk result (λ t. t ≡ texts_of entries.now) }
 {
     Ok(Texts {
@@ -64,7 +64,7 @@ pub fn texts_of(alloc: Global, entries: &List<Entry>) -> Result<Texts, AllocErro
 }
 
 /// The numbers of the local form.
-pub fn local_of(entries: &List<Entry>) -> Numbers
+pub fn local_of(entries: &[Entry]) -> Numbers
     ensures { result ≡ local_of entries.now }
 {
     Numbers {
@@ -79,7 +79,7 @@ pub fn local_of(entries: &List<Entry>) -> Numbers
 }
 
 /// The numbers of the international form.
-pub fn international_of(entries: &List<Entry>) -> Numbers
+pub fn international_of(entries: &[Entry]) -> Numbers
     ensures { result ≡ international_of entries.now }
 {
     Numbers {

@@ -3,21 +3,13 @@
 
 ghost use Rattle.std.specs.Prelude.{◌≡◌, IfOk};
 ghost use Rattle.lc_base.specs.Reading.{Gives};
-ghost use Rattle.keyword_values.specs.Rules.{first_fault};
-ghost use Rattle.numeric_cat.specs.Numeric.{rules, values_of, numeric_values, posix_values};
+ghost use Rattle.numeric_cat.specs.Numeric.{values_of, numeric_values, posix_values};
 
 use keyword_lists::Entry;
-use keyword_values::{Rule, first_fault, numbers_or, text_or};
-use lc_base::{ByteText, List, Place, Reason, TextFault};
+use keyword_values::{check, numbers_value, text_value};
+use lc_base::{ByteText, Category, List, TextFault};
 use std::alloc::{AllocError, Global};
 use std::marker::Model;
-
-/// The keywords, with what their operands must be.
-const RULES: [(&[u8], Rule); 3] = [
-    (b"decimal_point", Rule::NotEmpty),
-    (b"thousands_sep", Rule::AnyText),
-    (b"grouping", Rule::Between(-1, 126)),
-];
 
 /// The values of the keywords of `LC_NUMERIC`, of the locale or else of the POSIX locale.
 #[derive(Debug, Drop)]
@@ -28,7 +20,6 @@ pub struct Numeric {
 }
 
 impl Model for Numeric {
-    ghost use Rattle.keyword_values.specs.Rules.{first_fault};
     ghost use Rattle.numeric_cat.specs.NumericValues.{NumericValues};
 
     ghost Value = { NumericValues };
@@ -48,17 +39,15 @@ impl Numeric {
     pub fn build(alloc: Global, entries: &List<Entry>) -> Result<Numeric, TextFault>
         ensures { Gives (λ n. n) result (numeric_values entries.now) }
     {
-        match fault_of(entries) {
-            Some((place, reason)) => Err(TextFault::At(place, reason)),
-            None => Ok(values_of(alloc, entries)?),
-        }
+        check(Category::Numeric, entries.as_slice())?;
+        Ok(values_of(alloc, entries.as_slice())?)
     }
 
     /// The category of the POSIX locale.
     pub fn posix(alloc: Global) -> Result<Numeric, AllocError>
         ensures { IfOk result (λ n. n ≡ posix_values) }
     {
-        values_of(alloc, &List::of(Vec::new(alloc)))
+        values_of(alloc, &[])
     }
 
     /// The radix character: what stands between the whole digits and the fraction.
@@ -83,20 +72,13 @@ impl Numeric {
     }
 }
 
-/// The first operand that breaks the rule of its keyword.
-fn fault_of(entries: &List<Entry>) -> Option<(Place, Reason)>
-    ensures { result ≡ first_fault rules entries.now }
-{
-    first_fault(&RULES, entries)
-}
-
 /// The values that a keyword list gives, good or not.
-fn values_of(alloc: Global, entries: &List<Entry>) -> Result<Numeric, AllocError>
+fn values_of(alloc: Global, entries: &[Entry]) -> Result<Numeric, AllocError>
     ensures { IfOk result (λ n. n ≡ values_of entries.now) }
 {
     Ok(Numeric {
-        decimal_point: text_or(alloc, b".", entries, b"decimal_point")?,
-        thousands_sep: text_or(alloc, b"", entries, b"thousands_sep")?,
-        grouping: numbers_or(alloc, -1, entries, b"grouping")?,
+        decimal_point: text_value(alloc, Category::Numeric, entries, b"decimal_point")?,
+        thousands_sep: text_value(alloc, Category::Numeric, entries, b"thousands_sep")?,
+        grouping: numbers_value(alloc, Category::Numeric, entries, b"grouping")?,
     })
 }
