@@ -1,6 +1,7 @@
 -- Digits in groups, and how wide they are.
 use Rattle.std.proofs.Common.{◌≡◌, ℕ, List, [], ◌∷◌, refl}
 use Rattle.std.specs.Prelude.{codes, ℤ, pos, negsuc}
+use Rattle.digit_groups.specs.Digits.{last_digits}
 use Rattle.digit_groups.specs.Groups.{grouped, grouped_width, separated, separators}
 
 -- seven digits
@@ -68,3 +69,16 @@ nine_digits = refl
 no_digits : grouped_width 0 (pos 3 ∷ []) 1 ≡ 0
 unfolding separators
 no_digits = refl
+
+-- the last digits of a number, with zeros before them, and in groups
+last_three : last_digits 3 1234567 ≡ codes "567"
+unfolding last_digits
+last_three = refl
+
+zeros_before : last_digits 3 5 ≡ codes "005"
+unfolding last_digits
+zeros_before = refl
+
+number_in_groups : grouped (last_digits 7 1234567) (pos 3 ∷ []) (codes ",") ≡ codes "1,234,567"
+unfolding separated last_digits
+number_in_groups = refl

@@ -3,6 +3,7 @@
 
 ghost use Rattle.std.specs.Prelude.{◌≡◌, true, drop, ◌+◌, ◌*◌, ◌≤◌, List, ℕ, ◌++◌, length, OnOk, OnErr, IfSome};
 ghost use Rattle.std.specs.List.{list_all};
+ghost use Rattle.digit_groups.specs.Digits.{last_digits, without_last};
 ghost use Rattle.digit_groups.specs.Groups.{is_size, sizes_used, separated, separators, grouped, grouped_width, last_group, before_last};
 
 use lc_base::ByteText;
@@ -78,22 +79,35 @@ pub fn write_before(target: &mut [u8], end: usize, piece: &[u8]) -> usize
     at
 }
 
-/// Writes digits over the bytes before `end`, with `sep` between their groups as [`group`] has it,
-/// and says where they begin.
+/// Writes the last `count` decimal digits of a number over the bytes before `end`, and says where they
+/// begin.
+#[inline(always)]
+pub fn write_digits(target: &mut [u8], end: usize, n: u64, count: usize) -> usize
+    requires room { count ≤ end }
+    requires within { end ≤ length target.old }
+    ensures begins { result + count ≡ end }
+    ensures written { drop result target.new ≡ last_digits count n ++ drop end target.old }
+{
+    write_last(target, end, n, count).0
+}
+
+/// Writes the last `count` decimal digits of a number over the bytes before `end`, with `sep` between
+/// their groups as [`group`] has it, and says where they begin.
 #[inline(always)]
 pub fn write_grouped(
     target: &mut [u8],
     end: usize,
-    digits: &[u8],
+    n: u64,
+    count: usize,
     sizes: &[i32],
     sep: &[u8],
 ) -> usize
-    requires room { length (grouped digits.now sizes.now sep.now) ≤ end }
+    requires room { length (grouped (last_digits count n) sizes.now sep.now) ≤ end }
     requires within { end ≤ length target.old }
-    ensures begins { result + length (grouped digits.now sizes.now sep.now) ≡ end }
-    ensures written { drop result target.new ≡ grouped digits.now sizes.now sep.now ++ drop end target.old }
+    ensures begins { result + length (grouped (last_digits count n) sizes.now sep.now) ≡ end }
+    ensures written { drop result target.new ≡ grouped (last_digits count n) sizes.now sep.now ++ drop end target.old }
 {
-    write_groups(target, end, digits, sizes_used(sizes), sep)
+    write_number(target, end, n, count, sizes_used(sizes), sep)
 }
 
 /// The sizes before the first 0.
@@ -170,6 +184,58 @@ fn write_groups(target: &mut [u8], end: usize, digits: &[u8], sizes: &[i32], sep
         rest = before_last(rest);
     }
     write_before(target, at, &digits[..left])
+}
+
+/// Writes the last digits of a number over the bytes before `end`, and says where they begin and which
+/// number stands before them.
+#[inline(always)]
+fn write_last(target: &mut [u8], end: usize, n: u64, count: usize) -> (usize, u64)
+    requires room { count ≤ end }
+    requires within { end ≤ length target.old }
+    ensures begins { result.0 + count ≡ end }
+    ensures before { result.1 ≡ without_last count n }
+    ensures written { drop result.0 target.new ≡ last_digits count n ++ drop end target.old }
+{
+    let mut at = end;
+    let mut left = n;
+    let mut missing = count;
+    while missing > 0 {
+        missing -= 1;
+        at -= 1;
+        target[at] = b'0' + (left % 10) as u8;
+        left /= 10;
+    }
+    (at, left)
+}
+
+/// Writes the last digits of a number in groups over the bytes before `end`, and says where they begin.
+#[inline(always)]
+fn write_number(
+    target: &mut [u8],
+    end: usize,
+    n: u64,
+    count: usize,
+    sizes: &[i32],
+    sep: &[u8],
+) -> usize
+    requires sizes { list_all is_size sizes.now ≡ true }
+    requires room { count + separators sizes.now count * length sep.now ≤ end }
+    requires within { end ≤ length target.old }
+    ensures begins { result + (count + separators sizes.now count * length sep.now) ≡ end }
+    ensures written { drop result target.new ≡ separated (last_digits count n) sizes.now sep.now ++ drop end target.old }
+{
+    let mut at = end;
+    let mut number = n;
+    let mut left = count;
+    let mut rest = sizes;
+    while let Some(size) = last_group(rest, left) {
+        let (begin, before) = write_last(target, at, number, size);
+        at = write_before(target, begin, sep);
+        number = before;
+        left -= size;
+        rest = before_last(rest);
+    }
+    write_digits(target, at, number, left)
 }
 
 /// Writes grouped digits over bytes that are just as many.

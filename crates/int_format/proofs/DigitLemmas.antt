@@ -1,10 +1,11 @@
 -- Decimal digits.
-use Rattle.std.proofs.Common.{◌≡◌, ℕ, suc, zero, ◌+◌, ◌-◌, ◌*◌, ◌/◌, ◌%◌, ◌^◌, ◌<◌, ◌≤◌, [], ◌∷◌, ◌++◌, length, lit≤, arith, refl, ap, ◌∙◌, sym, subst}
+use Rattle.std.proofs.Common.{◌≡◌, ℕ, suc, zero, ◌+◌, ◌-◌, ◌*◌, ◌/◌, ◌%◌, ◌^◌, ◌<◌, ◌≤◌, List, [], ◌∷◌, ◌++◌, length, take, drop, lit≤, arith, refl, ap, ◌∙◌, sym, subst}
 use Rattle.std.proofs.Math.Nat.{pow-suc, div-div-eq-div-mul}
-use Rattle.std.proofs.lemmas.List.{length-append}
+use Rattle.std.proofs.lemmas.List.{length-append, take-append-le, take_all}
 use Rattle.std.proofs.lemmas.Int.Digits.{length-digits_of_step, length-digits_of-le, number_digits_of, number_lt, all_below_base_digits_of}
 use Rattle.std.specs.Int.Digits.{digits_of}
-use Rattle.int_format.specs.Digits.{last_digits, digit_count}
+use Rattle.digit_groups.specs.Digits.{last_digits}
+use Rattle.int_format.specs.Digits.{digit_count}
 
 -- ---- how many digits there are
 
@@ -47,15 +48,19 @@ below_power n = subst (λ (m : ℕ). m < 10 ^ digit_count n) (number_digits_of 1
 
 -- ---- the digits
 
-pub digit_before : (k n : ℕ) → 0 < k → last_digits k n ≡ last_digits (k - 1) (n / 10) ++ (48 + n % 10) ∷ []
-unfolding last_digits
-digit_before zero n some = absurd (omega arith)
-digit_before (suc k) n some = let same : suc k - 1 ≡ k = omega arith in rw same refl
-
 pub length-last_digits : (k n : ℕ) → length (last_digits k n) ≡ k
 unfolding last_digits
 length-last_digits zero n = refl
 length-last_digits (suc k) n = omega (arith, length-append (last_digits k (n / 10)) ((48 + n % 10) ∷ []), length-last_digits k (n / 10))
+
+-- digits that are written from the start on
+pub first_digits : (new rest : List ℕ) (at k n : ℕ) → at + k ≡ k → drop at new ≡ last_digits k n ++ rest → take k new ≡ last_digits k n
+first_digits new rest at k n begins written =
+    let none : at ≡ 0 = omega (arith, begins) in
+    let whole : new ≡ last_digits k n ++ rest = rw none at written in
+    let size : length (last_digits k n) ≡ k = length-last_digits k n in
+    let most : take k (last_digits k n ++ rest) ≡ last_digits k n = take-append-le k (last_digits k n) rest (omega (arith, size)) ∙ take_all k (last_digits k n) (omega (arith, size)) in
+    ap (λ t. take k t) whole ∙ most
 
 pub power_divides : (n k : ℕ) → n / 10 / 10 ^ k ≡ n / 10 ^ suc k
 power_divides n k =

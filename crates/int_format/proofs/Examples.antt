@@ -5,7 +5,8 @@ use Rattle.digit_groups.specs.Groups.{separated}
 use Rattle.numeric_cat.specs.NumericValues.{NumericValues}
 use Rattle.int_format.specs.Refusals.{IntRefusal, BadFormat, MissingNumber, TooBig}
 use Rattle.int_format.specs.declared.fault.IntFault.TheVariants as faults
-use Rattle.int_format.specs.Digits.{last_digits, digit_count}
+use Rattle.digit_groups.specs.Digits.{last_digits}
+use Rattle.int_format.specs.Digits.{digit_count}
 use Rattle.int_format.specs.Formats.{flags_behind, number_behind, conversion_with, piece, pieces}
 use Rattle.int_format.specs.Ints.{is_number, ints, at_most, pieces_text, missing, shown, Answers, below_zero}
 

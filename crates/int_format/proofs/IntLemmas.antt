@@ -15,7 +15,8 @@ use Rattle.int_format.specs.declared.layout.Fill.TheVariants.{Before, Between, B
 use Rattle.int_format.specs.declared.fault.IntFault.{IntFault}
 use Rattle.int_format.specs.declared.fault.IntFault.TheVariants as faults
 use Rattle.int_format.specs.Refusals.{IntRefusal, BadFormat, MissingNumber, TooBig}
-use Rattle.int_format.specs.Digits.{last_digits, digit_count}
+use Rattle.digit_groups.specs.Digits.{last_digits}
+use Rattle.int_format.specs.Digits.{digit_count}
 use Rattle.int_format.specs.Formats.{followed}
 use Rattle.int_format.specs.Ints.{is_number, refusal, good_pieces, pieces_text, piece_text, numbers_behind, missing, refusal_behind, within, Refuses, padded, shown, least_digits, sizes_of, sign_text, fill_of, conversion_text, fault_of, unless_refused, at_most}
 

@@ -1,11 +1,7 @@
 -- Decimal digits of whole numbers.
-use Rattle.std.specs.Prelude.{ℕ, zero, suc, ◌+◌, ◌/◌, ◌%◌, max, List, [], ◌∷◌, ◌++◌, length}
+use Rattle.std.specs.Prelude.{ℕ, max, List, length}
 use Rattle.std.specs.Int.Digits.{digits_of}
-
--- the last k decimal digits of a number
-unfoldable pub last_digits : ℕ → ℕ → List ℕ
-last_digits zero n = []
-last_digits (suc k) n = last_digits k (n / 10) ++ (48 + n % 10) ∷ []
+use Rattle.digit_groups.specs.Digits.{last_digits}
 
 -- how many digits a number has; 0 has none
 abbrev pub digit_count : ℕ → ℕ

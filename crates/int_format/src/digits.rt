@@ -1,7 +1,7 @@
-//! Decimal digits of whole numbers.
+//! How many decimal digits whole numbers have.
 
-ghost use Rattle.std.specs.Prelude.{◌≡◌, ◌<◌, ◌≤◌, length};
-ghost use Rattle.int_format.specs.Digits.{last_digits, digit_count};
+ghost use Rattle.std.specs.Prelude.{◌≡◌, ◌<◌, ◌≤◌};
+ghost use Rattle.int_format.specs.Digits.{digit_count};
 
 /// How many digits a number below 10000 has; 0 has none.
 #[tactic(auto, using(crate::proofs::DigitLemmas::no_digits, crate::proofs::DigitLemmas::one_digit, crate::proofs::DigitLemmas::two_digits, crate::proofs::DigitLemmas::three_digits, crate::proofs::DigitLemmas::four_digits))]
@@ -36,17 +36,4 @@ pub fn digit_count(n: u64) -> usize
         count += 4;
     }
     count + short_count(left)
-}
-
-/// Writes the last decimal digits of a number, as many as there is room for.
-pub fn write_digits(n: u64, target: &mut [u8])
-    ensures { target.new ≡ last_digits (length target.old) n }
-{
-    let mut left = n;
-    let mut at = target.len();
-    while at > 0 {
-        at -= 1;
-        target[at] = b'0' + (left % 10) as u8;
-        left /= 10;
-    }
 }

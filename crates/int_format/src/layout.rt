@@ -2,7 +2,7 @@
 
 ghost use Rattle.std.specs.Prelude.{◌≡◌, ◌+◌, ◌-◌, ◌^◌, ◌<◌, ◌≤◌, length, List, ℕ, true};
 ghost use Rattle.digit_groups.specs.Groups.{grouped, grouped_width};
-ghost use Rattle.int_format.specs.Digits.{last_digits};
+ghost use Rattle.digit_groups.specs.Digits.{last_digits};
 ghost use Rattle.int_format.specs.Ints.{is_number, shown, least_digits, sizes_of, sign_text, fill_of, padded, conversion_text};
 
 use crate::digits::digit_count;

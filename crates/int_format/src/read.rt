@@ -3,7 +3,7 @@
 ghost use Rattle.std.specs.Prelude.{◌≡◌, ◌≢◌, ◌+◌, ◌^◌, ◌<◌, ◌≤◌, ◌++◌, ◌∷◌, length, List, [], ℕ, ℤ, pos, Ok, Some, None, true, codes, IfSome};
 ghost use Rattle.digit_groups.specs.Groups.{sizes_used, separates, separated, grouped_width};
 ghost use Rattle.numeric_cat.specs.NumericValues.{NumericValues};
-ghost use Rattle.int_format.specs.Digits.{last_digits};
+ghost use Rattle.digit_groups.specs.Digits.{last_digits};
 ghost use Rattle.int_format.specs.Ints.{is_number, ints, between, grouped_digits, below_zero, IsTextOf};
 
 use crate::digits::digit_count;

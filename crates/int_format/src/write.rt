@@ -1,16 +1,15 @@
 //! The text of a number, written (XSH fprintf).
 
 ghost use Rattle.std.specs.Prelude.{◌≡◌, ◌<◌, ◌≤◌, ◌⊎◌, length, ◌++◌, replicate, Err, OnOk, IfErr, true};
+ghost use Rattle.digit_groups.specs.Digits.{last_digits};
 ghost use Rattle.digit_groups.specs.Groups.{grouped};
-ghost use Rattle.int_format.specs.Digits.{last_digits};
 ghost use Rattle.int_format.specs.Ints.{is_number, sizes_of, padded, conversion_text};
 ghost use Rattle.int_format.specs.declared.fault.IntFault.TheVariants.{TooBig, Memory};
 
-use crate::digits::write_digits;
 use crate::fault::IntFault;
 use crate::format::Conversion;
 use crate::layout::{Fill, Laid, laid_out, sizes_of};
-use digit_groups::group_into;
+use digit_groups::{group_into, write_digits};
 use numeric_cat::Numeric;
 use std::alloc::AllocError;
 
@@ -41,9 +40,8 @@ fn add_digits(
     ensures { OnOk result (out.new.items ≡ out.old.items ++ grouped (last_digits count magnitude) sizes.now sep.now) }
 {
     let mut buffer = [0; DIGITS];
-    let digits = &mut buffer[..count];
-    write_digits(magnitude, digits);
-    group_into(out, digits, sizes, sep)
+    write_digits(&mut buffer, count, magnitude, count);
+    group_into(out, &buffer[..count], sizes, sep)
 }
 
 /// Appends the digits of a number that is laid out.

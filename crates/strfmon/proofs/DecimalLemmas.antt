@@ -1,17 +1,25 @@
 -- Powers of ten and decimal digits.
-use Rattle.std.proofs.Common.{◌≡◌, ℕ, suc, zero, ◌+◌, ◌-◌, ◌/◌, ◌%◌, ◌^◌, ◌<◌, ◌≤◌, List, [], ◌∷◌, ◌++◌, length, take, drop, replicate, lit<, lit≤, arith, refl, ap, ◌∙◌}
+use Rattle.std.proofs.Common.{◌≡◌, ℕ, suc, zero, ◌+◌, ◌-◌, ◌/◌, ◌%◌, ◌^◌, ◌<◌, ◌≤◌, [], ◌∷◌, length, replicate, lit<, lit≤, arith, refl, ap}
 use Rattle.std.proofs.Math.Nat.{pow-le-pow_right, one-le-pow, div-le_self}
-use Rattle.std.proofs.lemmas.List.{length-append, length-replicate, take-append-le, take_all}
+use Rattle.std.proofs.lemmas.List.{length-append, length-replicate}
 use Rattle.std.proofs.lemmas.Int.Digits.{length-digits_of_step, length-digits_of-le}
 use Rattle.std.specs.Int.Digits.{digits_of}
+use Rattle.digit_groups.specs.Digits.{last_digits}
 use Rattle.strfmon.specs.MoneyAmount.{MoneyAmount}
-use Rattle.strfmon.specs.Decimals.{last_digits, digit_count, fraction_digits, fraction_kept, magnitude}
+use Rattle.strfmon.specs.Decimals.{rounded, digit_count, fraction_digits, fraction_kept, magnitude}
 
 pub few_powers : (e : ℕ) → e ≤ 18 → 10 ^ e ≤ 1000000000000000000
 few_powers e small = let most : 10 ^ e ≤ 10 ^ 18 = pow-le-pow_right (lit< tt) small in most
 
 pub some_power : (e : ℕ) → 0 < 10 ^ e
 some_power e = let least : 1 ≤ 10 ^ e = one-le-pow e 10 (lit< tt) in least
+
+-- nothing is rounded where nothing is cut off
+pub rounded_by_one : (n : ℕ) → rounded n 1 ≡ n
+rounded_by_one n =
+    let none : n % 1 ≡ 0 = omega arith in
+    let whole : n / 1 ≡ n = omega arith in
+    rw (none, whole) refl
 
 -- a part of what fits
 pub part_fits : (n d : ℕ) → n / d ≤ n
@@ -60,24 +68,10 @@ four_more_digits n large =
 
 -- ---- the digits
 
-pub digit_before : (k n : ℕ) → 0 < k → last_digits k n ≡ last_digits (k - 1) (n / 10) ++ (48 + n % 10) ∷ []
-unfolding last_digits
-digit_before zero n some = absurd (omega arith)
-digit_before (suc k) n some = let same : suc k - 1 ≡ k = omega arith in rw same refl
-
 pub length-last_digits : (k n : ℕ) → length (last_digits k n) ≡ k
 unfolding last_digits
 length-last_digits zero n = refl
 length-last_digits (suc k) n = omega (arith, length-append (last_digits k (n / 10)) ((48 + n % 10) ∷ []), length-last_digits k (n / 10))
-
--- digits that are written from the start on
-pub first_digits : (new rest : List ℕ) (at k n : ℕ) → at + k ≡ k → drop at new ≡ last_digits k n ++ rest → k ≡ digit_count n → take k new ≡ last_digits (digit_count n) n
-first_digits new rest at k n begins written count =
-    let none : at ≡ 0 = omega (arith, begins) in
-    let whole : new ≡ last_digits k n ++ rest = rw none at written in
-    let size : length (last_digits k n) ≡ k = length-last_digits k n in
-    let most : take k (last_digits k n ++ rest) ≡ last_digits k n = take-append-le k (last_digits k n) rest (omega (arith, size)) ∙ take_all k (last_digits k n) (omega (arith, size)) in
-    ap (λ t. take k t) whole ∙ most ∙ ap (λ j. last_digits j n) count
 
 pub length-fraction_digits : (p : ℕ) (a : MoneyAmount) → length (fraction_digits p a) ≡ p
 length-fraction_digits p a =

@@ -5,7 +5,7 @@ use Rattle.digit_groups.specs.Groups.{separated, separators}
 use Rattle.monetary_cat.specs.MonetaryValues.{MonetaryValues}
 use Rattle.strfmon.specs.Refusals.{MoneyRefusal, BadFormat, MissingAmount, TooBig}
 use Rattle.strfmon.specs.declared.fault.MoneyFault.TheVariants as faults
-use Rattle.strfmon.specs.Decimals.{last_digits}
+use Rattle.digit_groups.specs.Digits.{last_digits}
 use Rattle.strfmon.specs.Formats.{flags_behind, number_behind, conversion, piece, pieces}
 use Rattle.strfmon.specs.Cells.{cell}
 use Rattle.strfmon.specs.Looks.{look_of}

@@ -3,4 +3,5 @@ pub mod DecimalLemmas
 pub mod FormatLemmas
 pub mod MoneyLemmas
 pub mod PartLemmas
+pub mod PowerLemmas
 mod Examples

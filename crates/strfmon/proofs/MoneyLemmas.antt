@@ -16,7 +16,8 @@ use Rattle.monetary_cat.specs.declared.keys.MonText.TheVariants.{MonThousandsSep
 use Rattle.strfmon.proofs.DecimalLemmas.{length-fraction_digits, length-last_digits}
 use Rattle.strfmon.specs.declared.decimal.Decimal.{Decimal}
 use Rattle.strfmon.specs.Shown.{shown_fraction, shown_number, shown_parts}
-use Rattle.strfmon.specs.Decimals.{last_digits, whole_digits, fraction_digits, digit_count, magnitude, fraction_kept, IsRounded}
+use Rattle.digit_groups.specs.Digits.{last_digits}
+use Rattle.strfmon.specs.Decimals.{whole_digits, fraction_digits, digit_count, magnitude, fraction_kept, IsRounded}
 use Rattle.strfmon.specs.Looks.{Look, look_of, parts_text}
 use Rattle.strfmon.specs.Formats.{followed}
 use Rattle.strfmon.specs.Money.{refusal, good_pieces, pieces_text, piece_text, amounts_behind, missing, refusal_behind, within, Refuses, fraction_text, radix_of, precision_of, sizes_of, text_parts, text_with, aligned_text, conversion_text, in_field, with_spaces, spaces, is_negative, pad_count, aligned_digits, fill_count, fault_of, unless_refused}

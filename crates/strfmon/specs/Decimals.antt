@@ -1,6 +1,7 @@
 -- Amounts in decimal digits, rounded half to even (XSH strfmon, right precision; the rounding is our own).
-use Rattle.std.specs.Prelude.{◌≡◌, ℕ, zero, suc, ◌+◌, ◌-◌, ◌*◌, ◌/◌, ◌%◌, ◌^◌, nat_lt, ◌==◌, ◌&&◌, ◌||◌, min, max, unsigned_abs, List, [], ◌∷◌, ◌++◌, length, replicate, if◌then◌else◌}
+use Rattle.std.specs.Prelude.{◌≡◌, ℕ, ◌+◌, ◌-◌, ◌*◌, ◌/◌, ◌%◌, ◌^◌, nat_lt, ◌==◌, ◌&&◌, ◌||◌, min, max, unsigned_abs, List, ◌++◌, length, replicate, if◌then◌else◌}
 use Rattle.std.specs.Int.Digits.{digits_of}
+use Rattle.digit_groups.specs.Digits.{last_digits}
 use Rattle.strfmon.specs.declared.decimal.Decimal.{Decimal}
 use Rattle.strfmon.specs.MoneyAmount.{MoneyAmount}
 
@@ -15,11 +16,6 @@ fraction_kept p a = min p a.scale
 -- the magnitude of an amount in units of its last digit that is kept
 abbrev pub magnitude : ℕ → MoneyAmount → ℕ
 magnitude p a = rounded (unsigned_abs a.units) (10 ^ (a.scale - fraction_kept p a))
-
--- the last k decimal digits of a number
-unfoldable pub last_digits : ℕ → ℕ → List ℕ
-last_digits zero n = []
-last_digits (suc k) n = last_digits k (n / 10) ++ (48 + n % 10) ∷ []
 
 -- how many digits a whole number has, at least one
 abbrev pub digit_count : ℕ → ℕ

@@ -5,7 +5,8 @@ use Rattle.monetary_cat.specs.MonetaryValues.{MonetaryValues, text_of}
 use Rattle.monetary_cat.specs.declared.keys.MonText.TheVariants.{MonThousandsSep}
 use Rattle.strfmon.specs.declared.decimal.Decimal.{Decimal}
 use Rattle.strfmon.specs.declared.format.Conversion.{Conversion}
-use Rattle.strfmon.specs.Decimals.{last_digits, digit_count}
+use Rattle.digit_groups.specs.Digits.{last_digits}
+use Rattle.strfmon.specs.Decimals.{digit_count}
 use Rattle.strfmon.specs.Looks.{Look, parts_text}
 use Rattle.strfmon.specs.Money.{sizes_of, radix_of, spaces}
 

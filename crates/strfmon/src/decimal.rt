@@ -1,7 +1,7 @@
 //! Amounts in decimal digits.
 
-ghost use Rattle.std.specs.Prelude.{◌≡◌, ◌+◌, ◌-◌, ◌^◌, ◌/◌, ◌<◌, ◌≤◌, ◌++◌, length, drop};
-ghost use Rattle.strfmon.specs.Decimals.{rounded, last_digits, digit_count, IsRounded};
+ghost use Rattle.std.specs.Prelude.{◌≡◌, ◌+◌, ◌^◌, ◌<◌, ◌≤◌};
+ghost use Rattle.strfmon.specs.Decimals.{rounded, digit_count, IsRounded};
 
 use crate::amount::Amount;
 
@@ -20,8 +20,31 @@ pub struct Decimal {
     pub digits: usize,
 }
 
+/// The powers of ten, from 1 on.
+static POWERS: [u64; 19] = [
+    1,
+    10,
+    100,
+    1000,
+    10000,
+    100000,
+    1000000,
+    10000000,
+    100000000,
+    1000000000,
+    10000000000,
+    100000000000,
+    1000000000000,
+    10000000000000,
+    100000000000000,
+    1000000000000000,
+    10000000000000000,
+    100000000000000000,
+    1000000000000000000,
+];
+
 /// 10^exponent.
-#[tactic(auto, using(crate::proofs::DecimalLemmas::few_powers, crate::proofs::DecimalLemmas::some_power))]
+#[tactic(auto, using(crate::proofs::PowerLemmas::power_at, crate::proofs::DecimalLemmas::few_powers, crate::proofs::DecimalLemmas::some_power))]
 #[inline(always)]
 fn power(exponent: usize) -> u64
     requires { exponent ≤ 18 }
@@ -29,10 +52,11 @@ fn power(exponent: usize) -> u64
     ensures some { 0 < result }
     ensures few { result ≤ 1000000000000000000 }
 {
-    10u64.pow(exponent as u32)
+    POWERS[exponent]
 }
 
 /// n / d as a whole number: the nearest one, and of two the even one.
+#[tactic(auto, using(crate::proofs::DecimalLemmas::rounded_by_one))]
 #[inline(always)]
 fn rounded(n: u64, d: u64) -> u64
     requires some { 0 < d }
@@ -41,6 +65,9 @@ fn rounded(n: u64, d: u64) -> u64
     ensures is { result ≡ rounded n d }
     ensures fits { result ≤ 2 ^ 63 + 1 }
 {
+    if d == 1 {
+        return n;
+    }
     let quotient = n / d;
     let rest = 2 * (n % d);
     if rest < d || (rest == d && quotient % 2 == 0) {
@@ -105,24 +132,4 @@ pub fn digit_count(n: u64) -> usize
         count += 4;
     }
     count + short_count(left)
-}
-
-/// Writes the last decimal digits of a number over the bytes before `end`, and says where they begin.
-#[inline(always)]
-pub fn write_digits(target: &mut [u8], end: usize, n: u64, count: usize) -> usize
-    requires room { count ≤ end }
-    requires within { end ≤ length target.old }
-    ensures begins { result + count ≡ end }
-    ensures written { drop result target.new ≡ last_digits count n ++ drop end target.old }
-{
-    let mut at = end;
-    let mut left = n;
-    let mut missing = count;
-    while missing > 0 {
-        missing -= 1;
-        at -= 1;
-        target[at] = b'0' + (left % 10) as u8;
-        left /= 10;
-    }
-    at
 }

@@ -211,7 +211,6 @@ fn field_spaces(width: u8, text: u128) -> u128
 #[inline(always)]
 pub fn laid_out<'a>(m: &'a Monetary, c: &Conversion, amount: Amount) -> Laid<'a>
     ensures digits { result.decimal.digits ≡ digit_count result.decimal.whole }
-    ensures few { result.decimal.digits ≤ 20 }
     ensures short { result.decimal.kept ≤ result.decimal.precision }
     ensures text { with_spaces c.now.flags.left result.field (shown_parts m.now c.now result.decimal (seen result.look) result.layout.before result.layout.fill result.layout.after) ≡ conversion_text m.now c.now amount }
     ensures width { result.layout.width + result.field ≡ length (conversion_text m.now c.now amount) }

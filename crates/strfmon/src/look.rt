@@ -220,6 +220,7 @@ impl<'a> Look<'a> {
     }
 
     /// How many bytes parts have.
+    #[inline(always)]
     pub fn width(&self, parts: &[Part]) -> u128
         ensures is { result ≡ length (parts_text (seen self.now) parts.now) }
         ensures fits { result ≤ 2 ^ 64 * length parts.now }

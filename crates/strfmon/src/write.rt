@@ -1,24 +1,20 @@
 //! The text of an amount, written from its end on (XSH strfmon).
 
 ghost use Rattle.std.specs.Prelude.{◌≡◌, ◌+◌, ◌^◌, ◌<◌, ◌≤◌, ◌⊎◌, length, ◌++◌, drop, replicate, Err, OnOk, IfErr};
-ghost use Rattle.digit_groups.specs.Groups.{grouped};
-ghost use Rattle.strfmon.specs.Decimals.{last_digits, digit_count};
+ghost use Rattle.strfmon.specs.Decimals.{digit_count};
 ghost use Rattle.strfmon.specs.Money.{with_spaces, conversion_text};
 ghost use Rattle.strfmon.specs.Shown.{shown_fraction, shown_number, shown_parts};
 ghost use Rattle.strfmon.specs.Seen.{seen};
 ghost use Rattle.strfmon.specs.declared.fault.MoneyFault.TheVariants.{TooBig, Memory};
 
 use crate::amount::Amount;
-use crate::decimal::{Decimal, write_digits};
+use crate::decimal::Decimal;
 use crate::fault::MoneyFault;
 use crate::format::Conversion;
 use crate::layout::{Laid, laid_out, radix_of, sizes_of};
 use crate::look::Look;
-use digit_groups::{write_before, write_grouped};
+use digit_groups::{write_before, write_digits, write_grouped};
 use monetary_cat::{MonText, Monetary};
-
-/// The most digits of a u64.
-const DIGITS: usize = 20;
 
 /// How many bytes align an amount: spaces before its look, fill bytes before its number, spaces
 /// behind its look, and those of its field.
@@ -64,21 +60,6 @@ fn write_fraction(target: &mut [u8], end: usize, m: &Monetary, decimal: Decimal)
     write_before(target, digits, radix_of(m))
 }
 
-/// Writes the digits of a number in groups over the bytes before `end`, and says where they begin.
-#[inline(always)]
-fn write_whole(target: &mut [u8], end: usize, decimal: Decimal, sizes: &[i32], sep: &[u8]) -> usize
-    requires digits { decimal.digits ≡ digit_count decimal.whole }
-    requires few { decimal.digits ≤ 20 }
-    requires room { length (grouped (last_digits (digit_count decimal.whole) decimal.whole) sizes.now sep.now) ≤ end }
-    requires within { end ≤ length target.old }
-    ensures begins { result + length (grouped (last_digits (digit_count decimal.whole) decimal.whole) sizes.now sep.now) ≡ end }
-    ensures written { drop result target.new ≡ grouped (last_digits (digit_count decimal.whole) decimal.whole) sizes.now sep.now ++ drop end target.old }
-{
-    let mut buffer = [0; DIGITS];
-    write_digits(&mut buffer, decimal.digits, decimal.whole, decimal.digits);
-    write_grouped(target, end, &buffer[..decimal.digits], sizes, sep)
-}
-
 /// Writes the number of an amount over the bytes before `end`, and says where it begins.
 #[inline(always)]
 fn write_number(
@@ -89,7 +70,6 @@ fn write_number(
     decimal: Decimal,
 ) -> usize
     requires digits { decimal.digits ≡ digit_count decimal.whole }
-    requires few { decimal.digits ≤ 20 }
     requires short { decimal.kept ≤ decimal.precision }
     requires room { length (shown_number m.now c.now decimal) ≤ end }
     requires within { end ≤ length target.old }
@@ -98,7 +78,14 @@ fn write_number(
 {
     let radix = write_fraction(target, end, m, decimal);
     let sep = m.text(MonText::MonThousandsSep);
-    write_whole(target, radix, decimal, sizes_of(m, c), sep)
+    write_grouped(
+        target,
+        radix,
+        decimal.whole,
+        decimal.digits,
+        sizes_of(m, c),
+        sep,
+    )
 }
 
 /// Writes the text of an amount but for its field over the bytes before `end`, and says where it
@@ -114,7 +101,6 @@ fn write_text(
     decimal: Decimal,
 ) -> usize
     requires digits { decimal.digits ≡ digit_count decimal.whole }
-    requires few { decimal.digits ≤ 20 }
     requires short { decimal.kept ≤ decimal.precision }
     requires room { length (shown_parts m.now c.now decimal (seen look.now) spread.before spread.fill spread.after) ≤ end }
     requires within { end ≤ length target.old }
@@ -141,7 +127,6 @@ fn write_in_field(
     decimal: Decimal,
 ) -> usize
     requires digits { decimal.digits ≡ digit_count decimal.whole }
-    requires few { decimal.digits ≤ 20 }
     requires short { decimal.kept ≤ decimal.precision }
     requires room { length (with_spaces c.now.flags.left spread.field (shown_parts m.now c.now decimal (seen look.now) spread.before spread.fill spread.after)) ≤ end }
     requires within { end ≤ length target.old }
@@ -168,7 +153,6 @@ fn fill_field(
     decimal: Decimal,
 )
     requires digits { decimal.digits ≡ digit_count decimal.whole }
-    requires few { decimal.digits ≤ 20 }
     requires short { decimal.kept ≤ decimal.precision }
     requires room { length target.old ≡ length (with_spaces c.now.flags.left spread.field (shown_parts m.now c.now decimal (seen look.now) spread.before spread.fill spread.after)) }
     ensures { target.new ≡ with_spaces c.now.flags.left spread.field (shown_parts m.now c.now decimal (seen look.now) spread.before spread.fill spread.after) }

@@ -1,5 +1,6 @@
 -- What the pieces of a format give that are left at a place, and how many conversions they are.
-use Rattle.std.proofs.Common.{◌≡◌, ℕ, zero, suc, ◌+◌, ◌-◌, ◌<◌, List, [], ◌∷◌, ◌++◌, Option, Some, None, cond, refl, ap, ◌∙◌, subst, arith, count_by, flat_map, length, ◌≤◌}
+use Rattle.std.proofs.Common.{◌≡◌, ℕ, zero, suc, ◌+◌, ◌-◌, ◌<◌, List, [], ◌∷◌, ◌++◌, Option, Some, None, cond, refl, ap, ◌∙◌, subst, arith, count_by, flat_map, length, drop, ◌≤◌}
+use Rattle.std.proofs.lemmas.List.{drop_all}
 use Rattle.std.proofs.lemmas.List.Sums.{sum_by-cons}
 use Rattle.time_cat.specs.declared.conversion.Conversion.{Conversion}
 use Rattle.time_cat.specs.Conversions.{conversion}
@@ -44,6 +45,11 @@ text_at_conversion levels v t format at modifier letter rank next is = rw is ref
 pub pieces_at_start : (format : List ℕ) → rest_of format 0 ≡ pieces format
 unfolding rest_of pieces
 pieces_at_start format = refl
+
+-- nothing is left at its end
+pub nothing_left : (format : List ℕ) (at : ℕ) → length format ≤ at → rest_of format at ≡ []
+unfolding rest_of
+nothing_left format at end = let none : drop at format ≡ [] = drop_all at format end in rw none refl
 
 -- a format without levels gives nothing
 pub no_levels : (levels : ℕ) (v : TimeValues) (t : TmValues) (format : List ℕ) → levels ≡ 0 → expanded levels v t format ≡ []

@@ -44,26 +44,27 @@ pub fn put_two(out: &mut Vec<u8>, max: usize, n: u32) -> Result<(), Stop>
     requires { length out.old.items ≤ max }
     ensures { Appends max out.old.items (two n) out.new.items result }
 {
-    if max - out.len() < 2 {
-        return Err(Stop::TooBig);
-    }
+    put(out, max, &two(n))
+}
+
+/// The last four digits.
+#[tactic(auto, using(crate::proofs::Pairs::four_of_pairs))]
+#[inline(always)]
+fn four(n: u32) -> [u8; 4]
+    ensures { result ≡ four n }
+{
+    let [thousands, hundreds] = two(n / 100);
     let [tens, ones] = two(n);
-    out.push(tens)?;
-    out.push(ones)?;
-    Ok(())
+    [thousands, hundreds, tens, ones]
 }
 
 /// Adds the last four digits.
-#[tactic(auto, using(crate::proofs::Pairs::four_of_pairs))]
 #[inline(always)]
 fn put_four(out: &mut Vec<u8>, max: usize, n: u32) -> Result<(), Stop>
     requires { length out.old.items ≤ max }
     ensures { Appends max out.old.items (four n) out.new.items result }
 {
-    match put_two(out, max, n / 100) {
-        Ok(()) => put_two(out, max, n),
-        Err(stop) => Err(stop),
-    }
+    put(out, max, &four(n))
 }
 
 /// Adds a number of any length.

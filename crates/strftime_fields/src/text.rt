@@ -22,13 +22,13 @@ const LEVELS: u8 = 5;
 const SPARE: usize = 64;
 
 /// Where a `%` stands that begins no conversion.
-#[tactic(auto, using(crate::proofs::Left::pieces_at_start))]
+#[tactic(auto, using(crate::proofs::Left::pieces_at_start, crate::proofs::Left::nothing_left))]
 fn bad_byte<L: Ledger>(format: &[u8], steps: &mut Steps<L>) -> Option<usize>
     ensures is { result ≡ bad_place (pieces format.now) }
     ensures steps { steps.new ≡ steps.old + conversions_of format.now }
 {
     let mut at = 0;
-    'reading: loop {
+    'reading: while at < format.len() {
         match short_at(format, at) {
             Some(short) => {
                 // The piece is known already: this counts it.
@@ -43,6 +43,7 @@ fn bad_byte<L: Ledger>(format: &[u8], steps: &mut Steps<L>) -> Option<usize>
             },
         }
     }
+    None
 }
 
 /// The text of a time by a format, of at most `max` bytes; each conversion that is read is a step.

@@ -1,7 +1,8 @@
 use Rattle.std.proofs.Common.{◌≡◌, ℕ, ◌+◌, ◌-◌, max, List, length, arith, ap, sym, ◌∙◌}
 use Rattle.std.proofs.Math.Facts.{to_z-of_z}
 use Rattle.digit_groups.specs.Groups.{grouped}
-use Rattle.int_format.specs.Digits.{last_digits, digit_count}
+use Rattle.digit_groups.specs.Digits.{last_digits}
+use Rattle.int_format.specs.Digits.{digit_count}
 use Rattle.int_format.specs.Ints.{shown, sign_text, least_digits, sizes_of, padded, conversion_text}
 use Rattle.int_format.proofs.DigitLemmas.{length-last_digits}
 use Rattle.int_format.proofs.IntLemmas.{laid_text, length-padded}

@@ -1,6 +1,6 @@
 use Rattle.std.proofs.Common.{◌≡◌, ℕ, suc, ◌+◌, ◌-◌, ◌/◌, ◌%◌, ◌^◌, ◌<◌, List, [], ◌∷◌, ◌++◌, arith, ap, sym, subst, ◌∙◌}
 use Rattle.digit_groups.specs.Groups.{sizes_used, separated}
-use Rattle.int_format.specs.Digits.{last_digits}
+use Rattle.digit_groups.specs.Digits.{last_digits}
 use Rattle.int_format.specs.Ints.{between}
 use Rattle.int_format.proofs.ReadLemmas.{IsLeft, step_on, step_back, digit_left, sep_left, digit_small, next_below, nothing_left, is_over, emptied, not_emptied}
 use Rattle.int_format.proofs.read.value_of.Goals as goal

@@ -1,6 +1,6 @@
 use Rattle.std.proofs.Common.{◌≡◌, ℕ, ◌-◌, ◌^◌, ◌<◌, ◌≤◌}
 use Rattle.digit_groups.specs.Groups.{sizes_used, separated}
-use Rattle.int_format.specs.Digits.{last_digits}
+use Rattle.digit_groups.specs.Digits.{last_digits}
 use Rattle.int_format.proofs.ReadLemmas.{IsLeft}
 use Rattle.int_format.proofs.read.value_of.Given as goal
 

@@ -1,8 +1,8 @@
 use Rattle.std.proofs.Common.{◌≡◌, ℕ, ◌+◌, ◌-◌, ◌/◌, ◌%◌, ◌<◌, List, [], ◌∷◌, ◌++◌, length, drop, slice_set, arith, ap, sym, ◌∙◌}
 use Rattle.std.proofs.lemmas.List.{append_assoc, drop-set, length-set}
-use Rattle.strfmon.specs.Decimals.{last_digits}
-use Rattle.strfmon.proofs.DecimalLemmas.{digit_before}
-use Rattle.strfmon.proofs.decimal.write_digits.Goals as goal
+use Rattle.digit_groups.specs.Digits.{last_digits, without_last}
+use Rattle.digit_groups.proofs.DigitLemmas.{digit_before, without_before}
+use Rattle.digit_groups.proofs.write_last.Goals as goal
 
 pub loop-missing-preserved : goal.loop-missing-preserved
 loop-missing-preserved c =
@@ -17,6 +17,7 @@ loop-missing-preserved c =
           ∙ ap (λ t. t ++ drop c.loop-missing.at c.loop-missing.target) (digit_before c.loop-missing.missing c.loop-missing.left (omega arith))
           ∙ append_assoc front (digit ∷ []) (drop c.loop-missing.at c.loop-missing.target)
           ∙ ap (λ t. front ++ t) (sym put);
+      before = c.loop-missing.invariant.before ∙ without_before c.loop-missing.missing c.loop-missing.left (omega arith);
       place = omega (arith, c.loop-missing.invariant.place, c.requires.room);
       within = omega (arith, c.loop-missing.invariant.within, length-set c.loop-missing.target (c.loop-missing.at - 1) digit);
     }
@@ -29,3 +30,9 @@ unfolding last_digits
 returns-clause-written c =
     let none : c.loop-missing.missing ≡ 0 = omega arith in
     sym (rw none at c.loop-missing.invariant.written)
+
+pub returns-clause-before : goal.returns-clause-before
+unfolding without_last
+returns-clause-before c =
+    let none : c.loop-missing.missing ≡ 0 = omega arith in
+    sym (rw none at c.loop-missing.invariant.before)
