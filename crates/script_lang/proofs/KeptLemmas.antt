@@ -2,11 +2,8 @@
 use Rattle.std.proofs.Common.{ℕ, ◌+◌, ◌<◌, ◌≤◌, ◌^◌, List, [], ◌∷◌, ◌++◌, length, Option, Some, None, arith, length-append}
 use Rattle.std.specs.List.{All}
 use Rattle.std.proofs.lemmas.List.Elements.{All-push, All-nil}
-use Rattle.lc_base.specs.declared.block.Block.{Block}
-use Rattle.lc_base.specs.declared.block.Later.{Later}
 use Rattle.script_commands.specs.declared.known.TheConstants.{THREAD_LIMIT}
 use Rattle.script_lang.specs.declared.bundle.TheConstants.{ROUND_LIMIT, COMMAND_LIMIT}
-use Rattle.script_lang.specs.declared.bundle.Bundle.{Bundle}
 use Rattle.script_commands.specs.declared.command.Command.{Command}
 use Rattle.script_commands.specs.declared.command.Command.TheVariants.{New, Dup, Free, Use, Selected, Hold, Release, Setlocale, LocaleName, Install, Post, Fetch, Pins, Read, ReadOf, CatOpen, CatGets, CatClose}
 use Rattle.script_commands.specs.declared.command.OpenCatalog.{OpenCatalog}
@@ -18,8 +15,8 @@ use Rattle.script_lang.specs.declared.reading.BlockKind.{BlockKind}
 use Rattle.script_lang.specs.declared.reading.BlockKind.TheVariants.{Charmap, Locale, Later as LaterKind, Catalog as CatalogKind}
 use Rattle.script_lang.specs.declared.reading.Opened.{Opened}
 use Rattle.script_lang.specs.declared.reading.Reading.{Reading}
-use Rattle.script_lang.specs.Reading.{at_first, with_open, with_native, with_current, with_thread, with_round, with_command, with_block, with_line}
-use Rattle.script_lang.specs.Accepted.{IsSized, IsPlaced, IsAccepted}
+use Rattle.script_lang.specs.Reading.{at_first, with_open, with_native, with_current, with_thread, with_round, with_command}
+use Rattle.script_lang.specs.Accepted.{IsPlaced}
 use Rattle.script_commands.specs.InRange.{IsOwned, IsBaseOwned, IsCatalogOwned, IsInRange}
 use Rattle.script_lang.specs.Kept.{HasRoomFor, IsBegun, IsCurrent, IsReading}
 
@@ -224,89 +221,3 @@ kept_with_command r t c lt thread in_range k = record {
   same : (begun : Option Opened) → IsBegun begun r.bundle → IsBegun begun (with_command r t c).bundle
   same None h = tt
   same (Some o) h = (room o.kind h.0, h.1, h.2)
-
--- a block that is closed
-more_charmaps : (b : Bundle) (block : Block) → IsAccepted b → HasRoomFor Charmap b → IsSized block → IsAccepted (record b { charmaps = b.charmaps ++ block ∷ [] })
-more_charmaps b block a room sized = record {
-  few_charmaps = simp length-append (omega arith);
-  few_locales = a.few_locales;
-  few_later = a.few_later;
-  few_catalogs = a.few_catalogs;
-  few_threads = a.few_threads;
-  some_round = a.some_round;
-  few_rounds = a.few_rounds;
-  few_commands = a.few_commands;
-  charmaps = All-push IsSized b.charmaps block a.charmaps sized;
-  locales = a.locales;
-  later = a.later;
-  catalogs = a.catalogs;
-  commands = a.commands;
-}
-
-more_locales : (b : Bundle) (block : Block) → IsAccepted b → HasRoomFor Locale b → IsSized block → IsAccepted (record b { locales = b.locales ++ block ∷ [] })
-more_locales b block a room sized = record {
-  few_charmaps = a.few_charmaps;
-  few_locales = simp length-append (omega arith);
-  few_later = a.few_later;
-  few_catalogs = a.few_catalogs;
-  few_threads = a.few_threads;
-  some_round = a.some_round;
-  few_rounds = a.few_rounds;
-  few_commands = a.few_commands;
-  charmaps = a.charmaps;
-  locales = All-push IsSized b.locales block a.locales sized;
-  later = a.later;
-  catalogs = a.catalogs;
-  commands = a.commands;
-}
-
-more_later : (b : Bundle) (key : List ℕ) (block : Block) → IsAccepted b → HasRoomFor (LaterKind key) b → IsSized block → IsAccepted (record b { later = b.later ++ (record { key = key; block = block }) ∷ [] })
-more_later b key block a room sized = record {
-  few_charmaps = a.few_charmaps;
-  few_locales = a.few_locales;
-  few_later = simp length-append (omega arith);
-  few_catalogs = a.few_catalogs;
-  few_threads = a.few_threads;
-  some_round = a.some_round;
-  few_rounds = a.few_rounds;
-  few_commands = a.few_commands;
-  charmaps = a.charmaps;
-  locales = a.locales;
-  later = All-push (λ (l : Later). IsSized l.block) b.later (record { key = key; block = block }) a.later sized;
-  catalogs = a.catalogs;
-  commands = a.commands;
-}
-
-more_catalogs : (b : Bundle) (block : Block) → IsAccepted b → HasRoomFor CatalogKind b → IsSized block → IsAccepted (record b { catalogs = b.catalogs ++ block ∷ [] })
-more_catalogs b block a room sized = record {
-  few_charmaps = a.few_charmaps;
-  few_locales = a.few_locales;
-  few_later = a.few_later;
-  few_catalogs = simp length-append (omega arith);
-  few_threads = a.few_threads;
-  some_round = a.some_round;
-  few_rounds = a.few_rounds;
-  few_commands = a.few_commands;
-  charmaps = a.charmaps;
-  locales = a.locales;
-  later = a.later;
-  catalogs = All-push IsSized b.catalogs block a.catalogs sized;
-  commands = a.commands;
-}
-
-pub kept_with_block : (b : Bundle) (current : Option ℕ) (kind : BlockKind) (block : Block) → IsAccepted b → IsCurrent current b → HasRoomFor kind b → IsSized block → IsReading 0 (with_block b current kind block)
-kept_with_block b None Charmap block a h room sized = record { accepted = more_charmaps b block a room sized; current = tt; begun = tt; size = omega arith }
-kept_with_block b (Some t) Charmap block a h room sized = record { accepted = more_charmaps b block a room sized; current = h; begun = tt; size = omega arith }
-kept_with_block b None Locale block a h room sized = record { accepted = more_locales b block a room sized; current = tt; begun = tt; size = omega arith }
-kept_with_block b (Some t) Locale block a h room sized = record { accepted = more_locales b block a room sized; current = h; begun = tt; size = omega arith }
-kept_with_block b None (LaterKind key) block a h room sized = record { accepted = more_later b key block a room sized; current = tt; begun = tt; size = omega arith }
-kept_with_block b (Some t) (LaterKind key) block a h room sized = record { accepted = more_later b key block a room sized; current = h; begun = tt; size = omega arith }
-kept_with_block b None CatalogKind block a h room sized = record { accepted = more_catalogs b block a room sized; current = tt; begun = tt; size = omega arith }
-kept_with_block b (Some t) CatalogKind block a h room sized = record { accepted = more_catalogs b block a room sized; current = h; begun = tt; size = omega arith }
-
-pub kept_with_line : (b : Bundle) (current : Option ℕ) (o : Opened) (line : List ℕ) → IsAccepted b → IsCurrent current b → HasRoomFor o.kind b → (0 < o.block.first_line) × (o.block.first_line < 2 ^ 31) → IsReading (length o.block.text + length line + 1) (with_line b current o line)
-kept_with_line b current o line a h room first = record { accepted = a; current = h; begun = (room, first.0, first.1); size = simp length-append (omega arith) }
-
--- a larger bound
-pub kept_more : (n m : ℕ) (r : Reading) → n ≤ m → IsReading n r → IsReading m r
-kept_more n m r le k = record { accepted = k.accepted; current = k.current; begun = k.begun; size = omega (arith, k.size) }

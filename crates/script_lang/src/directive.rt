@@ -1,6 +1,6 @@
 //! Directives of a bundle.
 
-ghost use Rattle.std.specs.Prelude.{◌≡◌, ◌+◌, ◌<◌, ◌≤◌, ◌^◌, ◌&&◌, length, is_some, [], IfOk, IsSome, option_map};
+ghost use Rattle.std.specs.Prelude.{◌≡◌, ◌+◌, ◌<◌, ◌≤◌, ◌^◌, ◌&&◌, length, is_some, [], IfOk, OnOk, IsSome, option_map};
 ghost use Rattle.std.specs.Option.{option_copied};
 ghost use Rattle.lc_base.specs.declared.fault.TextFault.TheVariants.{At};
 ghost use Rattle.lc_base.specs.declared.reason.Reason.TheVariants.{BadLine};
@@ -15,7 +15,7 @@ ghost use Rattle.script_lang.specs.Reading.{one_word, two_words, three_words, ha
 
 use crate::bundle::{CATALOG_LIMIT, CHARMAP_LIMIT, LATER_LIMIT, LOCALE_LIMIT, ROUND_LIMIT};
 use crate::reading::{BlockKind, Reading};
-use crate::steps::{with_current, with_native, with_open, with_round, with_thread};
+use crate::steps::{begin_block, begin_round, begin_thread, set_current, set_native};
 use lc_base::{Block, ByteText, Later, Limit, LinePart, List, Place, Reason, TextFault};
 use script_commands::{
     Known, THREAD_LIMIT, has_block, has_key, is_over, lacks_charset, lacks_locale,
@@ -158,17 +158,17 @@ fn charmap_word<'a>(
 fn charmap_line(
     alloc: Global,
     known: Option<&Known>,
-    reading: Reading,
+    reading: &mut Reading,
     number: u32,
     rest: Piece<'_>,
-) -> Result<Reading, TextFault>
+) -> Result<(), TextFault>
     requires number { number + length rest.bytes.now < 2 ^ 31 }
-    requires kept { IsReading 0 reading }
-    ensures is { Gives (λ r. r) result (charmap_line (option_copied known.entry) reading number (span rest.entry)) }
-    ensures kept { IfOk result (IsReading 0) }
+    requires kept { IsReading 0 reading.old }
+    ensures is { Gives (λ x. reading.new) result (charmap_line (option_copied known.entry) reading.old number (span rest.entry)) }
+    ensures kept { OnOk result (IsReading 0 reading.new) }
 {
-    let name = charmap_word(known, &reading, number, rest)?;
-    Ok(with_open(alloc, reading, BlockKind::Charmap, name.bytes, b"", number)?)
+    let name = charmap_word(known, reading, number, rest)?;
+    Ok(begin_block(alloc, reading, BlockKind::Charmap, name.bytes, b"", number)?)
 }
 
 /// The words of `.locale NAME CHARSET`, where its block may begin.
@@ -205,17 +205,17 @@ fn locale_words<'a>(
 fn locale_line(
     alloc: Global,
     known: Option<&Known>,
-    reading: Reading,
+    reading: &mut Reading,
     number: u32,
     rest: Piece<'_>,
-) -> Result<Reading, TextFault>
+) -> Result<(), TextFault>
     requires number { number + length rest.bytes.now < 2 ^ 31 }
-    requires kept { IsReading 0 reading }
-    ensures is { Gives (λ r. r) result (locale_line (option_copied known.entry) reading number (span rest.entry)) }
-    ensures kept { IfOk result (IsReading 0) }
+    requires kept { IsReading 0 reading.old }
+    ensures is { Gives (λ x. reading.new) result (locale_line (option_copied known.entry) reading.old number (span rest.entry)) }
+    ensures kept { OnOk result (IsReading 0 reading.new) }
 {
-    let (name, charset) = locale_words(known, &reading, number, rest)?;
-    Ok(with_open(
+    let (name, charset) = locale_words(known, reading, number, rest)?;
+    Ok(begin_block(
         alloc,
         reading,
         BlockKind::Locale,
@@ -259,18 +259,18 @@ fn later_words<'a>(
 fn later_line(
     alloc: Global,
     known: Option<&Known>,
-    reading: Reading,
+    reading: &mut Reading,
     number: u32,
     rest: Piece<'_>,
-) -> Result<Reading, TextFault>
+) -> Result<(), TextFault>
     requires number { number + length rest.bytes.now < 2 ^ 31 }
-    requires kept { IsReading 0 reading }
-    ensures is { Gives (λ r. r) result (later_line (option_copied known.entry) reading number (span rest.entry)) }
-    ensures kept { IfOk result (IsReading 0) }
+    requires kept { IsReading 0 reading.old }
+    ensures is { Gives (λ x. reading.new) result (later_line (option_copied known.entry) reading.old number (span rest.entry)) }
+    ensures kept { OnOk result (IsReading 0 reading.new) }
 {
-    let (key, name, charset) = later_words(known, &reading, number, rest)?;
+    let (key, name, charset) = later_words(known, reading, number, rest)?;
     let kind = BlockKind::Later(ByteText::of(alloc, key.bytes)?);
-    Ok(with_open(alloc, reading, kind, name.bytes, charset.bytes, number)?)
+    Ok(begin_block(alloc, reading, kind, name.bytes, charset.bytes, number)?)
 }
 
 /// The words of `.catalog NAME LOCALE`, where its block may begin.
@@ -304,17 +304,17 @@ fn catalog_words<'a>(
 fn catalog_line(
     alloc: Global,
     known: Option<&Known>,
-    reading: Reading,
+    reading: &mut Reading,
     number: u32,
     rest: Piece<'_>,
-) -> Result<Reading, TextFault>
+) -> Result<(), TextFault>
     requires number { number + length rest.bytes.now < 2 ^ 31 }
-    requires kept { IsReading 0 reading }
-    ensures is { Gives (λ r. r) result (catalog_line (option_copied known.entry) reading number (span rest.entry)) }
-    ensures kept { IfOk result (IsReading 0) }
+    requires kept { IsReading 0 reading.old }
+    ensures is { Gives (λ x. reading.new) result (catalog_line (option_copied known.entry) reading.old number (span rest.entry)) }
+    ensures kept { OnOk result (IsReading 0 reading.new) }
 {
-    let (name, locale) = catalog_words(known, &reading, number, rest)?;
-    Ok(with_open(
+    let (name, locale) = catalog_words(known, reading, number, rest)?;
+    Ok(begin_block(
         alloc,
         reading,
         BlockKind::Catalog,
@@ -353,16 +353,16 @@ fn native_word<'a>(
 fn native_line(
     alloc: Global,
     known: Option<&Known>,
-    reading: Reading,
+    reading: &mut Reading,
     number: u32,
     rest: Piece<'_>,
-) -> Result<Reading, TextFault>
-    requires { IsReading 0 reading }
-    ensures is { Gives (λ r. r) result (native_line (option_copied known.entry) reading number (span rest.entry)) }
-    ensures kept { IfOk result (IsReading 0) }
+) -> Result<(), TextFault>
+    requires { IsReading 0 reading.old }
+    ensures is { Gives (λ x. reading.new) result (native_line (option_copied known.entry) reading.old number (span rest.entry)) }
+    ensures kept { OnOk result (IsReading 0 reading.new) }
 {
-    let name = native_word(known, &reading, number, rest)?;
-    Ok(with_native(alloc, reading, name.bytes)?)
+    let name = native_word(known, reading, number, rest)?;
+    Ok(set_native(alloc, reading, name.bytes)?)
 }
 
 /// Whether one more thread may begin.
@@ -379,32 +379,35 @@ fn more_threads(reading: &Reading, number: u32, name: &[u8]) -> Result<(), TextF
 /// A thread that was not named before.
 fn new_thread(
     alloc: Global,
-    reading: Reading,
+    reading: &mut Reading,
     number: u32,
     name: &[u8],
-) -> Result<Reading, TextFault>
-    requires { IsReading 0 reading }
-    ensures is { Gives (λ r. r) result (new_thread reading number name.now) }
-    ensures kept { IfOk result (IsReading 0) }
+) -> Result<(), TextFault>
+    requires { IsReading 0 reading.old }
+    ensures is { Gives (λ x. reading.new) result (new_thread reading.old number name.now) }
+    ensures kept { OnOk result (IsReading 0 reading.new) }
 {
-    more_threads(&reading, number, name)?;
-    Ok(with_thread(alloc, reading, name)?)
+    more_threads(reading, number, name)?;
+    Ok(begin_thread(alloc, reading, name)?)
 }
 
 /// The thread of this name is current from now on.
 fn thread_named(
     alloc: Global,
-    reading: Reading,
+    reading: &mut Reading,
     number: u32,
     name: &[u8],
-) -> Result<Reading, TextFault>
-    requires { IsReading 0 reading }
-    ensures is { Gives (λ r. r) result (thread_named reading number name.now) }
-    ensures kept { IfOk result (IsReading 0) }
+) -> Result<(), TextFault>
+    requires { IsReading 0 reading.old }
+    ensures is { Gives (λ x. reading.new) result (thread_named reading.old number name.now) }
+    ensures kept { OnOk result (IsReading 0 reading.new) }
 {
     match reading.bundle.thread_number(name) {
         None => new_thread(alloc, reading, number, name),
-        Some(thread) => Ok(with_current(reading, thread)),
+        Some(thread) => {
+            set_current(reading, thread);
+            Ok(())
+        }
     }
 }
 
@@ -412,13 +415,13 @@ fn thread_named(
 #[tactic(auto, unfolding(crate::specs::Reading::thread_line))]
 fn thread_line(
     alloc: Global,
-    reading: Reading,
+    reading: &mut Reading,
     number: u32,
     rest: Piece<'_>,
-) -> Result<Reading, TextFault>
-    requires { IsReading 0 reading }
-    ensures is { Gives (λ r. r) result (thread_line reading number (span rest.entry)) }
-    ensures kept { IfOk result (IsReading 0) }
+) -> Result<(), TextFault>
+    requires { IsReading 0 reading.old }
+    ensures is { Gives (λ x. reading.new) result (thread_line reading.old number (span rest.entry)) }
+    ensures kept { OnOk result (IsReading 0 reading.new) }
 {
     let Some(name) = one_word(rest) else {
         return Err(wrong_directive(number));
@@ -445,28 +448,29 @@ fn more_rounds(reading: &Reading, number: u32, rest: Piece<'_>) -> Result<(), Te
 }
 
 /// `.round`.
-fn round_line(reading: Reading, number: u32, rest: Piece<'_>) -> Result<Reading, TextFault>
-    requires { IsReading 0 reading }
-    ensures is { Gives (λ r. r) result (round_line reading number (span rest.entry)) }
-    ensures kept { IfOk result (IsReading 0) }
+fn round_line(reading: &mut Reading, number: u32, rest: Piece<'_>) -> Result<(), TextFault>
+    requires { IsReading 0 reading.old }
+    ensures is { Gives (λ x. reading.new) result (round_line reading.old number (span rest.entry)) }
+    ensures kept { OnOk result (IsReading 0 reading.new) }
 {
-    more_rounds(&reading, number, rest)?;
-    Ok(with_round(reading))
+    more_rounds(reading, number, rest)?;
+    begin_round(reading);
+    Ok(())
 }
 
 /// The line of a directive, with what follows its first word.
 fn line_of_directive(
     alloc: Global,
     known: Option<&Known>,
-    reading: Reading,
+    reading: &mut Reading,
     number: u32,
     directive: Directive,
     rest: Piece<'_>,
-) -> Result<Reading, TextFault>
+) -> Result<(), TextFault>
     requires number { number + length rest.bytes.now < 2 ^ 31 }
-    requires kept { IsReading 0 reading }
-    ensures is { Gives (λ r. r) result (line_of_directive (option_copied known.entry) reading number directive (span rest.entry)) }
-    ensures kept { IfOk result (IsReading 0) }
+    requires kept { IsReading 0 reading.old }
+    ensures is { Gives (λ x. reading.new) result (line_of_directive (option_copied known.entry) reading.old number directive (span rest.entry)) }
+    ensures kept { OnOk result (IsReading 0 reading.new) }
 {
     match directive {
         Directive::Charmap => charmap_line(alloc, known, reading, number, rest),
@@ -484,15 +488,15 @@ fn line_of_directive(
 pub fn directive_line(
     alloc: Global,
     known: Option<&Known>,
-    reading: Reading,
+    reading: &mut Reading,
     number: u32,
     line: &[u8],
-) -> Result<Reading, TextFault>
+) -> Result<(), TextFault>
     requires short { length line.now < 2 ^ 31 }
     requires number { number + length line.now ≤ 2 ^ 31 }
-    requires kept { IsReading 0 reading }
-    ensures is { Gives (λ r. r) result (directive_line (option_copied known.entry) reading number line.now) }
-    ensures kept { IfOk result (IsReading 0) }
+    requires kept { IsReading 0 reading.old }
+    ensures is { Gives (λ x. reading.new) result (directive_line (option_copied known.entry) reading.old number line.now) }
+    ensures kept { OnOk result (IsReading 0 reading.new) }
 {
     let Some((word, rest)) = Piece::whole_line(number, line).next_word() else {
         return Err(wrong_directive(number));

@@ -1,19 +1,19 @@
 //! The lines of a bundle, read one after another.
 
-ghost use Rattle.std.specs.Prelude.{◌≡◌, ℕ, ◌+◌, ◌<◌, ◌≤◌, ◌^◌, ◌++◌, length, IfOk, Ok};
+ghost use Rattle.std.specs.Prelude.{◌≡◌, ℕ, ◌+◌, ◌<◌, ◌≤◌, ◌^◌, ◌++◌, length, IfOk, OnOk, Ok, Some};
 ghost use Rattle.std.specs.Option.{option_copied};
 ghost use Rattle.lc_base.specs.Lines.{lines_of, ended};
 ghost use Rattle.lc_base.specs.Reading.{Gives};
 ghost use Rattle.script_words.specs.Spans.{span, whole_line};
-ghost use Rattle.script_lang.specs.Reading.{begins_with, command_line, outside, with_command, more_blocks, with_block, with_line, inside, line_read, at_first, lines_read};
+ghost use Rattle.script_lang.specs.Reading.{begins_with, command_line, outside, with_command, more_blocks, with_block, line_read, at_first, lines_read};
 ghost use Rattle.script_commands.specs.InRange.{IsInRange};
-ghost use Rattle.script_lang.specs.Accepted.{IsAccepted, IsSized, finished, bundle_with, known_of};
-ghost use Rattle.script_lang.specs.Kept.{HasRoomFor, IsBegun, IsCurrent, begun_size, IsReading};
+ghost use Rattle.script_lang.specs.Accepted.{IsAccepted, finished, bundle_with, known_of};
+ghost use Rattle.script_lang.specs.Kept.{IsBegun, begun_size, IsReading};
 
 use crate::bundle::{Bundle, COMMAND_LIMIT};
 use crate::directive::directive_line;
 use crate::reading::{BlockKind, Opened, Reading};
-use crate::steps::{at_first, with_command, with_value};
+use crate::steps::{at_first, push_command, push_value};
 use lc_base::{Block, ByteText, Later, Limit, LinePart, List, Place, Reason, TextFault, next_line};
 use script_commands::{Command, Known, THREAD_LIMIT, command_of_line};
 use script_words::Piece;
@@ -48,16 +48,16 @@ fn thread_command(
 fn command_line(
     alloc: Global,
     known: Option<&Known>,
-    reading: Reading,
+    reading: &mut Reading,
     word: Piece<'_>,
     rest: Piece<'_>,
-) -> Result<Reading, TextFault>
-    requires { IsReading 0 reading }
-    ensures is { Gives (λ r. r) result (command_line (option_copied known.entry) reading (span word.entry) (span rest.entry)) }
-    ensures kept { IfOk result (IsReading 0) }
+) -> Result<(), TextFault>
+    requires { IsReading 0 reading.old }
+    ensures is { Gives (λ x. reading.new) result (command_line (option_copied known.entry) reading.old (span word.entry) (span rest.entry)) }
+    ensures kept { OnOk result (IsReading 0 reading.new) }
 {
-    let (thread, command) = thread_command(alloc, known, &reading, word, rest)?;
-    Ok(with_command(reading, thread, command)?)
+    let (thread, command) = thread_command(alloc, known, reading, word, rest)?;
+    Ok(push_command(alloc, reading, thread, command)?)
 }
 
 /// Whether a text begins with this byte.
@@ -75,126 +75,64 @@ fn begins_with(c: u8, bytes: &[u8]) -> bool
 fn outside(
     alloc: Global,
     known: Option<&Known>,
-    reading: Reading,
+    reading: &mut Reading,
     number: u32,
     line: &[u8],
-) -> Result<Reading, TextFault>
+) -> Result<(), TextFault>
     requires short { length line.now < 2 ^ 31 }
     requires number { number + length line.now ≤ 2 ^ 31 }
-    requires kept { IsReading 0 reading }
-    ensures is { Gives (λ r. r) result (outside (option_copied known.entry) reading number line.now) }
-    ensures kept { IfOk result (IsReading 0) }
+    requires kept { IsReading 0 reading.old }
+    ensures is { Gives (λ x. reading.new) result (outside (option_copied known.entry) reading.old number line.now) }
+    ensures kept { OnOk result (IsReading 0 reading.new) }
 {
     if begins_with(b'.', line) {
         return directive_line(alloc, known, reading, number, line);
     }
     match Piece::whole_line(number, line).next_word() {
-        None => Ok(reading),
-        Some((word, _)) if begins_with(b'#', word.bytes) => Ok(reading),
+        None => Ok(()),
+        Some((word, _)) if begins_with(b'#', word.bytes) => Ok(()),
         Some((word, rest)) => command_line(alloc, known, reading, word, rest),
     }
 }
 
-/// The bundle with one more block of this kind.
-fn more_blocks(bundle: Bundle, kind: BlockKind, block: Block) -> Result<Bundle, AllocError>
-    ensures { IfOk result (λ b. b ≡ more_blocks bundle kind block) }
-{
-    let mut bundle = bundle;
-    match kind {
-        BlockKind::Charmap => bundle.charmaps = with_value(bundle.charmaps, block)?,
-        BlockKind::Locale => bundle.locales = with_value(bundle.locales, block)?,
-        BlockKind::Later(key) => bundle.later = with_value(bundle.later, Later { key, block })?,
-        BlockKind::Catalog => bundle.catalogs = with_value(bundle.catalogs, block)?,
-    }
-    Ok(bundle)
-}
-
-/// A block that is closed.
-fn with_block(
-    bundle: Bundle,
-    current: Option<u32>,
+/// Adds a block of this kind.
+fn push_block(
+    alloc: Global,
+    bundle: &mut Bundle,
     kind: BlockKind,
     block: Block,
-) -> Result<Reading, AllocError>
-    requires accepted { IsAccepted bundle }
-    requires current { IsCurrent current bundle }
-    requires room { HasRoomFor kind bundle }
-    requires sized { IsSized block }
-    ensures is { IfOk result (λ r. r ≡ with_block bundle current kind block) }
-    ensures kept { (n : ℕ) → IfOk result (IsReading n) }
+) -> Result<(), AllocError>
+    ensures { OnOk result (bundle.new ≡ more_blocks bundle.old kind block) }
 {
-    let bundle = more_blocks(bundle, kind, block)?;
-    Ok(Reading {
-        bundle,
-        current,
-        begun: None,
-    })
+    match kind {
+        BlockKind::Charmap => push_value(alloc, &mut bundle.charmaps, block),
+        BlockKind::Locale => push_value(alloc, &mut bundle.locales, block),
+        BlockKind::Later(key) => push_value(alloc, &mut bundle.later, Later { key, block }),
+        BlockKind::Catalog => push_value(alloc, &mut bundle.catalogs, block),
+    }
 }
 
-/// A text with a line and its newline.
-fn with_ended(text: ByteText, line: &[u8]) -> Result<ByteText, AllocError>
-    ensures { IfOk result (λ more. more ≡ text ++ ended line.now) }
+/// Adds a line and its newline to a text.
+fn push_ended(alloc: Global, text: &mut ByteText, line: &[u8]) -> Result<(), AllocError>
+    ensures { OnOk result (text.new ≡ text.old ++ ended line.now) }
 {
-    let mut bytes = text.into_vec();
+    let mut bytes = std::mem::replace(text, ByteText::from_vec(Vec::new(alloc))).into_vec();
     bytes.extend_from_slice(line)?;
     bytes.push(b'\n')?;
-    Ok(ByteText::from_vec(bytes))
+    *text = ByteText::from_vec(bytes);
+    Ok(())
 }
 
-/// One more line of a block.
-#[tactic(auto, using(crate::proofs::KeptLemmas::kept_with_line))]
-fn with_line(
-    bundle: Bundle,
-    current: Option<u32>,
-    opened: Opened,
-    line: &[u8],
-) -> Result<Reading, AllocError>
-    requires accepted { IsAccepted bundle }
-    requires current { IsCurrent current bundle }
-    requires room { HasRoomFor opened.kind bundle }
-    requires line { (0 < opened.block.first_line) × (opened.block.first_line < 2 ^ 31) }
-    ensures is { IfOk result (λ r. r ≡ with_line bundle current opened line.now) }
-    ensures kept { IfOk result (IsReading (length opened.block.text + length line.now + 1)) }
+/// The block that was begun is closed.
+fn close_block(alloc: Global, reading: &mut Reading) -> Result<(), AllocError>
+    requires text { begun_size reading.old.begun < 2 ^ 31 }
+    requires kept { IsReading (begun_size reading.old.begun) reading.old }
+    ensures is { (o : Opened) → reading.old.begun ≡ Some o → OnOk result (reading.new ≡ with_block reading.old.bundle reading.old.current o.kind o.block) }
+    ensures kept { (n : ℕ) → OnOk result (IsReading n reading.new) }
 {
-    let Opened { kind, block } = opened;
-    let Block {
-        name,
-        charset,
-        first_line,
-        text,
-    } = block;
-    let block = Block {
-        name,
-        charset,
-        first_line,
-        text: with_ended(text, line)?,
-    };
-    Ok(Reading {
-        bundle,
-        current,
-        begun: Some(Opened { kind, block }),
-    })
-}
-
-/// A line of a block, which is not read but for its end.
-fn inside(reading: Reading, opened: Opened, line: &[u8]) -> Result<Reading, TextFault>
-    requires accepted { IsAccepted reading.bundle }
-    requires current { IsCurrent reading.current reading.bundle }
-    requires room { HasRoomFor opened.kind reading.bundle }
-    requires line { (0 < opened.block.first_line) × (opened.block.first_line < 2 ^ 31) }
-    requires sized { IsSized opened.block }
-    ensures is { Gives (λ r. r) result (Ok (inside reading opened line.now)) }
-    ensures kept { IfOk result (IsReading (length opened.block.text + length line.now + 1)) }
-{
-    let Reading {
-        bundle,
-        current,
-        ..
-    } = reading;
-    if line == b".end".as_slice() {
-        Ok(with_block(bundle, current, opened.kind, opened.block)?)
-    } else {
-        Ok(with_line(bundle, current, opened, line)?)
+    match reading.begun.take() {
+        None => Ok(()),
+        Some(opened) => push_block(alloc, &mut reading.bundle, opened.kind, opened.block),
     }
 }
 
@@ -203,30 +141,21 @@ fn inside(reading: Reading, opened: Opened, line: &[u8]) -> Result<Reading, Text
 fn line_read(
     alloc: Global,
     known: Option<&Known>,
-    reading: Reading,
+    reading: &mut Reading,
     number: u32,
     line: &[u8],
-) -> Result<Reading, TextFault>
+) -> Result<(), TextFault>
     requires short { length line.now < 2 ^ 31 }
     requires number { number + length line.now ≤ 2 ^ 31 }
-    requires text { begun_size reading.begun < 2 ^ 31 }
-    requires kept { IsReading (begun_size reading.begun) reading }
-    ensures is { Gives (λ r. r) result (line_read (option_copied known.entry) reading number line.now) }
-    ensures kept { IfOk result (IsReading (begun_size reading.begun + length line.now + 1)) }
+    requires text { begun_size reading.old.begun < 2 ^ 31 }
+    requires kept { IsReading (begun_size reading.old.begun) reading.old }
+    ensures is { Gives (λ x. reading.new) result (line_read (option_copied known.entry) reading.old number line.now) }
+    ensures kept { OnOk result (IsReading (begun_size reading.old.begun + length line.now + 1) reading.new) }
 {
-    let Reading {
-        bundle,
-        current,
-        begun,
-    } = reading;
-    let reading = Reading {
-        bundle,
-        current,
-        begun: None,
-    };
-    match begun {
+    match &mut reading.begun {
         None => outside(alloc, known, reading, number, line),
-        Some(opened) => inside(reading, opened, line),
+        Some(_) if line == b".end".as_slice() => Ok(close_block(alloc, reading)?),
+        Some(opened) => Ok(push_ended(alloc, &mut opened.block.text, line)?),
     }
 }
 
@@ -247,7 +176,7 @@ fn lines_read(
     let mut number = 1;
     let mut rest = text;
     while let Some((line, following)) = next_line(rest) {
-        reading = line_read(alloc, known, reading, number, line)?;
+        line_read(alloc, known, &mut reading, number, line)?;
         number += 1;
         rest = following;
     }

@@ -1,6 +1,6 @@
 //! How a line changes what was read so far.
 
-ghost use Rattle.std.specs.Prelude.{◌≡◌, ◌+◌, ◌<◌, ◌≤◌, ◌^◌, ◌++◌, ◌∷◌, [], length, IfOk};
+ghost use Rattle.std.specs.Prelude.{◌≡◌, ◌+◌, ◌<◌, ◌≤◌, ◌^◌, ◌++◌, ◌∷◌, [], length, IfOk, OnOk};
 ghost use Rattle.script_commands.specs.InRange.{IsInRange};
 ghost use Rattle.script_lang.specs.Kept.{HasRoomFor, IsReading};
 ghost use Rattle.script_lang.specs.Reading.{at_first, with_open, with_native, with_current, with_thread, with_round, with_command};
@@ -11,13 +11,14 @@ use lc_base::{Block, ByteText, List};
 use script_commands::{Command, Placed, THREAD_LIMIT};
 use std::alloc::{AllocError, Global};
 
-/// A list with one more value.
-pub fn with_value<T: Drop>(list: List<T>, value: T) -> Result<List<T>, AllocError>
-    ensures { IfOk result (λ more. more ≡ list ++ value ∷ []) }
+/// Adds a value to a list.
+pub fn push_value<T: Drop>(alloc: Global, list: &mut List<T>, value: T) -> Result<(), AllocError>
+    ensures { OnOk result (list.new ≡ list.old ++ value ∷ []) }
 {
-    let mut values = list.into_vec();
+    let mut values = std::mem::replace(list, List::of(Vec::new(alloc))).into_vec();
     values.push(value)?;
-    Ok(List::of(values))
+    *list = List::of(values);
+    Ok(())
 }
 
 /// Before the first line, where these threads are known.
@@ -58,109 +59,96 @@ fn empty_block(alloc: Global, name: &[u8], charset: &[u8], number: u32) -> Resul
 
 /// A block begins behind the line with this number.
 #[tactic(auto, using(crate::proofs::KeptLemmas::kept_with_open))]
-pub fn with_open(
+pub fn begin_block(
     alloc: Global,
-    reading: Reading,
+    reading: &mut Reading,
     kind: BlockKind,
     name: &[u8],
     charset: &[u8],
     number: u32,
-) -> Result<Reading, AllocError>
+) -> Result<(), AllocError>
     requires number { number + 1 < 2 ^ 31 }
-    requires room { HasRoomFor kind reading.bundle }
-    requires kept { IsReading 0 reading }
-    ensures is { IfOk result (λ r. r ≡ with_open reading kind name.now charset.now number) }
-    ensures kept { IfOk result (IsReading 0) }
+    requires room { HasRoomFor kind reading.old.bundle }
+    requires kept { IsReading 0 reading.old }
+    ensures is { OnOk result (reading.new ≡ with_open reading.old kind name.now charset.now number) }
+    ensures kept { OnOk result (IsReading 0 reading.new) }
 {
     let block = empty_block(alloc, name, charset, number)?;
-    let mut reading = reading;
     reading.begun = Some(Opened { kind, block });
-    Ok(reading)
+    Ok(())
 }
 
 /// This name is the native locale's.
 #[tactic(auto, using(crate::proofs::KeptLemmas::kept_with_native))]
-pub fn with_native(alloc: Global, reading: Reading, name: &[u8]) -> Result<Reading, AllocError>
-    requires { IsReading 0 reading }
-    ensures is { IfOk result (λ r. r ≡ with_native reading name.now) }
-    ensures kept { IfOk result (IsReading 0) }
+pub fn set_native(alloc: Global, reading: &mut Reading, name: &[u8]) -> Result<(), AllocError>
+    requires { IsReading 0 reading.old }
+    ensures is { OnOk result (reading.new ≡ with_native reading.old name.now) }
+    ensures kept { OnOk result (IsReading 0 reading.new) }
 {
-    let mut reading = reading;
     reading.bundle.native = Some(ByteText::of(alloc, name)?);
-    Ok(reading)
+    Ok(())
 }
 
 /// The thread with this number goes on.
 #[tactic(auto, using(crate::proofs::KeptLemmas::kept_with_current))]
-pub fn with_current(reading: Reading, thread: u32) -> Reading
-    requires thread { thread < length reading.bundle.threads }
-    requires kept { IsReading 0 reading }
-    ensures is { result ≡ with_current reading thread }
-    ensures kept { IsReading 0 result }
+pub fn set_current(reading: &mut Reading, thread: u32)
+    requires thread { thread < length reading.old.bundle.threads }
+    requires kept { IsReading 0 reading.old }
+    ensures is { reading.new ≡ with_current reading.old thread }
+    ensures kept { IsReading 0 reading.new }
 {
-    let mut reading = reading;
     reading.current = Some(thread);
-    reading
 }
 
 /// A thread that was not named before begins.
 #[tactic(auto, using(crate::proofs::KeptLemmas::kept_with_thread))]
-pub fn with_thread(alloc: Global, reading: Reading, name: &[u8]) -> Result<Reading, AllocError>
-    requires room { length reading.bundle.threads < THREAD_LIMIT }
-    requires kept { IsReading 0 reading }
-    ensures is { IfOk result (λ r. r ≡ with_thread reading name.now) }
-    ensures kept { IfOk result (IsReading 0) }
+pub fn begin_thread(alloc: Global, reading: &mut Reading, name: &[u8]) -> Result<(), AllocError>
+    requires room { length reading.old.bundle.threads < THREAD_LIMIT }
+    requires kept { IsReading 0 reading.old }
+    ensures is { OnOk result (reading.new ≡ with_thread reading.old name.now) }
+    ensures kept { OnOk result (IsReading 0 reading.new) }
 {
-    let Reading { bundle, begun, .. } = reading;
-    let mut bundle = bundle;
-    let thread = bundle.threads.len() as u32;
-    bundle.threads = with_value(bundle.threads, ByteText::of(alloc, name)?)?;
-    Ok(Reading {
-        bundle,
-        current: Some(thread),
-        begun,
-    })
+    let thread = reading.bundle.threads.len() as u32;
+    push_value(
+        alloc,
+        &mut reading.bundle.threads,
+        ByteText::of(alloc, name)?,
+    )?;
+    reading.current = Some(thread);
+    Ok(())
 }
 
 /// The next round begins.
 #[tactic(auto, using(crate::proofs::KeptLemmas::kept_with_round))]
-pub fn with_round(reading: Reading) -> Reading
-    requires room { reading.bundle.rounds < ROUND_LIMIT }
-    requires kept { IsReading 0 reading }
-    ensures is { result ≡ with_round reading }
-    ensures kept { IsReading 0 result }
+pub fn begin_round(reading: &mut Reading)
+    requires room { reading.old.bundle.rounds < ROUND_LIMIT }
+    requires kept { IsReading 0 reading.old }
+    ensures is { reading.new ≡ with_round reading.old }
+    ensures kept { IsReading 0 reading.new }
 {
-    let mut reading = reading;
     reading.bundle.rounds += 1;
     reading.current = None;
-    reading
 }
 
 /// One more command of a thread.
 #[tactic(auto, using(crate::proofs::KeptLemmas::kept_with_command))]
-pub fn with_command(reading: Reading, thread: u32, command: Command) -> Result<Reading, AllocError>
-    requires room { length reading.bundle.commands < COMMAND_LIMIT }
-    requires thread { thread < length reading.bundle.threads }
-    requires in_range { IsInRange (length reading.bundle.threads) command }
-    requires kept { IsReading 0 reading }
-    ensures is { IfOk result (λ r. r ≡ with_command reading thread command) }
-    ensures kept { IfOk result (IsReading 0) }
+pub fn push_command(
+    alloc: Global,
+    reading: &mut Reading,
+    thread: u32,
+    command: Command,
+) -> Result<(), AllocError>
+    requires room { length reading.old.bundle.commands < COMMAND_LIMIT }
+    requires thread { thread < length reading.old.bundle.threads }
+    requires in_range { IsInRange (length reading.old.bundle.threads) command }
+    requires kept { IsReading 0 reading.old }
+    ensures is { OnOk result (reading.new ≡ with_command reading.old thread command) }
+    ensures kept { OnOk result (IsReading 0 reading.new) }
 {
-    let Reading {
-        bundle,
-        current,
-        begun,
-    } = reading;
-    let mut bundle = bundle;
     let placed = Placed {
-        round: bundle.rounds,
+        round: reading.bundle.rounds,
         thread,
         command,
     };
-    bundle.commands = with_value(bundle.commands, placed)?;
-    Ok(Reading {
-        bundle,
-        current,
-        begun,
-    })
+    push_value(alloc, &mut reading.bundle.commands, placed)
 }

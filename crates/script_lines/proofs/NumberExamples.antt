@@ -1,8 +1,8 @@
 -- What the command of whole numbers replies of an object, at worked examples.
 use Rattle.std.proofs.Common.{◌≡◌, ℕ, List, [], ◌∷◌, refl}
 use Rattle.std.specs.Prelude.{ℤ, pos, negsuc, codes}
+use Rattle.digit_groups.specs.Digits.{last_digits}
 use Rattle.digit_groups.specs.Groups.{separated}
-use Rattle.int_format.specs.Digits.{last_digits}
 use Rattle.int_format.specs.Formats.{flags_behind, number_behind, conversion_with, piece, pieces}
 use Rattle.int_format.specs.Ints.{pieces_text, missing}
 use Rattle.category_store.specs.Catalog.{Catalog}

@@ -4,12 +4,12 @@ use Rattle.std.specs.Prelude.{ℤ, pos, negsuc, codes}
 use Rattle.std.specs.Fmt.{digits}
 use Rattle.lc_base.specs.declared.item.Item.TheVariants.{Codeset, Crncystr, Yesexpr}
 use Rattle.mask_compose.specs.Parts.{Parts}
+use Rattle.digit_groups.specs.Digits.{last_digits}
 use Rattle.digit_groups.specs.Groups.{separated, separators}
 use Rattle.ctype_classes.specs.CtypeValues.{CtypeValues}
 use Rattle.monetary_cat.specs.MonetaryValues.{MonetaryValues}
 use Rattle.monetary_cat.specs.declared.values.Numbers.{Numbers}
 use Rattle.monetary_cat.specs.Monetary.{text, number}
-use Rattle.strfmon.specs.Decimals.{last_digits}
 use Rattle.strfmon.specs.Formats.{flags_behind, number_behind, conversion, piece, pieces}
 use Rattle.strfmon.specs.Cells.{cell}
 use Rattle.strfmon.specs.Looks.{look_of}

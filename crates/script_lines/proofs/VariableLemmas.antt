@@ -1,8 +1,8 @@
 -- Variables as a map in the order of their names, and as bindings.
-use Rattle.std.proofs.Common.{◌≡◌, ℕ, Bool, true, false, cond, List, [], ◌∷◌, map, Option, Some, None, refl, sym, ◌∙◌, ap}
+use Rattle.std.proofs.Common.{◌≡◌, ℕ, Bool, true, false, cond, List, [], ◌∷◌, map, Option, Some, None, refl, sym, subst, ◌∙◌, ap}
 use Rattle.std.specs.BTreeMap.{is_at, insert_entry}
 use Rattle.std.specs.Cmp.Lexicographic.{slice_cmp}
-use Rattle.std.specs.Map.{lookup}
+use Rattle.std.specs.Map.{lookup, set_value}
 use Rattle.std.specs.Ordering.{nat_cmp, is_eq, match_ordering}
 use Rattle.std.specs.declared.cmp.Ordering.{Ordering}
 use Rattle.std.specs.declared.cmp.Ordering.TheVariants.{Less, Equal, Greater}
@@ -86,3 +86,31 @@ bound_insert {A} key variable h es after own grown name =
     ∙ ap (λ (bs : List ℕ). cond (bytes_eq name bs) (Some h) (lookup (is_at (name_cmp name)) es)) own
     ∙ ap (λ (b : Bool). cond b (Some h) (lookup (is_at (name_cmp name)) es)) (eq_sym name variable)
     ∙ ap (λ (o : Option Handle). cond (bytes_eq variable name) (Some h) o) (bound_lookup name es)
+
+-- a binding is put in the place of another of the same name
+set_step : {A : Type 0} (variable name : List ℕ) (h : Handle) (e : Vec ℕ A × Handle) (es : List (Vec ℕ A × Handle)) (b : Bool)
+    → b ≡ bytes_eq variable e.0.items
+    → (b ≡ false → bound_name (map binding_of (set_value (is_at (name_cmp variable)) es h)) name ≡ bound_name ((variable, h) ∷ map binding_of es) name)
+    → bound_name (map binding_of (cond b ((e.0, h) ∷ es) (e ∷ set_value (is_at (name_cmp variable)) es h))) name ≡ bound_name ((variable, h) ∷ map binding_of (e ∷ es)) name
+set_step variable name h e es true own later =
+    let same : variable ≡ e.0.items = (bytes_eq-Decides variable e.0.items).0 (sym own) in
+    rw same (hides (bytes_eq e.0.items name) h e.1 (bound_name (map binding_of es) name))
+set_step variable name h e es false own later =
+    let apart : (bytes_eq e.0.items name ≡ true) → (bytes_eq variable name ≡ true) → ⊥ = λ a b.
+    let first : e.0.items ≡ name = (bytes_eq-Decides e.0.items name).0 a in
+    let second : variable ≡ name = (bytes_eq-Decides variable name).0 b in
+    let tied : bytes_eq variable e.0.items ≡ true = (bytes_eq-Decides variable e.0.items).1 (second ∙ sym first) in
+    let other : false ≡ true = own ∙ tied in
+    absurd (cc)
+    in
+    ap (λ (o : Option Handle). cond (bytes_eq e.0.items name) (Some e.1) o) (later refl)
+    ∙ swap_tests (bytes_eq e.0.items name) (bytes_eq variable name) e.1 h (bound_name (map binding_of es) name) apart
+
+-- another value for a name that is bound
+pub bound_set : {A : Type 0} (variable : List ℕ) (h old : Handle) (es : List (Vec ℕ A × Handle))
+    → lookup (is_at (name_cmp variable)) es ≡ Some old
+    → (name : List ℕ) → bound_name (map binding_of (set_value (is_at (name_cmp variable)) es h)) name ≡ bound_name ((variable, h) ∷ map binding_of es) name
+bound_set variable h old [] found name = absurd (cc)
+bound_set variable h old (e ∷ es) found name =
+    set_step variable name h e es (is_at (name_cmp variable) e.0) (is_eq-slice_cmp variable e.0.items)
+    (λ miss. bound_set variable h old es (subst (λ (b : Bool). cond b (Some e.1) (lookup (is_at (name_cmp variable)) es) ≡ Some old) miss found) name)

@@ -78,8 +78,22 @@ impl Names {
         self.handles.get(name).copied()
     }
 
-    /// Binds a name to a handle; an older binding of it is dropped.
+    /// Binds a name to a handle; an older binding of it is dropped. A name that is bound is not copied
+    /// again.
     fn bind(&mut self, alloc: Global, name: &[u8], handle: Handle) -> Result<(), AllocError>
+        ensures { OnOk result ((n : List ℕ) → bound_name self.new n ≡ bound_name ((name.now, handle) ∷ self.old) n) }
+    {
+        match self.handles.get_mut(name) {
+            Some(bound) => {
+                *bound = handle;
+                Ok(())
+            }
+            None => self.insert(alloc, name, handle),
+        }
+    }
+
+    /// Binds a copy of a name to a handle.
+    fn insert(&mut self, alloc: Global, name: &[u8], handle: Handle) -> Result<(), AllocError>
         ensures { OnOk result ((n : List ℕ) → bound_name self.new n ≡ bound_name ((name.now, handle) ∷ self.old) n) }
     {
         let name = Vec::from_slice(alloc, name)?;

@@ -1,3 +1,4 @@
 mod ReplyExamples
 mod RefusalExamples
 pub mod PlainTexts
+pub mod NumberTexts

@@ -4,6 +4,8 @@
 mod output;
 mod quoting;
 mod refusal;
+mod short;
 
 pub use output::{OutLine, Places, Said, Why, print, push_line, push_number, push_reply};
+pub use quoting::push_quoted;
 pub use refusal::push_refusal;

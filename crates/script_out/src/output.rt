@@ -1,10 +1,11 @@
 //! The printed lines.
 
-ghost use Rattle.std.specs.Prelude.{◌≡◌, ◌++◌, [], slice_index_or, IfOk, OnOk};
+ghost use Rattle.std.specs.Prelude.{◌≡◌, ◌++◌, [], slice_index_or, codes, IfOk, OnOk};
 ghost use Rattle.std.specs.Fmt.{decimal};
 ghost use Rattle.script_out.specs.Output.{places_text, version_text, handle_text, named_text, refusal_text, field_text, why_text, year_text, known_text, fields_behind_year, fields_text, parsed_text, texts_text, numbers_text, class_text, reply_text, caller_text, outcome_text, line_text, printed};
 
 use crate::quoting::push_quoted;
+use crate::short::{push_short, push_short_number};
 use handle_table::{Handle, Named, Refusal};
 use itoa::Buffer;
 use lc_base::{ByteText, List};
@@ -154,7 +155,7 @@ fn push_caller(out: &mut Vec<u8>, line: &OutLine, thread: &[u8]) -> Result<(), A
 {
     push_number(out, u64::from(line.round))?;
     out.push(b' ')?;
-    out.extend_from_slice(thread)?;
+    push_short(out, thread)?;
     out.push(b' ')?;
     push_number(out, u64::from(line.index))?;
     out.push(b' ')?;
@@ -182,7 +183,7 @@ fn push_places(out: &mut Vec<u8>, places: Places) -> Result<(), AllocError>
     ensures { OnOk result (out.new.items ≡ out.old.items ++ places_text places) }
 {
     match places {
-        Places::None => out.extend_from_slice(b"-"),
+        Places::None => push_dash(out),
         Places::One(place) => push_number(out, place),
         Places::Two(hold, release) => {
             push_number(out, hold)?;
@@ -200,12 +201,20 @@ fn push_version(out: &mut Vec<u8>, version: Option<u32>) -> Result<(), AllocErro
     ensures { OnOk result (out.new.items ≡ out.old.items ++ version_text version) }
 {
     match version {
-        None => out.extend_from_slice(b"-"),
+        None => push_dash(out),
         Some(version) => {
-            out.extend_from_slice(b"g")?;
+            out.push(b'g')?;
             push_number(out, u64::from(version))
         }
     }
+}
+
+/// Adds what stands where there is nothing to tell.
+fn push_dash(out: &mut Vec<u8>) -> Result<(), AllocError>
+    ensures { OnOk result (out.new.items ≡ out.old.items ++ codes "-") }
+{
+    out.push(b'-')?;
+    Ok(())
 }
 
 /// Adds a reply.
@@ -289,7 +298,7 @@ fn push_year(out: &mut Vec<u8>, year: Option<i32>) -> Result<(), AllocError>
     ensures { OnOk result (out.new.items ≡ out.old.items ++ year_text year) }
 {
     match year {
-        None => out.extend_from_slice(b"-"),
+        None => push_dash(out),
         Some(year) => out.extend_from_slice(Buffer::new().format(year).as_bytes()),
     }
 }
@@ -335,7 +344,7 @@ fn push_field(out: &mut Vec<u8>, field: Option<u16>) -> Result<(), AllocError>
     ensures { OnOk result (out.new.items ≡ out.old.items ++ known_text field) }
 {
     match field {
-        None => out.extend_from_slice(b"-"),
+        None => push_dash(out),
         Some(n) => push_number(out, u64::from(n)),
     }
 }
@@ -389,7 +398,7 @@ fn push_handle(
 ) -> Result<(), AllocError>
     ensures { OnOk result (out.new.items ≡ out.old.items ++ handle_text threads.now handle) }
 {
-    out.extend_from_slice(name_of(threads, handle.owner))?;
+    push_short(out, name_of(threads, handle.owner))?;
     out.push(b'.')?;
     push_number(out, u64::from(handle.row))?;
     out.push(b'.')?;
@@ -465,6 +474,9 @@ fn push_table_refusal(out: &mut Vec<u8>, refusal: Refusal) -> Result<(), AllocEr
 pub fn push_number(out: &mut Vec<u8>, n: u64) -> Result<(), AllocError>
     ensures { OnOk result (out.new.items ≡ out.old.items ++ decimal n) }
 {
+    if n < 1000 {
+        return push_short_number(out, n);
+    }
     let mut buffer = Buffer::new();
     out.extend_from_slice(buffer.format(n).as_bytes())
 }

@@ -4,6 +4,7 @@ ghost use Rattle.std.specs.Prelude.{◌≡◌, ◌++◌, ◌<◌, ◌≤◌, ◌
 ghost use Rattle.std.specs.List.{flat_map};
 ghost use Rattle.script_out.specs.Output.{hex_digit, escaped, quoted};
 
+use crate::short::push_short;
 use std::alloc::AllocError;
 
 /// Whether each byte, by its number, stands in quotes as it is.
@@ -27,7 +28,8 @@ const PLAIN: [bool; 256] = [
     true, true, true, true, true, true, true, true, true, true,
 ];
 
-/// Adds a text in quotes, with the bytes between those that are escaped at once.
+/// Adds a text in quotes. A quote and a backslash stand behind a backslash, and a control byte is
+/// `\xHH`.
 pub fn push_quoted(out: &mut Vec<u8>, text: &[u8]) -> Result<(), AllocError>
     ensures { OnOk result (out.new.items ≡ out.old.items ++ quoted text.now) }
 {
@@ -43,7 +45,7 @@ fn push_escaped_text(out: &mut Vec<u8>, text: &[u8]) -> Result<(), AllocError>
     let mut left = text;
     loop {
         let (plain, behind) = left.split_at(plain_length(left));
-        out.extend_from_slice(plain)?;
+        push_short(out, plain)?;
         match behind {
             [] => return Ok(()),
             [c, behind @ ..] => {

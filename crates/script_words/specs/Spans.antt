@@ -39,6 +39,10 @@ behind n s = record { place = record { line = s.place.line; column = s.place.col
 abbrev pub is_blank : ℕ → Bool
 is_blank c = (c == 32) || (c == 9)
 
+-- a blank or a quote
+abbrev pub stops_bare : ℕ → Bool
+stops_bare c = is_blank c || (c == 34)
+
 -- the same without the blanks in front
 abbrev pub from_word : Span → Span
 from_word s = behind (position_or_len (λ c. not (is_blank c)) s.bytes) s

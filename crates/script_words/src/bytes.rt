@@ -3,7 +3,7 @@
 ghost use Rattle.std.specs.Prelude.{◌≡◌, ◌≤◌, not, length};
 ghost use Rattle.std.specs.List.{position_or_len};
 ghost use Rattle.script_words.specs.declared.piece.Within.TheVariants.{Bare};
-ghost use Rattle.script_words.specs.Spans.{is_blank, within_after, ends_word, word_length};
+ghost use Rattle.script_words.specs.Spans.{is_blank, stops_bare, within_after, ends_word, word_length};
 
 use crate::piece::Within;
 
@@ -51,8 +51,21 @@ fn ends_word(within: Within, c: u8) -> bool
     }
 }
 
-/// How many bytes the word has with which a text begins.
-pub fn word_length(bytes: &[u8]) -> usize
+/// How many bytes stand in front of the first blank or quote.
+fn bare_length(bytes: &[u8]) -> usize
+    ensures is { result ≡ position_or_len stops_bare bytes.now }
+    ensures within { result ≤ length bytes.now }
+{
+    for (i, c) in bytes.iter().enumerate() {
+        if is_blank(*c) || *c == b'"' {
+            return i;
+        }
+    }
+    bytes.len()
+}
+
+/// How many bytes stand in front of the blank that ends a word, looked for quote by quote.
+fn quoted_length(bytes: &[u8]) -> usize
     ensures is { result ≡ word_length Bare bytes.now }
     ensures within { result ≤ length bytes.now }
 {
@@ -64,4 +77,15 @@ pub fn word_length(bytes: &[u8]) -> usize
         within = within_after(within, *c);
     }
     bytes.len()
+}
+
+/// How many bytes the word has with which a text begins.
+#[tactic(auto, using(crate::proofs::ReadLemmas::bare_front))]
+pub fn word_length(bytes: &[u8]) -> usize
+    ensures is { result ≡ word_length Bare bytes.now }
+    ensures within { result ≤ length bytes.now }
+{
+    let bare = bare_length(bytes);
+    let (_, rest) = bytes.split_at(bare);
+    bare + quoted_length(rest)
 }

@@ -56,20 +56,20 @@ line_read-requires c =
       kept = c.loop-line.invariant.kept;
     }
 
-pub returns-in_err-reading-clause-is : goal.returns-in_err-reading-clause-is
-returns-in_err-reading-clause-is c =
+pub returns-in_err-line_read-clause-is : goal.returns-in_err-line_read-clause-is
+returns-in_err-line_read-clause-is c =
     let p = err_from_is_err_and c.from_residual.result c.from_residual.ensures.1 in
-    rw (p.1, p.2) (fails_first c.in_err-reading.field-0.0 _ _ _ (sym c.loop-line.invariant.so_far ∙ lines_more _ _ _ _ _ _ c.in-Some.ensures.line) c.in_err-reading.ensures.is)
+    rw (p.1, p.2) (fails_first c.in_err-line_read.field-0.0 _ _ _ (sym c.loop-line.invariant.so_far ∙ lines_more _ _ _ _ _ _ c.in-Some.ensures.line) c.in_err-line_read.ensures.is)
 
 pub loop-line-preserved : goal.loop-line-preserved
 loop-line-preserved c =
     let cut = c.in-Some.ensures.line in
     record {
-      so_far = lines_step _ _ _ _ _ _ _ _ cut c.in_ok-reading.ensures.is c.loop-line.invariant.so_far;
+      so_far = lines_step _ _ _ _ _ _ _ _ cut c.in_ok-line_read.ensures.is c.loop-line.invariant.so_far;
       some = omega arith;
       number = omega (arith, c.in-Some.ensures.shorter);
-      kept = kept_own _ _ c.in_ok-reading.ensures.kept;
-      size = λ some. omega (arith, both_within _ _ _ cut some, c.in-Some.ensures.shorter, c.in_ok-reading.ensures.kept.size, c.loop-line.invariant.size (omega (arith, c.in-Some.ensures.shorter)));
+      kept = kept_own _ _ c.in_ok-line_read.ensures.kept;
+      size = λ some. omega (arith, both_within _ _ _ cut some, c.in-Some.ensures.shorter, c.in_ok-line_read.ensures.kept.size, c.loop-line.invariant.size (omega (arith, c.in-Some.ensures.shorter)));
     }
 
 pub returns : goal.returns

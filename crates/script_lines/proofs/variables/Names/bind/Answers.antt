@@ -1,7 +1,10 @@
-use Rattle.std.proofs.Common.{◌∷◌, ◌∙◌, ap}
-use Rattle.script_lines.specs.Variables.{bound_name}
-use Rattle.script_lines.proofs.VariableLemmas.{bound_insert}
+use Rattle.std.proofs.Common.{◌∷◌, ◌∙◌, map, sym, ap}
+use Rattle.script_lines.specs.Variables.{bound_name, binding_of}
+use Rattle.script_lines.proofs.VariableLemmas.{bound_set}
 use Rattle.script_lines.proofs.variables.Names.bind.Goals as goal
 
-pub returns : goal.returns
-returns c = λ v. bound_insert c.in_ok-name.name c.args.name.now c.args.handle c.self.inside.handles.entries c.insert.new.self.entries c.in_ok-name.ensures.items c.in_ok-insert.ensures.entries v ∙ ap (λ b. bound_name ((c.args.name.now, c.args.handle) ∷ b) v) c.self.view_is
+pub returns-in-Some : goal.returns-in-Some
+returns-in-Some c = λ v.
+    ap (λ es. bound_name (map binding_of es) v) (c.get_mut.follows.holds c.args.handle).0
+    ∙ bound_set c.args.name.now c.args.handle c.in-Some.bound.now c.self.inside.handles.entries (sym c.in-Some.ensures.value) v
+    ∙ ap (λ b. bound_name ((c.args.name.now, c.args.handle) ∷ b) v) c.self.view_is
