@@ -7,10 +7,14 @@
  * full handle is no second one, and its fields are the library's. An object never changes, and the
  * library that was read lives as long as one of its objects.
  *
- * Threads. One call at a time may use a handle, also for reading. Each thread takes handles of its own
- * by lo_duplocale, before or after it starts; these share what they read without a lock. A handle may go
- * to another thread where that is ordered by the start or the join of a thread, by a lock or by an
- * atomic.
+ * Threads. Any thread may make any call, but one call at a time may use a handle, also for reading. Each
+ * thread takes handles of its own by lo_duplocale, before or after it starts; these share what they read
+ * without a lock. A handle may go to another thread where that is ordered by the start or the join of a
+ * thread, by a lock or by an atomic. Calls write the handle while they run: handles of busy threads that
+ * stand within 64 bytes of each other slow these down.
+ *
+ * Who frees. An object that a call put into `out` is given back by lo_freelocale, once, in any order and on
+ * any thread. Nothing else is to be freed: all other answers are numbers, or stand in the caller's memory.
  *
  * Texts are given by a pointer and a number of bytes, need no NUL, and may have any bytes. Buffers are
  * given with their size. A text that a call gives stands at the front of the buffer with a NUL behind
@@ -18,10 +22,12 @@
  * is LO_TOO_SMALL. Under any code but LO_OK a buffer for a text is as it was; that of lo_read is for the
  * line of a fault.
  *
- * No pointer may be null, a text or a buffer of 0 bytes included; two that a call writes or takes as a
- * handle may not overlap one another, nor its other arguments. No size may be over PTRDIFF_MAX. Nothing
- * checks these. No call may be made from a signal handler, or in the child of a fork of a process with
- * threads.
+ * No pointer may be null, a text or a buffer of 0 bytes included. No call checks this, but LO_NONNULL below
+ * lets compilers warn of a null constant (-Wall), and the sanitizer of undefined behavior stop at any null.
+ * Two that a call writes or takes as a handle may not overlap one another, nor its other arguments; each
+ * points to as many bytes or elements as its size says; a `bool` is true or false; no size is over
+ * PTRDIFF_MAX. Nothing checks these. No call may be made from a signal handler, or in the child of a fork of
+ * a process with threads.
  */
 #ifndef LOCALE_OBJECTS_H
 #define LOCALE_OBJECTS_H
@@ -32,6 +38,13 @@
 
 #ifdef __cplusplus
 extern "C" {
+#endif
+
+/* Says of a call that none of its pointers is null. */
+#if defined __GNUC__
+#define LO_NONNULL __attribute__((nonnull))
+#else
+#define LO_NONNULL
 #endif
 
 /* A handle of an object, or of nothing. */
@@ -182,85 +195,94 @@ enum {
  *
  * LO_BAD_TEXT: the text breaks a rule; `place` is where, and the buffer has the line `refused: L:C REASON`
  * that names it (docs/REFUSALS.md), a newline at its end. LO_TOO_SMALL: it does, and the line does not fit;
- * `place` is where. LO_TAKEN, LO_TOO_LONG, LO_NO_MEMORY.
+ * `place` is where. LO_TAKEN, LO_TOO_LONG, LO_NO_MEMORY. Under LO_OK the buffer is as it was, and
+ * `out` is the caller's to give back. Once the call has returned, nothing refers to the text.
  */
-lo_answer lo_read(const char *text, size_t length, lo_object *out, lo_place *place, char *buffer, size_t size);
+lo_answer lo_read(const char *text, size_t length, lo_object *out, lo_place *place, char *buffer, size_t size) LO_NONNULL;
 
 /*
  * Gives the object that has the locale of the name in the categories of the mask, and what the base has in
  * the others (XSH newlocale); the base stays as it is. The name may be empty, for the native locale of the
- * text, or have a part for each category. The base says which library is asked.
+ * text, or have a part for each category. The base says which library is asked, and may be given back before
+ * or after `out`, which is the caller's to give back.
  *
  * LO_TAKEN, LO_NO_OBJECT (of the base), LO_BAD_MASK, LO_NO_DATA, LO_NO_MEMORY.
  */
-lo_answer lo_newlocale(uint32_t mask, const char *name, size_t length, lo_object *base, lo_object *out);
-
-/* Gives the same object once more (XSH duplocale). LO_TAKEN, LO_NO_OBJECT, LO_NO_MEMORY. */
-lo_answer lo_duplocale(lo_object *object, lo_object *out);
-
-/* Gives an object back, and with the last one its library (XSH freelocale). A handle of nothing stays so. */
-void lo_freelocale(lo_object *object);
+lo_answer lo_newlocale(uint32_t mask, const char *name, size_t length, lo_object *base, lo_object *out) LO_NONNULL;
 
 /*
- * The text of amounts by a format (XSH strfmon_l). Amounts that are left over are passed over.
+ * Gives the same object once more (XSH duplocale), as for another thread. Each of the two is the caller's to
+ * give back. LO_TAKEN, LO_NO_OBJECT, LO_NO_MEMORY.
+ */
+lo_answer lo_duplocale(lo_object *object, lo_object *out) LO_NONNULL;
+
+/*
+ * Gives an object back, and with the last one its library (XSH freelocale): the handle is then of nothing. A
+ * handle of nothing stays so. Any thread may give an object back, also one that another thread made.
+ */
+void lo_freelocale(lo_object *object) LO_NONNULL;
+
+/*
+ * The text of amounts by a format (XSH strfmon_l), each of units / 10^scale in the currency of the object's
+ * LC_MONETARY. Amounts that are left over are passed over.
  * LO_NO_OBJECT, LO_BAD_AMOUNT, LO_BAD_FORMAT, LO_MISSING, LO_TOO_SMALL, LO_NO_MEMORY.
  */
 lo_answer lo_strfmon_l(char *buffer, size_t size, lo_object *object, const char *format, size_t length,
-                       const lo_amount *amounts, size_t count);
+                       const lo_amount *amounts, size_t count) LO_NONNULL;
 
 /*
  * The text of a time by a format, with the name of its time zone (XSH strftime_l).
  * LO_NO_OBJECT, LO_TM_RANGE, LO_BAD_FORMAT, LO_TOO_SMALL, LO_NO_MEMORY.
  */
 lo_answer lo_strftime_l(char *buffer, size_t size, const char *format, size_t length, const lo_tm *tm,
-                        const char *zone, size_t zone_length, lo_object *object);
+                        const char *zone, size_t zone_length, lo_object *object) LO_NONNULL;
 
 /* The text of an item (XSH nl_langinfo_l). LO_NO_OBJECT, LO_NO_ITEM, LO_TOO_SMALL, LO_NO_MEMORY. */
-lo_answer lo_nl_langinfo_l(char *buffer, size_t size, uint32_t item, lo_object *object);
+lo_answer lo_nl_langinfo_l(char *buffer, size_t size, uint32_t item, lo_object *object) LO_NONNULL;
 
 /*
  * How numbers and amounts are written (XSH localeconv). The buffer has the ten texts in the order of the
  * lengths, each with a NUL behind it; `n` counts all bytes but the last NUL. LO_NO_OBJECT, LO_NO_MEMORY;
  * LO_TOO_SMALL, where the fields are written all the same.
  */
-lo_answer lo_localeconv_l(char *buffer, size_t size, lo_lconv *fields, lo_object *object);
+lo_answer lo_localeconv_l(char *buffer, size_t size, lo_lconv *fields, lo_object *object) LO_NONNULL;
 
 /*
  * The text of whole numbers by a format with `d`, `i` and `u` (XSH fprintf). Numbers that are left over are
  * passed over. LO_NO_OBJECT, LO_BAD_FORMAT, LO_MISSING, LO_TOO_SMALL, LO_NO_MEMORY.
  */
 lo_answer lo_int_format_l(char *buffer, size_t size, lo_object *object, const char *format, size_t length,
-                          const int64_t *numbers, size_t count);
+                          const int64_t *numbers, size_t count) LO_NONNULL;
 
 /*
  * Whether a wide character is of the class with a name (XSH iswctype_l): `n` is 1 or 0.
  * LO_NO_OBJECT, LO_NO_CLASS.
  */
-lo_answer lo_iswctype_l(uint32_t value, const char *class_name, size_t length, lo_object *object);
+lo_answer lo_iswctype_l(uint32_t value, const char *class_name, size_t length, lo_object *object) LO_NONNULL;
 
 /*
  * The number of the class with a name (XSH wctype_l) as `n`, for lo_isclass_l, which need not look for the
  * name. It is of the locale of the object's LC_CTYPE. LO_NO_OBJECT, LO_NO_CLASS.
  */
-lo_answer lo_wctype_l(const char *class_name, size_t length, lo_object *object);
+lo_answer lo_wctype_l(const char *class_name, size_t length, lo_object *object) LO_NONNULL;
 
 /*
  * Whether a wide character is of the class with a number: as lo_iswctype_l answers by the name. A number
  * that another locale gave is one of this locale: that of a class that may have another name, or of none,
  * which is LO_NO_CLASS. LO_NO_OBJECT, LO_NO_CLASS.
  */
-lo_answer lo_isclass_l(uint32_t value, size_t class_number, lo_object *object);
+lo_answer lo_isclass_l(uint32_t value, size_t class_number, lo_object *object) LO_NONNULL;
 
 /* The upper and the lower case of a wide character as `n` (XSH towupper_l, towlower_l). LO_NO_OBJECT. */
-lo_answer lo_towupper_l(uint32_t value, lo_object *object);
-lo_answer lo_towlower_l(uint32_t value, lo_object *object);
+lo_answer lo_towupper_l(uint32_t value, lo_object *object) LO_NONNULL;
+lo_answer lo_towlower_l(uint32_t value, lo_object *object) LO_NONNULL;
 
 /*
  * The fields of a time that a text has by a format (XSH strptime); `n` is the first byte that is not read.
  * Under another code the fields are as they were. LO_NO_OBJECT, LO_BAD_FORMAT, LO_MISMATCH.
  */
 lo_answer lo_strptime_l(const char *text, size_t length, const char *format, size_t format_length,
-                        lo_parsed *fields, lo_object *object);
+                        lo_parsed *fields, lo_object *object) LO_NONNULL;
 
 #ifdef __cplusplus
 }

@@ -1,7 +1,9 @@
 /*
  * Times calls of this library and the same calls of the C library in one process, on 1, 2 and 4 threads,
  * under a locale that localedef compiled from the same source: bench/c/run makes it and runs this. First
- * looks whether both give the same bytes. Prints nanoseconds a call and thread, and the ratio.
+ * looks whether both give the same bytes. Prints nanoseconds a call and thread, the ratio, and by how much
+ * all threads do more than half as many did, of this library and of the C library. With a second word only
+ * makes each call so many times, on one thread, for a tool that counts.
  */
 #define _GNU_SOURCE
 #include "locale_objects.h"
@@ -20,8 +22,9 @@
 
 enum { MOST_THREADS = 4 };
 
+/* What a thread has: a call writes its handle, so that two handles in one line of a cache would slow threads. */
 typedef struct side {
-    lo_object object;
+    _Alignas(128) lo_object object;
     locale_t locale;
     size_t our_alpha;
     wctype_t alpha;
@@ -195,10 +198,25 @@ static void read_source(const char *path, lo_object *library) {
     }
 }
 
+/* Prints a line of the table for each number of threads. */
+static void measure_row(const struct row *row, side *sides) {
+    double us_before = 0, them_before = 0;
+    for (int threads = 1; threads <= MOST_THREADS; threads *= 2) {
+        double us = measured(row->ours, row->times, sides, threads);
+        double them = measured(row->theirs, row->times, sides, threads);
+        printf("%-30s %7d %10.1f %10.1f %8.2f", row->name, threads, us, them, them / us);
+        if (threads > 1) printf(" %8.2f %8.2f", 2 * us_before / us, 2 * them_before / them);
+        printf("\n");
+        us_before = us;
+        them_before = them;
+    }
+}
+
 int main(int count, char **words) {
     side sides[MOST_THREADS];
     lo_object library = LO_NOTHING;
-    if (count != 2) return 2;
+    int counted = count > 2 ? atoi(words[2]) : 0;
+    if (count < 2) return 2;
     read_source(words[1], &library);
     for (int i = 0; i < MOST_THREADS; i++) {
         sides[i].object = (lo_object)LO_NOTHING;
@@ -210,7 +228,9 @@ int main(int count, char **words) {
         sides[i].our_alpha = lo_wctype_l("alpha", 5, &sides[i].object).n;
         sides[i].alpha = wctype_l("alpha", sides[i].locale);
     }
-    printf("%-30s %7s %10s %10s %8s\n", "calls", "threads", "this, ns", "glibc, ns", "ratio");
+    if (counted == 0) {
+        printf("%-30s %7s %10s %10s %8s %8s %8s\n", "calls", "threads", "this, ns", "glibc, ns", "ratio", "growth", "glibc's");
+    }
     for (size_t r = 0; r < sizeof rows / sizeof *rows; r++) {
         char ours[128], theirs[128];
         size_t n = rows[r].ours(&sides[0], ours, 1), m = rows[r].theirs(&sides[0], theirs, 1);
@@ -218,10 +238,11 @@ int main(int count, char **words) {
             printf("%s: not the same: %s | %s\n", rows[r].name, ours, theirs);
             return 1;
         }
-        for (int threads = 1; threads <= MOST_THREADS; threads *= 2) {
-            double us = measured(rows[r].ours, rows[r].times, sides, threads);
-            double them = measured(rows[r].theirs, rows[r].times, sides, threads);
-            printf("%-30s %7d %10.1f %10.1f %8.2f\n", rows[r].name, threads, us, them, them / us);
+        if (counted == 0) {
+            measure_row(&rows[r], sides);
+        } else {
+            rows[r].ours(&sides[0], ours, counted);
+            rows[r].theirs(&sides[0], theirs, counted);
         }
     }
     for (int i = 0; i < MOST_THREADS; i++) {

@@ -49,6 +49,17 @@ static char *read_file(const char *path, size_t *length) {
     return text;
 }
 
+/* Prints the category and the keyword on the line of a fault, and why it is one. */
+static void print_fault(const char *source, uint32_t line, const char *refusal) {
+    char category[32] = "", keyword[32] = "";
+    for (uint32_t n = 1; n < line; n++) {
+        if (strncmp(source, "LC_", 3) == 0) sscanf(source, "%31s", category);
+        source = strchr(source, '\n') + 1;
+    }
+    sscanf(source, "%31s", keyword);
+    printf("%s %s: %s", category, keyword, refusal);
+}
+
 int main(int count, char **arguments) {
     static const char broken[] = ".locale de UTF-8\nLC_NUMERIC\ndecimal_point \"\"\nEND LC_NUMERIC\n.end\n";
     user users[] = {
@@ -79,7 +90,7 @@ int main(int count, char **arguments) {
         lo_freelocale(&users[i].object);
     }
     if (lo_read(broken, strlen(broken), &library, &place, line, sizeof line).code == LO_BAD_TEXT) {
-        printf("%s", line);
+        print_fault(broken, place.line, line);
     }
     return 0;
 }

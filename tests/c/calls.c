@@ -1,7 +1,8 @@
 /*
- * Each call of include/locale_objects.h: what it gives, each code once, buffers one byte too small, and
- * four threads beside each other, with 100000 calls each or as many as the first word says. Ends with
- * status 0 where all is as wanted.
+ * Each call of include/locale_objects.h: what it gives, each code once, buffers of each size that is too
+ * small, each allocation that fails, and four threads beside each other, which get the texts that one thread
+ * gets, with 100000 calls each or as many as the first word says. Ends with status 0 where all is as wanted.
+ * To be linked with -Wl,--wrap=malloc,--wrap=realloc.
  */
 #include "locale_objects.h"
 #include <pthread.h>
@@ -37,6 +38,29 @@ static const char sources[] =
     "END LC_MONETARY\n.end\n"
     ".locale half UTF-8\nLC_NUMERIC\ndecimal_point \",\"\nEND LC_NUMERIC\n.end\n"
     ".native half\n";
+
+/* How many blocks of memory are given before none is; below 0 as many as are asked for. */
+static long blocks_left = -1;
+
+static bool is_given(void) {
+    if (blocks_left < 0) return true;
+    if (blocks_left == 0) return false;
+    blocks_left--;
+    return true;
+}
+
+void *__real_malloc(size_t size);
+void *__real_realloc(void *block, size_t size);
+void *__wrap_malloc(size_t size);
+void *__wrap_realloc(void *block, size_t size);
+
+void *__wrap_malloc(size_t size) {
+    return is_given() ? __real_malloc(size) : NULL;
+}
+
+void *__wrap_realloc(void *block, size_t size) {
+    return is_given() ? __real_realloc(block, size) : NULL;
+}
 
 static const lo_tm sunday = { 2021, 1, 3, 14, 5, 6, 0, 2, true, 60 };
 
@@ -213,40 +237,167 @@ static void scan_times(lo_object *us) {
     CHECK(fields.year == 2021 && fields.mon == 1 && fields.mday == 3 && fields.hour == -1 && fields.yday == -1);
 }
 
+/* The calls that give a text, each for a number. */
+typedef lo_answer text_call(char *buffer, size_t size, lo_object *object, int number);
+
+static lo_answer money_text(char *buffer, size_t size, lo_object *object, int number) {
+    const lo_amount amount = { (int64_t)number * 7919 - 300000000, (uint8_t)(number % 4) };
+    return lo_strfmon_l(buffer, size, object, "%n", 2, &amount, 1);
+}
+
+static lo_answer time_text(char *buffer, size_t size, lo_object *object, int number) {
+    lo_tm time = sunday;
+    time.sec = number % 60;
+    time.wday = number % 7;
+    return lo_strftime_l(buffer, size, "%A %X %z", 8, &time, "", 0, object);
+}
+
+static lo_answer item_text(char *buffer, size_t size, lo_object *object, int number) {
+    return lo_nl_langinfo_l(buffer, size, (uint32_t)number % (LO_CRNCYSTR + 1), object);
+}
+
+static lo_answer number_text(char *buffer, size_t size, lo_object *object, int number) {
+    const int64_t value = (int64_t)number * 104729;
+    return lo_int_format_l(buffer, size, object, "%'d", 3, &value, 1);
+}
+
+static lo_answer conventions_text(char *buffer, size_t size, lo_object *object, int number) {
+    lo_lconv fields;
+    (void)number;
+    return lo_localeconv_l(buffer, size, &fields, object);
+}
+
+static text_call *const text_calls[] = { money_text, time_text, item_text, number_text, conventions_text };
+enum { TEXT_CALLS = sizeof text_calls / sizeof *text_calls };
+
+static bool is_untouched(const char *buffer, const char *end) {
+    while (buffer < end && *buffer == 'x') buffer++;
+    return buffer == end;
+}
+
+/* A buffer that is too small stays as it is, and one that just has room is written no further. */
+static void try_each_size(text_call *call, lo_object *object) {
+    char text[64], buffer[64];
+    size_t length = call(text, sizeof text, object, 99).n;
+    memset(buffer, 'x', sizeof buffer);
+    for (size_t size = 0; size <= length; size++) {
+        CHECK(is(call(buffer, size, object, 99), LO_TOO_SMALL, 0));
+    }
+    CHECK(is_untouched(buffer, buffer + sizeof buffer));
+    CHECK(is(call(buffer, length + 1, object, 99), LO_OK, length));
+    CHECK(memcmp(buffer, text, length + 1) == 0);
+    CHECK(is_untouched(buffer + length + 1, buffer + sizeof buffer));
+}
+
+/* Calls that want memory; one that gives an object puts it into `out`. */
+typedef lo_answer wanting_call(lo_object *object, lo_object *out, char *buffer, size_t size);
+
+static lo_answer want_library(lo_object *object, lo_object *out, char *buffer, size_t size) {
+    lo_place place;
+    (void)object;
+    return lo_read(sources, strlen(sources), out, &place, buffer, size);
+}
+
+static lo_answer want_object(lo_object *object, lo_object *out, char *buffer, size_t size) {
+    (void)buffer;
+    (void)size;
+    return lo_newlocale(LO_NUMERIC_MASK, "us", 2, object, out);
+}
+
+static lo_answer want_duplicate(lo_object *object, lo_object *out, char *buffer, size_t size) {
+    (void)buffer;
+    (void)size;
+    return lo_duplocale(object, out);
+}
+
+static lo_answer want_money(lo_object *object, lo_object *out, char *buffer, size_t size) {
+    (void)out;
+    return money_text(buffer, size, object, 99);
+}
+
+static lo_answer want_time(lo_object *object, lo_object *out, char *buffer, size_t size) {
+    (void)out;
+    return time_text(buffer, size, object, 99);
+}
+
+static lo_answer want_numbers(lo_object *object, lo_object *out, char *buffer, size_t size) {
+    (void)out;
+    return number_text(buffer, size, object, 99);
+}
+
+static lo_answer want_conventions(lo_object *object, lo_object *out, char *buffer, size_t size) {
+    (void)out;
+    return conventions_text(buffer, size, object, 99);
+}
+
+static wanting_call *const wanting_calls[] = { want_library, want_object, want_duplicate, want_money,
+                                               want_time, want_numbers, want_conventions };
+
+/* Each of the allocations of each call fails in turn: the call says so, and leaves all as it was. */
+static void run_out_of_memory(lo_object *us) {
+    for (size_t i = 0; i < sizeof wanting_calls / sizeof *wanting_calls; i++) {
+        lo_object out = LO_NOTHING;
+        char buffer[64];
+        lo_answer answer = { LO_NO_MEMORY, 0 };
+        long given = 0;
+        memset(buffer, 'x', sizeof buffer);
+        for (; answer.code == LO_NO_MEMORY; given++) {
+            CHECK(answer.n == 0 && !out.full && us->full && is_untouched(buffer, buffer + sizeof buffer));
+            blocks_left = given;
+            answer = wanting_calls[i](us, &out, buffer, sizeof buffer);
+            blocks_left = -1;
+        }
+        CHECK(is(answer, LO_OK, answer.n));
+        if (out.full) CHECK(given > 1);
+        lo_freelocale(&out);
+    }
+}
+
 enum { THREADS = 4 };
 
 static int calls = 100000;
 
-static void *many_calls(void *given) {
-    lo_object *own = given;
-    const lo_amount amount = { 123456789, 2 };
+typedef struct task {
+    lo_object own;
+    uint64_t sum;
+} task;
+
+/* Makes all calls, and sums up (FNV-1a) all bytes that they give. */
+static void *sum_of_texts(void *given) {
+    task *t = given;
     char text[64];
-    size_t same = 0;
+    t->sum = 14695981039346656037u;
     for (int i = 0; i < calls; i++) {
-        lo_object again = LO_NOTHING;
-        lo_answer answer = lo_strfmon_l(text, sizeof text, own, "%n", 2, &amount, 1);
+        lo_answer answer = text_calls[i % TEXT_CALLS](text, sizeof text, &t->own, i);
+        answer.code |= lo_isclass_l((uint32_t)i % 0x180, 2, &t->own).code;
         if (i % 100 == 0) {
-            answer.code |= lo_duplocale(own, &again).code;
-            lo_freelocale(own);
-            *own = again;
+            lo_object again = LO_NOTHING;
+            answer.code |= lo_duplocale(&t->own, &again).code;
+            lo_freelocale(&t->own);
+            t->own = again;
         }
-        if (answer.code == LO_OK && strcmp(text, "$1,234,567.89") == 0) same++;
+        if (answer.code != LO_OK) return NULL;
+        for (size_t k = 0; k <= answer.n; k++) t->sum = (t->sum ^ (unsigned char)text[k]) * 1099511628211u;
     }
-    return same == (size_t)calls ? own : NULL;
+    return t;
 }
 
 static void run_threads(lo_object *us) {
-    lo_object own[THREADS] = { LO_NOTHING, LO_NOTHING, LO_NOTHING, LO_NOTHING };
+    task one = { LO_NOTHING, 0 }, tasks[THREADS];
     pthread_t threads[THREADS];
+    CHECK(is(lo_duplocale(us, &one.own), LO_OK, 0));
+    CHECK(sum_of_texts(&one) != NULL);
+    lo_freelocale(&one.own);
     for (int i = 0; i < THREADS; i++) {
-        CHECK(is(lo_duplocale(us, &own[i]), LO_OK, 0));
-        CHECK(pthread_create(&threads[i], NULL, many_calls, &own[i]) == 0);
+        tasks[i] = (task){ LO_NOTHING, 0 };
+        CHECK(is(lo_duplocale(us, &tasks[i].own), LO_OK, 0));
+        CHECK(pthread_create(&threads[i], NULL, sum_of_texts, &tasks[i]) == 0);
     }
     for (int i = 0; i < THREADS; i++) {
         void *all = NULL;
         pthread_join(threads[i], &all);
-        CHECK(all != NULL);
-        lo_freelocale(&own[i]);
+        CHECK(all != NULL && tasks[i].sum == one.sum);
+        lo_freelocale(&tasks[i].own);
     }
 }
 
@@ -264,6 +415,8 @@ int main(int count, char **words) {
     ask_items_and_classes(&us);
     ask_conventions(&us);
     scan_times(&us);
+    for (int i = 0; i < TEXT_CALLS; i++) try_each_size(text_calls[i], &us);
+    run_out_of_memory(&us);
     run_threads(&us);
     lo_freelocale(&us);
     puts(wrong ? "calls: not as wanted" : "calls: as wanted");

@@ -20,7 +20,7 @@ use std::sync::Arc;
 /// It never changes, and the library lives as long as one of its objects.
 #[derive(Drop)]
 pub struct SharedObject {
-    shelf: Arc<Shelved>,
+    shelf: Arc<Box<Shelved>>,
     object: Object<Share>,
 }
 
@@ -29,7 +29,7 @@ impl Model for SharedObject {
 
     ghost Value = { Shared };
 
-    ghost view = { λ o. record { library = o.shelf.value; object = o.object } };
+    ghost view = { λ o. record { library = o.shelf.value.value; object = o.object } };
 }
 
 impl SharedObject {
@@ -50,7 +50,7 @@ impl SharedObject {
         ensures { Gives (λ o. o) result (Ok (first_object library)) }
     {
         let object = library.posix();
-        let shelf = Arc::new(alloc, Shelved::of(alloc, library)?)?;
+        let shelf = Arc::new(alloc, Box::new(alloc, Shelved::of(alloc, library)?)?)?;
         Ok(SharedObject { shelf, object })
     }
 
