@@ -126,6 +126,13 @@ def status_of_no_text(program, work):
     return ended.returncode, ended.stderr
 
 
+def told_of_piped_source(program, work):
+    """What is told of a source that is there once."""
+    words, source = [program, "check", "/dev/stdin"], b"LC_TIME\nOn\nEND LC_TIME\n"
+    ended = subprocess.run(words, cwd=work, input=source, capture_output=True)
+    return ended.returncode, ended.stderr.splitlines()[1:]
+
+
 def feed(path, text):
     """Gives a text to each reader of a pipe, two thirds of a second late."""
     while True:
@@ -163,6 +170,7 @@ def run_streams(program, work):
     wanted = {
         "full_device": (status_on_full_device(program, work), (3, b"locale_tool: standard output could not be written\n")),
         "no_text": (status_of_no_text(program, work), (2, b"locale_tool: a word is no UTF-8 text\n")),
+        "piped_source": (told_of_piped_source(program, work), (1, [b"On", b"^"])),
         "no_terminal": (told_of_slow_files(program, work, False), (0, b"")),
     }
     for name, (came, want) in wanted.items():

@@ -53,10 +53,10 @@ apart = refl
 not_apart : are_apart (at 3 1 ∷ at 4 1 ∷ at 3 5 ∷ []) ≡ false
 not_apart = refl
 
-short_name : row (codes "LC_TIME") (codes "x") ≡ codes "LC_TIME     x" ++ 10 ∷ []
+short_name : row (codes "LC_TIME") (codes "x") ≡ codes "LC_TIME        x" ++ 10 ∷ []
 short_name = refl
 
-long_name : row (codes "LC_MONETARY_") (codes "x") ≡ codes "LC_MONETARY_x" ++ 10 ∷ []
+long_name : row (codes "consonant_or_sign") (codes "x") ≡ codes "consonant_or_signx" ++ 10 ∷ []
 long_name = refl
 
 two_below : count_below (λ n. (n == 1) || (n == 4) || (n == 5)) 5 ≡ 2

@@ -1,7 +1,13 @@
 -- Values that are counted, run after run.
 use Rattle.std.proofs.Common.{◌≡◌, ℕ, zero, suc, ◌+◌, ◌-◌, ◌<◌, ◌≤◌, ◌^◌, ◌&&◌, Bool, true, false, refl, sym, ap, ◌∙◌, add-zero, add-one, arith, if◌then◌else◌}
+use Rattle.std.specs.Prelude.{Option, None, unwrap_or}
+use Rattle.charmap_reader.specs.CodedSet.{CodedSet, has}
+use Rattle.charmap_reader.specs.Portable.{Name, first_named}
 use Rattle.charmap_reader.specs.Runs.{HoldsNowhereFrom, IsRunFrom}
-use Rattle.tool_check.specs.Summary.{count_below}
+use Rattle.ctype_classes.specs.Classes.{Classes, class_answer, numbered_answer}
+use Rattle.ctype_classes.specs.Named.{place_of}
+use Rattle.ctype_classes.proofs.NamedLemmas.{nothing_named}
+use Rattle.tool_check.specs.Summary.{count_below, is_in_class, class_count, numbered_count}
 
 count_below-suc : (test : ℕ → Bool) (n : ℕ) → count_below test (suc n) ≡ (if test n then count_below test n + 1 else count_below test n)
 unfolding count_below
@@ -68,3 +74,27 @@ rest_counted has P from count nowhere le e =
 
 pub last_counted : (test : ℕ → Bool) (last count : ℕ) → last + 1 ≡ 2 ^ 32 → count ≡ count_below test (last + 1) → count ≡ count_below test (2 ^ 32)
 last_counted test last count at e = e ∙ ap (count_below test) at
+
+-- ---- a class by its number
+
+-- tests that agree everywhere are passed alike often
+alike : (T P : ℕ → Bool) (n : ℕ) → ((w : ℕ) → T w ≡ P w) → count_below T n ≡ count_below P n
+alike T P zero same = count_below-zero T ∙ sym (count_below-zero P)
+alike T P (suc n) same = rw (count_below-suc T n, count_below-suc P n, same n, alike T P n same) refl
+
+-- the characters of a class are those of the class with its number
+pub class_counted : (set : CodedSet) (classes : Classes) (class : Name) (number : ℕ) → ((w : ℕ) → numbered_answer classes number w ≡ class_answer classes class w)
+    → numbered_count set classes number ≡ class_count set classes class
+class_counted set classes class number same =
+    alike _ _ (2 ^ 32) (λ w. ap (λ (answer : Option Bool). has set w && unwrap_or answer false) (same w))
+
+both_none : (b c : Bool) → c ≡ false → (b && c) ≡ false
+both_none true c e = e
+both_none false c e = refl
+
+-- no class of that name has a character
+pub none_counted : (set : CodedSet) (classes : Classes) (class : Name) → place_of classes class ≡ None → class_count set classes class ≡ 0
+none_counted set classes class none =
+    let unnamed : first_named classes class ≡ None = nothing_named classes class none in
+    let outside : (w : ℕ) → is_in_class classes class w ≡ false = λ w. rw unnamed refl in
+    count_none (λ w. has set w && is_in_class classes class w) 0 (2 ^ 32) (λ w above below. both_none (has set w) (is_in_class classes class w) (outside w)) ∙ count_below-zero _

@@ -8,11 +8,11 @@ use Rattle.keyword_lists.specs.declared.source.Body.{Body}
 use Rattle.keyword_lists.specs.declared.source.Body.TheVariants.{Copy, Entries}
 use Rattle.keyword_lists.specs.declared.source.Section.{Section}
 use Rattle.charmap_reader.specs.CodedSet.{CodedSet, set_name, has}
-use Rattle.ctype_classes.specs.Classes.{Classes, class_answer}
+use Rattle.ctype_classes.specs.Classes.{Classes, class_answer, numbered_answer}
 
--- a row: a name, blanks up to the twelfth byte, and what stands behind them
+-- a row: a name, blanks up to the fifteenth byte, and what stands behind them
 abbrev pub row : List ℕ → List ℕ → List ℕ
-row name value = name ++ drop (length name) (codes "            ") ++ value ++ 10 ∷ []
+row name value = name ++ drop (length name) (codes "               ") ++ value ++ 10 ∷ []
 
 -- the line with which the summary of a file begins
 abbrev pub accepted_line : List ℕ → List ℕ
@@ -39,6 +39,14 @@ is_in_class classes class w = unwrap_or (class_answer classes class w) false
 abbrev pub class_count : CodedSet → Classes → List ℕ → ℕ
 class_count set classes class = count_below (λ w. has set w && is_in_class classes class w) (2 ^ 32)
 
+-- whether a value is in the class with a number, if there is one
+abbrev pub is_numbered : Classes → ℕ → ℕ → Bool
+is_numbered classes number w = unwrap_or (numbered_answer classes number w) false
+
+-- how many characters of a charset are in the class with a number
+abbrev pub numbered_count : CodedSet → Classes → ℕ → ℕ
+numbered_count set classes number = count_below (λ w. has set w && is_numbered classes number w) (2 ^ 32)
+
 abbrev pub class_row : CodedSet → Classes → List ℕ → List ℕ
 class_row set classes class = row class (decimal (class_count set classes class))
 
@@ -63,10 +71,11 @@ standard_classes =
 abbrev pub charmap_summary : List ℕ → CodedSet → List ℕ
 charmap_summary path set = accepted_line path ++ row (codes "charset") (set_name set)
 
--- the summary of a locale: its sections, its charset, and how many characters each class has
-abbrev pub locale_summary : List ℕ → List Section → CodedSet → Classes → List ℕ
-locale_summary path sections set classes =
+-- the summary of a locale: its sections, its charset, and how many characters each class has, those last that it declares
+abbrev pub locale_summary : List ℕ → List Section → CodedSet → Classes → List (List ℕ) → List ℕ
+locale_summary path sections set classes declared =
     accepted_line path ++ flat_map section_row sections ++ row (codes "charset") (set_name set) ++ flat_map (class_row set classes) standard_classes
+    ++ flat_map (class_row set classes) declared
 
 -- a name that is lent
 abbrev pub name_seen : Bor (List ℕ) → List ℕ

@@ -5,6 +5,7 @@ ghost use Rattle.tool_words.specs.declared.answer.Problem.TheVariants.{Memory};
 ghost use Rattle.tool_check.specs.Checked.{BeginsWith, IsSummary, IsChecked, IsWritten, accepted, refused};
 ghost use Rattle.tool_check.specs.Summary.{accepted_line, charmap_summary};
 
+use crate::declared::{accepted_sections, declared_classes};
 use crate::faults::{Fault, faults_of};
 use crate::summary::{push_charmap, push_locale};
 use crate::texts::is_charmap;
@@ -14,7 +15,7 @@ use lc_base::{ByteText, TextFault};
 use std::alloc::{AllocError, Global};
 use std::rt::Files;
 use tool_files::{
-    Sources, Wanted, charset_of, fault_message, fault_problem, file_text, library_of, load,
+    Sources, Wanted, charset_of, fault_message, fault_problem, file_text, library_of, load_with,
     sections_of,
 };
 use tool_words::Problem;
@@ -78,7 +79,7 @@ fn file_checked<R: Files>(
 {
     match file_text(rt, alloc, path) {
         Ok(text) if is_charmap(text.as_bytes()) => charmap_checked(alloc, how.summary, path, text),
-        Ok(_) => locale_checked(rt, alloc, how, path),
+        Ok(text) => locale_checked(rt, alloc, how, path, text),
         Err(problem) => Err(problem),
     }
 }
@@ -154,6 +155,7 @@ fn locale_checked<R: Files>(
     alloc: Global,
     how: &Checking<'_>,
     path: &str,
+    text: ByteText,
 ) -> Result<Checked, Problem>
     ensures { IfOk result (IsChecked how.now.summary path.now) }
 {
@@ -162,7 +164,7 @@ fn locale_checked<R: Files>(
         charmap: how.charmap,
         folders: how.folders,
     };
-    match load(rt, alloc, &wanted) {
+    match load_with(rt, alloc, &wanted, Some((path, text))) {
         Ok(sources) => sources_checked(alloc, how.summary, path, &sources),
         Err(problem) => Err(problem),
     }
@@ -216,17 +218,16 @@ fn summary_in(
     ensures { IfOk result (BeginsWith (accepted_line path.now)) }
 {
     let mut summary = Vec::new(alloc);
-    let sections = match sections_of(alloc, sources, charset) {
-        Ok(sections) => sections,
-        Err(_) => return Err(AllocError),
-    };
+    let sections = accepted_sections(sections_of(alloc, sources, charset))?;
     let ctype = library.compiled(Share { number: 1 }).ctype();
+    let declared = declared_classes(alloc, sources.locales.as_slice(), charset, ctype)?;
     push_locale(
         &mut summary,
         path.as_bytes(),
         sections.as_slice(),
         charset,
         ctype,
+        declared.as_slice(),
     )?;
     Ok(ByteText::from_vec(summary))
 }

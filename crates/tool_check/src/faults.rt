@@ -71,9 +71,9 @@ fn first_count(sources: &Sources) -> u32
 /// The fault of a section by itself.
 fn fault_alone(alloc: Global, sources: &Sources, number: u32) -> Result<Option<Fault>, Problem> {
     let locales = with_section_alone(alloc, sources.locales.as_slice(), number)?;
-    match sized_library(alloc, &sources.charmaps, &locales) {
-        Ok(_) => Ok(None),
-        Err(TextFault::At(place, reason)) => Ok(Some(Fault { place, reason })),
-        Err(TextFault::Memory) => Err(Problem::Memory),
+    match sized_library(alloc, &sources.charmaps, &locales).err() {
+        None => Ok(None),
+        Some(TextFault::At(place, reason)) => Ok(Some(Fault { place, reason })),
+        Some(TextFault::Memory) => Err(Problem::Memory),
     }
 }

@@ -2,6 +2,7 @@
 #![tactic(auto)]
 
 mod checked;
+mod declared;
 mod faults;
 mod sections;
 mod summary;

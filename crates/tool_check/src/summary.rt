@@ -4,16 +4,17 @@ ghost use Rattle.std.specs.Prelude.{◌≡◌, ◌+◌, ◌≤◌, ◌^◌, ◌+
 ghost use Rattle.std.specs.List.{flat_map};
 ghost use Rattle.std.specs.Fmt.{decimal};
 ghost use Rattle.charmap_reader.specs.CodedSet.{set_name};
-ghost use Rattle.tool_check.specs.Summary.{row, accepted_line, body_text, section_row, count_below, is_in_class, class_count, class_row, standard_classes, charmap_summary, locale_summary, name_seen};
+ghost use Rattle.tool_check.specs.Summary.{row, accepted_line, body_text, section_row, count_below, is_numbered, numbered_count, class_count, class_row, standard_classes, charmap_summary, locale_summary, name_seen};
 
 use charmap_reader::Charset;
 use ctype_classes::Ctype;
 use keyword_lists::{Body, Section};
+use lc_base::ByteText;
 use std::alloc::AllocError;
 use tool_words::push_number;
 
 /// The blanks between a name that is empty and what stands behind it.
-const BLANKS: &[u8] = b"            ";
+const BLANKS: &[u8] = b"               ";
 
 /// The classes that each locale has.
 const CLASSES: [&[u8]; 12] = [
@@ -36,13 +37,15 @@ pub fn push_locale(
     sections: &[Section],
     charset: &Charset,
     ctype: &Ctype,
+    declared: &[ByteText],
 ) -> Result<(), AllocError>
-    ensures { OnOk result (output.new.items ≡ output.old.items ++ locale_summary path.now sections.now charset.now ctype.now.classes) }
+    ensures { OnOk result (output.new.items ≡ output.old.items ++ locale_summary path.now sections.now charset.now ctype.now.classes declared.now) }
 {
     push_accepted(output, path)?;
     push_sections(output, sections)?;
     push_charset(output, charset)?;
-    push_standard_classes(output, ctype, charset)
+    push_standard_classes(output, ctype, charset)?;
+    push_declared_classes(output, ctype, charset, declared)
 }
 
 /// Adds the line with which the summary of a file begins.
@@ -63,7 +66,7 @@ fn push_charset(output: &mut Vec<u8>, charset: &Charset) -> Result<(), AllocErro
 
 /// Adds a name and the blanks behind it.
 fn push_name(output: &mut Vec<u8>, name: &[u8]) -> Result<(), AllocError>
-    ensures { OnOk result (output.new.items ≡ output.old.items ++ name.now ++ drop (length name.now) (codes "            ")) }
+    ensures { OnOk result (output.new.items ≡ output.old.items ++ name.now ++ drop (length name.now) (codes "               ")) }
 {
     output.extend_from_slice(name)?;
     if name.len() < BLANKS.len() {
@@ -122,21 +125,58 @@ fn push_classes(
     ensures { OnOk result (output.new.items ≡ output.old.items ++ flat_map (class_row charset.now ctype.now.classes) (map name_seen classes.now)) }
 {
     for class in classes {
-        push_name(output, class)?;
-        push_number(output, class_count(ctype, charset, class))?;
-        output.push(b'\n')?;
+        push_class(output, ctype, charset, class)?;
     }
     Ok(())
+}
+
+/// Adds how many characters each of the classes has that the locale declares.
+fn push_declared_classes(
+    output: &mut Vec<u8>,
+    ctype: &Ctype,
+    charset: &Charset,
+    classes: &[ByteText],
+) -> Result<(), AllocError>
+    ensures { OnOk result (output.new.items ≡ output.old.items ++ flat_map (class_row charset.now ctype.now.classes) classes.now) }
+{
+    for class in classes {
+        push_class(output, ctype, charset, class.as_bytes())?;
+    }
+    Ok(())
+}
+
+/// Adds how many characters a class has.
+fn push_class(
+    output: &mut Vec<u8>,
+    ctype: &Ctype,
+    charset: &Charset,
+    class: &[u8],
+) -> Result<(), AllocError>
+    ensures { OnOk result (output.new.items ≡ output.old.items ++ class_row charset.now ctype.now.classes class.now) }
+{
+    push_name(output, class)?;
+    push_number(output, class_count(ctype, charset, class))?;
+    output.extend_from_slice(b"\n")
 }
 
 /// How many characters a class has.
 fn class_count(ctype: &Ctype, charset: &Charset, class: &[u8]) -> u64
     ensures { result ≡ class_count charset.now ctype.now.classes class.now }
 {
+    match ctype.class_number(class) {
+        Some(number) => numbered_count(ctype, charset, number),
+        None => 0,
+    }
+}
+
+/// How many characters the class with a number has.
+fn numbered_count(ctype: &Ctype, charset: &Charset, number: usize) -> u64
+    ensures { result ≡ numbered_count charset.now ctype.now.classes number }
+{
     let mut count = 0;
     let mut from = 0u32;
     while let Some((first, last)) = charset.run_from(from) {
-        count += member_count(ctype, class, first, last);
+        count += member_count(ctype, number, first, last);
         match last.checked_add(1) {
             Some(next) => from = next,
             None => return count,
@@ -145,28 +185,28 @@ fn class_count(ctype: &Ctype, charset: &Charset, class: &[u8]) -> u64
     count
 }
 
-/// How many wide values of a run are in a class.
-fn member_count(ctype: &Ctype, class: &[u8], first: u32, last: u32) -> u64
+/// How many wide values of a run are in the class with a number.
+fn member_count(ctype: &Ctype, number: usize, first: u32, last: u32) -> u64
     requires { first ≤ last }
-    ensures is { count_below (is_in_class ctype.now.classes class.now) first + result ≡ count_below (is_in_class ctype.now.classes class.now) (last + 1) }
+    ensures is { count_below (is_numbered ctype.now.classes number) first + result ≡ count_below (is_numbered ctype.now.classes number) (last + 1) }
     ensures few { first + result ≤ last + 1 }
     ensures within { last + 1 ≤ 2 ^ 32 }
 {
     let mut count = 0;
     for value in first..last {
-        if is_in_class(ctype, class, value) {
+        if is_numbered(ctype, number, value) {
             count += 1;
         }
     }
-    if is_in_class(ctype, class, last) {
+    if is_numbered(ctype, number, last) {
         count += 1;
     }
     count
 }
 
-/// Whether a wide value is in a class.
-fn is_in_class(ctype: &Ctype, class: &[u8], value: u32) -> bool
-    ensures { result ≡ is_in_class ctype.now.classes class.now value }
+/// Whether a wide value is in the class with a number.
+fn is_numbered(ctype: &Ctype, number: usize, value: u32) -> bool
+    ensures { result ≡ is_numbered ctype.now.classes number value }
 {
-    ctype.is(class, value).unwrap_or(false)
+    ctype.is_in(number, value).unwrap_or(false)
 }

@@ -220,8 +220,8 @@ pub const COMMANDS: [CommandRow; 13] = [
         reads_locale: false,
         args: &[ArgRow {
             name: "REASON",
-            takes: Takes::SomeWords,
-            help: "A reason or a refusal, as BadNumber or OverLimit list",
+            takes: Takes::Words,
+            help: "A reason or a refusal, as BadNumber or OverLimit list; without one, the names of all",
         }],
     },
     CommandRow {

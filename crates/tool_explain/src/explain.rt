@@ -17,8 +17,11 @@ pub fn rule_of(name: &str) -> &'static str {
 }
 
 /// What the row with a name says, or else what the rows say that have it as their first word; `None`
-/// where there is no such row.
+/// where there is no such row. Without a name, the names of all rows.
 pub fn explained(alloc: Global, name: &[u8]) -> Result<Option<ByteText>, AllocError> {
+    if name.is_empty() {
+        return Ok(Some(all_names(alloc)?));
+    }
     let mut text = Vec::new(alloc);
     for number in 0..ROW_COUNT {
         push_asked(&mut text, row_at(number), name)?;
@@ -28,6 +31,18 @@ pub fn explained(alloc: Global, name: &[u8]) -> Result<Option<ByteText>, AllocEr
     } else {
         Ok(Some(ByteText::from_vec(text)))
     }
+}
+
+/// The names of all rows, a line each.
+fn all_names(alloc: Global) -> Result<ByteText, AllocError> {
+    let mut names = Vec::new(alloc);
+    for number in 0..ROW_COUNT {
+        if let Some(row) = row_at(number) {
+            names.extend_from_slice(row.name.as_bytes())?;
+            names.extend_from_slice(b"\n")?;
+        }
+    }
+    Ok(ByteText::from_vec(names))
 }
 
 /// Adds what a row says, if there is one and it is asked for.

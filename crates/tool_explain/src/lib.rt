@@ -2,9 +2,11 @@
 #![tactic(auto)]
 
 mod explain;
+mod keywords;
 mod names;
 mod table;
 
 pub use explain::{explained, rule_of};
+pub use keywords::wanted_of;
 pub use names::name_of;
 pub use table::{ROW_COUNT, Row, row_at};

@@ -1,5 +1,10 @@
 //! What the files give.
 
+ghost use Rattle.std.specs.Prelude.{◌≡◌, ◌≤◌, length, All, IsTrue};
+ghost use Rattle.lc_base.specs.Reading.{Gives};
+ghost use Rattle.source_blocks.specs.Blocks.{IsSized};
+ghost use Rattle.tool_files.specs.Library.{are_taken, library};
+
 use crate::sized::{are_sized, is_sized};
 use crate::sources::Sources;
 use category_store::Library;
@@ -17,6 +22,16 @@ const TOO_MANY: TextFault = TextFault::At(
 
 /// The most locales of a library.
 const LOCALE_LIMIT: usize = 64;
+
+/// Whether readers take so many locales, and blocks of these sizes.
+fn are_taken(charmaps: &[Block], locales: &[Block]) -> bool
+    ensures is { result ≡ are_taken charmaps.now locales.now }
+    ensures few { IsTrue result → length locales.now ≤ 64 }
+    ensures charmaps { IsTrue result → All IsSized charmaps.now }
+    ensures locales { IsTrue result → All IsSized locales.now }
+{
+    locales.len() <= LOCALE_LIMIT && are_sized(charmaps) && are_sized(locales)
+}
 
 /// The charset of the first charmap; without one UTF-8, and that of the POSIX locale where there is
 /// no source.
@@ -41,7 +56,9 @@ fn listed_charset(alloc: Global, block: &Block) -> Result<Charset, TextFault> {
 }
 
 /// The compiled locales of files: the i-th source has the number i, from 1.
-pub fn library_of(alloc: Global, sources: &Sources) -> Result<Library, TextFault> {
+pub fn library_of(alloc: Global, sources: &Sources) -> Result<Library, TextFault>
+    ensures { Gives (λ l. l) result (library sources.now.charmaps sources.now.locales) }
+{
     sized_library(alloc, &sources.charmaps, &sources.locales)
 }
 
@@ -51,11 +68,10 @@ pub fn sized_library(
     alloc: Global,
     charmaps: &List<Block>,
     locales: &List<Block>,
-) -> Result<Library, TextFault> {
-    if locales.len() > LOCALE_LIMIT {
-        return Err(TOO_MANY);
-    }
-    if !are_sized(charmaps.as_slice()) || !are_sized(locales.as_slice()) {
+) -> Result<Library, TextFault>
+    ensures { Gives (λ l. l) result (library charmaps.now locales.now) }
+{
+    if !are_taken(charmaps.as_slice(), locales.as_slice()) {
         return Err(TOO_MANY);
     }
     let later = List::of(Vec::new(alloc));
@@ -69,10 +85,20 @@ pub fn sections_of(
     charset: &Charset,
 ) -> Result<List<Section>, TextFault> {
     match sources.locales.as_slice() {
-        [block, ..] if is_sized(block) => {
-            let read = read_locale(alloc, block.text.as_bytes(), block.first_line, charset)?;
-            Ok(read.sections)
-        }
-        _ => Ok(List::of(Vec::new(alloc))),
+        [first, ..] => sections_in(alloc, first, charset),
+        [] => Ok(List::of(Vec::new(alloc))),
     }
+}
+
+/// The sections of a source.
+pub fn sections_in(
+    alloc: Global,
+    source: &Block,
+    charset: &Charset,
+) -> Result<List<Section>, TextFault> {
+    if !is_sized(source) {
+        return Err(TOO_MANY);
+    }
+    let read = read_locale(alloc, source.text.as_bytes(), source.first_line, charset)?;
+    Ok(read.sections)
 }

@@ -1,10 +1,9 @@
 //! The locales that a source copies.
 
-use crate::sized::is_sized;
+use crate::compiled::sections_in;
 use charmap_reader::Charset;
 use keyword_lists::{Body, Section};
 use lc_base::{Block, ByteText, TextFault};
-use locale_reader::read_locale;
 use std::alloc::{AllocError, Global};
 
 /// The names of the locales that a block copies; none where it is refused.
@@ -13,11 +12,8 @@ pub fn copied_names(
     block: &Block,
     charset: &Charset,
 ) -> Result<Vec<ByteText>, AllocError> {
-    if !is_sized(block) {
-        return Ok(Vec::new(alloc));
-    }
-    match read_locale(alloc, block.text.as_bytes(), block.first_line, charset) {
-        Ok(source) => names_in(alloc, source.sections.as_slice()),
+    match sections_in(alloc, block, charset) {
+        Ok(sections) => names_in(alloc, sections.as_slice()),
         Err(TextFault::At(..)) => Ok(Vec::new(alloc)),
         Err(TextFault::Memory) => Err(AllocError),
     }

@@ -4,13 +4,14 @@
 mod compiled;
 mod copies;
 mod files;
+mod hints;
 mod loading;
 mod shown;
 mod sized;
 mod sources;
 
-pub use compiled::{charset_of, library_of, sections_of, sized_library};
+pub use compiled::{charset_of, library_of, sections_in, sections_of, sized_library};
 pub use files::{FILE_LIMIT, file_text};
-pub use loading::{Wanted, load};
+pub use loading::{Wanted, load, load_with};
 pub use shown::{fault_message, fault_problem, text_problem};
 pub use sources::Sources;

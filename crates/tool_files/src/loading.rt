@@ -28,8 +28,25 @@ pub struct Wanted<'a> {
 
 /// Reads the files of a command: its charmap, its locale, and those of the locales that are copied.
 pub fn load<R: Files>(rt: &R, alloc: Global, wanted: &Wanted<'_>) -> Result<Sources, Problem> {
+    match wanted.locale {
+        Some(path) => {
+            let text = file_text(rt, alloc, path)?;
+            load_with(rt, alloc, wanted, Some((path, text)))
+        }
+        None => load_with(rt, alloc, wanted, None),
+    }
+}
+
+/// Reads the files of a command but for its locale, whose path and text are given: what is read of a pipe
+/// is there once.
+pub fn load_with<R: Files>(
+    rt: &R,
+    alloc: Global,
+    wanted: &Wanted<'_>,
+    locale: Option<(&str, ByteText)>,
+) -> Result<Sources, Problem> {
     let mut sources = Sources::new(alloc);
-    match load_into(rt, alloc, wanted, &mut sources) {
+    match load_into(rt, alloc, wanted, locale, &mut sources) {
         Ok(()) => Ok(sources),
         Err(problem) => Err(problem),
     }
@@ -39,10 +56,13 @@ fn load_into<R: Files>(
     rt: &R,
     alloc: Global,
     wanted: &Wanted<'_>,
+    locale: Option<(&str, ByteText)>,
     sources: &mut Sources,
 ) -> Result<(), Problem> {
     add_charmap(rt, alloc, wanted.charmap, sources)?;
-    add_first(rt, alloc, wanted.locale, sources)?;
+    if let Some((path, text)) = locale {
+        add_text(alloc, path, text, sources)?;
+    }
     match charset_of(alloc, sources) {
         Ok(charset) => add_copies(rt, alloc, wanted.folders, &charset, sources),
         Err(fault) => Err(fault_problem(alloc, sources, fault)),
@@ -64,18 +84,6 @@ fn add_charmap<R: Files>(
     }
 }
 
-fn add_first<R: Files>(
-    rt: &R,
-    alloc: Global,
-    path: Option<&str>,
-    sources: &mut Sources,
-) -> Result<(), Problem> {
-    match path {
-        Some(path) => add_file(rt, alloc, path, sources),
-        None => Ok(()),
-    }
-}
-
 /// Adds the file of a locale.
 fn add_file<R: Files>(
     rt: &R,
@@ -83,9 +91,19 @@ fn add_file<R: Files>(
     path: &str,
     sources: &mut Sources,
 ) -> Result<(), Problem> {
-    let charset = charset_name(alloc, sources.charmaps.as_slice())?;
     let text = file_text(rt, alloc, path)?;
-    Ok(sources.add_locale(alloc, path, charset.as_bytes(), text)?)
+    Ok(add_text(alloc, path, text, sources)?)
+}
+
+/// Adds the text of the file of a locale.
+fn add_text(
+    alloc: Global,
+    path: &str,
+    text: ByteText,
+    sources: &mut Sources,
+) -> Result<(), AllocError> {
+    let charset = charset_name(alloc, sources.charmaps.as_slice())?;
+    sources.add_locale(alloc, path, charset.as_bytes(), text)
 }
 
 /// The name of the charset in which sources are read.

@@ -1,5 +1,8 @@
 //! Faults of files.
 
+ghost use Rattle.tool_files.specs.Told.{IsTold};
+
+use crate::hints::{push_hint_of, push_hint_of_bytes};
 use crate::sources::{FilePath, Sources};
 use lc_base::{Block, ByteText, Place, Reason, TextFault};
 use script_out::push_refusal;
@@ -8,7 +11,9 @@ use tool_explain::{name_of, rule_of};
 use tool_words::{Problem, Spot, line_of, push_fault, push_hints};
 
 /// The problem of a fault in files.
-pub fn fault_problem(alloc: Global, sources: &Sources, fault: TextFault) -> Problem {
+pub fn fault_problem(alloc: Global, sources: &Sources, fault: TextFault) -> Problem
+    ensures { IsTold fault result }
+{
     match fault {
         TextFault::At(place, reason) => match fault_message(alloc, sources, place, reason) {
             Ok(message) => Problem::Refused(message),
@@ -39,7 +44,9 @@ pub fn fault_message(
 }
 
 /// The problem of a fault in a text that a file has by itself.
-pub fn text_problem(alloc: Global, path: &str, text: &[u8], fault: TextFault) -> Problem {
+pub fn text_problem(alloc: Global, path: &str, text: &[u8], fault: TextFault) -> Problem
+    ensures { IsTold fault result }
+{
     match fault {
         TextFault::At(place, reason) => match text_message(alloc, path, text, place, reason) {
             Ok(message) => Problem::Refused(message),
@@ -129,6 +136,8 @@ fn push_fault_of(
     let words = reason_words(alloc, reason)?;
     let rule = rule_of(name_of(reason));
     push_fault(message, &spot, words.as_bytes(), rule.as_bytes())?;
+    push_hint_of(message, reason, source)?;
+    push_hint_of_bytes(message, source)?;
     push_hints(message, text, source)
 }
 

@@ -20,9 +20,6 @@ const WANTED: &[u8] =
 /// The digits that fill up a number.
 const ZEROS: [u8; 8] = [b'0'; 8];
 
-/// Says that there is no class.
-const NO_CLASS: &[u8] = b"NoClass: the class is one of the twelve, or one that the locale declares";
-
 /// A line for each character: the word, and whether it is in the class (XSH iswctype).
 ///
 /// A word that is no character is a wrong word; a class that the locale does not have is refused.
@@ -58,7 +55,7 @@ fn push_class(
     let value = value_of(alloc, charset, word)?;
     match ctype.is(class.as_bytes(), value) {
         Some(is) => push_is(lines, word, is),
-        None => Err(unknown_problem(alloc, class.as_bytes(), NO_CLASS)),
+        None => Err(unknown_problem(alloc, class.as_bytes(), "NoClass")),
     }
 }
 

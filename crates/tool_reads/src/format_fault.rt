@@ -56,14 +56,18 @@ fn column_of(at: usize) -> u32 {
 pub fn size_problem(alloc: Global) -> Problem
     ensures { IsOf result NoAnswer }
 {
-    let message = ByteText::of(
-        alloc,
-        b"locale_tool: TooBig: the text has more than 1048576 bytes\n",
-    );
-    match message {
+    match size_message(alloc) {
         Ok(message) => Problem::Refused(message),
         Err(_) => Problem::Memory,
     }
+}
+
+fn size_message(alloc: Global) -> Result<ByteText, AllocError> {
+    let mut message = Vec::new(alloc);
+    message.extend_from_slice(b"locale_tool: TooBig: ")?;
+    message.extend_from_slice(rule_of("TooBig").as_bytes())?;
+    message.extend_from_slice(b", here 1048576\n")?;
+    Ok(ByteText::from_vec(message))
 }
 
 /// A text with a newline behind it.

@@ -7,7 +7,6 @@ ghost use Rattle.script_words.specs.Tables.{first_named, items_table};
 ghost use Rattle.tool_reads.specs.Answers.{Answers, Tells, beside, each_of, value_or_wrong};
 ghost use Rattle.tool_reads.specs.Printed.{field, info_lines, item_names, named_line, plain_line};
 
-use crate::quoting::push_quoted;
 use crate::wrong_word::usage_problem;
 use ctype_classes::Ctype;
 use langinfo::nl_langinfo;
@@ -15,6 +14,7 @@ use lc_base::{ByteText, Item};
 use messages_cat::Messages;
 use monetary_cat::Monetary;
 use numeric_cat::Numeric;
+use script_out::push_quoted;
 use script_words::item_named;
 use std::alloc::{AllocError, Global};
 use time_cat::Time;

@@ -8,7 +8,6 @@ mod info;
 mod money;
 mod number;
 mod parse;
-mod quoting;
 mod time;
 mod wrong_word;
 

@@ -5,6 +5,7 @@ ghost use Rattle.tool_reads.specs.Answers.{IsOf, WrongWord, NoAnswer};
 
 use lc_base::ByteText;
 use std::alloc::{AllocError, Global};
+use tool_explain::rule_of;
 use tool_words::Problem;
 
 /// The problem of a word, with what is wanted.
@@ -17,14 +18,22 @@ pub fn usage_problem(alloc: Global, word: &[u8], wanted: &[u8]) -> Problem
     }
 }
 
-/// The problem of a word that the locale does not know.
-pub fn unknown_problem(alloc: Global, word: &[u8], reason: &[u8]) -> Problem
+/// The problem of a word that the locale does not know, with the rule of the reason.
+pub fn unknown_problem(alloc: Global, word: &[u8], reason: &str) -> Problem
     ensures { IsOf result NoAnswer }
 {
-    match message_of(alloc, word, reason) {
+    match ruled_message(alloc, word, reason) {
         Ok(message) => Problem::Refused(message),
         Err(_) => Problem::Memory,
     }
+}
+
+fn ruled_message(alloc: Global, word: &[u8], reason: &str) -> Result<ByteText, AllocError> {
+    let mut told = Vec::new(alloc);
+    told.extend_from_slice(reason.as_bytes())?;
+    told.extend_from_slice(b": ")?;
+    told.extend_from_slice(rule_of(reason).as_bytes())?;
+    message_of(alloc, word, told.as_slice())
 }
 
 fn message_of(alloc: Global, word: &[u8], wanted: &[u8]) -> Result<ByteText, AllocError> {

@@ -22,8 +22,8 @@ use Rattle.script_lang.specs.declared.reading.BlockKind.TheVariants as kinds
 use Rattle.script_lang.specs.declared.reading.Opened.{Opened}
 use Rattle.script_lang.specs.declared.reading.Reading.{Reading}
 use Rattle.script_lang.specs.Accepted.{finished, bundle_with, bundle_of, known_of}
-use Rattle.script_lang.specs.Reading.{at_first, or_no_directive, one_word, two_words, three_words, charmap_line, locale_line, later_line, catalog_line, native_line, with_current, new_thread, thread_named, thread_line, round_line, line_of_directive, directive_line, with_command, command_line, outside, more_blocks, with_block, with_line, inside, line_read, lines_read}
-use Rattle.tool_script.specs.Commands.{begins_with, is_first_of_command, is_command, has_block, is_first_of_block, begins_block, is_inside_behind, command_lines}
+use Rattle.script_lang.specs.Reading.{begins_with, at_first, or_no_directive, one_word, two_words, three_words, charmap_line, locale_line, later_line, catalog_line, native_line, with_current, new_thread, thread_named, thread_line, round_line, line_of_directive, directive_line, with_command, command_line, outside, more_blocks, with_block, with_line, inside, line_read, lines_read}
+use Rattle.tool_script.specs.Commands.{is_first_of_command, is_command, has_block, is_first_of_block, begins_block, is_inside_behind, command_lines}
 
 -- ---- lines that are no commands
 

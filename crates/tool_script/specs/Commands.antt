@@ -9,12 +9,8 @@ use Rattle.script_words.specs.declared.table.Directive.TheVariants as directives
 use Rattle.script_words.specs.Spans.{Span, whole_line, next_word}
 use Rattle.script_words.specs.Tables.{first_named, directives_table}
 use Rattle.script_commands.specs.declared.command.Placed.{Placed}
+use Rattle.script_lang.specs.Reading.{begins_with}
 use Rattle.tool_script.specs.declared.commands.Written.{Written as Lent}
-
--- whether a text begins with this byte
-abbrev pub begins_with : ℕ → List ℕ → Bool
-begins_with c [] = false
-begins_with c (b ∷ bs) = b == c
 
 -- whether a first word is there and is no comment's
 abbrev pub is_first_of_command : Option (Span × Span) → Bool

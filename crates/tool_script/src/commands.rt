@@ -1,7 +1,8 @@
 //! The commands of an accepted bundle, as they are written.
 
 ghost use Rattle.std.specs.Prelude.{◌≡◌, ◌<◌, ◌^◌, ◌++◌, ◌∷◌, ℕ, List, length, map, option_map, IfOk};
-ghost use Rattle.tool_script.specs.Commands.{begins_with, is_command, has_block, begins_block, is_inside_behind, written, written_in, lines_of_thread, lines_by_thread, line_at, command_of, line_seen, written_seen, lines_seen};
+ghost use Rattle.script_lang.specs.Reading.{begins_with};
+ghost use Rattle.tool_script.specs.Commands.{is_command, has_block, begins_block, is_inside_behind, written, written_in, lines_of_thread, lines_by_thread, line_at, command_of, line_seen, written_seen, lines_seen};
 
 use lc_base::next_line;
 use script_commands::Placed;

@@ -5,6 +5,7 @@ use jiff::civil::DateTime;
 use lc_base::ByteText;
 use std::alloc::{AllocError, Global};
 use time_cat::{Tm, TmField, TmRange};
+use tool_explain::rule_of;
 use tool_words::Problem;
 
 /// The fields of a time of a calendar and a clock. The days of the week and of the year are computed.
@@ -49,10 +50,14 @@ fn range_problem(alloc: Global, range: TmRange) -> Problem {
 }
 
 fn range_message(alloc: Global, field: TmField) -> Result<ByteText, AllocError> {
-    let wanted: &[u8] = match field {
-        TmField::Year => b"locale_tool: TmRange year: the year is from 1 to 9999\n",
-        TmField::Offset => b"locale_tool: TmRange offset: the offset is less than a day\n",
-        _ => b"locale_tool: TmRange: a field of the time is out of its range\n",
+    let beginning: &[u8] = match field {
+        TmField::Year => b"locale_tool: TmRange year: ",
+        TmField::Offset => b"locale_tool: TmRange offset: ",
+        _ => b"locale_tool: TmRange: ",
     };
-    ByteText::of(alloc, wanted)
+    let mut message = Vec::new(alloc);
+    message.extend_from_slice(beginning)?;
+    message.extend_from_slice(rule_of("TmRange").as_bytes())?;
+    message.extend_from_slice(b"\n")?;
+    Ok(ByteText::from_vec(message))
 }

@@ -97,10 +97,20 @@ fn sign_on(when: &[u8]) -> Option<&[u8]> {
     if !has_clock(when) {
         return None;
     }
-    tail_of(when, 9)
-        .or(tail_of(when, 6))
-        .or(tail_of(when, 5))
-        .or(tail_of(when, 3))
+    let clock = last_part(when);
+    tail_of(clock, 9)
+        .or(tail_of(clock, 6))
+        .or(tail_of(clock, 5))
+        .or(tail_of(clock, 3))
+}
+
+/// What stands behind the last byte between a date and a clock.
+fn last_part(when: &[u8]) -> &[u8] {
+    let mut last = when;
+    for part in when.split(|byte| is_separator(*byte)) {
+        last = part;
+    }
+    last
 }
 
 fn has_clock(when: &[u8]) -> bool {

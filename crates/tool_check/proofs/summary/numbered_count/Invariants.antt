@@ -1,12 +1,12 @@
 use Rattle.std.proofs.Common.{◌≡◌, ◌-◌, ◌≤◌, ◌^◌, ◌&&◌}
 use Rattle.charmap_reader.specs.CodedSet.{has}
-use Rattle.tool_check.specs.Summary.{count_below, is_in_class}
-use Rattle.tool_check.proofs.summary.class_count.Given as goal
+use Rattle.tool_check.specs.Summary.{count_below, is_numbered}
+use Rattle.tool_check.proofs.summary.numbered_count.Given as goal
 
 -- the members below the next value
 abbrev pub invariant-loop-first : goal.invariant-loop-first
 invariant-loop-first l = record {
-  counted : l.count ≡ count_below (λ w. has l.charset w && is_in_class l.ctype.classes l.class w) l.from;
+  counted : l.count ≡ count_below (λ w. has l.charset w && is_numbered l.ctype.classes l.number w) l.from;
   few : l.count ≤ l.from;
   within : l.from ≤ 2 ^ 32;
 }
