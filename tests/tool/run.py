@@ -1,8 +1,8 @@
 #!/usr/bin/env python3
 """run.py WORK [PROGRAM]: runs the tool on the cases of the file `cases`, in a folder WORK, and compares both
 streams and the status. With PROGRAM, a built one, it also runs what a try does not: standard output that is
-full, words that are no text, and the count on a terminal. Without it the tool is built once, unproved. Prints
-what differs, and a line of counts; the status is 1 where one differs."""
+full or closed, words that are no text, and the count on a terminal. Without it the tool is built once, unproved.
+Prints what differs, and a line of counts; the status is 1 where one differs."""
 import os
 import pty
 import re
@@ -115,9 +115,18 @@ def run_unproved(cases, work):
     return wrong
 
 
-def status_on_full_device(program, work):
+def status_on_full_device(program, work, words):
     with open("/dev/full", "wb") as full:
-        ended = subprocess.run([program, "conv"], cwd=work, stdout=full, stderr=subprocess.PIPE)
+        ended = subprocess.run([program, *words], cwd=work, stdout=full, stderr=subprocess.PIPE)
+    return ended.returncode, ended.stderr
+
+
+def status_of_closed_pipe(program, work, words):
+    """The status where nobody reads what is printed."""
+    reader, writer = os.pipe()
+    os.close(reader)
+    ended = subprocess.run([program, *words], cwd=work, stdout=writer, stderr=subprocess.PIPE)
+    os.close(writer)
     return ended.returncode, ended.stderr
 
 
@@ -165,10 +174,14 @@ def told_of_slow_files(program, work, is_terminal):
 
 
 def run_streams(program, work):
-    """The names of what differs where a stream is full, words are no text, or work is long."""
+    """The names of what differs where a stream is full or closed, words are no text, or work is long."""
     wrong = []
+    unwritten = 3, b"locale_tool: standard output could not be written\n"
     wanted = {
-        "full_device": (status_on_full_device(program, work), (3, b"locale_tool: standard output could not be written\n")),
+        "full_device": (status_on_full_device(program, work, ["conv"]), unwritten),
+        "help_on_full_device": (status_on_full_device(program, work, ["--help"]), unwritten),
+        "closed_pipe": (status_of_closed_pipe(program, work, ["info"]), (141, b"")),
+        "help_to_a_closed_pipe": (status_of_closed_pipe(program, work, ["--help"]), (141, b"")),
         "no_text": (status_of_no_text(program, work), (2, b"locale_tool: a word is no UTF-8 text\n")),
         "piped_source": (told_of_piped_source(program, work), (1, [b"On", b"^"])),
         "no_terminal": (told_of_slow_files(program, work, False), (0, b"")),

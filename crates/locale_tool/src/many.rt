@@ -59,10 +59,20 @@ pub fn check_files<R: Files + Clock + Eprint>(
     };
     let mut gathered = Gathered::new(alloc);
     let mut progress = Progress::begin(rt, is_watched);
-    let paths = strs(given, "FILE");
+    let paths = checked_paths(given);
     let worked = add_checked(rt, alloc, &how, paths, &mut progress, &mut gathered);
     progress.end(rt);
     gathered.answer(worked)
+}
+
+/// The files that are checked: the charmap, where it stands alone.
+fn checked_paths<'a>(given: &'a ArgMatches<'_>) -> &'a [&'a str] {
+    let files = strs(given, "FILE");
+    if files.is_empty() {
+        strs(given, "charmap")
+    } else {
+        files
+    }
 }
 
 /// Checks files one after another.

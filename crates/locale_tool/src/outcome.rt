@@ -5,6 +5,7 @@ ghost use Rattle.std.specs.Prelude.{◌≡◌, if◌then◌else◌};
 use crate::answers::answer_of;
 use clap::Command;
 use clap::error::ErrorKind;
+use std::io;
 use std::rt::{Env, Files};
 use std::sync::Wait;
 use std::thread::Threads;
@@ -19,6 +20,8 @@ pub enum Outcome {
     Failed(Problem),
     /// Help, the version or a mistake was shown, with this status.
     Shown(u8),
+    /// Help, the version or a mistake could not be written.
+    Unwritten(io::Error),
 }
 
 /// The outcome of the command that words name.
@@ -55,7 +58,7 @@ fn shown<R: Print + Eprint>(rt: &R, error: &clap::Error) -> Outcome {
     }
     match error.print(rt) {
         Ok(()) => Outcome::Shown(shown_status(error.use_stderr())),
-        Err(_) => Outcome::Shown(3),
+        Err(failure) => Outcome::Unwritten(failure),
     }
 }
 

@@ -1,12 +1,14 @@
 //! What the program writes.
 
 use crate::outcome::Outcome;
-use lc_base::{StdSink, write_all};
-use std::io;
+use std::io::{self, Write};
 use tool_words::{Answer, Problem};
 
 /// Says that standard output failed.
 const NO_OUTPUT: &[u8] = b"locale_tool: standard output could not be written\n";
+
+/// The status where the reader of standard output closed it: what a shell has for a program that SIGPIPE ends.
+const UNREAD: u8 = 141;
 
 /// Says why the words of the command line cannot be read.
 pub fn told_of_words(rt: &HostRuntime, error: &io::Error) -> u8 {
@@ -23,6 +25,7 @@ pub fn ended(rt: &HostRuntime, outcome: &Outcome) -> u8 {
         Outcome::Answered(answer) => both_written(rt, answer),
         Outcome::Failed(problem) => failed(rt, problem),
         Outcome::Shown(status) => *status,
+        Outcome::Unwritten(error) => unwritten(rt, error),
     }
 }
 
@@ -32,23 +35,24 @@ fn failed(rt: &HostRuntime, problem: &Problem) -> u8 {
 
 /// Writes an answer to standard output, and its messages to standard error.
 fn both_written(rt: &HostRuntime, answer: &Answer) -> u8 {
-    if is_printed(rt, answer.output.as_bytes()) {
-        told(rt, answer.status, answer.messages.as_bytes())
+    match io::writer(rt).write_all(answer.output.as_bytes()) {
+        Ok(()) => told(rt, answer.status, answer.messages.as_bytes()),
+        Err(error) => unwritten(rt, &error),
+    }
+}
+
+/// Says that standard output could not be written, unless its reader closed it: the status.
+fn unwritten(rt: &HostRuntime, error: &io::Error) -> u8 {
+    if error.kind() == io::ErrorKind::BrokenPipe {
+        UNREAD
     } else {
         told(rt, 3, NO_OUTPUT)
     }
 }
 
-/// Writes a text to standard output: whether that succeeds.
-fn is_printed(rt: &HostRuntime, text: &[u8]) -> bool {
-    let mut sink = StdSink::new(io::writer(rt));
-    write_all(&mut sink, text).is_ok()
-}
-
 /// Writes a message to standard error: the status, or 3 where that fails.
 fn told(rt: &HostRuntime, status: u8, message: &[u8]) -> u8 {
-    let mut sink = StdSink::new(rt.stderr());
-    match write_all(&mut sink, message) {
+    match rt.stderr().write_all(message) {
         Ok(()) => status,
         Err(_) => 3,
     }

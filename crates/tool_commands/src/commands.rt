@@ -46,33 +46,40 @@ fn with_args<'a>(
 ) -> Result<Command<'a>, AllocError> {
     let mut command = command;
     for row in rows {
-        command = command.arg(arg_of(alloc, row))?;
+        command = command.arg(arg_of(alloc, row)?)?;
     }
     Ok(command)
 }
 
 /// The argument of a row.
-fn arg_of<'a>(alloc: Global, row: &ArgRow) -> Arg<'a> {
+fn arg_of<'a>(alloc: Global, row: &ArgRow) -> Result<Arg<'a>, AllocError> {
     let arg = Arg::new(alloc, row.name).help(row.help);
     match row.takes {
-        Takes::Word => arg.value_name(row.name).required(true),
-        Takes::MaybeWord => arg.value_name(row.name),
-        Takes::Words => words_arg(arg.value_name(row.name)),
-        Takes::SomeWords => words_arg(arg.value_name(row.name))
-            .num_args(1..)
-            .required(true),
-        Takes::File(None) => arg.long(row.name).value_name("FILE"),
-        Takes::File(Some(letter)) => arg.long(row.name).value_name("FILE").short(letter),
-        Takes::Folders => arg
-            .long(row.name)
-            .value_name("DIR")
-            .action(ArgAction::Append),
-        Takes::Flag => arg.long(row.name).action(ArgAction::SetTrue),
+        Takes::Word => Ok(arg.value_name(row.name).required(true)),
+        Takes::MaybeWord => Ok(arg.value_name(row.name)),
+        Takes::Words => Ok(words_arg(arg, row).num_args(0..)),
+        Takes::SomeWords => Ok(words_arg(arg, row).required(true)),
+        Takes::SomeWordsUnless(other) => words_arg(arg, row).required_unless_present(other),
+        Takes::File(None) => Ok(file_arg(arg, row)),
+        Takes::File(Some(letter)) => Ok(file_arg(arg, row).short(letter)),
+        Takes::Folders => Ok(
+            arg.long(row.name)
+                .value_name("DIR")
+                .action(ArgAction::Append),
+        ),
+        Takes::Flag => Ok(arg.long(row.name).action(ArgAction::SetTrue)),
     }
 }
 
-fn words_arg<'a>(arg: Arg<'a>) -> Arg<'a> {
-    arg.num_args(0..)
+/// An argument for at least one word.
+fn words_arg<'a>(arg: Arg<'a>, row: &ArgRow) -> Arg<'a> {
+    arg.value_name(row.name)
+        .num_args(1..)
         .action(ArgAction::Append)
         .allow_negative_numbers(true)
+}
+
+/// An argument for a file behind its name.
+fn file_arg<'a>(arg: Arg<'a>, row: &ArgRow) -> Arg<'a> {
+    arg.long(row.name).value_name("FILE")
 }

@@ -29,6 +29,8 @@ pub enum Takes {
     Words,
     /// Words, of which there is at least one.
     SomeWords,
+    /// The same, unless the argument with this name is given.
+    SomeWordsUnless(&'static str),
     /// A file behind the argument's name, or behind a letter.
     File(Option<char>),
     /// A folder behind the argument's name, which may be given again.
@@ -202,8 +204,8 @@ pub const COMMANDS: [CommandRow; 13] = [
         args: &[
             ArgRow {
                 name: "FILE",
-                takes: Takes::SomeWords,
-                help: "A source or a charmap",
+                takes: Takes::SomeWordsUnless("charmap"),
+                help: "A source or a charmap; without one the file of --charmap is checked",
             },
             CHARMAP,
             PATH,

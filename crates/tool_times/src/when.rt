@@ -16,6 +16,12 @@ use tool_words::Problem;
 const WANTED: &[u8] =
     b": a time is `now`, or as `2024-06-19`, `2024-06-19T17:30:00`, `2024-06-19T17:30:00-04:00` or `2024-06-19T17:30:00-04:00[America/New_York]`\n";
 
+/// What is wrong with an offset beside a zone.
+const OTHER_OFFSET: &[u8] = b": the offset is not that of the zone at that time\n";
+
+/// What is wrong with a zone.
+const NO_ZONE: &[u8] = b": the system knows no such time zone\n";
+
 /// The fields of a time: of `now`, of a text as RFC 9557 has it, or of one without an offset.
 pub fn tm_of<R: Files + Env + Clock + AllocGlobal + Clone + Drop>(
     rt: &R,
@@ -50,7 +56,17 @@ fn zoned_text_tm(
 ) -> Result<Tm, Problem> {
     match Zoned::parse(database, text) {
         Ok(time) => zoned_tm(alloc, &time),
-        Err(_) => Err(when_problem(alloc, word.as_bytes())),
+        Err(fault) => Err(zone_problem(alloc, word.as_bytes(), fault)),
+    }
+}
+
+/// The problem of a word that is no time in a zone.
+fn zone_problem(alloc: Global, word: &[u8], fault: jiff::Error) -> Problem {
+    match fault {
+        jiff::Error::OffsetConflict => word_problem(alloc, word, OTHER_OFFSET),
+        jiff::Error::TimeZoneNotFound => word_problem(alloc, word, NO_ZONE),
+        jiff::Error::OutOfMemory => Problem::Memory,
+        _ => when_problem(alloc, word),
     }
 }
 
@@ -143,16 +159,21 @@ fn is_sign(byte: u8) -> bool {
 
 /// The problem of a word that is no time.
 pub fn when_problem(alloc: Global, word: &[u8]) -> Problem {
-    match when_message(alloc, word) {
+    word_problem(alloc, word, WANTED)
+}
+
+/// The problem of a word, with what is wrong.
+fn word_problem(alloc: Global, word: &[u8], wrong: &[u8]) -> Problem {
+    match word_message(alloc, word, wrong) {
         Ok(message) => Problem::Usage(message),
         Err(_) => Problem::Memory,
     }
 }
 
-fn when_message(alloc: Global, word: &[u8]) -> Result<ByteText, AllocError> {
+fn word_message(alloc: Global, word: &[u8], wrong: &[u8]) -> Result<ByteText, AllocError> {
     let mut message = Vec::new(alloc);
     message.extend_from_slice(b"locale_tool: ")?;
     message.extend_from_slice(word)?;
-    message.extend_from_slice(WANTED)?;
+    message.extend_from_slice(wrong)?;
     Ok(ByteText::from_vec(message))
 }
