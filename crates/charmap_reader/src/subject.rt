@@ -10,7 +10,7 @@ ghost use Rattle.charmap_reader.specs.Seen.{seen};
 
 use crate::numbering::{distance, split_number};
 use lc_base::List;
-use src_lines::{Atom, Piece};
+use src_lines::{Atom, OperandPiece};
 
 /// The most atoms of a subject: two names, with three dots between them.
 pub const SUBJECT_ATOMS: usize = 5;
@@ -27,7 +27,7 @@ fn atom_name(atom: &Atom) -> Option<&[u8]>
     ensures { option_map (λ name. name.now) result ≡ atom_name atom.now }
 {
     match atom {
-        Atom::Made(Piece::Name(name)) => Some(name.as_bytes()),
+        Atom::Made(OperandPiece::Name(name)) => Some(name.as_bytes()),
         _ => None,
     }
 }

@@ -2,7 +2,7 @@
 use Rattle.std.specs.Prelude.{map}
 use Rattle.keyword_table.specs.declared.row.Posix.{Posix}
 use Rattle.keyword_table.specs.declared.row.Posix.TheVariants as kept
-use Rattle.keyword_table.specs.declared.row.Row.{Row}
+use Rattle.keyword_table.specs.declared.row.Keyword.{Keyword}
 use Rattle.keyword_table.specs.Table.{PosixValue, Nothing, Text, Number, Texts, Ranges, Pairs, TurnedUpper, KeywordRow}
 
 -- a POSIX value as the definitions have it
@@ -16,5 +16,5 @@ value_of (kept.Pairs pairs) = Pairs pairs.now
 value_of kept.TurnedUpper = TurnedUpper
 
 -- a row as the definitions have it
-abbrev pub row_of : Row → KeywordRow
+abbrev pub row_of : Keyword → KeywordRow
 row_of r = record { name = r.name.now; takes = r.takes; rule = r.rule; posix = value_of r.posix }

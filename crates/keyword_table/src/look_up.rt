@@ -4,12 +4,12 @@ ghost use Rattle.std.specs.Prelude.{◌≡◌, map, option_map};
 ghost use Rattle.keyword_table.specs.LookUp.{row_in, keyword_of, takes_of, rule_of, posix_in, posix_text, posix_number, posix_texts, posix_ranges, posix_pairs};
 ghost use Rattle.keyword_table.specs.Rows.{value_of, row_of};
 
-use crate::row::{Operands, Posix, Row, Rule};
+use crate::row::{Keyword, Operands, Posix, Rule};
 use crate::table::{CTYPE, MESSAGES, MONETARY, NUMERIC, TIME};
 use lc_base::Category;
 
 /// The first of rows with a name.
-fn row_in(mut rows: &[Row], name: &[u8]) -> Option<Row>
+fn row_in(mut rows: &[Keyword], name: &[u8]) -> Option<Keyword>
     ensures { option_map row_of result ≡ row_in (map row_of rows.entry.now) name.now }
 {
     while let [row, rest @ ..] = rows {
@@ -22,7 +22,7 @@ fn row_in(mut rows: &[Row], name: &[u8]) -> Option<Row>
 }
 
 /// The row of a keyword.
-fn keyword_of(category: Category, name: &[u8]) -> Option<Row>
+fn keyword_of(category: Category, name: &[u8]) -> Option<Keyword>
     ensures { option_map row_of result ≡ keyword_of category name.now }
 {
     match category {

@@ -74,7 +74,7 @@ pub enum Posix {
 
 /// A keyword.
 #[derive(Clone, Copy)]
-pub struct Row {
+pub struct Keyword {
     pub name: &'static [u8],
     pub takes: Operands,
     pub rule: Rule,

@@ -9,8 +9,8 @@ use Rattle.lc_base.specs.declared.reason.Reason.{Reason}
 use Rattle.lc_base.specs.declared.reason.Reason.TheVariants.{WrongOperand, UnknownCharacter, OverLimit}
 use Rattle.lc_base.specs.declared.reason.Limit.TheVariants.{Text as TextLimit}
 use Rattle.lc_base.specs.Reading.{Reads, ◌>>=◌}
-use Rattle.src_lines.specs.declared.line.Piece.{Piece}
-use Rattle.src_lines.specs.declared.line.Piece.TheVariants.{Byte, Name as Named}
+use Rattle.src_lines.specs.declared.line.OperandPiece.{OperandPiece}
+use Rattle.src_lines.specs.declared.line.OperandPiece.TheVariants.{Byte, Name as Named}
 use Rattle.src_lines.specs.declared.line.Operand.{Operand}
 use Rattle.src_lines.specs.declared.line.Operand.TheVariants.{Plain, Quoted, Dots, Pair as Paired}
 use Rattle.charmap_reader.specs.CodedSet.{CodedSet, named, encoded, valued}
@@ -33,7 +33,7 @@ or_fault place reason (Some a) = Ok a
 -- ---- characters
 
 -- a name that is alone
-abbrev pub lone_name : List Piece → Option (List ℕ)
+abbrev pub lone_name : List OperandPiece → Option (List ℕ)
 lone_name (Named name ∷ []) = Some name
 lone_name _ = None
 
@@ -44,7 +44,7 @@ spelled set place (Some []) = Err (place, WrongOperand)
 spelled set place (Some (b ∷ bs)) = or_fault place UnknownCharacter (valued set (b ∷ bs))
 
 -- the wide value of the character that an operand is: one name, or bytes that are just its encoding, however they are written
-unfoldable pub character : CodedSet → Place → List Piece → Reads ℕ
+unfoldable pub character : CodedSet → Place → List OperandPiece → Reads ℕ
 character set place pieces = elim (lone_name pieces) [
   | None ↦ spelled set place (only_bytes pieces)
   | Some name ↦ or_fault place UnknownCharacter (named set name)
@@ -74,12 +74,12 @@ joined None later = None
 joined (Some bs) later = option_map (λ cs. bs ++ cs) later
 
 -- the bytes of a piece: a byte is itself, and a name gives those of its character
-abbrev pub piece_bytes : CodedSet → Piece → Option (List ℕ)
+abbrev pub piece_bytes : CodedSet → OperandPiece → Option (List ℕ)
 piece_bytes set (Byte b) = Some (b ∷ [])
 piece_bytes set (Named name) = option_and_then (encoded set) (named set name)
 
 -- the bytes of a text; none where the charset lacks a character that it names
-abbrev pub decoded : CodedSet → List Piece → Option (List ℕ)
+abbrev pub decoded : CodedSet → List OperandPiece → Option (List ℕ)
 decoded set [] = Some []
 decoded set (p ∷ ps) = joined (piece_bytes set p) (decoded set ps)
 
@@ -88,7 +88,7 @@ abbrev pub within_limit : Place → List ℕ → Reads (List ℕ)
 within_limit place bs = if nat_lt TEXT_LIMIT (length bs) then Err (place, OverLimit TextLimit) else Ok bs
 
 -- a text without its quotes
-abbrev pub quoted_text : CodedSet → Place → List Piece → Reads (List ℕ)
+abbrev pub quoted_text : CodedSet → Place → List OperandPiece → Reads (List ℕ)
 quoted_text set place pieces = or_fault place UnknownCharacter (decoded set pieces) >>= within_limit place
 
 -- a text in quotes
@@ -99,7 +99,7 @@ quote set (place, Dots) = Err (place, WrongOperand)
 quote set (place, Paired left right) = Err (place, WrongOperand)
 
 -- a name without quotes, which is not empty and has no limit
-abbrev pub plain_word : CodedSet → Place → List Piece → Reads (List ℕ)
+abbrev pub plain_word : CodedSet → Place → List OperandPiece → Reads (List ℕ)
 plain_word set place [] = Err (place, WrongOperand)
 plain_word set place (p ∷ ps) = or_fault place UnknownCharacter (decoded set (p ∷ ps))
 

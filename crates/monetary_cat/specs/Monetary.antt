@@ -5,8 +5,8 @@ use Rattle.lc_base.specs.Reading.{Reads, ◌>>=◌}
 use Rattle.keyword_lists.specs.declared.source.Entry.{Entry}
 use Rattle.keyword_values.specs.Keywords.{text_value, number_value, numbers_value}
 use Rattle.keyword_values.specs.Rules.{checked}
-use Rattle.monetary_cat.specs.declared.values.Texts.{Texts}
-use Rattle.monetary_cat.specs.declared.values.Numbers.{Numbers}
+use Rattle.monetary_cat.specs.declared.values.MoneyTexts.{MoneyTexts}
+use Rattle.monetary_cat.specs.declared.values.FormNumbers.{FormNumbers}
 use Rattle.monetary_cat.specs.MonetaryValues.{MonetaryValues}
 
 -- a text
@@ -18,7 +18,7 @@ unfoldable pub number : List Entry → List ℕ → ℤ
 number list keyword = number_value categories.Monetary list keyword
 
 -- the values, where each keyword that is absent has its POSIX value
-abbrev pub texts_of : List Entry → Texts
+abbrev pub texts_of : List Entry → MoneyTexts
 texts_of list = record {
   int_curr_symbol = text list (codes "int_curr_symbol");
   currency_symbol = text list (codes "currency_symbol");
@@ -28,7 +28,7 @@ texts_of list = record {
   negative_sign = text list (codes "negative_sign");
 }
 
-abbrev pub local_of : List Entry → Numbers
+abbrev pub local_of : List Entry → FormNumbers
 local_of list = record {
   frac_digits = number list (codes "frac_digits");
   p_cs_precedes = number list (codes "p_cs_precedes");
@@ -39,7 +39,7 @@ local_of list = record {
   n_sign_posn = number list (codes "n_sign_posn");
 }
 
-abbrev pub international_of : List Entry → Numbers
+abbrev pub international_of : List Entry → FormNumbers
 international_of list = record {
   frac_digits = number list (codes "int_frac_digits");
   p_cs_precedes = number list (codes "int_p_cs_precedes");

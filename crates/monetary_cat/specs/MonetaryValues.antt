@@ -4,15 +4,15 @@ use Rattle.monetary_cat.specs.declared.keys.MonText.{MonText}
 use Rattle.monetary_cat.specs.declared.keys.MonText.TheVariants.{IntCurrSymbol, CurrencySymbol, MonDecimalPoint, MonThousandsSep, PositiveSign, NegativeSign}
 use Rattle.monetary_cat.specs.declared.keys.MonNumber.{MonNumber}
 use Rattle.monetary_cat.specs.declared.keys.MonNumber.TheVariants.{IntFracDigits, FracDigits, PCsPrecedes, PSepBySpace, NCsPrecedes, NSepBySpace, PSignPosn, NSignPosn, IntPCsPrecedes, IntNCsPrecedes, IntPSepBySpace, IntNSepBySpace, IntPSignPosn, IntNSignPosn}
-use Rattle.monetary_cat.specs.declared.values.Texts.{Texts}
-use Rattle.monetary_cat.specs.declared.values.Numbers.{Numbers}
+use Rattle.monetary_cat.specs.declared.values.MoneyTexts.{MoneyTexts}
+use Rattle.monetary_cat.specs.declared.values.FormNumbers.{FormNumbers}
 
 -- the texts, the sizes of groups, and the numbers of both forms
 pub record MonetaryValues : Type 0 where
-  pub texts : Texts
+  pub texts : MoneyTexts
   pub mon_grouping : List ℤ
-  pub local : Numbers
-  pub international : Numbers
+  pub local : FormNumbers
+  pub international : FormNumbers
 
 -- the text of a keyword
 abbrev pub text_of : MonetaryValues → MonText → List ℕ

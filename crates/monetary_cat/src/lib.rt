@@ -15,15 +15,15 @@ mod keys;
 mod values;
 
 pub use keys::{MonNumber, MonText};
-use values::{Numbers, Texts, international_of, local_of, texts_of};
+use values::{FormNumbers, MoneyTexts, international_of, local_of, texts_of};
 
 /// The values of the keywords of `LC_MONETARY`, of the locale or else of the POSIX locale.
 #[derive(Debug, Drop)]
 pub struct Monetary {
-    texts: Texts,
+    texts: MoneyTexts,
     mon_grouping: List<i32>,
-    local: Numbers,
-    international: Numbers,
+    local: FormNumbers,
+    international: FormNumbers,
 }
 
 impl Model for Monetary {

@@ -11,7 +11,7 @@ use std::alloc::{AllocError, Global};
 
 /// The texts.
 #[derive(Debug, Drop)]
-pub struct Texts {
+pub struct MoneyTexts {
     pub int_curr_symbol: ByteText,
     pub currency_symbol: ByteText,
     pub mon_decimal_point: ByteText,
@@ -22,7 +22,7 @@ pub struct Texts {
 
 /// The numbers of one form, the local or the international one.
 #[derive(Clone, Copy, Debug)]
-pub struct Numbers {
+pub struct FormNumbers {
     pub frac_digits: i32,
     pub p_cs_precedes: i32,
     pub p_sep_by_space: i32,
@@ -50,10 +50,10 @@ fn number(entries: &[Entry], keyword: &[u8]) -> i32
 }
 
 /// The texts that a keyword list gives.
-pub fn texts_of(alloc: Global, entries: &[Entry]) -> Result<Texts, AllocError>
+pub fn texts_of(alloc: Global, entries: &[Entry]) -> Result<MoneyTexts, AllocError>
     ensures { IfOk result (λ t. t ≡ texts_of entries.now) }
 {
-    Ok(Texts {
+    Ok(MoneyTexts {
         int_curr_symbol: text(alloc, entries, b"int_curr_symbol")?,
         currency_symbol: text(alloc, entries, b"currency_symbol")?,
         mon_decimal_point: text(alloc, entries, b"mon_decimal_point")?,
@@ -64,10 +64,10 @@ pub fn texts_of(alloc: Global, entries: &[Entry]) -> Result<Texts, AllocError>
 }
 
 /// The numbers of the local form.
-pub fn local_of(entries: &[Entry]) -> Numbers
+pub fn local_of(entries: &[Entry]) -> FormNumbers
     ensures { result ≡ local_of entries.now }
 {
-    Numbers {
+    FormNumbers {
         frac_digits: number(entries, b"frac_digits"),
         p_cs_precedes: number(entries, b"p_cs_precedes"),
         p_sep_by_space: number(entries, b"p_sep_by_space"),
@@ -79,10 +79,10 @@ pub fn local_of(entries: &[Entry]) -> Numbers
 }
 
 /// The numbers of the international form.
-pub fn international_of(entries: &[Entry]) -> Numbers
+pub fn international_of(entries: &[Entry]) -> FormNumbers
     ensures { result ≡ international_of entries.now }
 {
-    Numbers {
+    FormNumbers {
         frac_digits: number(entries, b"int_frac_digits"),
         p_cs_precedes: number(entries, b"int_p_cs_precedes"),
         p_sep_by_space: number(entries, b"int_p_sep_by_space"),

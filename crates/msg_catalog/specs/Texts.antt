@@ -2,8 +2,8 @@
 use Rattle.std.specs.Prelude.{ℕ, zero, suc, ◌+◌, ◌-◌, ◌*◌, Bool, false, ◌&&◌, ◌==◌, nat_lt, nat_le, List, [], ◌∷◌, ◌++◌, Option, Some, None, if◌then◌else◌}
 use Rattle.lc_base.specs.declared.place.Place.{Place}
 use Rattle.msg_catalog.specs.declared.cursor.Spot.{Spot}
-use Rattle.msg_catalog.specs.declared.text.Piece.{Piece}
-use Rattle.msg_catalog.specs.declared.text.Piece.TheVariants.{Byte, Wrong, Nothing}
+use Rattle.msg_catalog.specs.declared.text.TextUnit.{TextUnit}
+use Rattle.msg_catalog.specs.declared.text.TextUnit.TheVariants.{Byte, Wrong, Nothing}
 use Rattle.msg_catalog.specs.declared.text.Text.{Text}
 
 -- a text, and the place of its first wrong escape, if there is one
@@ -25,7 +25,7 @@ abbrev pub joined : Said → Said → Said
 joined t u = record { bytes = t.bytes ++ u.bytes; wrong = first_place t.wrong u.wrong }
 
 -- what stands at a byte, as a text; a wrong escape is counted as a byte
-abbrev pub said : Piece → Said
+abbrev pub said : TextUnit → Said
 said (Byte b) = record { bytes = b ∷ []; wrong = None }
 said (Wrong place) = record { bytes = 0 ∷ []; wrong = Some place }
 said Nothing = nothing_said
@@ -58,22 +58,22 @@ abbrev pub control : ℕ → ℕ
 control b = looked_up controls b
 
 -- an octal escape at this place
-abbrev pub octal_piece : Place → ℕ → Piece
+abbrev pub octal_piece : Place → ℕ → TextUnit
 octal_piece place n = if nat_lt n 256 then Byte n else Wrong place
 
 -- an escape that is no octal one, and how many bytes behind the \ go with it
-abbrev pub plain_escape : List Spot → Piece × ℕ
+abbrev pub plain_escape : List Spot → TextUnit × ℕ
 plain_escape [] = (Nothing, 0)
 plain_escape (s ∷ ss) = (Byte (control s.byte), 1)
 
 -- the escape whose \ stands at this place, and how many bytes behind it go with it
-abbrev pub escape : Place → List Spot → Piece × ℕ
+abbrev pub escape : Place → List Spot → TextUnit × ℕ
 escape place ss =
     let o = octal 3 0 ss in
     if nat_lt 0 o.1 then (octal_piece place o.0, o.1) else plain_escape ss
 
 -- what stands at a byte before others, and how many of these go with it
-abbrev pub piece_of : Spot → List Spot → Piece × ℕ
+abbrev pub piece_of : Spot → List Spot → TextUnit × ℕ
 piece_of s ss = if s.byte == 92 then escape s.place ss else (Byte s.byte, 0)
 
 -- whether a byte is the quote character

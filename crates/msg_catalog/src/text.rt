@@ -10,7 +10,7 @@ use std::alloc::{AllocError, Global};
 
 /// What stands at a byte of a text.
 #[derive(Clone, Copy)]
-pub enum Piece {
+pub enum TextUnit {
     /// A byte, as itself or by an escape.
     Byte(u8),
     /// An octal escape over 255, at its `\`.
@@ -71,7 +71,7 @@ fn control(byte: u8) -> u8
 }
 
 /// What an escape whose `\` stands at this place gives, and what follows it.
-fn escape(place: Place, cursor: Cursor<'_>) -> (Piece, Cursor<'_>)
+fn escape(place: Place, cursor: Cursor<'_>) -> (TextUnit, Cursor<'_>)
     ensures piece { result.0 ≡ (escape place (line_of cursor.entry)).0 }
     ensures rest { line_of result.1 ≡ drop (escape place (line_of cursor.entry)).1 (line_of cursor.entry) }
     ensures within { length result.1.rest.now ≤ length cursor.entry.rest.now }
@@ -79,18 +79,18 @@ fn escape(place: Place, cursor: Cursor<'_>) -> (Piece, Cursor<'_>)
     let (value, count, rest) = octal(cursor);
     if count > 0 {
         return match u8::try_from(value) {
-            Ok(byte) => (Piece::Byte(byte), rest),
-            Err(_) => (Piece::Wrong(place), rest),
+            Ok(byte) => (TextUnit::Byte(byte), rest),
+            Err(_) => (TextUnit::Wrong(place), rest),
         };
     }
     match cursor.next() {
-        Some((spot, next)) => (Piece::Byte(control(spot.byte)), next),
-        None => (Piece::Nothing, cursor),
+        Some((spot, next)) => (TextUnit::Byte(control(spot.byte)), next),
+        None => (TextUnit::Nothing, cursor),
     }
 }
 
 /// What stands at a byte of a text, before what follows that byte, and what follows it all.
-fn piece_of(spot: Spot, cursor: Cursor<'_>) -> (Piece, Cursor<'_>)
+fn piece_of(spot: Spot, cursor: Cursor<'_>) -> (TextUnit, Cursor<'_>)
     ensures piece { result.0 ≡ (piece_of spot (line_of cursor.entry)).0 }
     ensures rest { line_of result.1 ≡ drop (piece_of spot (line_of cursor.entry)).1 (line_of cursor.entry) }
     ensures within { length result.1.rest.now ≤ length cursor.entry.rest.now }
@@ -98,7 +98,7 @@ fn piece_of(spot: Spot, cursor: Cursor<'_>) -> (Piece, Cursor<'_>)
     if spot.byte == b'\\' {
         escape(spot.place, cursor)
     } else {
-        (Piece::Byte(spot.byte), cursor)
+        (TextUnit::Byte(spot.byte), cursor)
     }
 }
 
@@ -111,16 +111,16 @@ fn is_quote(quote: Option<u8>, byte: u8) -> bool
 
 impl Text {
     /// Adds what stands at a byte. A wrong escape is counted as a byte.
-    fn add(&mut self, piece: Piece) -> Result<(), AllocError>
+    fn add(&mut self, piece: TextUnit) -> Result<(), AllocError>
         ensures { OnOk result (read_text self.new ≡ joined (read_text self.old) (said piece)) }
     {
         match piece {
-            Piece::Byte(byte) => self.bytes.push(byte)?,
-            Piece::Wrong(place) => {
+            TextUnit::Byte(byte) => self.bytes.push(byte)?,
+            TextUnit::Wrong(place) => {
                 self.bytes.push(0)?;
                 self.wrong = self.wrong.or(Some(place));
             }
-            Piece::Nothing => {}
+            TextUnit::Nothing => {}
         }
         Ok(())
     }

@@ -5,7 +5,7 @@ use Rattle.std.specs.List.{list_any}
 use Rattle.std.proofs.lemmas.List.{length-replicate}
 use Rattle.std.proofs.lemmas.List.{append-nil}
 use Rattle.std.proofs.lemmas.List.Recursion.{is_count_by}
-use Rattle.src_lines.specs.declared.line.Piece.TheVariants.{Byte, Name}
+use Rattle.src_lines.specs.declared.line.OperandPiece.TheVariants.{Byte, Name}
 use Rattle.src_lines.specs.declared.atom.Atom.{Atom}
 use Rattle.src_lines.specs.declared.atom.Atom.TheVariants.{Bare, Number, Made}
 use Rattle.src_lines.specs.declared.cells.Mark.{Mark}

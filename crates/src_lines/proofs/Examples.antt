@@ -7,8 +7,8 @@ use Rattle.lc_base.specs.declared.reason.Reason.TheVariants.{WrongOperand, BadHe
 use Rattle.lc_base.specs.Reading.{Reads, ◌>>=◌}
 use Rattle.src_lines.specs.declared.signs.Kind.{Kind}
 use Rattle.src_lines.specs.declared.signs.Kind.TheVariants.{Locale, Charmap}
-use Rattle.src_lines.specs.declared.line.Piece.{Piece}
-use Rattle.src_lines.specs.declared.line.Piece.TheVariants.{Byte, Name}
+use Rattle.src_lines.specs.declared.line.OperandPiece.{OperandPiece}
+use Rattle.src_lines.specs.declared.line.OperandPiece.TheVariants.{Byte, Name}
 use Rattle.src_lines.specs.declared.line.Operand.TheVariants.{Plain, Quoted, Dots, Pair}
 use Rattle.src_lines.specs.declared.line.Line.{Line}
 use Rattle.src_lines.specs.Places.{Logical, place_at, start}
@@ -38,7 +38,7 @@ lines_before_fault kind bytes = (map (λ (l : Logical). (place_at l 0, l.bytes))
 abbrev read : List ℕ → Reads Line
 read bytes = tokens (sole_line bytes)
 
-abbrev bytes_of : List ℕ → List Piece
+abbrev bytes_of : List ℕ → List OperandPiece
 bytes_of = map Byte
 
 -- comments and blank lines are dropped, after joining

@@ -3,7 +3,7 @@ use Rattle.std.proofs.Common.{◌≡◌, ℕ, suc, ◌+◌, ◌-◌, ◌<◌, �
 use Rattle.std.proofs.lemmas.Bool.{cases_Bool, cases_eq, eq-eqb, ne_eqb}
 use Rattle.std.proofs.lemmas.List.{drop_more, drop-drop}
 use Rattle.lc_base.specs.Reading.{◌>>=◌}
-use Rattle.src_lines.specs.declared.line.Piece.TheVariants.{Byte}
+use Rattle.src_lines.specs.declared.line.OperandPiece.TheVariants.{Byte}
 use Rattle.src_lines.specs.declared.atom.Atom.TheVariants.{Bare, Number, Made}
 use Rattle.src_lines.specs.declared.text.RunEnd.TheVariants.{AtSeparator}
 use Rattle.src_lines.specs.declared.line.Operand.TheVariants.{Quoted}

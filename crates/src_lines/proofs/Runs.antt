@@ -7,7 +7,7 @@ use Rattle.lc_base.specs.declared.reason.Reason.TheVariants.{OpenString}
 use Rattle.lc_base.specs.declared.fault.TextFault.{TextFault}
 use Rattle.lc_base.specs.declared.fault.TextFault.TheVariants.{At}
 use Rattle.lc_base.specs.Reading.{Reads, ◌>>=◌, Fails}
-use Rattle.src_lines.specs.declared.line.Piece.{Piece}
+use Rattle.src_lines.specs.declared.line.OperandPiece.{OperandPiece}
 use Rattle.src_lines.specs.declared.atom.Atom.{Atom}
 use Rattle.src_lines.specs.declared.text.RunEnd.{RunEnd}
 use Rattle.src_lines.specs.Atoms.{is_bare, piece, Item}
@@ -47,9 +47,9 @@ run_fails end front is place r rest e = rw e refl
 
 pub text_ends : (front : List Atom) (quote : Place) (is : List Item) (place : Place) (u : Atom) (rest : List Item) → is ≡ record { place = place; atom = Ok u } ∷ rest → is_bare 34 u ≡ true → after (map piece front) (text quote is) ≡ Ok (map piece front, rest)
 unfolding text
-text_ends front quote is place u rest e ends = rw (e, ends) (ap {B = Reads (List Piece × List Item)} (λ (ps : List Piece). Ok (ps, rest)) (append-nil (map piece front)))
+text_ends front quote is place u rest e ends = rw (e, ends) (ap {B = Reads (List OperandPiece × List Item)} (λ (ps : List OperandPiece). Ok (ps, rest)) (append-nil (map piece front)))
 
-pub text_is_open : (front : List Piece) (quote : Place) (is : List Item) → is ≡ [] → after front (text quote is) ≡ Err (quote, OpenString)
+pub text_is_open : (front : List OperandPiece) (quote : Place) (is : List Item) → is ≡ [] → after front (text quote is) ≡ Err (quote, OpenString)
 unfolding text
 text_is_open front quote is e = rw e refl
 
@@ -63,7 +63,7 @@ chosen true p q r s total e = sym e
 chosen false p q r s total e = sym e
 
 -- the fault of a text with a fault in it
-pub text_fails : (outer : TextFault) (front : List Piece) (quote : Place) (is : List Item) (place : Place) (r : Reason) (rest : List Item) (total : Reads (List Piece × List Item)) → is ≡ record { place = place; atom = Err r } ∷ rest → after front (text quote is) ≡ total
+pub text_fails : (outer : TextFault) (front : List OperandPiece) (quote : Place) (is : List Item) (place : Place) (r : Reason) (rest : List Item) (total : Reads (List OperandPiece × List Item)) → is ≡ record { place = place; atom = Err r } ∷ rest → after front (text quote is) ≡ total
     → outer ≡ cond (is_closed rest) (At place r) (At quote OpenString) → Fails outer total
 unfolding text
 text_fails outer front quote is place r rest total e so_far which =

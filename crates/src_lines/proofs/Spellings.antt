@@ -7,8 +7,8 @@ use Rattle.std.proofs.lemmas.List.Sums.{sum_by-cons, sum_by-append}
 use Rattle.std.proofs.Math.Seq.{drop-append_seam, take-append_seam}
 use Rattle.lc_base.specs.declared.place.Place.{Place}
 use Rattle.lc_base.specs.Reading.{◌>>=◌}
-use Rattle.src_lines.specs.declared.line.Piece.{Piece}
-use Rattle.src_lines.specs.declared.line.Piece.TheVariants.{Byte, Name}
+use Rattle.src_lines.specs.declared.line.OperandPiece.{OperandPiece}
+use Rattle.src_lines.specs.declared.line.OperandPiece.TheVariants.{Byte, Name}
 use Rattle.src_lines.specs.declared.line.Operand.{Operand}
 use Rattle.src_lines.specs.declared.line.Operand.TheVariants.{Plain, Quoted, Dots, Pair}
 use Rattle.src_lines.specs.declared.atom.Atom.{Atom}
@@ -41,7 +41,7 @@ unfolding run
 run_stops bytes at [] h = refl
 run_stops bytes at (b ∷ bs) h = rw h refl
 
-run_piece : (place : Place) (p : Piece) (is last : List Item) (us : List Atom) → run AtSeparator is ≡ Ok (us, last) → run AtSeparator (at_place place (spelled_atom p) ∷ is) ≡ Ok (spelled_atom p ∷ us, last)
+run_piece : (place : Place) (p : OperandPiece) (is last : List Item) (us : List Atom) → run AtSeparator is ≡ Ok (us, last) → run AtSeparator (at_place place (spelled_atom p) ∷ is) ≡ Ok (spelled_atom p ∷ us, last)
 unfolding run
 run_piece place (Byte b) is last us e = rw e refl
 run_piece place (Name name) is last us e = rw e refl
@@ -55,7 +55,7 @@ abbrev IsRun : List ℕ → ℕ → List ℕ → List Atom → List ℕ → Type
 IsRun bytes at front us last = (end : ℕ) × (run AtSeparator (items (sole_line bytes) 0 at front) ≡ Ok (us, items (sole_line bytes) 0 end last))
 
 -- a run of spelled pieces and what is read behind them
-run_spelled : (bytes : List ℕ) (at : ℕ) (ps : List Piece) (rest last : List ℕ) (us : List Atom) → AllByRecursion IsPiece ps
+run_spelled : (bytes : List ℕ) (at : ℕ) (ps : List OperandPiece) (rest last : List ℕ) (us : List Atom) → AllByRecursion IsPiece ps
     → ((k : ℕ) → IsRun bytes k rest us last) → IsRun bytes at (spelled_pieces ps ++ rest) (map spelled_atom ps ++ us) last
 run_spelled bytes at [] rest last us small next = next at
 run_spelled bytes at (p ∷ ps) rest last us small next =
@@ -63,7 +63,7 @@ run_spelled bytes at (p ∷ ps) rest last us small next =
     let later = run_spelled bytes one.0 ps rest last us small.1 next in
     (later.0, rw (append_assoc (spelled_piece p) (spelled_pieces ps) rest, one.1) (run_piece (place_at (sole_line bytes) at) p _ _ _ later.1))
 
-text_piece : (quote place : Place) (p : Piece) (is last : List Item) (ps : List Piece) → text quote is ≡ Ok (ps, last) → text quote (at_place place (spelled_atom p) ∷ is) ≡ Ok (p ∷ ps, last)
+text_piece : (quote place : Place) (p : OperandPiece) (is last : List Item) (ps : List OperandPiece) → text quote is ≡ Ok (ps, last) → text quote (at_place place (spelled_atom p) ∷ is) ≡ Ok (p ∷ ps, last)
 unfolding text
 text_piece quote place (Byte b) is last ps e = rw e refl
 text_piece quote place (Name name) is last ps e = rw e refl
@@ -72,7 +72,7 @@ text_closed : (quote place : Place) (is : List Item) → text quote (at_place pl
 unfolding text
 text_closed quote place is = refl
 
-text_spelled : (bytes : List ℕ) (at : ℕ) (quote : Place) (ps : List Piece) (rest : List ℕ) → AllByRecursion IsPiece ps
+text_spelled : (bytes : List ℕ) (at : ℕ) (quote : Place) (ps : List OperandPiece) (rest : List ℕ) → AllByRecursion IsPiece ps
     → (end : ℕ) × (text quote (items (sole_line bytes) 0 at (spelled_pieces ps ++ 34 ∷ rest)) ≡ Ok (ps, items (sole_line bytes) 0 end rest))
 text_spelled bytes at quote [] rest small = (at + 1, text_closed quote _ _)
 text_spelled bytes at quote (p ∷ ps) rest small =
@@ -82,29 +82,29 @@ text_spelled bytes at quote (p ∷ ps) rest small =
 
 -- ---- shapes
 
-pieces_of_atoms : (ps : List Piece) → map piece (map spelled_atom ps) ≡ ps
+pieces_of_atoms : (ps : List OperandPiece) → map piece (map spelled_atom ps) ≡ ps
 pieces_of_atoms [] = refl
-pieces_of_atoms (Byte b ∷ ps) = ap (λ (qs : List Piece). Byte b ∷ qs) (pieces_of_atoms ps)
-pieces_of_atoms (Name name ∷ ps) = ap (λ (qs : List Piece). Name name ∷ qs) (pieces_of_atoms ps)
+pieces_of_atoms (Byte b ∷ ps) = ap (λ (qs : List OperandPiece). Byte b ∷ qs) (pieces_of_atoms ps)
+pieces_of_atoms (Name name ∷ ps) = ap (λ (qs : List OperandPiece). Name name ∷ qs) (pieces_of_atoms ps)
 
-no_start : (b : ℕ) (ps : List Piece) → starts b (map spelled_atom ps) ≡ false
+no_start : (b : ℕ) (ps : List OperandPiece) → starts b (map spelled_atom ps) ≡ false
 no_start b [] = refl
 no_start b (Byte c ∷ ps) = refl
 no_start b (Name name ∷ ps) = refl
 
-plain_shape : (ps : List Piece) → shape (map spelled_atom ps ++ []) ≡ Plain ps
+plain_shape : (ps : List OperandPiece) → shape (map spelled_atom ps ++ []) ≡ Plain ps
 plain_shape ps = rw (append-nil (map spelled_atom ps), not_dots 0 (map spelled_atom ps) (omega arith) (no_start 46 ps), no_start 40 ps, pieces_of_atoms ps) refl
 
 stops_last : (u : Atom) (us : List Atom) → stops 41 (u ∷ (us ++ Bare 41 ∷ [])) ≡ true
 stops_last u [] = refl
 stops_last u (v ∷ us) = stops_last v us
 
-before_is : (ps : List Piece) (us : List Atom) → before_bare 44 (map spelled_atom ps ++ Bare 44 ∷ us) ≡ map spelled_atom ps
+before_is : (ps : List OperandPiece) (us : List Atom) → before_bare 44 (map spelled_atom ps ++ Bare 44 ∷ us) ≡ map spelled_atom ps
 before_is [] us = refl
 before_is (Byte b ∷ ps) us = ap (λ (vs : List Atom). Number b ∷ vs) (before_is ps us)
 before_is (Name name ∷ ps) us = ap (λ (vs : List Atom). Made (Name name) ∷ vs) (before_is ps us)
 
-behind_is : (ps : List Piece) (us : List Atom) → behind_bare 44 (map spelled_atom ps ++ Bare 44 ∷ us) ≡ us
+behind_is : (ps : List OperandPiece) (us : List Atom) → behind_bare 44 (map spelled_atom ps ++ Bare 44 ∷ us) ≡ us
 behind_is [] us = refl
 behind_is (Byte b ∷ ps) us = behind_is ps us
 behind_is (Name name ∷ ps) us = behind_is ps us
@@ -114,16 +114,16 @@ without_is [] u = refl
 without_is (v ∷ []) u = refl
 without_is (v ∷ w ∷ us) u = ap (λ (vs : List Atom). v ∷ vs) (without_is (w ∷ us) u)
 
-none_bare : (ps : List Piece) → count_by (is_bare 44) (map spelled_atom ps) ≡ 0
+none_bare : (ps : List OperandPiece) → count_by (is_bare 44) (map spelled_atom ps) ≡ 0
 none_bare [] = refl
 none_bare (Byte b ∷ ps) = sum_by-cons (λ (u : Atom). cond (is_bare 44 u) 1 0) (Number b) (map spelled_atom ps) ∙ zero-add _ ∙ none_bare ps
 none_bare (Name name ∷ ps) = sum_by-cons (λ (u : Atom). cond (is_bare 44 u) 1 0) (Made (Name name)) (map spelled_atom ps) ∙ zero-add _ ∙ none_bare ps
 
 -- the atoms of a spelled pair
-abbrev pair_atoms : List Piece → List Piece → List Atom
+abbrev pair_atoms : List OperandPiece → List OperandPiece → List Atom
 pair_atoms left right = Bare 40 ∷ (map spelled_atom left ++ Bare 44 ∷ (map spelled_atom right ++ Bare 41 ∷ []))
 
-one_comma : (left right : List Piece) → count_by (is_bare 44) (pair_atoms left right) ≡ 1
+one_comma : (left right : List OperandPiece) → count_by (is_bare 44) (pair_atoms left right) ≡ 1
 one_comma left right =
     let weight : Atom → ℕ = λ u. cond (is_bare 44 u) 1 0 in
     let a = sum_by-cons weight (Bare 40) (map spelled_atom left ++ Bare 44 ∷ (map spelled_atom right ++ Bare 41 ∷ [])) in
@@ -132,18 +132,18 @@ one_comma left right =
     let d = sum_by-append weight (map spelled_atom right) (Bare 41 ∷ []) in
     omega (arith, a, b, c, d, none_bare left, none_bare right)
 
-pair_shape : (left right : List Piece) → shape (pair_atoms left right) ≡ Pair left right
+pair_shape : (left right : List OperandPiece) → shape (pair_atoms left right) ≡ Pair left right
 pair_shape left right =
     let ends : stops 41 (pair_atoms left right) ≡ true = rw (sym (append_assoc (map spelled_atom left) (Bare 44 ∷ map spelled_atom right) (Bare 41 ∷ []))) (stops_last (Bare 40) (map spelled_atom left ++ Bare 44 ∷ map spelled_atom right)) in
     rw (not_dots 0 (pair_atoms left right) (omega arith) refl, ends, one_comma left right, before_is left (map spelled_atom right ++ Bare 41 ∷ []), behind_is left (map spelled_atom right ++ Bare 41 ∷ []), without_is (map spelled_atom right) (Bare 41), pieces_of_atoms left, pieces_of_atoms right) refl
 
 -- ---- operands
 
-opens_not : (place : Place) (p : Piece) (is : List Item) → opens (at_place place (spelled_atom p) ∷ is) ≡ false
+opens_not : (place : Place) (p : OperandPiece) (is : List Item) → opens (at_place place (spelled_atom p) ∷ is) ≡ false
 opens_not place (Byte b) is = refl
 opens_not place (Name name) is = refl
 
-plain_opens : (bytes : List ℕ) (at : ℕ) (ps : List Piece) (rest : List ℕ) → AllByRecursion IsPiece ps → Ends rest → opens (items (sole_line bytes) 0 at (spelled_pieces ps ++ rest)) ≡ false
+plain_opens : (bytes : List ℕ) (at : ℕ) (ps : List OperandPiece) (rest : List ℕ) → AllByRecursion IsPiece ps → Ends rest → opens (items (sole_line bytes) 0 at (spelled_pieces ps ++ rest)) ≡ false
 plain_opens bytes at [] [] small h = refl
 plain_opens bytes at [] (b ∷ bs) small h = rw h refl
 plain_opens bytes at (p ∷ ps) rest small h =
@@ -157,7 +157,7 @@ IsReadBackAs bytes at o rest = (end : ℕ) × (operand (items (sole_line bytes) 
 shaped : (is last : List Item) (us : List Atom) (o : Operand) → opens is ≡ false → run AtSeparator is ≡ Ok (us, last) → shape us ≡ o → operand is ≡ Ok (o, last)
 shaped is last us o closed reads s = operand_run is closed ∙ rw (reads, s) refl
 
-quoted_is : (is rest last : List Item) (place : Place) (ps : List Piece) → is ≡ at_place place (Bare 34) ∷ rest → text place rest ≡ Ok (ps, last) → operand is ≡ Ok (Quoted ps, last)
+quoted_is : (is rest last : List Item) (place : Place) (ps : List OperandPiece) → is ≡ at_place place (Bare 34) ∷ rest → text place rest ≡ Ok (ps, last) → operand is ≡ Ok (Quoted ps, last)
 quoted_is is rest last place ps e reads = operand_quoted is rest (at_place place (Bare 34)) e refl ∙ rw reads refl
 
 pub operand_spelled : (bytes : List ℕ) (at : ℕ) (o : Operand) (rest : List ℕ) → IsOperand o → Ends rest → IsReadBackAs bytes at o rest
@@ -181,7 +181,7 @@ operand_spelled bytes at (Pair left right) rest small h =
 
 -- ---- lists of operands
 
-skip_not : (place : Place) (p : Piece) (is : List Item) → skip (at_place place (spelled_atom p) ∷ is) ≡ at_place place (spelled_atom p) ∷ is
+skip_not : (place : Place) (p : OperandPiece) (is : List Item) → skip (at_place place (spelled_atom p) ∷ is) ≡ at_place place (spelled_atom p) ∷ is
 skip_not place (Byte b) is = refl
 skip_not place (Name name) is = refl
 

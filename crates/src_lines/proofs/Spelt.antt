@@ -3,8 +3,8 @@ use Rattle.std.proofs.Common.{◌≡◌, ℕ, suc, ◌+◌, ◌-◌, ◌*◌, �
 use Rattle.std.proofs.lemmas.Bool.{lt-ltb}
 use Rattle.std.proofs.lemmas.Bool.Decides.{nat_tests}
 use Rattle.std.proofs.Math.Seq.{drop-append_seam}
-use Rattle.src_lines.specs.declared.line.Piece.{Piece}
-use Rattle.src_lines.specs.declared.line.Piece.TheVariants.{Byte, Name}
+use Rattle.src_lines.specs.declared.line.OperandPiece.{OperandPiece}
+use Rattle.src_lines.specs.declared.line.OperandPiece.TheVariants.{Byte, Name}
 use Rattle.src_lines.specs.declared.atom.Atom.{Atom}
 use Rattle.src_lines.specs.declared.atom.Atom.TheVariants.{Number, Made}
 use Rattle.src_lines.specs.Words.{is_blank}
@@ -52,12 +52,12 @@ name_is [] rest = refl
 name_is (b ∷ bs) rest = name_step b bs rest (has_meaning b) refl (name_is bs rest)
 
 -- the atom of a piece in its spelling
-abbrev pub spelled_atom : Piece → Atom
+abbrev pub spelled_atom : OperandPiece → Atom
 spelled_atom (Byte b) = Number b
 spelled_atom (Name name) = Made (Name name)
 
 -- a piece's spelling is one item
-pub piece_is : (bytes : List ℕ) (at : ℕ) (p : Piece) (rest : List ℕ) → IsPiece p → (end : ℕ) × (items (sole_line bytes) 0 at (spelled_piece p ++ rest) ≡ record { place = place_at (sole_line bytes) at; atom = Ok (spelled_atom p) } ∷ items (sole_line bytes) 0 end rest)
+pub piece_is : (bytes : List ℕ) (at : ℕ) (p : OperandPiece) (rest : List ℕ) → IsPiece p → (end : ℕ) × (items (sole_line bytes) 0 at (spelled_piece p ++ rest) ≡ record { place = place_at (sole_line bytes) at; atom = Ok (spelled_atom p) } ∷ items (sole_line bytes) 0 end rest)
 piece_is bytes at (Byte b) rest lt = (at + 1 + 1 + 1 + 1, rw (byte_is b rest lt) refl)
 piece_is bytes at (Name name) rest lt =
     let n = length (spelled_name name) in

@@ -1,6 +1,6 @@
 -- Atoms in cells: a byte with its mark. A name is its bytes and one more cell, which ends it.
 use Rattle.std.specs.Prelude.{◌≡◌, ℕ, ◌+◌, Bool, true, false, not, ◌&&◌, List, [], ◌∷◌, ◌++◌, length}
-use Rattle.src_lines.specs.declared.line.Piece.TheVariants.{Byte, Name}
+use Rattle.src_lines.specs.declared.line.OperandPiece.TheVariants.{Byte, Name}
 use Rattle.src_lines.specs.declared.atom.Atom.{Atom}
 use Rattle.src_lines.specs.declared.atom.Atom.TheVariants.{Bare, Number, Made}
 use Rattle.src_lines.specs.declared.cells.AtomRef.{AtomRef}

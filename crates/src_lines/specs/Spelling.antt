@@ -2,8 +2,8 @@
 use Rattle.std.specs.Prelude.{◌≡◌, ◌≢◌, ℕ, ◌+◌, ◌/◌, ◌%◌, ◌<◌, ◌≤◌, Bool, false, ◌||◌, ◌==◌, nat_lt, List, [], ◌∷◌, ◌++◌, length, map, Ok, if◌then◌else◌, codes}
 use Rattle.std.specs.List.{list_any, AllByRecursion}
 use Rattle.lc_base.specs.declared.place.Place.{Place}
-use Rattle.src_lines.specs.declared.line.Piece.{Piece}
-use Rattle.src_lines.specs.declared.line.Piece.TheVariants.{Byte, Name}
+use Rattle.src_lines.specs.declared.line.OperandPiece.{OperandPiece}
+use Rattle.src_lines.specs.declared.line.OperandPiece.TheVariants.{Byte, Name}
 use Rattle.src_lines.specs.declared.line.Operand.{Operand}
 use Rattle.src_lines.specs.declared.line.Operand.TheVariants.{Plain, Quoted, Dots, Pair}
 use Rattle.src_lines.specs.declared.operand.TheConstants.{MAX_OPERANDS}
@@ -25,11 +25,11 @@ spelled_name [] = codes ">"
 spelled_name (b ∷ bs) = if has_meaning b then 92 ∷ b ∷ spelled_name bs else b ∷ spelled_name bs
 
 -- a byte as a number of two hexadecimal digits, a name in its signs
-abbrev pub spelled_piece : Piece → List ℕ
+abbrev pub spelled_piece : OperandPiece → List ℕ
 spelled_piece (Byte b) = codes "\\x" ++ hex_digit (b / 16) ∷ hex_digit (b % 16) ∷ []
 spelled_piece (Name name) = codes "<" ++ spelled_name name
 
-abbrev pub spelled_pieces : List Piece → List ℕ
+abbrev pub spelled_pieces : List OperandPiece → List ℕ
 spelled_pieces [] = []
 spelled_pieces (p ∷ ps) = spelled_piece p ++ spelled_pieces ps
 
@@ -59,7 +59,7 @@ pub record IsWord (keyword : List ℕ) : Type 0 where
   pub solid : list_any is_blank keyword ≡ false
 
 -- a piece is a byte, or any name
-abbrev pub IsPiece : Piece → Type 0
+abbrev pub IsPiece : OperandPiece → Type 0
 IsPiece (Byte b) = b < 256
 IsPiece (Name name) = Unit {0}
 

@@ -5,7 +5,7 @@ use Rattle.lc_base.specs.declared.reason.Reason.{Reason}
 use Rattle.lc_base.specs.declared.reason.Reason.TheVariants.{OpenString, WrongOperand, OverLimit}
 use Rattle.lc_base.specs.declared.reason.Limit.TheVariants.{Operands}
 use Rattle.lc_base.specs.Reading.{Reads, ◌>>=◌}
-use Rattle.src_lines.specs.declared.line.Piece.{Piece}
+use Rattle.src_lines.specs.declared.line.OperandPiece.{OperandPiece}
 use Rattle.src_lines.specs.declared.line.Operand.{Operand}
 use Rattle.src_lines.specs.declared.line.Operand.TheVariants.{Plain, Quoted}
 use Rattle.src_lines.specs.declared.line.Line.{Line}
@@ -50,7 +50,7 @@ is_closed (i ∷ is) = has_bare 34 i.atom || is_closed is
 
 -- a text in quotes whose opening quote has this place: its pieces up to the closing quote. Where that does not come
 -- the opening quote is at fault, whatever is wrong inside
-unfoldable pub text : Place → List Item → Reads (List Piece × List Item)
+unfoldable pub text : Place → List Item → Reads (List OperandPiece × List Item)
 text quote [] = Err (quote, OpenString)
 text quote (i ∷ is) = elim i.atom [
   | Ok u ↦ if is_bare 34 u then Ok ([], is) else and_then (piece u) (text quote is)

@@ -4,8 +4,8 @@ ghost use Rattle.std.specs.Prelude.{◌≡◌, ◌+◌, ◌^◌, ◌<◌, ◌≤
 ghost use Rattle.src_lines.specs.Atoms.{digit, decimal, hexadecimal, octal, number, number_atom, escaped, name, name_atom, atom, is_bare, IsNext};
 ghost use Rattle.src_lines.specs.Rows.{line_of};
 
-use crate::line::Piece;
-use crate::row::Row;
+use crate::line::OperandPiece;
+use crate::row::LogicalLine;
 use crate::words::is_blank;
 use lc_base::{ByteText, Reason};
 use std::alloc::{AllocError, Global};
@@ -18,7 +18,7 @@ pub enum Atom {
     /// A byte that is written as a number.
     Number(u8),
     /// An escaped byte or a name.
-    Made(Piece),
+    Made(OperandPiece),
 }
 
 impl Atom {
@@ -114,7 +114,7 @@ fn escaped(bytes: &[u8]) -> (Result<Atom, Reason>, usize)
             } else if digit(*byte) < 8 {
                 number_atom(1, number(OCTAL, bytes))
             } else {
-                (Ok(Atom::Made(Piece::Byte(*byte))), 2)
+                (Ok(Atom::Made(OperandPiece::Byte(*byte))), 2)
             }
         }
     }
@@ -162,14 +162,18 @@ pub fn atom_of(alloc: Global, escape: u8, byte: u8, rest: &[u8]) -> Result<Read,
     }
     let (text, len) = name(alloc, escape, rest)?;
     let atom = match text {
-        Some(text) => Ok(Atom::Made(Piece::Name(text))),
+        Some(text) => Ok(Atom::Made(OperandPiece::Name(text))),
         None => Err(Reason::OpenName),
     };
     Ok((atom, len + 1))
 }
 
 /// What stands at a byte of a line, and where the next one begins.
-pub fn next_atom(alloc: Global, row: &Row<'_>, at: usize) -> Result<Option<Read>, AllocError>
+pub fn next_atom(
+    alloc: Global,
+    row: &LogicalLine<'_>,
+    at: usize,
+) -> Result<Option<Read>, AllocError>
     requires { at ≤ length row.now.bytes.now }
     ensures { IfOk result (IsNext (line_of row.now) at) }
 {

@@ -8,7 +8,7 @@ ghost use Rattle.src_lines.specs.Cells.{atom_seen, atoms_of, IsWhole, leading, e
 ghost use Rattle.src_lines.specs.Pieces.{only_bytes};
 
 use crate::atom::Atom;
-use crate::line::Piece;
+use crate::line::OperandPiece;
 use lc_base::{ByteText, List};
 use std::alloc::{AllocError, Global};
 use std::marker::Model;
@@ -108,8 +108,8 @@ fn push_atom(marks: &mut Vec<Mark>, bytes: &mut Vec<u8>, atom: Atom) -> Result<(
     match atom {
         Atom::Bare(byte) => push_cell(marks, bytes, Mark::AsItself, byte),
         Atom::Number(byte) => push_cell(marks, bytes, Mark::AsNumber, byte),
-        Atom::Made(Piece::Byte(byte)) => push_cell(marks, bytes, Mark::AsEscaped, byte),
-        Atom::Made(Piece::Name(name)) => push_name(marks, bytes, name.as_bytes()),
+        Atom::Made(OperandPiece::Byte(byte)) => push_cell(marks, bytes, Mark::AsEscaped, byte),
+        Atom::Made(OperandPiece::Name(name)) => push_name(marks, bytes, name.as_bytes()),
     }
 }
 
@@ -201,8 +201,8 @@ impl AtomRef<'_> {
         Ok(match self {
             AtomRef::Bare(byte) => Atom::Bare(byte),
             AtomRef::Number(byte) => Atom::Number(byte),
-            AtomRef::Escaped(byte) => Atom::Made(Piece::Byte(byte)),
-            AtomRef::Name(name) => Atom::Made(Piece::Name(ByteText::of(alloc, name)?)),
+            AtomRef::Escaped(byte) => Atom::Made(OperandPiece::Byte(byte)),
+            AtomRef::Name(name) => Atom::Made(OperandPiece::Name(ByteText::of(alloc, name)?)),
         })
     }
 }

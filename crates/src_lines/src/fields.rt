@@ -8,7 +8,7 @@ ghost use Rattle.src_lines.specs.Fields.{field, fields};
 
 use crate::cells::Atoms;
 use crate::operand::skip_blanks;
-use crate::row::Row;
+use crate::row::LogicalLine;
 use crate::text::{RunEnd, run};
 use lc_base::{Place, TextFault};
 use std::alloc::Global;
@@ -22,7 +22,7 @@ pub struct Field {
 }
 
 /// The next field from a byte of a line on, and where it ends.
-fn field_at(alloc: Global, row: &Row<'_>, at: usize) -> Result<(Field, usize), TextFault>
+fn field_at(alloc: Global, row: &LogicalLine<'_>, at: usize) -> Result<(Field, usize), TextFault>
     requires { at ≤ length row.now.bytes.now }
     ensures is { Gives (λ x. (x.0, items_from (line_of row.now) x.1)) result (field (line_of row.now) (items_from (line_of row.now) at)) }
     ensures within { IfOk result (λ x. x.1 ≤ length row.now.bytes.now) }
@@ -37,7 +37,7 @@ fn field_at(alloc: Global, row: &Row<'_>, at: usize) -> Result<(Field, usize), T
 }
 
 /// The first two fields of a line.
-pub fn fields_of(alloc: Global, row: &Row<'_>) -> Result<(Field, Field), TextFault>
+pub fn fields_of(alloc: Global, row: &LogicalLine<'_>) -> Result<(Field, Field), TextFault>
     ensures { Gives (λ x. x) result (fields (line_of row.now)) }
 {
     let (first, end) = field_at(alloc, row, 0)?;

@@ -4,7 +4,7 @@ ghost use Rattle.std.specs.Prelude.{◌≡◌, ◌≤◌, ℕ, Err, length};
 ghost use Rattle.src_lines.specs.Logical.{is_dropped, sign_of, escape_word, comment_word, bad_head, head_sign, ends_head, fate};
 ghost use Rattle.src_lines.specs.Rows.{line_of};
 
-use crate::row::Row;
+use crate::row::LogicalLine;
 use crate::signs::{Kind, Signs};
 use crate::words::{Word, blanks, next_word};
 use lc_base::{Place, Reason};
@@ -61,7 +61,7 @@ fn comment_word(kind: Kind) -> &'static [u8]
 }
 
 /// The fault of a head line that is wrong at its byte `k`.
-fn bad_head(kind: Kind, row: &Row<'_>, k: usize) -> (Place, Reason)
+fn bad_head(kind: Kind, row: &LogicalLine<'_>, k: usize) -> (Place, Reason)
     requires { k ≤ length row.now.bytes.now }
     ensures { bad_head {A = ℕ} kind (line_of row.now) k ≡ Err result }
 {
@@ -72,7 +72,7 @@ fn bad_head(kind: Kind, row: &Row<'_>, k: usize) -> (Place, Reason)
 }
 
 /// The sign that a head line gives.
-fn head_sign(kind: Kind, row: &Row<'_>, other: u8) -> Result<u8, (Place, Reason)>
+fn head_sign(kind: Kind, row: &LogicalLine<'_>, other: u8) -> Result<u8, (Place, Reason)>
     ensures { result ≡ head_sign kind (line_of row.now) other }
 {
     let first = next_word(row.bytes);
@@ -107,7 +107,7 @@ pub fn ends_head(kind: Kind, first: &[u8], second: &[u8]) -> bool
 }
 
 /// What becomes of a line, where head lines may still come or not.
-pub fn fate_of(kind: Kind, heads: bool, row: &Row<'_>) -> Result<Fate, (Place, Reason)>
+pub fn fate_of(kind: Kind, heads: bool, row: &LogicalLine<'_>) -> Result<Fate, (Place, Reason)>
     ensures { result ≡ fate kind heads (line_of row.now) }
 {
     let Signs { escape, comment } = row.signs;

@@ -21,7 +21,7 @@ pub use atom::Atom;
 pub use cells::Atoms;
 pub use fields::Field;
 pub use head::ends_head;
-pub use line::{Line, Operand, Piece};
+pub use line::{Line, Operand, OperandPiece};
 pub use lines::{Lines, split, split_front};
 pub use pieces::{PieceRef, Pieces, Walk};
 pub use signs::{Kind, Signs};

@@ -5,7 +5,7 @@ use lc_base::{ByteText, List, Place};
 
 /// A part of an operand.
 #[derive(Debug, Drop)]
-pub enum Piece {
+pub enum OperandPiece {
     /// A byte, written as itself, after the escape character, or as a number.
     Byte(u8),
     /// A character's name, without its `<` and `>`.

@@ -10,7 +10,7 @@ ghost use Rattle.src_lines.specs.Tokens.{skip, opens, operand, separated, too_ma
 
 use crate::atom::next_atom;
 use crate::line::{Line, Operand};
-use crate::row::{Mark, Row, advanced};
+use crate::row::{LogicalLine, Mark, advanced};
 use crate::shape::shape_of;
 use crate::text::{RunEnd, has_bare, run, text};
 use crate::words::{blanks, next_word};
@@ -21,7 +21,7 @@ use std::alloc::Global;
 pub const MAX_OPERANDS: u32 = 65536;
 
 /// Where the blanks from a byte of a line on end.
-pub fn skip_blanks(row: &Row<'_>, at: usize) -> usize
+pub fn skip_blanks(row: &LogicalLine<'_>, at: usize) -> usize
     requires { at ≤ length row.now.bytes.now }
     ensures is { items_from (line_of row.now) result ≡ skip (items_from (line_of row.now) at) }
     ensures forward { at ≤ result }
@@ -32,7 +32,7 @@ pub fn skip_blanks(row: &Row<'_>, at: usize) -> usize
 }
 
 /// Whether a text in quotes begins at a byte of a line.
-fn opens(row: &Row<'_>, at: usize) -> bool
+fn opens(row: &LogicalLine<'_>, at: usize) -> bool
     requires { at ≤ length row.now.bytes.now }
     ensures is { result ≡ opens (items_from (line_of row.now) at) }
     ensures next { IsTrue result → items_from (line_of row.now) at ≡ record { place = place_at (line_of row.now) at; atom = Ok (Bare 34) } ∷ items_from (line_of row.now) (at + 1) }
@@ -48,7 +48,11 @@ fn opens(row: &Row<'_>, at: usize) -> bool
 }
 
 /// The operand at a byte of a line, and where it ends.
-fn operand_at(alloc: Global, row: &Row<'_>, at: usize) -> Result<(Operand, usize), TextFault>
+fn operand_at(
+    alloc: Global,
+    row: &LogicalLine<'_>,
+    at: usize,
+) -> Result<(Operand, usize), TextFault>
     requires { at ≤ length row.now.bytes.now }
     ensures is { Gives (λ x. (x.0, items_from (line_of row.now) x.1)) result (operand (items_from (line_of row.now) at)) }
     ensures within { IfOk result (λ x. x.1 ≤ length row.now.bytes.now) }
@@ -63,7 +67,11 @@ fn operand_at(alloc: Global, row: &Row<'_>, at: usize) -> Result<(Operand, usize
 }
 
 /// The operand at a byte of a line, and where the next one is to come, if `;` follows.
-fn separated(alloc: Global, row: &Row<'_>, at: usize) -> Result<(Operand, Option<usize>), TextFault>
+fn separated(
+    alloc: Global,
+    row: &LogicalLine<'_>,
+    at: usize,
+) -> Result<(Operand, Option<usize>), TextFault>
     requires { at ≤ length row.now.bytes.now }
     ensures is { Gives (λ x. (x.0, option_map (items_from (line_of row.now)) x.1)) result (separated (items_from (line_of row.now) at)) }
     ensures within { IfOk result (λ x. IfSome x.1 (λ k. k ≤ length row.now.bytes.now)) }
@@ -81,7 +89,7 @@ fn separated(alloc: Global, row: &Row<'_>, at: usize) -> Result<(Operand, Option
 }
 
 /// The fault of one operand too many, at this byte: a fault at its very place goes before that.
-fn too_many(alloc: Global, row: &Row<'_>, at: usize) -> TextFault
+fn too_many(alloc: Global, row: &LogicalLine<'_>, at: usize) -> TextFault
     requires { at ≤ length row.now.bytes.now }
     ensures { Fails result (too_many (place_at (line_of row.now) at) (operand (items_from (line_of row.now) at))) }
 {
@@ -96,7 +104,7 @@ fn too_many(alloc: Global, row: &Row<'_>, at: usize) -> TextFault
 /// The operands of a line, where one is to come at this byte.
 fn operands_at(
     alloc: Global,
-    row: &Row<'_>,
+    row: &LogicalLine<'_>,
     start: usize,
 ) -> Result<Vec<(Place, Operand)>, TextFault>
     requires { start ≤ length row.now.bytes.now }
@@ -125,7 +133,7 @@ fn operands_at(
 /// The operands of a line whose keyword ends at this byte.
 fn operands_after(
     alloc: Global,
-    row: &Row<'_>,
+    row: &LogicalLine<'_>,
     at: usize,
 ) -> Result<Vec<(Place, Operand)>, TextFault>
     requires { at ≤ length row.now.bytes.now }
@@ -140,7 +148,7 @@ fn operands_after(
 
 /// The keyword and the operands of a line.
 #[tactic(auto, unfolding(crate::specs::Tokens::tokens))]
-pub fn tokens_of(alloc: Global, row: &Row<'_>) -> Result<Line, TextFault>
+pub fn tokens_of(alloc: Global, row: &LogicalLine<'_>) -> Result<Line, TextFault>
     ensures { Gives (λ line. line) result (tokens (line_of row.now)) }
 {
     let keyword = next_word(row.bytes);

@@ -17,9 +17,9 @@ pub struct Pieces {
 
 impl Model for Pieces {
     ghost use Rattle.std.specs.Prelude.{List, map};
-    ghost use Rattle.src_lines.specs.declared.line.Piece.{Piece};
+    ghost use Rattle.src_lines.specs.declared.line.OperandPiece.{OperandPiece};
 
-    ghost Value = { List Piece };
+    ghost Value = { List OperandPiece };
 
     ghost use Rattle.src_lines.specs.Atoms.{piece};
 
@@ -43,9 +43,9 @@ pub struct Walk<'a> {
 
 impl<'a> Model for Walk<'a> {
     ghost use Rattle.std.specs.Prelude.{List, map};
-    ghost use Rattle.src_lines.specs.declared.line.Piece.{Piece};
+    ghost use Rattle.src_lines.specs.declared.line.OperandPiece.{OperandPiece};
 
-    ghost Value = { List Piece };
+    ghost Value = { List OperandPiece };
 
     ghost use Rattle.src_lines.specs.Atoms.{piece};
 

@@ -9,7 +9,7 @@ use lc_base::Place;
 
 /// A logical line: its signs, the line of the text where it begins, its bytes and its joins.
 #[derive(Drop)]
-pub struct Row<'a> {
+pub struct LogicalLine<'a> {
     pub signs: Signs,
     pub line: u32,
     pub bytes: &'a [u8],
@@ -17,7 +17,7 @@ pub struct Row<'a> {
     ghost small: { length bytes.now < 2 ^ 31 },
 }
 
-impl Row<'_> {
+impl LogicalLine<'_> {
     ghost use Rattle.std.specs.Prelude.{◌≡◌, ◌≤◌, length};
     ghost use Rattle.src_lines.specs.Places.{place_at};
     ghost use Rattle.src_lines.specs.Rows.{line_of};

@@ -5,7 +5,7 @@ ghost use Rattle.src_lines.specs.Held.{Held};
 ghost use Rattle.src_lines.specs.Places.{fresh, extended, continued, line_at};
 ghost use Rattle.src_lines.specs.Rows.{line_of};
 
-use crate::row::Row;
+use crate::row::LogicalLine;
 use crate::signs::Signs;
 use std::alloc::{AllocError, Global};
 use std::marker::Model;
@@ -123,10 +123,10 @@ impl Store {
     }
 
     /// The draft.
-    pub fn draft(&self) -> Row<'_>
+    pub fn draft(&self) -> LogicalLine<'_>
         ensures { line_of result ≡ self.now.draft }
     {
-        Row {
+        LogicalLine {
             signs: self.signs,
             line: self.line,
             bytes: &self.bytes[self.start..],
@@ -142,12 +142,12 @@ impl Store {
     }
 
     /// The line with this number, counted from 0.
-    pub fn row(&self, i: usize) -> Row<'_>
+    pub fn row(&self, i: usize) -> LogicalLine<'_>
         requires { i < length self.now.kept }
         ensures { line_of result ≡ line_at self.now.kept i }
     {
         let span = self.spans[i];
-        Row {
+        LogicalLine {
             signs: span.signs,
             line: span.line,
             bytes: &self.bytes[span.start as usize..span.end as usize],

@@ -12,7 +12,7 @@ ghost use Rattle.src_lines.specs.Tokens.{has_bare, ends_run, is_closed, run, tex
 use crate::atom::{Atom, next_atom};
 use crate::cells::Atoms;
 use crate::pieces::Pieces;
-use crate::row::Row;
+use crate::row::LogicalLine;
 use crate::words::is_blank;
 use lc_base::{Reason, TextFault};
 use std::alloc::{AllocError, Global};
@@ -50,7 +50,7 @@ pub fn has_bare(byte: u8, read: &Result<Atom, Reason>) -> bool
 /// A run from a byte of a line on: its atoms, and where it ends.
 pub fn run(
     alloc: Global,
-    row: &Row<'_>,
+    row: &LogicalLine<'_>,
     run_end: RunEnd,
     at: usize,
 ) -> Result<(Atoms, usize), TextFault>
@@ -76,7 +76,7 @@ pub fn run(
 }
 
 /// Whether a closing quote comes.
-fn is_closed(alloc: Global, row: &Row<'_>, at: usize) -> Result<bool, AllocError>
+fn is_closed(alloc: Global, row: &LogicalLine<'_>, at: usize) -> Result<bool, AllocError>
     requires { at ≤ length row.now.bytes.now }
     ensures { IfOk result (λ b. b ≡ is_closed (items_from (line_of row.now) at)) }
 {
@@ -94,7 +94,7 @@ fn is_closed(alloc: Global, row: &Row<'_>, at: usize) -> Result<bool, AllocError
 /// it ends.
 pub fn text(
     alloc: Global,
-    row: &Row<'_>,
+    row: &LogicalLine<'_>,
     quote: usize,
     at: usize,
 ) -> Result<(Pieces, usize), TextFault>
@@ -124,7 +124,7 @@ pub fn text(
 /// first.
 fn fault_in_text(
     alloc: Global,
-    row: &Row<'_>,
+    row: &LogicalLine<'_>,
     quote: usize,
     at: usize,
     next: usize,

@@ -8,7 +8,7 @@ use Rattle.strfmon.specs.declared.format.Signs.TheVariants.{Plus, Parentheses}
 use Rattle.strfmon.specs.declared.format.Conversion.{Conversion}
 use Rattle.strfmon.specs.declared.cells.Part.{Part}
 use Rattle.strfmon.specs.declared.cells.Part.TheVariants.{Open, Sign, Symbol, Space, Close}
-use Rattle.strfmon.specs.declared.look.Numbers.{Numbers}
+use Rattle.strfmon.specs.declared.look.Placing.{Placing}
 use Rattle.strfmon.specs.Cells.{cell}
 
 -- ---- the three numbers
@@ -19,7 +19,7 @@ given (pos n) other = n
 given (negsuc m) other = other
 
 -- cs_precedes, sep_by_space and sign_posn of `n`; that -1 means 1, 0 and 1 is our own rule
-abbrev pub local_numbers : MonetaryValues → Bool → Numbers
+abbrev pub local_numbers : MonetaryValues → Bool → Placing
 local_numbers v false = record {
   precedes = given (number_of v PCsPrecedes) 1;
   separation = given (number_of v PSepBySpace) 0;
@@ -32,7 +32,7 @@ local_numbers v true = record {
 }
 
 -- those of `i`: where the locale does not say they are those of `n`, but for a space (our own rule)
-abbrev pub international_numbers : MonetaryValues → Bool → Numbers
+abbrev pub international_numbers : MonetaryValues → Bool → Placing
 international_numbers v false = record {
   precedes = given (number_of v IntPCsPrecedes) (local_numbers v false).precedes;
   separation = given (number_of v IntPSepBySpace) 1;
@@ -44,7 +44,7 @@ international_numbers v true = record {
   position = given (number_of v IntNSignPosn) (local_numbers v true).position;
 }
 
-abbrev pub numbers_of : MonetaryValues → Bool → Bool → Numbers
+abbrev pub numbers_of : MonetaryValues → Bool → Bool → Placing
 numbers_of v false negative = local_numbers v negative
 numbers_of v true negative = international_numbers v negative
 

@@ -19,7 +19,7 @@ use monetary_cat::{MonNumber, MonText, Monetary};
 
 /// How many bytes of each kind stand round an amount, and how many there are in all.
 #[derive(Clone, Copy)]
-pub struct Layout {
+pub struct Widths {
     /// Spaces before the look.
     pub before: u128,
     /// Fill bytes before the number.
@@ -36,7 +36,7 @@ pub struct Laid<'a> {
     pub look: Look<'a>,
     pub decimal: Decimal,
     /// The layout of its text but for the field.
-    pub layout: Layout,
+    pub layout: Widths,
     /// Spaces of the field.
     pub field: u128,
 }
@@ -170,7 +170,7 @@ fn fraction_width(m: &Monetary, precision: usize) -> u128
 
 /// The layout of an amount of this sign.
 #[inline(always)]
-fn layout_of(m: &Monetary, c: &Conversion, own: &Look, negative: bool, decimal: Decimal) -> Layout
+fn layout_of(m: &Monetary, c: &Conversion, own: &Look, negative: bool, decimal: Decimal) -> Widths
     requires few { decimal.digits ≤ 20 }
     requires precision { decimal.precision ≡ precision_of m.now c.now }
     requires small { decimal.precision < 2 ^ 32 }
@@ -191,7 +191,7 @@ fn layout_of(m: &Monetary, c: &Conversion, own: &Look, negative: bool, decimal: 
     let sep = m.text(MonText::MonThousandsSep);
     let whole = grouped_width(decimal.digits, sizes_of(m, c), sep);
     let fraction = fraction_width(m, decimal.precision);
-    Layout {
+    Widths {
         before,
         fill,
         after,

@@ -11,7 +11,7 @@ use monetary_cat::{MonNumber, MonText, Monetary};
 
 /// cs_precedes, sep_by_space and sign_posn.
 #[derive(Clone, Copy, Debug)]
-pub struct Numbers {
+pub struct Placing {
     pub precedes: usize,
     pub separation: usize,
     pub position: usize,
@@ -38,20 +38,20 @@ pub fn given(number: i32, other: usize) -> usize
 }
 
 #[inline(always)]
-fn local_numbers(m: &Monetary, negative: bool) -> Numbers
+fn local_numbers(m: &Monetary, negative: bool) -> Placing
     ensures is { result ≡ local_numbers m.now negative }
     ensures precedes { result.precedes < 2 ^ 32 }
     ensures separation { result.separation < 2 ^ 32 }
     ensures position { result.position < 2 ^ 32 }
 {
     if negative {
-        Numbers {
+        Placing {
             precedes: given(m.number(MonNumber::NCsPrecedes), 1),
             separation: given(m.number(MonNumber::NSepBySpace), 0),
             position: given(m.number(MonNumber::NSignPosn), 1),
         }
     } else {
-        Numbers {
+        Placing {
             precedes: given(m.number(MonNumber::PCsPrecedes), 1),
             separation: given(m.number(MonNumber::PSepBySpace), 0),
             position: given(m.number(MonNumber::PSignPosn), 1),
@@ -59,7 +59,7 @@ fn local_numbers(m: &Monetary, negative: bool) -> Numbers
     }
 }
 
-fn international_numbers(m: &Monetary, negative: bool) -> Numbers
+fn international_numbers(m: &Monetary, negative: bool) -> Placing
     ensures is { result ≡ international_numbers m.now negative }
     ensures precedes { result.precedes < 2 ^ 32 }
     ensures separation { result.separation < 2 ^ 32 }
@@ -67,13 +67,13 @@ fn international_numbers(m: &Monetary, negative: bool) -> Numbers
 {
     let local = local_numbers(m, negative);
     if negative {
-        Numbers {
+        Placing {
             precedes: given(m.number(MonNumber::IntNCsPrecedes), local.precedes),
             separation: given(m.number(MonNumber::IntNSepBySpace), 1),
             position: given(m.number(MonNumber::IntNSignPosn), local.position),
         }
     } else {
-        Numbers {
+        Placing {
             precedes: given(m.number(MonNumber::IntPCsPrecedes), local.precedes),
             separation: given(m.number(MonNumber::IntPSepBySpace), 1),
             position: given(m.number(MonNumber::IntPSignPosn), local.position),
@@ -82,7 +82,7 @@ fn international_numbers(m: &Monetary, negative: bool) -> Numbers
 }
 
 #[inline(always)]
-fn numbers_of(m: &Monetary, international: bool, negative: bool) -> Numbers
+fn numbers_of(m: &Monetary, international: bool, negative: bool) -> Placing
     ensures is { result ≡ numbers_of m.now international negative }
     ensures precedes { result.precedes < 2 ^ 32 }
     ensures separation { result.separation < 2 ^ 32 }

@@ -127,14 +127,14 @@ fn refusal<R: Wait>(
     }
 }
 
-type Row = (Call, Option<Refusal>);
+type RefusedCall = (Call, Option<Refusal>);
 
 // Makes the calls of the rows, each of which is refused so.
 fn check_rows<R: Wait + Abort>(
     rt: &R,
     shared: &Shared<Number>,
     mine: &mut Mine<Number>,
-    rows: &[Row],
+    rows: &[RefusedCall],
 )
     requires may { MayMake shared.now 120 mine.old }
     requires few { length rows.now ≤ 40 }
@@ -185,7 +185,7 @@ const GLOBAL: Option<Refusal> = Some(Refusal::GlobalHandle);
 const NO_DATA: Option<Refusal> = Some(Refusal::NoData(Category::Ctype));
 
 /// The calls of the first thread, which makes an object and frees it.
-const FIRST_ROWS: [Row; 33] = [
+const FIRST_ROWS: [RefusedCall; 33] = [
     (Call::New(Some(FIRST)), NEVER_MADE),
     (Call::Dup(FIRST), NEVER_MADE),
     (Call::Free(FIRST), NEVER_MADE),
@@ -222,7 +222,7 @@ const FIRST_ROWS: [Row; 33] = [
 ];
 
 /// The calls of the second thread behind them.
-const SECOND_ROWS: [Row; 9] = [
+const SECOND_ROWS: [RefusedCall; 9] = [
     (Call::New(Some(FIRST)), STALE),
     (Call::Dup(FIRST), STALE),
     (Call::Free(FIRST), STALE),

@@ -1,6 +1,6 @@
 //! Rows by their names, and what they say.
 
-use crate::table::{ROW_COUNT, Row, row_at};
+use crate::table::{ROW_COUNT, ReasonRow, row_at};
 use lc_base::ByteText;
 use std::alloc::{AllocError, Global};
 
@@ -46,7 +46,7 @@ fn all_names(alloc: Global) -> Result<ByteText, AllocError> {
 }
 
 /// Adds what a row says, if there is one and it is asked for.
-fn push_asked(text: &mut Vec<u8>, row: Option<Row>, name: &[u8]) -> Result<(), AllocError> {
+fn push_asked(text: &mut Vec<u8>, row: Option<ReasonRow>, name: &[u8]) -> Result<(), AllocError> {
     match row {
         Some(row) if is_asked(&row, name) => push_row(text, &row),
         _ => Ok(()),
@@ -54,7 +54,7 @@ fn push_asked(text: &mut Vec<u8>, row: Option<Row>, name: &[u8]) -> Result<(), A
 }
 
 /// Whether a row has a name, or has it as its first word.
-fn is_asked(row: &Row, name: &[u8]) -> bool {
+fn is_asked(row: &ReasonRow, name: &[u8]) -> bool {
     match row.name.as_bytes().strip_prefix(name) {
         Some([]) => true,
         Some([behind, ..]) => *behind == b' ',
@@ -63,7 +63,7 @@ fn is_asked(row: &Row, name: &[u8]) -> bool {
 }
 
 /// Adds what a row says.
-fn push_row(text: &mut Vec<u8>, row: &Row) -> Result<(), AllocError> {
+fn push_row(text: &mut Vec<u8>, row: &ReasonRow) -> Result<(), AllocError> {
     text.extend_from_slice(row.name.as_bytes())?;
     text.extend_from_slice(b": ")?;
     text.extend_from_slice(row.rule.as_bytes())?;

@@ -9,4 +9,4 @@ mod table;
 pub use explain::{explained, rule_of};
 pub use keywords::wanted_of;
 pub use names::name_of;
-pub use table::{ROW_COUNT, Row, row_at};
+pub use table::{ROW_COUNT, ReasonRow, row_at};
