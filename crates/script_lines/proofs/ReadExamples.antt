@@ -8,7 +8,7 @@ use Rattle.digit_groups.specs.Digits.{last_digits}
 use Rattle.digit_groups.specs.Groups.{separated, separators}
 use Rattle.ctype_classes.specs.CtypeValues.{CtypeValues}
 use Rattle.monetary_cat.specs.MonetaryValues.{MonetaryValues}
-use Rattle.monetary_cat.specs.declared.values.Numbers.{Numbers}
+use Rattle.monetary_cat.specs.declared.values.FormNumbers.{FormNumbers}
 use Rattle.monetary_cat.specs.Monetary.{text, number}
 use Rattle.strfmon.specs.Formats.{flags_behind, number_behind, conversion, piece, pieces}
 use Rattle.strfmon.specs.Cells.{cell}
@@ -40,10 +40,10 @@ use Rattle.script_lines.specs.Reads.{sizes_text, local}
 abbrev classes : CtypeValues
 classes = record { codeset = codes "DEMO"; classes = (codes "vowel", (97, 97) ∷ (101, 101) ∷ []) ∷ []; upper = (97, 65) ∷ []; lower = (65, 97) ∷ [] }
 
-abbrev before : Numbers
+abbrev before : FormNumbers
 before = record { frac_digits = pos 2; p_cs_precedes = pos 1; p_sep_by_space = pos 0; n_cs_precedes = pos 1; n_sep_by_space = pos 0; p_sign_posn = pos 1; n_sign_posn = pos 1 }
 
-abbrev unknown : Numbers
+abbrev unknown : FormNumbers
 unknown = record { frac_digits = negsuc 0; p_cs_precedes = negsuc 0; p_sep_by_space = negsuc 0; n_cs_precedes = negsuc 0; n_sep_by_space = negsuc 0; p_sign_posn = negsuc 0; n_sign_posn = negsuc 0 }
 
 abbrev dollars : MonetaryValues
