@@ -1,5 +1,5 @@
 -- A list that breaks no rule defines values that obey the rules.
-use Rattle.std.proofs.Common.{◌≡◌, ℕ, ◌-◌, Bool, true, false, eqb, ltb, not, cond, List, [], ◌∷◌, ◌++◌, length, Option, Some, None, Ok, refl, ap, ◌∙◌, subst}
+use Rattle.std.proofs.Common.{◌≡◌, ℕ, ◌-◌, Bool, true, false, eqb, ltb, not, cond, List, [], ◌∷◌, ◌++◌, length, Option, Some, None, Ok, refl, subst}
 use Rattle.std.specs.Prelude.{codes, count_by, find}
 use Rattle.std.specs.Option.{option_to_list}
 use Rattle.std.specs.Str.{bytes_eq}

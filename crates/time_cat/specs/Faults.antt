@@ -1,5 +1,5 @@
 -- What is wrong with the operands of LC_TIME (our own rules on the number of bytes and of conversions, and on ranks).
-use Rattle.std.specs.Prelude.{◌≡◌, ℕ, ◌+◌, ◌-◌, ◌^◌, ◌==◌, ◌≤◌, nat_lt, nat_le, min, Bool, false, not, List, [], ◌∷◌, length, count_by, Option, Some, None, Ok, Err, if◌then◌else◌}
+use Rattle.std.specs.Prelude.{◌≡◌, ℕ, ◌+◌, ◌-◌, ◌^◌, ◌==◌, ◌≤◌, nat_lt, nat_le, min, Bool, false, not, List, [], ◌∷◌, length, count_by, Option, Some, None, Ok, if◌then◌else◌}
 use Rattle.std.specs.List.{list_any}
 use Rattle.lc_base.specs.declared.place.Place.{Place}
 use Rattle.lc_base.specs.declared.reason.Reason.{Reason}
