@@ -101,7 +101,7 @@ op_on op named = named >>= λ n. Ok (op n)
 
 -- ---- what a command asks for
 
--- a call, with the categories whose name an accepted setlocale tells; a read of what is named; a read of the thread's own
+-- a call, with the categories whose name an accepted setlocale prints; a read of what is named; a read of the thread's own
 -- object or else of the global locale; what is selected; the name of the global locale; a catalog to be opened by its name; the
 -- message of a set and a number in an open catalog, or else the default; a catalog to be closed
 pub data Wish : Type 0 where
