@@ -73,7 +73,7 @@ shadow_at None asked = places.None
 shadow_at (Some op) asked = places.One asked.place
 
 abbrev shadow_line : Timed → Timed
-shadow_line t = record t { with_tasks = record t.task_line { line = record t.task_line.line { places = shadow_at t.op t.asked } } }
+shadow_line t = record t { task_line = record t.task_line { line = record t.task_line.line { places = shadow_at t.op t.asked } } }
 
 back_of : (op : Option catalogs.Op) (asked : Asked) → reverse (asked_place op asked) ≡ asked_place op asked
 back_of None asked = refl
