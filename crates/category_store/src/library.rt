@@ -6,7 +6,7 @@ ghost use Rattle.lc_base.specs.Reading.{Gives};
 ghost use Rattle.mask_compose.specs.Names.{spanned};
 ghost use Rattle.locale_sources.specs.Named.{pairs_of};
 ghost use Rattle.locale_sources.specs.Seen.{source};
-ghost use Rattle.source_blocks.specs.Blocks.{IsSized};
+ghost use Rattle.lc_base.specs.Blocks.{IsSized};
 ghost use Rattle.category_copies.specs.Copies.{locale_numbers, copy_fault};
 ghost use Rattle.compiled_categories.specs.Compiled.{locales_of};
 ghost use Rattle.category_store.specs.Library.{catalog, catalog_over, catalog_from, locale_at, number_of, number_in, numbers, names_given, posix_object, object_of, offer_at, first_offer, name_at, opening, later, unless_fault};

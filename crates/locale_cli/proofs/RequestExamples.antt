@@ -1,7 +1,8 @@
 -- What words ask for.
 use Rattle.std.proofs.Common.{◌≡◌, [], ◌∷◌, Some, None, refl}
 use Rattle.std.specs.Prelude.{codes}
-use Rattle.script_words.specs.Words.{decimal_number, behind_front}
+use Rattle.byte_words.specs.Numbers.{decimal_number}
+use Rattle.script_words.specs.Words.{behind_front}
 use Rattle.locale_cli.specs.declared.request.Request.TheVariants.{Read, Make}
 use Rattle.locale_cli.specs.declared.words.Mode.TheVariants.{Check, Serial}
 use Rattle.locale_cli.specs.Request.{wide_number, with_part, request_of}

@@ -26,8 +26,10 @@ use Rattle.script_words.specs.declared.table.Verb.TheVariants as verbs
 use Rattle.script_commands.specs.Known.{lacks_key, thread_number}
 use Rattle.script_words.specs.Names.{is_thread_name}
 use Rattle.script_words.specs.Spans.{Span, next_word, end_of}
-use Rattle.script_words.specs.Tables.{first_named, commands_table, items_table}
-use Rattle.script_words.specs.Words.{text_of_word, quoted_of_word, bounded, zone_of_word, decimal_number, behind_front, max_number, categories_of_word, mask_of_word, variable_of_word, class_of_word, key_of_word, cell_number, WrittenHandle, handle_of_word, WrittenCell, cell_of_word}
+use Rattle.byte_words.specs.Tables.{first_named}
+use Rattle.script_words.specs.Tables.{commands_table, items_table}
+use Rattle.byte_words.specs.Numbers.{decimal_number}
+use Rattle.script_words.specs.Words.{text_of_word, quoted_of_word, bounded, zone_of_word, behind_front, max_number, categories_of_word, mask_of_word, variable_of_word, class_of_word, key_of_word, cell_number, WrittenHandle, handle_of_word, WrittenCell, cell_of_word}
 use Rattle.script_words.specs.Numbers.{short_number, offset_of_word, three_numbers, Amount, amount_of_word, number_of_word}
 
 -- ---- words of a command

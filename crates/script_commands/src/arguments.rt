@@ -9,19 +9,22 @@ ghost use Rattle.lc_base.specs.Reading.{Gives};
 ghost use Rattle.script_words.specs.Seen.{seen_handle, seen_cell};
 ghost use Rattle.script_commands.specs.InRange.{IsOwned, IsCatalogOwned};
 ghost use Rattle.script_words.specs.Spans.{span, spans};
-ghost use Rattle.script_words.specs.Words.{text_of_word, categories_of_word, mask_of_word, variable_of_word, class_of_word, key_of_word, cell_number, decimal_number};
+ghost use Rattle.byte_words.specs.Numbers.{decimal_number};
+ghost use Rattle.script_words.specs.Words.{text_of_word, categories_of_word, mask_of_word, variable_of_word, class_of_word, key_of_word, cell_number};
 ghost use Rattle.script_words.specs.Numbers.{short_number, three_numbers};
-ghost use Rattle.script_words.specs.Tables.{first_named, items_table};
+ghost use Rattle.byte_words.specs.Tables.{first_named};
+ghost use Rattle.script_words.specs.Tables.{items_table};
 ghost use Rattle.script_commands.specs.Commands.{argument, read_as, no_more, is_over, handle, handle_word, target, target_word, lone_target, catalog, catalog_word, thread_cell, cell, key, max_bytes, format, command_text, amounts, whole_numbers, offset, zone, moment};
 
 use crate::command::{OpenCatalog, Target};
 use crate::known::{Known, THREAD_LIMIT, lacks_key, thread_number};
+use byte_words::decimal_number;
 use handle_table::Handle;
 use lc_base::{ByteText, CELLS, Item, Limit, LinePart, List, Place, Reason, TextFault};
 use script_words::{
-    AMOUNT_LIMIT, Categories, CommandText, DEFAULT_MAX, Format, NUMBER_LIMIT, Piece, WrittenAmount,
+    AMOUNT_LIMIT, Categories, CommandText, DEFAULT_MAX, Format, NUMBER_LIMIT, Stretch, WrittenAmount,
     WrittenCell, WrittenHandle, WrittenNumber, WrittenTime, amount_of_word, behind_front,
-    categories_of_word, cell_number, cell_of_word, class_of_word, decimal_number, handle_of_word,
+    categories_of_word, cell_number, cell_of_word, class_of_word, handle_of_word,
     is_thread_name, item_named, key_of_word, mask_of_word, max_number, number_of_word,
     offset_of_word, quoted_of_word, short_number, text_of_word, three_numbers, variable_of_word,
     zone_of_word,
@@ -37,7 +40,7 @@ fn wrong_word(place: Place) -> TextFault
 
 /// The next word, and what follows it.
 #[tactic(auto, unfolding(crate::specs::Commands::argument))]
-pub fn argument(rest: Piece<'_>) -> Result<(Piece<'_>, Piece<'_>), TextFault>
+pub fn argument(rest: Stretch<'_>) -> Result<(Stretch<'_>, Stretch<'_>), TextFault>
     ensures { Gives spans result (argument (span rest.entry)) }
 {
     rest.next_word().ok_or(wrong_word(rest.end()))
@@ -45,7 +48,7 @@ pub fn argument(rest: Piece<'_>) -> Result<(Piece<'_>, Piece<'_>), TextFault>
 
 /// Nothing follows but blanks.
 #[tactic(auto, unfolding(crate::specs::Commands::no_more))]
-pub fn no_more(rest: Piece<'_>) -> Result<(), TextFault>
+pub fn no_more(rest: Stretch<'_>) -> Result<(), TextFault>
     ensures { Gives (λ x. x) result (no_more (span rest.entry)) }
 {
     match rest.next_word() {
@@ -56,7 +59,7 @@ pub fn no_more(rest: Piece<'_>) -> Result<(), TextFault>
 
 /// Whether nothing follows but blanks.
 #[tactic(auto, unfolding(crate::specs::Commands::is_over))]
-pub fn is_over(rest: Piece<'_>) -> bool
+pub fn is_over(rest: Stretch<'_>) -> bool
     ensures { result ≡ is_over (span rest.entry) }
 {
     rest.next_word().is_none()
@@ -64,7 +67,7 @@ pub fn is_over(rest: Piece<'_>) -> bool
 
 /// A variable, and what follows it.
 #[tactic(auto, unfolding(crate::specs::Commands::read_as))]
-pub fn variable(alloc: Global, rest: Piece<'_>) -> Result<(ByteText, Piece<'_>), TextFault>
+pub fn variable(alloc: Global, rest: Stretch<'_>) -> Result<(ByteText, Stretch<'_>), TextFault>
     ensures { Gives (λ x. (x.0, span x.1)) result (read_as variable_of_word (span rest.entry)) }
 {
     let (word, rest) = argument(rest)?;
@@ -76,7 +79,7 @@ pub fn variable(alloc: Global, rest: Piece<'_>) -> Result<(ByteText, Piece<'_>),
 
 /// The bits of a mask, and what follows it.
 #[tactic(auto, unfolding(crate::specs::Commands::read_as))]
-pub fn mask(rest: Piece<'_>) -> Result<(u32, Piece<'_>), TextFault>
+pub fn mask(rest: Stretch<'_>) -> Result<(u32, Stretch<'_>), TextFault>
     ensures { Gives (λ x. (x.0, span x.1)) result (read_as mask_of_word (span rest.entry)) }
 {
     let (word, rest) = argument(rest)?;
@@ -88,7 +91,7 @@ pub fn mask(rest: Piece<'_>) -> Result<(u32, Piece<'_>), TextFault>
 
 /// The name of a locale, and what follows it.
 #[tactic(auto, unfolding(crate::specs::Commands::read_as))]
-pub fn locale(alloc: Global, rest: Piece<'_>) -> Result<(ByteText, Piece<'_>), TextFault>
+pub fn locale(alloc: Global, rest: Stretch<'_>) -> Result<(ByteText, Stretch<'_>), TextFault>
     ensures { Gives (λ x. (x.0, span x.1)) result (read_as text_of_word (span rest.entry)) }
 {
     let (word, rest) = argument(rest)?;
@@ -100,7 +103,7 @@ pub fn locale(alloc: Global, rest: Piece<'_>) -> Result<(ByteText, Piece<'_>), T
 
 /// The categories of a setlocale, and what follows them.
 #[tactic(auto, unfolding(crate::specs::Commands::read_as))]
-pub fn categories(rest: Piece<'_>) -> Result<(Categories, Piece<'_>), TextFault>
+pub fn categories(rest: Stretch<'_>) -> Result<(Categories, Stretch<'_>), TextFault>
     ensures { Gives (λ x. (x.0, span x.1)) result (read_as categories_of_word (span rest.entry)) }
 {
     let (word, rest) = argument(rest)?;
@@ -114,7 +117,7 @@ pub fn categories(rest: Piece<'_>) -> Result<(Categories, Piece<'_>), TextFault>
 fn handle(
     known: Option<&Known>,
     threads: &List<ByteText>,
-    word: Piece<'_>,
+    word: Stretch<'_>,
     written: WrittenHandle<'_>,
 ) -> Result<Handle, TextFault>
     requires some { 0 < length threads.now }
@@ -136,7 +139,7 @@ fn handle(
 fn handle_word(
     known: Option<&Known>,
     threads: &List<ByteText>,
-    word: Piece<'_>,
+    word: Stretch<'_>,
 ) -> Result<Handle, TextFault>
     requires some { 0 < length threads.now }
     requires few { length threads.now ≤ THREAD_LIMIT }
@@ -155,7 +158,7 @@ pub fn target(
     alloc: Global,
     known: Option<&Known>,
     threads: &List<ByteText>,
-    word: Piece<'_>,
+    word: Stretch<'_>,
 ) -> Result<Target, TextFault>
     requires some { 0 < length threads.now }
     requires few { length threads.now ≤ THREAD_LIMIT }
@@ -177,8 +180,8 @@ pub fn target_word<'a>(
     alloc: Global,
     known: Option<&Known>,
     threads: &List<ByteText>,
-    rest: Piece<'a>,
-) -> Result<(Target, Piece<'a>), TextFault>
+    rest: Stretch<'a>,
+) -> Result<(Target, Stretch<'a>), TextFault>
     requires some { 0 < length threads.now }
     requires few { length threads.now ≤ THREAD_LIMIT }
     ensures is { Gives (λ x. (x.0, span x.1)) result (target_word (option_copied known.entry) threads.now (span rest.entry)) }
@@ -195,7 +198,7 @@ pub fn lone_target(
     alloc: Global,
     known: Option<&Known>,
     threads: &List<ByteText>,
-    rest: Piece<'_>,
+    rest: Stretch<'_>,
 ) -> Result<Target, TextFault>
     requires some { 0 < length threads.now }
     requires few { length threads.now ≤ THREAD_LIMIT }
@@ -213,7 +216,7 @@ fn catalog(
     alloc: Global,
     known: Option<&Known>,
     threads: &List<ByteText>,
-    word: Piece<'_>,
+    word: Stretch<'_>,
 ) -> Result<OpenCatalog, TextFault>
     requires some { 0 < length threads.now }
     requires few { length threads.now ≤ THREAD_LIMIT }
@@ -232,8 +235,8 @@ pub fn catalog_word<'a>(
     alloc: Global,
     known: Option<&Known>,
     threads: &List<ByteText>,
-    rest: Piece<'a>,
-) -> Result<(OpenCatalog, Piece<'a>), TextFault>
+    rest: Stretch<'a>,
+) -> Result<(OpenCatalog, Stretch<'a>), TextFault>
     requires some { 0 < length threads.now }
     requires few { length threads.now ≤ THREAD_LIMIT }
     ensures is { Gives (λ x. (x.0, span x.1)) result (catalog_word (option_copied known.entry) threads.now (span rest.entry)) }
@@ -246,7 +249,7 @@ pub fn catalog_word<'a>(
 
 /// The name of a catalog, and what follows it.
 #[tactic(auto, unfolding(crate::specs::Commands::read_as))]
-pub fn catalog_name(alloc: Global, rest: Piece<'_>) -> Result<(ByteText, Piece<'_>), TextFault>
+pub fn catalog_name(alloc: Global, rest: Stretch<'_>) -> Result<(ByteText, Stretch<'_>), TextFault>
     ensures { Gives (λ x. (x.0, span x.1)) result (read_as key_of_word (span rest.entry)) }
 {
     let (word, rest) = argument(rest)?;
@@ -260,7 +263,7 @@ pub fn catalog_name(alloc: Global, rest: Piece<'_>) -> Result<(ByteText, Piece<'
 fn thread_cell(
     known: Option<&Known>,
     threads: &List<ByteText>,
-    word: Piece<'_>,
+    word: Stretch<'_>,
     written: WrittenCell<'_>,
 ) -> Result<(u32, u32), TextFault>
     requires some { 0 < length threads.now }
@@ -280,7 +283,7 @@ fn thread_cell(
 pub fn cell(
     known: Option<&Known>,
     threads: &List<ByteText>,
-    word: Piece<'_>,
+    word: Stretch<'_>,
 ) -> Result<(u32, u32), TextFault>
     requires some { 0 < length threads.now }
     requires few { length threads.now ≤ THREAD_LIMIT }
@@ -295,7 +298,7 @@ pub fn cell(
 
 /// The key that a word is.
 #[tactic(auto, unfolding(crate::specs::Commands::key))]
-pub fn key(alloc: Global, known: Option<&Known>, word: Piece<'_>) -> Result<ByteText, TextFault>
+pub fn key(alloc: Global, known: Option<&Known>, word: Stretch<'_>) -> Result<ByteText, TextFault>
     ensures { Gives (λ x. x) result (key (option_copied known.entry) (span word.entry)) }
 {
     let Some(key) = key_of_word(alloc, word.bytes)? else {
@@ -309,7 +312,7 @@ pub fn key(alloc: Global, known: Option<&Known>, word: Piece<'_>) -> Result<Byte
 
 /// The number of a cell, and what follows it.
 #[tactic(auto, unfolding(crate::specs::Commands::read_as))]
-pub fn cell_word(rest: Piece<'_>) -> Result<(u32, Piece<'_>), TextFault>
+pub fn cell_word(rest: Stretch<'_>) -> Result<(u32, Stretch<'_>), TextFault>
     ensures is { Gives (λ x. (x.0, span x.1)) result (read_as cell_number (span rest.entry)) }
     ensures small { IfOk result (λ x. x.0 < CELLS) }
 {
@@ -322,7 +325,7 @@ pub fn cell_word(rest: Piece<'_>) -> Result<(u32, Piece<'_>), TextFault>
 
 /// An item, and what follows it.
 #[tactic(auto, unfolding(crate::specs::Commands::read_as))]
-pub fn item(rest: Piece<'_>) -> Result<(Item, Piece<'_>), TextFault>
+pub fn item(rest: Stretch<'_>) -> Result<(Item, Stretch<'_>), TextFault>
     ensures { Gives (λ x. (x.0, span x.1)) result (read_as (first_named items_table) (span rest.entry)) }
 {
     let (word, rest) = argument(rest)?;
@@ -334,7 +337,7 @@ pub fn item(rest: Piece<'_>) -> Result<(Item, Piece<'_>), TextFault>
 
 /// The name of a class, and what follows it.
 #[tactic(auto, unfolding(crate::specs::Commands::read_as))]
-pub fn class(alloc: Global, rest: Piece<'_>) -> Result<(ByteText, Piece<'_>), TextFault>
+pub fn class(alloc: Global, rest: Stretch<'_>) -> Result<(ByteText, Stretch<'_>), TextFault>
     ensures { Gives (λ x. (x.0, span x.1)) result (read_as class_of_word (span rest.entry)) }
 {
     let (word, rest) = argument(rest)?;
@@ -346,7 +349,7 @@ pub fn class(alloc: Global, rest: Piece<'_>) -> Result<(ByteText, Piece<'_>), Te
 
 /// A number of 32 bits, as a wide value is one, and what follows it.
 #[tactic(auto, unfolding(crate::specs::Commands::read_as))]
-pub fn value(rest: Piece<'_>) -> Result<(u32, Piece<'_>), TextFault>
+pub fn value(rest: Stretch<'_>) -> Result<(u32, Stretch<'_>), TextFault>
     ensures { Gives (λ x. (x.0, span x.1)) result (read_as decimal_number (span rest.entry)) }
 {
     let (word, rest) = argument(rest)?;
@@ -358,7 +361,7 @@ pub fn value(rest: Piece<'_>) -> Result<(u32, Piece<'_>), TextFault>
 
 /// The most bytes of a text, which a word in front of the format may give, and what follows it.
 #[tactic(auto, unfolding(crate::specs::Commands::max_bytes))]
-pub fn max_bytes(rest: Piece<'_>) -> Result<(u32, Piece<'_>), TextFault>
+pub fn max_bytes(rest: Stretch<'_>) -> Result<(u32, Stretch<'_>), TextFault>
     ensures { Gives (λ x. (x.0, span x.1)) result (max_bytes (span rest.entry)) }
 {
     let (word, behind) = argument(rest)?;
@@ -373,7 +376,7 @@ pub fn max_bytes(rest: Piece<'_>) -> Result<(u32, Piece<'_>), TextFault>
 
 /// A format, and what follows it.
 #[tactic(auto, unfolding(crate::specs::Commands::format))]
-pub fn format(alloc: Global, rest: Piece<'_>) -> Result<(Format, Piece<'_>), TextFault>
+pub fn format(alloc: Global, rest: Stretch<'_>) -> Result<(Format, Stretch<'_>), TextFault>
     ensures { Gives (λ x. (x.0, span x.1)) result (format (span rest.entry)) }
 {
     let (word, rest) = argument(rest)?;
@@ -388,7 +391,7 @@ pub fn format(alloc: Global, rest: Piece<'_>) -> Result<(Format, Piece<'_>), Tex
 
 /// A text in quotes, and what follows it.
 #[tactic(auto, unfolding(crate::specs::Commands::command_text))]
-pub fn command_text(alloc: Global, rest: Piece<'_>) -> Result<(CommandText, Piece<'_>), TextFault>
+pub fn command_text(alloc: Global, rest: Stretch<'_>) -> Result<(CommandText, Stretch<'_>), TextFault>
     ensures { Gives (λ x. (x.0, span x.1)) result (command_text (span rest.entry)) }
 {
     let (word, rest) = argument(rest)?;
@@ -403,7 +406,7 @@ pub fn command_text(alloc: Global, rest: Piece<'_>) -> Result<(CommandText, Piec
 
 /// The amounts to the end of the line.
 #[tactic(auto, unfolding(crate::specs::Commands::amounts))]
-pub fn amounts(alloc: Global, rest: Piece<'_>) -> Result<List<WrittenAmount>, TextFault>
+pub fn amounts(alloc: Global, rest: Stretch<'_>) -> Result<List<WrittenAmount>, TextFault>
     ensures { Gives (λ x. x) result (amounts (span rest.entry)) }
 {
     let mut amounts = Vec::new(alloc);
@@ -423,7 +426,7 @@ pub fn amounts(alloc: Global, rest: Piece<'_>) -> Result<List<WrittenAmount>, Te
 
 /// The whole numbers to the end of the line.
 #[tactic(auto, unfolding(crate::specs::Commands::whole_numbers))]
-pub fn whole_numbers(alloc: Global, rest: Piece<'_>) -> Result<List<WrittenNumber>, TextFault>
+pub fn whole_numbers(alloc: Global, rest: Stretch<'_>) -> Result<List<WrittenNumber>, TextFault>
     ensures { Gives (λ x. x) result (whole_numbers (span rest.entry)) }
 {
     let mut numbers = Vec::new(alloc);
@@ -443,7 +446,7 @@ pub fn whole_numbers(alloc: Global, rest: Piece<'_>) -> Result<List<WrittenNumbe
 
 /// Three numbers with a byte between them, and what follows them.
 #[tactic(auto, unfolding(crate::specs::Commands::read_as))]
-fn numbers(between: u8, rest: Piece<'_>) -> Result<((i32, i32, i32), Piece<'_>), TextFault>
+fn numbers(between: u8, rest: Stretch<'_>) -> Result<((i32, i32, i32), Stretch<'_>), TextFault>
     ensures { Gives (λ x. (x.0, span x.1)) result (read_as (three_numbers between) (span rest.entry)) }
 {
     let (word, rest) = argument(rest)?;
@@ -455,7 +458,7 @@ fn numbers(between: u8, rest: Piece<'_>) -> Result<((i32, i32, i32), Piece<'_>),
 
 /// A number of a time, and what follows it.
 #[tactic(auto, unfolding(crate::specs::Commands::read_as))]
-fn number(rest: Piece<'_>) -> Result<(i32, Piece<'_>), TextFault>
+fn number(rest: Stretch<'_>) -> Result<(i32, Stretch<'_>), TextFault>
     ensures { Gives (λ x. (x.0, span x.1)) result (read_as short_number (span rest.entry)) }
 {
     let (word, rest) = argument(rest)?;
@@ -467,7 +470,7 @@ fn number(rest: Piece<'_>) -> Result<(i32, Piece<'_>), TextFault>
 
 /// Minutes east of UTC, which may be left out, and what follows them.
 #[tactic(auto, unfolding(crate::specs::Commands::offset, crate::specs::Commands::read_as))]
-fn offset(rest: Piece<'_>) -> Result<(Option<i32>, Piece<'_>), TextFault>
+fn offset(rest: Stretch<'_>) -> Result<(Option<i32>, Stretch<'_>), TextFault>
     ensures { Gives (λ x. (x.0, span x.1)) result (offset (span rest.entry)) }
 {
     if is_over(rest) {
@@ -482,7 +485,7 @@ fn offset(rest: Piece<'_>) -> Result<(Option<i32>, Piece<'_>), TextFault>
 
 /// The name of a time zone, which may be left out, and what follows it.
 #[tactic(auto, unfolding(crate::specs::Commands::zone, crate::specs::Commands::read_as))]
-fn zone(alloc: Global, rest: Piece<'_>) -> Result<(ByteText, Piece<'_>), TextFault>
+fn zone(alloc: Global, rest: Stretch<'_>) -> Result<(ByteText, Stretch<'_>), TextFault>
     ensures { Gives (λ x. (x.0, span x.1)) result (zone (span rest.entry)) }
 {
     if is_over(rest) {
@@ -497,7 +500,7 @@ fn zone(alloc: Global, rest: Piece<'_>) -> Result<(ByteText, Piece<'_>), TextFau
 
 /// A date, a clock, the days of the week and of the year, and the zone; and what follows them.
 #[tactic(auto, unfolding(crate::specs::Commands::moment))]
-pub fn moment(alloc: Global, rest: Piece<'_>) -> Result<(WrittenTime, Piece<'_>), TextFault>
+pub fn moment(alloc: Global, rest: Stretch<'_>) -> Result<(WrittenTime, Stretch<'_>), TextFault>
     ensures { Gives (λ x. (x.0, span x.1)) result (moment (span rest.entry)) }
 {
     let ((year, mon, mday), rest) = numbers(b'-', rest)?;

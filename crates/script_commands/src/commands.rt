@@ -15,12 +15,12 @@ use crate::arguments::{
 use crate::command::{Command, Read, Target};
 use crate::known::{Known, THREAD_LIMIT};
 use lc_base::{ByteText, LinePart, List, Reason, TextFault};
-use script_words::{Piece, Question, Verb, command_named};
+use script_words::{Stretch, Question, Verb, command_named};
 use std::alloc::Global;
 
 /// `ITEM`, of `info`.
 #[tactic(auto, unfolding(crate::specs::Commands::info_words))]
-fn info_words(rest: Piece<'_>) -> Result<Read, TextFault>
+fn info_words(rest: Stretch<'_>) -> Result<Read, TextFault>
     ensures { Gives (λ x. x) result (info_words (span rest.entry)) }
 {
     let (item, rest) = item(rest)?;
@@ -30,7 +30,7 @@ fn info_words(rest: Piece<'_>) -> Result<Read, TextFault>
 
 /// No words, of `conv`.
 #[tactic(auto, unfolding(crate::specs::Commands::conv_words))]
-fn conv_words(rest: Piece<'_>) -> Result<Read, TextFault>
+fn conv_words(rest: Stretch<'_>) -> Result<Read, TextFault>
     ensures { Gives (λ x. x) result (conv_words (span rest.entry)) }
 {
     no_more(rest)?;
@@ -39,7 +39,7 @@ fn conv_words(rest: Piece<'_>) -> Result<Read, TextFault>
 
 /// `NAME W`, of `class`.
 #[tactic(auto, unfolding(crate::specs::Commands::class_words))]
-fn class_words(alloc: Global, rest: Piece<'_>) -> Result<Read, TextFault>
+fn class_words(alloc: Global, rest: Stretch<'_>) -> Result<Read, TextFault>
     ensures { Gives (λ x. x) result (class_words (span rest.entry)) }
 {
     let (class, rest) = class(alloc, rest)?;
@@ -50,7 +50,7 @@ fn class_words(alloc: Global, rest: Piece<'_>) -> Result<Read, TextFault>
 
 /// `W`, and nothing else.
 #[tactic(auto, unfolding(crate::specs::Commands::lone_value))]
-fn lone_value(rest: Piece<'_>) -> Result<u32, TextFault>
+fn lone_value(rest: Stretch<'_>) -> Result<u32, TextFault>
     ensures { Gives (λ x. x) result (lone_value (span rest.entry)) }
 {
     let (value, rest) = value(rest)?;
@@ -60,7 +60,7 @@ fn lone_value(rest: Piece<'_>) -> Result<u32, TextFault>
 
 /// `MAX F AMOUNTS`, of `money`.
 #[tactic(auto, unfolding(crate::specs::Commands::money_words))]
-fn money_words(alloc: Global, rest: Piece<'_>) -> Result<Read, TextFault>
+fn money_words(alloc: Global, rest: Stretch<'_>) -> Result<Read, TextFault>
     ensures { Gives (λ x. x) result (money_words (span rest.entry)) }
 {
     let (max, rest) = max_bytes(rest)?;
@@ -75,7 +75,7 @@ fn money_words(alloc: Global, rest: Piece<'_>) -> Result<Read, TextFault>
 
 /// `MAX F DATE CLOCK WDAY YDAY OFFSET ZONE`, of `time`.
 #[tactic(auto, unfolding(crate::specs::Commands::time_words))]
-fn time_words(alloc: Global, rest: Piece<'_>) -> Result<Read, TextFault>
+fn time_words(alloc: Global, rest: Stretch<'_>) -> Result<Read, TextFault>
     ensures { Gives (λ x. x) result (time_words (span rest.entry)) }
 {
     let (max, rest) = max_bytes(rest)?;
@@ -87,7 +87,7 @@ fn time_words(alloc: Global, rest: Piece<'_>) -> Result<Read, TextFault>
 
 /// `MAX F NUMBERS`, of `number`.
 #[tactic(auto, unfolding(crate::specs::Commands::number_words))]
-fn number_words(alloc: Global, rest: Piece<'_>) -> Result<Read, TextFault>
+fn number_words(alloc: Global, rest: Stretch<'_>) -> Result<Read, TextFault>
     ensures { Gives (λ x. x) result (number_words (span rest.entry)) }
 {
     let (max, rest) = max_bytes(rest)?;
@@ -102,7 +102,7 @@ fn number_words(alloc: Global, rest: Piece<'_>) -> Result<Read, TextFault>
 
 /// `F TEXT`, of `parse`.
 #[tactic(auto, unfolding(crate::specs::Commands::parse_words))]
-fn parse_words(alloc: Global, rest: Piece<'_>) -> Result<Read, TextFault>
+fn parse_words(alloc: Global, rest: Stretch<'_>) -> Result<Read, TextFault>
     ensures { Gives (λ x. x) result (parse_words (span rest.entry)) }
 {
     let (format, rest) = format(alloc, rest)?;
@@ -112,7 +112,7 @@ fn parse_words(alloc: Global, rest: Piece<'_>) -> Result<Read, TextFault>
 }
 
 /// The words of what is read.
-fn read_words(alloc: Global, question: Question, rest: Piece<'_>) -> Result<Read, TextFault>
+fn read_words(alloc: Global, question: Question, rest: Stretch<'_>) -> Result<Read, TextFault>
     ensures { Gives (λ x. x) result (read_words question (span rest.entry)) }
 {
     match question {
@@ -134,7 +134,7 @@ fn base(
     alloc: Global,
     known: Option<&Known>,
     threads: &List<ByteText>,
-    rest: Piece<'_>,
+    rest: Stretch<'_>,
 ) -> Result<Option<Target>, TextFault>
     requires some { 0 < length threads.now }
     requires few { length threads.now ≤ THREAD_LIMIT }
@@ -153,7 +153,7 @@ fn new_command(
     alloc: Global,
     known: Option<&Known>,
     threads: &List<ByteText>,
-    rest: Piece<'_>,
+    rest: Stretch<'_>,
 ) -> Result<Command, TextFault>
     requires some { 0 < length threads.now }
     requires few { length threads.now ≤ THREAD_LIMIT }
@@ -178,7 +178,7 @@ fn dup_command(
     alloc: Global,
     known: Option<&Known>,
     threads: &List<ByteText>,
-    rest: Piece<'_>,
+    rest: Stretch<'_>,
 ) -> Result<Command, TextFault>
     requires some { 0 < length threads.now }
     requires few { length threads.now ≤ THREAD_LIMIT }
@@ -195,7 +195,7 @@ fn selection(
     alloc: Global,
     known: Option<&Known>,
     threads: &List<ByteText>,
-    word: Piece<'_>,
+    word: Stretch<'_>,
 ) -> Result<Command, TextFault>
     requires some { 0 < length threads.now }
     requires few { length threads.now ≤ THREAD_LIMIT }
@@ -214,7 +214,7 @@ fn use_command(
     alloc: Global,
     known: Option<&Known>,
     threads: &List<ByteText>,
-    rest: Piece<'_>,
+    rest: Stretch<'_>,
 ) -> Result<Command, TextFault>
     requires some { 0 < length threads.now }
     requires few { length threads.now ≤ THREAD_LIMIT }
@@ -229,7 +229,7 @@ fn use_command(
 
 /// `setlocale CAT LOC`, `setlocale CAT`.
 #[tactic(auto, unfolding(crate::specs::Commands::setlocale_command))]
-fn setlocale_command(alloc: Global, rest: Piece<'_>) -> Result<Command, TextFault>
+fn setlocale_command(alloc: Global, rest: Stretch<'_>) -> Result<Command, TextFault>
     ensures is { Gives (λ x. x) result (setlocale_command (span rest.entry)) }
     ensures in_range { (n : ℕ) → IfOk result (IsInRange n) }
 {
@@ -247,7 +247,7 @@ fn setlocale_command(alloc: Global, rest: Piece<'_>) -> Result<Command, TextFaul
 fn install_command(
     alloc: Global,
     known: Option<&Known>,
-    rest: Piece<'_>,
+    rest: Stretch<'_>,
 ) -> Result<Command, TextFault>
     ensures is { Gives (λ x. x) result (install_command (option_copied known.entry) (span rest.entry)) }
     ensures in_range { (n : ℕ) → IfOk result (IsInRange n) }
@@ -264,7 +264,7 @@ fn post_command(
     alloc: Global,
     known: Option<&Known>,
     threads: &List<ByteText>,
-    rest: Piece<'_>,
+    rest: Stretch<'_>,
 ) -> Result<Command, TextFault>
     requires some { 0 < length threads.now }
     requires few { length threads.now ≤ THREAD_LIMIT }
@@ -282,7 +282,7 @@ fn fetch_command(
     alloc: Global,
     known: Option<&Known>,
     threads: &List<ByteText>,
-    rest: Piece<'_>,
+    rest: Stretch<'_>,
 ) -> Result<Command, TextFault>
     requires some { 0 < length threads.now }
     requires few { length threads.now ≤ THREAD_LIMIT }
@@ -301,7 +301,7 @@ fn fetch_command(
 }
 
 /// What is read of the thread's own object, or of the global locale.
-fn read_command(alloc: Global, question: Question, rest: Piece<'_>) -> Result<Command, TextFault>
+fn read_command(alloc: Global, question: Question, rest: Stretch<'_>) -> Result<Command, TextFault>
     ensures is { Gives (λ x. x) result (read_command question (span rest.entry)) }
     ensures in_range { (n : ℕ) → IfOk result (IsInRange n) }
 {
@@ -315,7 +315,7 @@ fn read_of_command(
     known: Option<&Known>,
     threads: &List<ByteText>,
     question: Question,
-    rest: Piece<'_>,
+    rest: Stretch<'_>,
 ) -> Result<Command, TextFault>
     requires some { 0 < length threads.now }
     requires few { length threads.now ≤ THREAD_LIMIT }
@@ -329,7 +329,7 @@ fn read_of_command(
 
 /// `catopen N NAME`.
 #[tactic(auto, unfolding(crate::specs::Commands::catopen_command))]
-fn catopen_command(alloc: Global, rest: Piece<'_>) -> Result<Command, TextFault>
+fn catopen_command(alloc: Global, rest: Stretch<'_>) -> Result<Command, TextFault>
     ensures is { Gives (λ x. x) result (catopen_command (span rest.entry)) }
     ensures in_range { (n : ℕ) → IfOk result (IsInRange n) }
 {
@@ -345,7 +345,7 @@ fn catgets_command(
     alloc: Global,
     known: Option<&Known>,
     threads: &List<ByteText>,
-    rest: Piece<'_>,
+    rest: Stretch<'_>,
 ) -> Result<Command, TextFault>
     requires some { 0 < length threads.now }
     requires few { length threads.now ≤ THREAD_LIMIT }
@@ -371,7 +371,7 @@ fn catclose_command(
     alloc: Global,
     known: Option<&Known>,
     threads: &List<ByteText>,
-    rest: Piece<'_>,
+    rest: Stretch<'_>,
 ) -> Result<Command, TextFault>
     requires some { 0 < length threads.now }
     requires few { length threads.now ≤ THREAD_LIMIT }
@@ -389,7 +389,7 @@ fn command_of(
     known: Option<&Known>,
     threads: &List<ByteText>,
     verb: Verb,
-    rest: Piece<'_>,
+    rest: Stretch<'_>,
 ) -> Result<Command, TextFault>
     requires some { 0 < length threads.now }
     requires few { length threads.now ≤ THREAD_LIMIT }
@@ -423,8 +423,8 @@ pub fn command_of_line(
     alloc: Global,
     known: Option<&Known>,
     threads: &List<ByteText>,
-    word: Piece<'_>,
-    rest: Piece<'_>,
+    word: Stretch<'_>,
+    rest: Stretch<'_>,
 ) -> Result<Command, TextFault>
     requires some { 0 < length threads.now }
     requires few { length threads.now ≤ THREAD_LIMIT }

@@ -21,7 +21,7 @@ use script_commands::{
     Known, THREAD_LIMIT, has_block, has_key, is_over, lacks_charset, lacks_locale,
 };
 use script_words::{
-    Directive, Piece, directive_named, is_charmap_name, is_formed, is_locale_name, is_part_name,
+    Directive, Stretch, directive_named, is_charmap_name, is_formed, is_locale_name, is_part_name,
     is_thread_name,
 };
 use std::alloc::Global;
@@ -98,7 +98,7 @@ fn are_later_words(key: &[u8], name: &[u8], charset: &[u8]) -> bool
 
 /// Just one word.
 #[tactic(auto, unfolding(crate::specs::Reading::one_word))]
-fn one_word(rest: Piece<'_>) -> Option<Piece<'_>>
+fn one_word(rest: Stretch<'_>) -> Option<Stretch<'_>>
     ensures is { option_map span result ≡ one_word (span rest.entry) }
     ensures some { IsSome result → 0 < length rest.entry.bytes.now }
 {
@@ -108,7 +108,7 @@ fn one_word(rest: Piece<'_>) -> Option<Piece<'_>>
 
 /// Just two words.
 #[tactic(auto, unfolding(crate::specs::Reading::two_words))]
-fn two_words(rest: Piece<'_>) -> Option<(Piece<'_>, Piece<'_>)>
+fn two_words(rest: Stretch<'_>) -> Option<(Stretch<'_>, Stretch<'_>)>
     ensures is { option_map spans result ≡ two_words (span rest.entry) }
     ensures some { IsSome result → 0 < length rest.entry.bytes.now }
 {
@@ -118,7 +118,7 @@ fn two_words(rest: Piece<'_>) -> Option<(Piece<'_>, Piece<'_>)>
 
 /// Just three words.
 #[tactic(auto, unfolding(crate::specs::Reading::three_words))]
-fn three_words(rest: Piece<'_>) -> Option<(Piece<'_>, Piece<'_>, Piece<'_>)>
+fn three_words(rest: Stretch<'_>) -> Option<(Stretch<'_>, Stretch<'_>, Stretch<'_>)>
     ensures is { option_map (λ x. (span x.0, span x.1, span x.2)) result ≡ three_words (span rest.entry) }
     ensures some { IsSome result → 0 < length rest.entry.bytes.now }
 {
@@ -133,8 +133,8 @@ fn charmap_word<'a>(
     known: Option<&Known>,
     reading: &Reading,
     number: u32,
-    rest: Piece<'a>,
-) -> Result<Piece<'a>, TextFault>
+    rest: Stretch<'a>,
+) -> Result<Stretch<'a>, TextFault>
     ensures is { Gives (λ name. with_open reading.now CharmapKind name.bytes.now [] number) result (charmap_line (option_copied known.entry) reading.now number (span rest.entry)) }
     ensures room { IfOk result (λ name. length reading.now.bundle.charmaps < CHARMAP_LIMIT) }
     ensures some { IfOk result (λ name. 0 < length rest.entry.bytes.now) }
@@ -160,7 +160,7 @@ fn charmap_line(
     known: Option<&Known>,
     reading: &mut Reading,
     number: u32,
-    rest: Piece<'_>,
+    rest: Stretch<'_>,
 ) -> Result<(), TextFault>
     requires number { number + length rest.bytes.now < 2 ^ 31 }
     requires kept { IsReading 0 reading.old }
@@ -177,8 +177,8 @@ fn locale_words<'a>(
     known: Option<&Known>,
     reading: &Reading,
     number: u32,
-    rest: Piece<'a>,
-) -> Result<(Piece<'a>, Piece<'a>), TextFault>
+    rest: Stretch<'a>,
+) -> Result<(Stretch<'a>, Stretch<'a>), TextFault>
     ensures is { Gives (λ words. with_open reading.now LocaleKind words.0.bytes.now words.1.bytes.now number) result (locale_line (option_copied known.entry) reading.now number (span rest.entry)) }
     ensures room { IfOk result (λ words. length reading.now.bundle.locales < LOCALE_LIMIT) }
     ensures some { IfOk result (λ words. 0 < length rest.entry.bytes.now) }
@@ -207,7 +207,7 @@ fn locale_line(
     known: Option<&Known>,
     reading: &mut Reading,
     number: u32,
-    rest: Piece<'_>,
+    rest: Stretch<'_>,
 ) -> Result<(), TextFault>
     requires number { number + length rest.bytes.now < 2 ^ 31 }
     requires kept { IsReading 0 reading.old }
@@ -231,8 +231,8 @@ fn later_words<'a>(
     known: Option<&Known>,
     reading: &Reading,
     number: u32,
-    rest: Piece<'a>,
-) -> Result<(Piece<'a>, Piece<'a>, Piece<'a>), TextFault>
+    rest: Stretch<'a>,
+) -> Result<(Stretch<'a>, Stretch<'a>, Stretch<'a>), TextFault>
     ensures is { Gives (λ words. with_open reading.now (LaterKind words.0.bytes.now) words.1.bytes.now words.2.bytes.now number) result (later_line (option_copied known.entry) reading.now number (span rest.entry)) }
     ensures room { IfOk result (λ words. length reading.now.bundle.later < LATER_LIMIT) }
     ensures some { IfOk result (λ words. 0 < length rest.entry.bytes.now) }
@@ -261,7 +261,7 @@ fn later_line(
     known: Option<&Known>,
     reading: &mut Reading,
     number: u32,
-    rest: Piece<'_>,
+    rest: Stretch<'_>,
 ) -> Result<(), TextFault>
     requires number { number + length rest.bytes.now < 2 ^ 31 }
     requires kept { IsReading 0 reading.old }
@@ -279,8 +279,8 @@ fn catalog_words<'a>(
     known: Option<&Known>,
     reading: &Reading,
     number: u32,
-    rest: Piece<'a>,
-) -> Result<(Piece<'a>, Piece<'a>), TextFault>
+    rest: Stretch<'a>,
+) -> Result<(Stretch<'a>, Stretch<'a>), TextFault>
     ensures is { Gives (λ words. with_open reading.now CatalogKind words.0.bytes.now words.1.bytes.now number) result (catalog_line (option_copied known.entry) reading.now number (span rest.entry)) }
     ensures room { IfOk result (λ words. length reading.now.bundle.catalogs < CATALOG_LIMIT) }
     ensures some { IfOk result (λ words. 0 < length rest.entry.bytes.now) }
@@ -306,7 +306,7 @@ fn catalog_line(
     known: Option<&Known>,
     reading: &mut Reading,
     number: u32,
-    rest: Piece<'_>,
+    rest: Stretch<'_>,
 ) -> Result<(), TextFault>
     requires number { number + length rest.bytes.now < 2 ^ 31 }
     requires kept { IsReading 0 reading.old }
@@ -330,8 +330,8 @@ fn native_word<'a>(
     known: Option<&Known>,
     reading: &Reading,
     number: u32,
-    rest: Piece<'a>,
-) -> Result<Piece<'a>, TextFault>
+    rest: Stretch<'a>,
+) -> Result<Stretch<'a>, TextFault>
     ensures { Gives (λ name. with_native reading.now name.bytes.now) result (native_line (option_copied known.entry) reading.now number (span rest.entry)) }
 {
     let Some(name) = one_word(rest) else {
@@ -355,7 +355,7 @@ fn native_line(
     known: Option<&Known>,
     reading: &mut Reading,
     number: u32,
-    rest: Piece<'_>,
+    rest: Stretch<'_>,
 ) -> Result<(), TextFault>
     requires { IsReading 0 reading.old }
     ensures is { Gives (λ x. reading.new) result (native_line (option_copied known.entry) reading.old number (span rest.entry)) }
@@ -417,7 +417,7 @@ fn thread_line(
     alloc: Global,
     reading: &mut Reading,
     number: u32,
-    rest: Piece<'_>,
+    rest: Stretch<'_>,
 ) -> Result<(), TextFault>
     requires { IsReading 0 reading.old }
     ensures is { Gives (λ x. reading.new) result (thread_line reading.old number (span rest.entry)) }
@@ -434,7 +434,7 @@ fn thread_line(
 
 /// Whether one more round may begin.
 #[tactic(auto, unfolding(crate::specs::Reading::round_line))]
-fn more_rounds(reading: &Reading, number: u32, rest: Piece<'_>) -> Result<(), TextFault>
+fn more_rounds(reading: &Reading, number: u32, rest: Stretch<'_>) -> Result<(), TextFault>
     ensures is { Gives (λ x. with_round reading.now) result (round_line reading.now number (span rest.entry)) }
     ensures room { IfOk result (λ x. reading.now.bundle.rounds < ROUND_LIMIT) }
 {
@@ -448,7 +448,7 @@ fn more_rounds(reading: &Reading, number: u32, rest: Piece<'_>) -> Result<(), Te
 }
 
 /// `.round`.
-fn round_line(reading: &mut Reading, number: u32, rest: Piece<'_>) -> Result<(), TextFault>
+fn round_line(reading: &mut Reading, number: u32, rest: Stretch<'_>) -> Result<(), TextFault>
     requires { IsReading 0 reading.old }
     ensures is { Gives (λ x. reading.new) result (round_line reading.old number (span rest.entry)) }
     ensures kept { OnOk result (IsReading 0 reading.new) }
@@ -465,7 +465,7 @@ fn line_of_directive(
     reading: &mut Reading,
     number: u32,
     directive: Directive,
-    rest: Piece<'_>,
+    rest: Stretch<'_>,
 ) -> Result<(), TextFault>
     requires number { number + length rest.bytes.now < 2 ^ 31 }
     requires kept { IsReading 0 reading.old }
@@ -498,7 +498,7 @@ pub fn directive_line(
     ensures is { Gives (λ x. reading.new) result (directive_line (option_copied known.entry) reading.old number line.now) }
     ensures kept { OnOk result (IsReading 0 reading.new) }
 {
-    let Some((word, rest)) = Piece::whole_line(number, line).next_word() else {
+    let Some((word, rest)) = Stretch::whole_line(number, line).next_word() else {
         return Err(wrong_directive(number));
     };
     let Some(directive) = directive_named(word.bytes) else {

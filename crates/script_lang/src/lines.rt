@@ -16,7 +16,7 @@ use crate::reading::{BlockKind, Opened, Reading};
 use crate::steps::{at_first, push_command, push_value};
 use lc_base::{Block, ByteText, Later, Limit, LinePart, List, Place, Reason, TextFault, next_line};
 use script_commands::{Command, Known, THREAD_LIMIT, command_of_line};
-use script_words::Piece;
+use script_words::Stretch;
 use std::alloc::{AllocError, Global};
 
 /// The thread and the command of a line with this first word and the rest of it.
@@ -25,8 +25,8 @@ fn thread_command(
     alloc: Global,
     known: Option<&Known>,
     reading: &Reading,
-    word: Piece<'_>,
-    rest: Piece<'_>,
+    word: Stretch<'_>,
+    rest: Stretch<'_>,
 ) -> Result<(u32, Command), TextFault>
     requires { IsReading 0 reading.now }
     ensures is { Gives (λ x. with_command reading.now x.0 x.1) result (command_line (option_copied known.entry) reading.now (span word.entry) (span rest.entry)) }
@@ -49,8 +49,8 @@ fn command_line(
     alloc: Global,
     known: Option<&Known>,
     reading: &mut Reading,
-    word: Piece<'_>,
-    rest: Piece<'_>,
+    word: Stretch<'_>,
+    rest: Stretch<'_>,
 ) -> Result<(), TextFault>
     requires { IsReading 0 reading.old }
     ensures is { Gives (λ x. reading.new) result (command_line (option_copied known.entry) reading.old (span word.entry) (span rest.entry)) }
@@ -88,7 +88,7 @@ fn outside(
     if begins_with(b'.', line) {
         return directive_line(alloc, known, reading, number, line);
     }
-    match Piece::whole_line(number, line).next_word() {
+    match Stretch::whole_line(number, line).next_word() {
         None => Ok(()),
         Some((word, _)) if begins_with(b'#', word.bytes) => Ok(()),
         Some((word, rest)) => command_line(alloc, known, reading, word, rest),

@@ -1,13 +1,11 @@
 -- Bytes that are read one by one.
-use Rattle.std.proofs.Common.{◌≡◌, ℕ, suc, ◌+◌, ◌*◌, ◌<◌, ◌≤◌, Bool, true, false, cond, ◌==◌, ◌||◌, not, List, [], ◌∷◌, ◌++◌, length, drop, get_or, Option, Some, None, refl, sym, ap, ◌∙◌, append_assoc, arith}
+use Rattle.std.proofs.Common.{◌≡◌, ℕ, suc, ◌+◌, ◌<◌, ◌≤◌, Bool, true, false, cond, ◌==◌, ◌||◌, not, List, [], ◌∷◌, ◌++◌, length, drop, get_or, Option, Some, None, refl, sym, ap, ◌∙◌, append_assoc, arith}
 use Rattle.std.specs.Prelude.{option_map}
-use Rattle.std.specs.Char.{digit_value}
 use Rattle.std.specs.List.{position_or_len}
 use Rattle.std.specs.Option.{option_to_list}
-use Rattle.std.specs.Str.Parse.{digits_value_after}
 use Rattle.std.proofs.lemmas.List.{drop_more}
-use Rattle.script_words.specs.declared.piece.Within.{Within}
-use Rattle.script_words.specs.declared.piece.Within.TheVariants.{Bare, Quoted}
+use Rattle.script_words.specs.declared.stretch.Within.{Within}
+use Rattle.script_words.specs.declared.stretch.Within.TheVariants.{Bare, Quoted}
 use Rattle.script_words.specs.declared.word.Quoting.{Quoting}
 use Rattle.script_words.specs.Spans.{is_blank, stops_bare, within_after, ends_word, word_length}
 use Rattle.script_words.specs.Words.{quoted_step, unquoted}
@@ -48,11 +46,6 @@ pub quoted_wrong : (q : Quoting) (front bytes : List ℕ) (i d : ℕ) → i < le
 quoted_wrong q front bytes i d lt h =
     let one : unquoted q (drop i bytes) ≡ None = ap (unquoted q) (drop_more bytes i d lt) ∙ rw (← h) refl in
     ap (after front) one
-
--- digits make a number no smaller
-pub value_after_le : (n : ℕ) (ds : List ℕ) → n ≤ digits_value_after 10 n ds
-value_after_le n [] = omega arith
-value_after_le n (c ∷ cs) = omega (arith, value_after_le (n * 10 + digit_value c) cs)
 
 -- what follows a byte and n more
 drop_behind : (n c : ℕ) (cs : List ℕ) → drop (1 + n) (c ∷ cs) ≡ drop n cs

@@ -3,7 +3,8 @@ use Rattle.std.proofs.Common.{◌≡◌, [], Some, None, refl}
 use Rattle.std.specs.Prelude.{pos, negsuc, codes}
 use Rattle.script_words.specs.declared.table.Question.TheVariants.{Number, Parse}
 use Rattle.script_words.specs.declared.table.Verb.TheVariants.{Read, ReadOf}
-use Rattle.script_words.specs.Tables.{first_named, commands_table}
+use Rattle.byte_words.specs.Tables.{first_named}
+use Rattle.script_words.specs.Tables.{commands_table}
 use Rattle.script_words.specs.Numbers.{number_of_word}
 
 largest : number_of_word (codes "18446744073709551615") ≡ Some (pos 18446744073709551615)

@@ -1,73 +1,37 @@
 -- Numbers, and names with commas between them.
 use Rattle.std.proofs.Common.{◌≡◌, ℕ, suc, ◌+◌, ◌-◌, ◌*◌, ◌<◌, ◌≤◌, ◌^◌, Bool, true, false, cond, not, List, [], ◌∷◌, ◌++◌, length, take, drop, get_or, Option, Some, None, refl, sym, ap, ◌∙◌, arith}
-use Rattle.std.specs.Prelude.{option_map, option_and_then, nat_eq, nat_lt, nat_le, ◌&&◌, ◌||◌}
-use Rattle.std.specs.Str.Parse.{AllDigits}
-use Rattle.std.proofs.lemmas.Str.Parse.{numerals_by_value, tells_digits, digits_value_short}
+use Rattle.std.specs.Prelude.{option_map, option_and_then, nat_lt, nat_le}
 use Rattle.std.specs.Char.{digit_value, is_ascii_digit}
 use Rattle.std.specs.List.{list_all, slice_split, onto_first, position_or_len}
-use Rattle.std.specs.Str.Parse.{digits_value, digits_value_after}
+use Rattle.std.specs.Str.Parse.{digits_value_after}
 use Rattle.std.proofs.lemmas.Bool.Decides.{nat_tests}
 use Rattle.std.proofs.lemmas.List.{drop_more}
 use Rattle.std.proofs.lemmas.List.Splits.{slice_split_first}
 use Rattle.script_words.specs.Numbers.{within, signed_units}
-use Rattle.script_words.specs.Words.{decimal_number, small_value, is_comma, cut_at, with_name, bits_with}
-use Rattle.script_words.proofs.ReadLemmas.{value_after_le}
+use Rattle.byte_words.specs.Cuts.{cut_at}
+use Rattle.byte_words.proofs.NumberLemmas.{value_after_le}
+use Rattle.script_words.specs.Words.{is_comma, with_name, bits_with}
 
 -- ---- numbers
 
 digit_is : (c : ℕ) → is_ascii_digit c ≡ true → digit_value c ≡ c - 48
 digit_is c h = grind (arith, nat_tests)
 
-too_large : (n : ℕ) → 2 ^ 32 ≤ n → nat_lt n (2 ^ 32) ≡ false
-too_large n le = grind (arith, nat_tests)
-
 first_digit : (bytes : List ℕ) (i : ℕ) → i < length bytes → list_all is_ascii_digit (drop i bytes) ≡ true → is_ascii_digit (get_or bytes i 0) ≡ true
 first_digit bytes i lt digits =
     let e = rw (drop_more bytes i 0 lt) at digits in
     grind (arith, nat_tests)
 
--- a digit more makes the number too large
-pub value_too_large : (bytes : List ℕ) (i value : ℕ) → i < length bytes → list_all is_ascii_digit (drop i bytes) ≡ true → digits_value_after 10 value (drop i bytes) ≡ digits_value 10 bytes
-    → 2 ^ 32 ≤ value * 10 + (get_or bytes i 0 - 48) → None ≡ small_value bytes
-value_too_large bytes i value lt digits so_far large =
-    let more : digits_value_after 10 (value * 10 + digit_value (get_or bytes i 0)) (drop (i + 1) bytes) ≡ digits_value 10 bytes = sym (ap (digits_value_after 10 value) (drop_more bytes i 0 lt)) ∙ so_far in
-    let le : 2 ^ 32 ≤ digits_value 10 bytes = omega (arith, digit_is (get_or bytes i 0) (first_digit bytes i lt digits), value_after_le (value * 10 + digit_value (get_or bytes i 0)) (drop (i + 1) bytes)) in
-    rw (too_large _ le) refl
-
 not_within : (most n : ℕ) → most < n → nat_le n most ≡ false
 not_within most n lt = grind (arith, nat_tests)
 
--- the same with any limit, and behind digits that were read before
+-- a digit more makes the number too large
 pub too_large_behind : (bytes : List ℕ) (i before value most : ℕ) → i < length bytes → list_all is_ascii_digit (drop i bytes) ≡ true → digits_value_after 10 value (drop i bytes) ≡ digits_value_after 10 before bytes
     → most < value * 10 + (get_or bytes i 0 - 48) → None ≡ within most (digits_value_after 10 before bytes)
 too_large_behind bytes i before value most lt digits so_far large =
     let more : digits_value_after 10 (value * 10 + digit_value (get_or bytes i 0)) (drop (i + 1) bytes) ≡ digits_value_after 10 before bytes = sym (ap (digits_value_after 10 value) (drop_more bytes i 0 lt)) ∙ so_far in
     let over : most < digits_value_after 10 before bytes = omega (arith, digit_is (get_or bytes i 0) (first_digit bytes i lt digits), value_after_le (value * 10 + digit_value (get_or bytes i 0)) (drop (i + 1) bytes)) in
     rw (not_within most _ over) refl
-
--- ---- times
-
-digit_small : (c : ℕ) → is_ascii_digit c ≡ true → digit_value c < 10
-digit_small c h = grind (arith, nat_tests)
-
-both_true : (a b : Bool) → (a && b) ≡ true → (a ≡ true) × (b ≡ true)
-both_true true true e = (refl, refl)
-both_true true false e = absurd (cc)
-both_true false b e = absurd (cc)
-
-digits_are : (ds : List ℕ) → list_all is_ascii_digit ds ≡ true → AllDigits 10 ds
-digits_are [] e = tt
-digits_are (c ∷ cs) e = let k = both_true (is_ascii_digit c) (list_all is_ascii_digit cs) e in (digit_small c k.0, digits_are cs k.1)
-
--- nine digits fit 31 bits
-pub short_fits : (w : List ℕ) (n : ℕ) → length w ≤ 9 → Some n ≡ decimal_number w → n < 1000000000
-unfolding decimal_number
-short_fits w n le e = chosen (nat_eq (length w) 0) (list_all is_ascii_digit w) (nat_lt (digits_value 10 w) (2 ^ 32)) (digits_value 10 w) n (λ digits. digits_value_short (numerals_by_value (AllDigits 10) tells_digits) w 9 (digits_are w digits) le) e where
-  chosen : (a b d : Bool) (v m : ℕ) → (b ≡ true → v < 1000000000) → Some m ≡ cond (a || not b) None (cond d (Some v) None) → m < 1000000000
-  chosen false true true v m h e = let same : m ≡ v = cc in omega (arith, h refl, same)
-  chosen false true false v m h e = absurd (cc)
-  chosen false false d v m h e = absurd (cc)
-  chosen true b d v m h e = absurd (cc)
 
 -- ---- amounts
 

@@ -4,13 +4,14 @@ use Rattle.std.specs.Char.{is_ascii_digit}
 use Rattle.std.specs.List.{list_all}
 use Rattle.std.specs.Str.Parse.{digits_value}
 use Rattle.script_words.specs.declared.given.TheConstants.{TIME_DIGITS, WHOLE_DIGITS, FRACTION_DIGITS, NUMBER_DIGITS}
-use Rattle.script_words.specs.Words.{decimal_number, cut_at}
+use Rattle.byte_words.specs.Cuts.{cut_at}
+use Rattle.byte_words.specs.Numbers.{few_digits}
 
 -- ---- times
 
 -- a number of 1 to 9 digits
 unfoldable pub short_number : List ℕ → Option ℤ
-short_number w = if nat_lt TIME_DIGITS (length w) then None else option_map (λ n. pos n) (decimal_number w)
+short_number w = option_map (λ n. pos n) (few_digits TIME_DIGITS w)
 
 -- a number of minutes, perhaps behind a `-`
 unfoldable pub offset_of_word : List ℕ → Option ℤ

@@ -1,4 +1,4 @@
--- What the code's pieces of a text stand for.
+-- What the code's handles and cells stand for.
 use Rattle.std.specs.Prelude.{◌<◌}
 use Rattle.script_words.specs.declared.word.Quoting.{Quoting}
 use Rattle.script_words.specs.declared.word.Quoting.TheVariants.{Text, Escape, High, Low, Closed}

@@ -2,21 +2,21 @@
 use Rattle.std.specs.Prelude.{ℕ, ◌+◌, ◌==◌, Bool, false, ◌||◌, not, List, [], ◌∷◌, length, take, drop, Option, Some, None, if◌then◌else◌}
 use Rattle.std.specs.List.{position_or_len}
 use Rattle.lc_base.specs.declared.place.Place.{Place}
-use Rattle.script_words.specs.declared.piece.Piece.{Piece}
-use Rattle.script_words.specs.declared.piece.Within.{Within}
-use Rattle.script_words.specs.declared.piece.Within.TheVariants.{Bare, Quoted, Escaped}
+use Rattle.script_words.specs.declared.stretch.Stretch.{Stretch}
+use Rattle.script_words.specs.declared.stretch.Within.{Within}
+use Rattle.script_words.specs.declared.stretch.Within.TheVariants.{Bare, Quoted, Escaped}
 
 -- bytes of a line, with the place of the first
 pub record Span : Type 0 where
   pub place : Place
   pub bytes : List ℕ
 
--- a piece without where it lies in memory
-abbrev pub span : Piece → Span
+-- a stretch without where it lies in memory
+abbrev pub span : Stretch → Span
 span p = record { place = p.place; bytes = p.bytes.now }
 
 -- a word and what follows it
-abbrev pub spans : Piece × Piece → Span × Span
+abbrev pub spans : Stretch × Stretch → Span × Span
 spans x = (span x.0, span x.1)
 
 -- the place at which a line begins

@@ -1,6 +1,5 @@
 -- The words of directives, commands and items (our own; the items are those of XSH nl_langinfo).
-use Rattle.std.specs.Prelude.{ℕ, List, [], ◌∷◌, codes, Option, Some, None, if◌then◌else◌}
-use Rattle.std.specs.Str.{bytes_eq}
+use Rattle.std.specs.Prelude.{ℕ, List, [], ◌∷◌, codes}
 use Rattle.lc_base.specs.declared.item.Item.{Item}
 use Rattle.lc_base.specs.declared.item.Item.TheVariants as items
 use Rattle.script_words.specs.declared.table.Verb.{Verb}
@@ -8,11 +7,6 @@ use Rattle.script_words.specs.declared.table.Verb.TheVariants as verbs
 use Rattle.script_words.specs.declared.table.Question.TheVariants as questions
 use Rattle.script_words.specs.declared.table.Directive.{Directive}
 use Rattle.script_words.specs.declared.table.Directive.TheVariants as directives
-
--- what a table gives for a word
-abbrev pub first_named : {A : Type 0} → List (List ℕ × A) → List ℕ → Option A
-first_named [] name = None
-first_named (row ∷ rows) name = if bytes_eq row.0 name then Some row.1 else first_named rows name
 
 -- the directives; `.end` is none, since it stands in blocks alone
 unfoldable pub directives_table : List (List ℕ × Directive)

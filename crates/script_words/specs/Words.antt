@@ -1,10 +1,10 @@
 -- What words of a command mean (our own).
-use Rattle.std.specs.Prelude.{ℕ, ◌+◌, ◌-◌, ◌*◌, ◌^◌, ◌==◌, nat_lt, nat_le, Bool, true, false, not, ◌&&◌, ◌||◌, List, [], ◌∷◌, ◌++◌, length, take, drop, find, position, bit_or, codes, Option, Some, None, option_map, option_and_then, if◌then◌else◌}
-use Rattle.std.specs.Char.{is_ascii_digit}
+use Rattle.std.specs.Prelude.{ℕ, ◌+◌, ◌-◌, ◌*◌, ◌==◌, nat_lt, nat_le, Bool, true, false, not, ◌&&◌, ◌||◌, List, [], ◌∷◌, ◌++◌, length, take, drop, find, bit_or, codes, Option, Some, None, option_map, option_and_then, if◌then◌else◌}
 use Rattle.std.specs.List.{list_all, slice_split}
 use Rattle.std.specs.Option.{option_to_list}
 use Rattle.std.specs.Str.{bytes_eq}
-use Rattle.std.specs.Str.Parse.{digits_value}
+use Rattle.byte_words.specs.Cuts.{cut_at}
+use Rattle.byte_words.specs.Numbers.{decimal_number}
 use Rattle.lc_base.specs.declared.category.Category.{Category}
 use Rattle.lc_base.specs.Categories.{categories, category_name}
 use Rattle.lc_base.specs.Mask.{category_bit}
@@ -73,14 +73,6 @@ zone_of_word w = option_and_then (bounded ZONE_LIMIT) (text_of_word w)
 
 -- ---- numbers
 
--- the value of digits, if it has 32 bits
-abbrev pub small_value : List ℕ → Option ℕ
-small_value ds = if nat_lt (digits_value 10 ds) (2 ^ 32) then Some (digits_value 10 ds) else None
-
--- a number of 32 bits in decimal digits, perhaps with leading zeros
-unfoldable pub decimal_number : List ℕ → Option ℕ
-decimal_number w = if (length w == 0) || not (list_all is_ascii_digit w) then None else small_value w
-
 -- what stands behind this front, where a word begins with it
 unfoldable pub behind_front : List ℕ → List ℕ → Option (List ℕ)
 behind_front front w = if bytes_eq (take (length front) w) front then Some (drop (length front) w) else None
@@ -134,10 +126,6 @@ key_of_word w = if is_locale_name w then Some w else None
 -- the number of a cell
 unfoldable pub cell_number : List ℕ → Option ℕ
 cell_number w = option_and_then (λ n. if nat_lt n CELLS then Some n else None) (decimal_number w)
-
--- a text around the first byte c, where there is one
-unfoldable pub cut_at : ℕ → List ℕ → Option (List ℕ × List ℕ)
-cut_at c bs = option_map (λ n. (take n bs, drop (n + 1) bs)) (position (λ b. b == c) bs)
 
 -- a handle as it is written, with the name of its thread
 pub record WrittenHandle : Type 0 where

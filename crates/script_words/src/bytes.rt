@@ -2,10 +2,10 @@
 
 ghost use Rattle.std.specs.Prelude.{◌≡◌, ◌≤◌, not, length};
 ghost use Rattle.std.specs.List.{position_or_len};
-ghost use Rattle.script_words.specs.declared.piece.Within.TheVariants.{Bare};
+ghost use Rattle.script_words.specs.declared.stretch.Within.TheVariants.{Bare};
 ghost use Rattle.script_words.specs.Spans.{is_blank, stops_bare, within_after, ends_word, word_length};
 
-use crate::piece::Within;
+use crate::stretch::Within;
 
 /// Whether a byte is a space or a tab.
 fn is_blank(c: u8) -> bool

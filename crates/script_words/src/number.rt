@@ -10,22 +10,18 @@ ghost use Rattle.script_words.specs.Numbers.{short_number, offset_of_word, three
 use crate::given::{
     FRACTION_DIGITS, NUMBER_DIGITS, TIME_DIGITS, WHOLE_DIGITS, WrittenAmount, WrittenNumber,
 };
-use crate::word::{are_digits as all_digits, cut_at, decimal_number};
+use byte_words::{are_digits as all_digits, cut_at, few_digits};
 
 /// The magnitude of the least number of 64 bits.
 const MOST_UNITS: u64 = 1 << 63;
 
 /// A number of 1 to 9 digits.
-#[tactic(auto, unfolding(crate::specs::Numbers::short_number), using(crate::proofs::WordLemmas::short_fits))]
+#[tactic(auto, unfolding(crate::specs::Numbers::short_number))]
 pub fn short_number(word: &[u8]) -> Option<i32>
     ensures is { result ≡ short_number word.now }
     ensures whole { IfSome result (λ n. pos 0 ≤ℤ n) }
 {
-    if word.len() > TIME_DIGITS {
-        return None;
-    }
-    let number = decimal_number(word)?;
-    Some(number as i32)
+    Some(few_digits(TIME_DIGITS, word)? as i32)
 }
 
 /// A number of minutes, perhaps behind a `-`.

@@ -1,16 +1,16 @@
 //! What words of a command mean.
 
-ghost use Rattle.std.specs.Prelude.{◌≡◌, ◌==◌, ◌<◌, ◌≤◌, ◌++◌, length, position, true, IfOk, IfSome, OnOk, option_map};
-ghost use Rattle.std.specs.Char.{is_ascii_digit};
+ghost use Rattle.std.specs.Prelude.{◌≡◌, ◌<◌, ◌++◌, IfOk, IfSome, OnOk, option_map};
 ghost use Rattle.std.specs.List.{list_all, slice_split};
 ghost use Rattle.std.specs.Option.{option_copied, option_to_list};
 ghost use Rattle.script_words.specs.declared.word.Quoting.TheVariants.{Text};
-ghost use Rattle.script_words.specs.Words.{is_plain_byte, hex_value, quoted_step, is_closed, unquoted, text_of_word, quoted_of_word, zone_of_word, small_value, decimal_number, behind_front, max_number, category_named, categories_of_word, with_name, bits_with, is_comma, mask_of_word, variable_of_word, class_of_word, key_of_word, cell_number, cut_at, handle_of_word, cell_of_word};
+ghost use Rattle.script_words.specs.Words.{is_plain_byte, hex_value, quoted_step, is_closed, unquoted, text_of_word, quoted_of_word, zone_of_word, behind_front, max_number, category_named, categories_of_word, with_name, bits_with, is_comma, mask_of_word, variable_of_word, class_of_word, key_of_word, cell_number, handle_of_word, cell_of_word};
 ghost use Rattle.script_words.specs.Seen.{seen_handle, seen_cell, IsQuoting};
 
 use crate::categories::Categories;
 use crate::given::{MAX_LIMIT, ZONE_LIMIT};
 use crate::names::{is_class_name, is_locale_name, is_thread_name};
+use byte_words::{cut_at, decimal_number};
 use lc_base::{ByteText, CATEGORIES, CELLS, Category, Mask};
 use std::alloc::{AllocError, Global};
 
@@ -167,41 +167,6 @@ pub fn zone_of_word(alloc: Global, word: &[u8]) -> Result<Option<ByteText>, Allo
     }
 }
 
-/// Whether each byte is a digit.
-pub fn are_digits(bytes: &[u8]) -> bool
-    ensures { result ≡ list_all is_ascii_digit bytes.now }
-{
-    bytes.iter().all(|byte| byte.is_ascii_digit())
-}
-
-/// The value of digits, if it has 32 bits.
-#[tactic(auto, using(crate::proofs::ReadLemmas::value_after_le))]
-fn value_of(digits: &[u8]) -> Option<u32>
-    requires { list_all is_ascii_digit digits.now ≡ true }
-    ensures { result ≡ small_value digits.now }
-{
-    let mut value = 0;
-    for digit in digits {
-        let next = u64::from(value) * 10 + u64::from(*digit - b'0');
-        if next > u64::from(u32::MAX) {
-            return None;
-        }
-        value = next as u32;
-    }
-    Some(value)
-}
-
-/// The number of decimal digits, perhaps with leading zeros, if it has 32 bits.
-#[tactic(auto, unfolding(crate::specs::Words::decimal_number))]
-pub fn decimal_number(word: &[u8]) -> Option<u32>
-    ensures { result ≡ decimal_number word.now }
-{
-    if word.is_empty() || !are_digits(word) {
-        return None;
-    }
-    value_of(word)
-}
-
 /// What stands behind a front, where a word begins with it.
 pub fn behind_front<'a>(front: &[u8], word: &'a [u8]) -> Option<&'a [u8]>
     ensures { option_copied result ≡ behind_front front.now word.now }
@@ -321,31 +286,6 @@ pub fn cell_number(word: &[u8]) -> Option<u32>
         Some(number) if number < CELLS => Some(number),
         _ => None,
     }
-}
-
-/// Where the first byte `c` stands.
-fn index_of(c: u8, bytes: &[u8]) -> Option<usize>
-    ensures is { result ≡ position (λ b. b == c) bytes.now }
-    ensures within { IfSome result (λ n. n < length bytes.now) }
-{
-    for (i, b) in bytes.iter().enumerate() {
-        if *b == c {
-            return Some(i);
-        }
-    }
-    None
-}
-
-/// The bytes around the first byte `c`.
-#[tactic(auto, unfolding(crate::specs::Words::cut_at))]
-pub fn cut_at(c: u8, bytes: &[u8]) -> Option<(&[u8], &[u8])>
-    ensures is { option_map (λ x. (x.0.now, x.1.now)) result ≡ cut_at c bytes.now }
-    ensures shorter { IfSome result (λ x. length x.1.now < length bytes.now) }
-{
-    let at = index_of(c, bytes)?;
-    let (front, _) = bytes.split_at(at);
-    let (_, back) = bytes.split_at(at + 1);
-    Some((front, back))
 }
 
 /// `THREAD.ROW.GENERATION`.

@@ -2,7 +2,7 @@
 
 ghost use Rattle.std.specs.Prelude.{◌≡◌, All, IfOk};
 ghost use Rattle.lc_base.specs.Reading.{Gives};
-ghost use Rattle.source_blocks.specs.Blocks.{IsSized};
+ghost use Rattle.lc_base.specs.Blocks.{IsSized};
 ghost use Rattle.locale_sources.specs.Named.{pairs_of};
 ghost use Rattle.source_blocks.specs.Sources.{charsets, charset_named};
 

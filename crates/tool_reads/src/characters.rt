@@ -6,10 +6,11 @@ ghost use Rattle.tool_reads.specs.Answers.{Answers, Tells, beside, each_of, valu
 ghost use Rattle.tool_reads.specs.Printed.{case_line, character, character_line, class_line, class_text, numbered, zeros};
 
 use crate::wrong_word::{unknown_problem, usage_problem};
+use byte_words::decimal_number;
 use charmap_reader::Charset;
 use ctype_classes::Ctype;
 use lc_base::ByteText;
-use script_words::{behind_front, decimal_number};
+use script_words::behind_front;
 use std::alloc::{AllocError, Global};
 use tool_words::{Problem, push_number};
 

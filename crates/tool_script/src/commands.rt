@@ -6,7 +6,7 @@ ghost use Rattle.tool_script.specs.Commands.{is_command, has_block, begins_block
 
 use lc_base::next_line;
 use script_commands::Placed;
-use script_words::{Directive, Piece, directive_named};
+use script_words::{Directive, Stretch, directive_named};
 use std::alloc::{AllocError, Global};
 
 /// A command as it is written, with the number of its thread.
@@ -136,7 +136,7 @@ fn is_command(line: &[u8]) -> bool
     if begins_with(b'.', line) {
         return false;
     }
-    match Piece::whole_line(1, line).next_word() {
+    match Stretch::whole_line(1, line).next_word() {
         None => false,
         Some((word, _)) => !begins_with(b'#', word.bytes),
     }
@@ -151,7 +151,7 @@ fn begins_block(line: &[u8]) -> bool
     if !begins_with(b'.', line) {
         return false;
     }
-    match Piece::whole_line(1, line).next_word() {
+    match Stretch::whole_line(1, line).next_word() {
         None => false,
         Some((word, _)) => has_block(directive_named(word.bytes)),
     }

@@ -1,5 +1,5 @@
 use Rattle.std.proofs.Common.{◌≡◌, ◌+◌, drop}
-use Rattle.script_words.specs.declared.piece.Within.TheVariants.{Bare}
+use Rattle.script_words.specs.declared.stretch.Within.TheVariants.{Bare}
 use Rattle.script_words.specs.Spans.{word_length}
 use Rattle.script_words.proofs.bytes.quoted_length.Given as goal
 

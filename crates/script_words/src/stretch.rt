@@ -18,22 +18,22 @@ pub enum Within {
 
 /// Bytes of a line, with the place of the first.
 #[derive(Clone, Copy)]
-pub struct Piece<'a> {
+pub struct Stretch<'a> {
     pub place: Place,
     pub bytes: &'a [u8],
     ghost in_range: { place.column + length bytes.now < 2 ^ 32 },
 }
 
-impl<'a> Piece<'a> {
+impl<'a> Stretch<'a> {
     ghost use Rattle.std.specs.Prelude.{take, IfSome, option_map};
     ghost use Rattle.script_words.specs.Spans.{span, spans, whole_line, end_of, behind, from_word, next_word};
 
     /// A line.
-    pub fn whole_line(number: u32, line: &'a [u8]) -> Piece<'a>
+    pub fn whole_line(number: u32, line: &'a [u8]) -> Stretch<'a>
         requires { length line.now < 2 ^ 31 }
         ensures { span result ≡ whole_line number line.now }
     {
-        Piece {
+        Stretch {
             place: Place {
                 line: number,
                 column: 1,
@@ -53,13 +53,13 @@ impl<'a> Piece<'a> {
     }
 
     /// What stands behind the first `n` bytes.
-    fn behind(self, n: usize) -> Piece<'a>
+    fn behind(self, n: usize) -> Stretch<'a>
         requires { n ≤ length self.bytes.now }
         ensures is { span result ≡ behind n (span self.entry) }
         ensures shorter { length result.bytes.now + n ≡ length self.entry.bytes.now }
     {
         let (_, rest) = self.bytes.split_at(n);
-        Piece {
+        Stretch {
             place: Place {
                 line: self.place.line,
                 column: self.place.column + n as u32,
@@ -69,19 +69,19 @@ impl<'a> Piece<'a> {
     }
 
     /// The first `n` bytes.
-    fn front(self, n: usize) -> Piece<'a>
+    fn front(self, n: usize) -> Stretch<'a>
         requires { n ≤ length self.bytes.now }
         ensures { span result ≡ record { place = self.entry.place; bytes = take n self.entry.bytes.now } }
     {
         let (front, _) = self.bytes.split_at(n);
-        Piece {
+        Stretch {
             place: self.place,
             bytes: front,
         }
     }
 
     /// The same without the blanks in front.
-    fn from_word(self) -> Piece<'a>
+    fn from_word(self) -> Stretch<'a>
         ensures is { span result ≡ from_word (span self.entry) }
         ensures shorter { length result.bytes.now ≤ length self.entry.bytes.now }
     {
@@ -92,7 +92,7 @@ impl<'a> Piece<'a> {
     ///
     /// A word ends before a blank, but not between quotes.
     #[tactic(auto, unfolding(crate::specs::Spans::next_word))]
-    pub fn next_word(self) -> Option<(Piece<'a>, Piece<'a>)>
+    pub fn next_word(self) -> Option<(Stretch<'a>, Stretch<'a>)>
         ensures is { option_map spans result ≡ next_word (span self.entry) }
         ensures shorter { IfSome result (λ x. length x.1.bytes.now < length self.entry.bytes.now) }
     {
