@@ -3,6 +3,7 @@ use Rattle.std.proofs.Common.{◌≡◌, ℕ, Bool, true, false, cond, List, [],
 use Rattle.std.specs.Prelude.{◌==◌, filter, zip, All}
 use Rattle.std.proofs.lemmas.Bool.{eqb-true, eq-eqb, false≢true, or_left}
 use Rattle.std.proofs.lemmas.List.Elements.{All-nil, All-cons, All-head, All-tail, All-map}
+use Rattle.lc_base.specs.Reading.{◌>>=◌}
 use Rattle.mask_compose.specs.Parts.{Parts}
 use Rattle.category_store.specs.Catalog.{Catalog}
 use Rattle.handle_table.specs.declared.handle.Handle.{Handle}
@@ -25,7 +26,7 @@ use Rattle.script_out.specs.declared.output.Places.{Places}
 use Rattle.script_out.specs.declared.output.Why.{Why}
 use Rattle.script_lines.specs.Turns.{Task, Runs, Releases, Ends}
 use Rattle.script_lines.specs.Variables.{Variable, locale_variable, is_same_variable, Bindings, bound, Bound, bindings_of, variable_bound, handle_said, with_binding}
-use Rattle.script_lines.specs.Wishes.{◌>>=◌, handle_or_unset, named, base_named, mask_of, named_numbers, op_on, Wish, Calls, ReadsOf, Reads, AsksSelection, AsksName, OpensCatalog, GetsMessage, ClosesCatalog, called, wish, wish_of, ops_of}
+use Rattle.script_lines.specs.Wishes.{handle_or_unset, named, base_named, mask_of, named_numbers, op_on, Wish, Calls, ReadsOf, Reads, AsksSelection, AsksName, OpensCatalog, GetsMessage, ClosesCatalog, called, wish, wish_of, ops_of}
 use Rattle.script_lines.specs.Lines.{Caller, shown}
 use Rattle.script_serial.specs.Prints.{places_in, call_of, Around, past, seen, IsRead, IsGranted}
 use Rattle.script_serial.proofs.PlacedCalls.{place_of}

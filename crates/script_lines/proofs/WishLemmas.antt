@@ -2,6 +2,7 @@
 use Rattle.std.proofs.Common.{◌≡◌, ℕ, ◌<◌, ◌≤◌, List, length, Option, Some, None, Result, Ok, Err, refl, sym, ap, subst}
 use Rattle.std.specs.Prelude.{◌≢◌, IfOk, IfSome}
 use Rattle.lc_base.specs.declared.category.Category.{Category}
+use Rattle.lc_base.specs.Reading.{◌>>=◌}
 use Rattle.mask_compose.specs.Offer.{Offered}
 use Rattle.category_store.specs.Catalog.{Catalog}
 use Rattle.category_store.specs.Library.{numbers, opening, later}
@@ -25,7 +26,7 @@ use Rattle.script_lines.specs.Board.{Fitting, TaskMay}
 use Rattle.script_lines.specs.Seen.{TaskFits}
 use Rattle.script_lines.specs.Turns.{Task, Runs, Releases, Ends}
 use Rattle.script_lines.specs.Variables.{Variable, Bindings, bound, locale_variable, catalog_variable}
-use Rattle.script_lines.specs.Wishes.{Asks, Wish, ReadsOf, GetsMessage, ClosesCatalog, ◌>>=◌, handle_or_unset, catalog_or_unset, catalog_named, named, base_named, mask_of, named_numbers, numbers_or_no_data, new_op, set_op, categories_mask, setlocale_op, install_of, install_op, op_on, called, wish, wish_of}
+use Rattle.script_lines.specs.Wishes.{Asks, Wish, ReadsOf, GetsMessage, ClosesCatalog, handle_or_unset, catalog_or_unset, catalog_named, named, base_named, mask_of, named_numbers, numbers_or_no_data, new_op, set_op, categories_mask, setlocale_op, install_of, install_op, op_on, called, wish, wish_of}
 
 -- ---- a wish depends on what variables stand for alone
 

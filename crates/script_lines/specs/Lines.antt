@@ -30,7 +30,7 @@ refusal_shown table.AlreadyHeld = refusals.AlreadyHeld
 refusal_shown table.NotHeld = refusals.NotHeld
 refusal_shown table.EmptyCell = refusals.EmptyCell
 
--- the printed form of a reply of the table; a change of the global locale tells the name of what the command chose
+-- the printed form of a reply of the table; a change of the global locale prints the name of what the command chose
 abbrev pub shown : Catalog → Categories → table.Reply → Said
 shown library categories (table.Made h) = said.Handle h
 shown library categories table.Freed = said.Freed
@@ -72,8 +72,8 @@ abbrev pub line : Caller → Places → Option ℕ → Said → OutLine
 line at place version reply = record { round = at.round; thread = at.thread; index = at.index; places = place; global = version; reply = reply }
 
 -- a line that makes no entry
-abbrev pub told_line : Caller → Said → OutLine
-told_line at reply = line at places.None None reply
+abbrev pub plain_line : Caller → Said → OutLine
+plain_line at reply = line at places.None None reply
 
 -- the line of an entry at a place
 abbrev pub placed_line : Catalog → ℕ → Caller → Categories → table.Reply → OutLine
@@ -85,13 +85,13 @@ entry_line library H at categories reply = placed_line library (length H) at cat
 
 -- the line of a read of an object
 abbrev pub object_line : Catalog → Caller → Read → Parts → OutLine
-object_line library at read object = told_line at (local library object read)
+object_line library at read object = plain_line at (local library object read)
 
 -- the line of a read of an object between a Hold and its Release, which have these places
 abbrev pub held_line : Catalog → ℕ → ℕ → Caller → Read → Parts → OutLine
 held_line library hold release at read object = line at (places.Two hold release) None (local library object read)
 
--- a line that tells of the global locale: its object as it was at a version, with that version
+-- a line that reads the global locale: its object as it was at a version, with that version
 abbrev pub global_read_line : Catalog → Caller → Read → ℕ → Parts → OutLine
 global_read_line library at read version object = line at places.None (Some version) (local library object read)
 

@@ -219,7 +219,7 @@ held_and_freed : lines (New (codes "x") 2 (codes "a") None ∷ ReadOf x (Info Ra
     ∷ ended 9 8 ∷ []
 held_and_freed = refl
 
--- GLOBAL is no object to read, a variable that nothing bound makes no entry, and no version is told
+-- GLOBAL is no object to read, a variable that nothing bound makes no entry, and no version is printed
 reads_of_no_object : lines (ReadOf targets.Global (Info Radixchar) ∷ ReadOf x (Info Radixchar) ∷ ReadOf (targets.Handle (record { owner = 0; row = 3; generation = 1 })) (Info Radixchar) ∷ Hold targets.Global ∷ Release (targets.Handle (record { owner = 0; row = 3; generation = 1 })) ∷ [])
     ≡ refused 1 (places.One 0) table.GlobalHandle
     ∷ line 2 places.None None (said.Refused whys.Unset)
@@ -343,7 +343,7 @@ not_opened : lines (CatOpen (codes "c") (codes "nowhere") ∷ New (codes "c") 2 
     ∷ ended 5 1 ∷ []
 not_opened = refl
 
--- by the thread's own object no version is told, and its LC_MESSAGES is what counts
+-- by the thread's own object no version is printed, and its LC_MESSAGES is what counts
 opened_by_own_object : lines (New (codes "x") 2 (codes "a") None ∷ Use x ∷ CatOpen (codes "c") (codes "m") ∷ CatGets opened 1 1 (codes "?") ∷ [])
     ≡ line 1 (places.One 0) None (said.Handle (first_of 0))
     ∷ line 2 (places.One 1) None (said.Was named.Global)

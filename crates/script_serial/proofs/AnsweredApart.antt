@@ -1,4 +1,4 @@
--- What the lines of threads that share handles with nobody tell is what the part of the history says.
+-- What the lines of threads that share handles with nobody print is what the part of the history says.
 use Rattle.std.proofs.Common.{◌≡◌, ℕ, zero, suc, ◌<◌, ◌≤◌, Bool, true, cond, List, [], ◌∷◌, ◌++◌, length, map, find, Option, Some, None, Result, Ok, Err, refl, sym, ap, subst, ◌∙◌, arith, inl, inr, append_assoc}
 use Rattle.std.specs.Prelude.{zip, All}
 use Rattle.std.proofs.lemmas.Bool.{cases_lt, ne_eqb}
@@ -18,9 +18,9 @@ use Rattle.script_out.specs.declared.output.Said.TheVariants as said
 use Rattle.script_out.specs.declared.output.Why.{Why}
 use Rattle.script_serial.specs.Plan.{PlanData, books_of}
 use Rattle.script_lines.specs.Holds.{object_held, open_holds, held_as}
-use Rattle.script_serial.specs.Isolation.{all_told, all_calls, front, whole, SaysTheSameTo, apart, AreToldApart, IsIsolated, AreCatalogsIsolated}
-use Rattle.script_lines.specs.Lines.{Caller, told_line, placed_line, global_read_line, global_name_line}
-use Rattle.script_serial.specs.Prints.{Told, bound_by, places_in, all_places, before_round, up_to_round, PlacedCall, call_of, calls_of, calls_after, with_placed, history_below, Around, around, past, next_place, seen, place_behind, IsUpToPlace, IsVersion, global_of, IsReadBetween, IsHoldRefused, IsReadOf, IsRead, IsGranted, AreTold, caller_of, Prints, IsOpenOf, IsOpenBy, IsOpen}
+use Rattle.script_serial.specs.Isolation.{all_task_lines, all_calls, front, whole, SaysTheSameTo, apart, AreAnsweredApart, IsIsolated, AreCatalogsIsolated}
+use Rattle.script_lines.specs.Lines.{Caller, plain_line, placed_line, global_read_line, global_name_line}
+use Rattle.script_serial.specs.Prints.{TaskLine, bound_by, places_in, all_places, before_round, up_to_round, PlacedCall, call_of, calls_of, calls_after, with_placed, history_below, Around, around, past, next_place, seen, place_behind, IsUpToPlace, IsVersion, global_of, IsReadBetween, IsHoldRefused, IsReadOf, IsRead, IsGranted, AreAnswered, caller_of, Prints, IsOpenOf, IsOpenBy, IsOpen}
 use Rattle.script_serial.specs.Serial.{serial_lines, setting}
 use Rattle.script_lines.specs.Variables.{bindings_of}
 use Rattle.script_lines.specs.Wishes.{Wish, Calls, ReadsOf, Reads, AsksSelection, AsksName, wish_of, ops_of, OpensCatalog, GetsMessage, ClosesCatalog}
@@ -116,8 +116,8 @@ version_apart {threads} {x} {at} p version v = record {
   rounds = subst (λ (n : ℕ). n ≤ version) (says p (length (all_places (before_round at.round x.lines)))).sets v.rounds;
   next = up_to_apart p version (place_behind x at.thread) v.next;
   round = subst (λ (n : ℕ). version ≤ n) (says p (length (all_places (up_to_round at.round x.lines)))).sets v.round;
-  told = v.told;
-  told_earlier = v.told_earlier;
+  printed = v.printed;
+  printed_earlier = v.printed_earlier;
 }
 
 -- the answer of the part to the call of a line with one place
@@ -198,7 +198,7 @@ granted_apart threads x at l (Ok (Reads read)) p is =
     let t : ℕ = at.thread in
     read_apart threads x at l read (own (seen (apart threads x) t) t) p (subst (IsRead x at l read) (says p (next_place t x.before)).own is)
 granted_apart threads x at l (Ok AsksSelection) p is =
-    is ∙ ap (λ (n : Named). told_line at (said.Is n)) (says p (next_place at.thread x.before)).selection
+    is ∙ ap (λ (n : Named). plain_line at (said.Is n)) (says p (next_place at.thread x.before)).selection
 granted_apart threads x at l (Ok (AsksName categories)) p r = record {
   version = r.version;
   bounds = version_apart p r.version r.bounds;
@@ -213,10 +213,10 @@ granted_apart threads x at l (Ok (ClosesCatalog h)) p r = record { asked = r.ask
 -- ---- all lines
 
 module _ (threads : List ℕ) (c : Setting) (plan : PlanData) (lines : List OutLine) (M : CatalogHistory) (calls : List PlacedCall) (once : AreOnce (map place_of calls)) (closed : IsClosed threads (history_below c calls (length calls))) where
-  are_told_apart : (before after : List Told) → AreTold c plan lines M calls before after → All (AgreesApart threads c (history_below c calls)) (calls_after plan.library before after)
-      → AreToldApart threads c plan lines M calls before after
-  are_told_apart before [] told agree = tt
-  are_told_apart before (d ∷ after) told agree =
+  are_answered_apart : (before after : List TaskLine) → AreAnswered c plan lines M calls before after → All (AgreesApart threads c (history_below c calls)) (calls_after plan.library before after)
+      → AreAnsweredApart threads c plan lines M calls before after
+  are_answered_apart before [] answered agree = tt
+  are_answered_apart before (d ∷ after) answered agree =
       let Agrees : PlacedCall → Type 0 = AgreesApart threads c (history_below c calls) in
       let here : List PlacedCall = calls_of plan.library (bound_by before) d in
       let rest : List PlacedCall = calls_after plan.library (d ∷ before) after in
@@ -231,8 +231,8 @@ module _ (threads : List ℕ) (c : Setting) (plan : PlanData) (lines : List OutL
               whole = λ version. sym (says.versions version);
               agree = all_left Agrees here rest agree;
             })
-            told.0,
-        are_told_apart (d ∷ before) after told.1 (all_right Agrees here rest agree),
+            answered.0,
+        are_answered_apart (d ∷ before) after answered.1 (all_right Agrees here rest agree),
       )
 
 -- threads that share handles with nobody read what they would read without the others
@@ -243,7 +243,7 @@ isolated c plan lines w threads closed =
     record {
       legal = part_legal c threads (whole c plan lines) (below_legal c calls (length calls)) closed;
       fronts = λ n le t within. part_says_the_same c threads t within (front c plan lines n) (below_legal c calls n) (each_closed threads c calls once closed n);
-      told = λ printed. are_told_apart threads c plan lines printed.catalogs calls once closed [] (all_told c plan lines) printed.told (calls_apart threads c calls once closed);
+      answered = λ printed. are_answered_apart threads c plan lines printed.catalogs calls once closed [] (all_task_lines c plan lines) printed.answered (calls_apart threads c calls once closed);
     }
 
 -- and so do those of what has the lines of `serial`

@@ -1,4 +1,4 @@
--- Each line that `serial` prints tells what its task asks for, judged by the history before its own places.
+-- Each line of `serial` prints what its task asks for, judged by the history before its own places.
 use Rattle.std.proofs.Common.{◌≡◌, ℕ, suc, ◌≤◌, true, false, List, [], ◌∷◌, ◌++◌, length, Option, Some, None, Result, Ok, Err, refl, sym, ap, subst, ◌∙◌, arith, inl, inr, le_refl, append-nil, append_assoc, length-append}
 use Rattle.std.specs.Prelude.{◌==◌, nat_lt, nat_le, All, option_map}
 use Rattle.std.specs.Option.{option_to_list}
@@ -20,16 +20,16 @@ use Rattle.script_out.specs.declared.output.Said.TheVariants as said
 use Rattle.script_out.specs.declared.output.Why.{Why}
 use Rattle.script_serial.specs.Plan.{PlanData, books_of}
 use Rattle.script_lines.specs.Holds.{object_held, open_holds, held_as}
-use Rattle.script_lines.specs.Lines.{Caller, told_line, placed_line, global_read_line, global_name_line}
+use Rattle.script_lines.specs.Lines.{Caller, plain_line, placed_line, global_read_line, global_name_line}
 use Rattle.script_lines.specs.Turns.{Turn}
 use Rattle.script_lines.specs.Variables.{Bound, bindings_of}
 use Rattle.script_lines.specs.Wishes.{Wish, Calls, ReadsOf, Reads, AsksSelection, AsksName, wish_of, OpensCatalog, GetsMessage, ClosesCatalog}
 use Rattle.script_lines.specs.Outcome.{Outcome, with_call, reads_between, reads_of, read_line, granted, opens_line, asked_of, catalogs_left}
 use Rattle.script_serial.specs.Serial.{Run, next_caller, outcome, with_outcome, played, TurnOutcome}
-use Rattle.script_serial.specs.Prints.{Told, told, bound_by, places_in, all_places, of_thread, before_round, up_to_round, history_below, Around, around, past, next_place, seen, lines_of, first_of, versions, IsUpToPlace, IsVersion, global_of, IsReadOf, IsRead, IsGranted, IsTold, AreTold, caller_of, IsCatalogCall, IsOpenOf, IsOpen}
+use Rattle.script_serial.specs.Prints.{TaskLine, with_tasks, bound_by, places_in, all_places, of_thread, before_round, up_to_round, history_below, Around, around, past, next_place, seen, lines_of, first_of, versions, IsUpToPlace, IsVersion, global_of, IsReadOf, IsRead, IsGranted, IsAnswered, AreAnswered, caller_of, IsCatalogCall, IsOpenOf, IsOpen}
 use Rattle.script_serial.proofs.LineLists.{all_kept, fewer_kept, filter_all, filter_none}
 use Rattle.script_serial.proofs.SerialLines.{granted_caller, IsCounted, one_turn, added}
-use Rattle.script_serial.proofs.SerialCalls.{calls_from, calls_length, GoesOnFrom, goes_nowhere, one_entry, goes_on, past_is, granted_on, turn_on, played_on, wish_in, told_of, line_thread, line_round, bound_next}
+use Rattle.script_serial.proofs.SerialCalls.{calls_from, calls_length, GoesOnFrom, goes_nowhere, one_entry, goes_on, past_is, granted_on, turn_on, played_on, wish_in, task_line_of, line_thread, line_round, bound_next}
 use Rattle.script_serial.proofs.SerialSeen.{own_past, next_of, own_seen, selection_seen, holds_seen, own_back, granted_next, sets_on, global_on, past_up, UpTo, granted_version, released_after}
 use Rattle.script_lines.specs.Catalogs.{Books, Asked, book_for, catalog_setting, handle_meant, object_used, asked_after, catalogs_after, open_line, message_line, close_line}
 use Rattle.script_serial.proofs.CatalogLines.{GoOnFrom, opens_places}
@@ -156,7 +156,7 @@ granted_judged x H F M at (Ok (Reads read)) j on asked =
     subst (IsRead x at (read_line x.setting x.plan.library H at read (own H t)) read) same (read_judged x H F at read (own H t) j on)
 granted_judged x H F M at (Ok AsksSelection) j on asked =
     let t : ℕ = at.thread in
-    ap (λ (s : Named). told_line at (said.Is s)) (sym (ap (λ (G : History). selection G t) (seen_is x H F at j on) ∙ selection_seen H t))
+    ap (λ (s : Named). plain_line at (said.Is s)) (sym (ap (λ (G : History). selection G t) (seen_is x H F at j on) ∙ selection_seen H t))
 granted_judged x H F M at (Ok (AsksName categories)) j on asked = record {
   version = sets H;
   bounds = j.version;
@@ -233,15 +233,15 @@ added_from c library books n run (turn ∷ turns) le =
     (All-weaker (λ (p : ℕ). length run.history ≤ p) (λ (p : ℕ). n ≤ p) (λ p from. omega (arith, from, le)) (places_in done.line.places) (granted_places_from c library books run.history run.catalogs (next_caller run turn) (wish_in library run turn)))
     (added_from c library books n next turns (omega (arith, le, more)))
 
-told_lines : (turns : List Turn) (c : Setting) (library : Catalog) (books : Books) (run : Run) → lines_of (told turns (added c library books run turns)) ≡ added c library books run turns
-told_lines [] c library books run = refl
-told_lines (turn ∷ turns) c library books run =
+lines_added : (turns : List Turn) (c : Setting) (library : Catalog) (books : Books) (run : Run) → lines_of (with_tasks turns (added c library books run turns)) ≡ added c library books run turns
+lines_added [] c library books run = refl
+lines_added (turn ∷ turns) c library books run =
     let done : TurnOutcome = outcome c library books run turn in
-    ap (λ (ls : List OutLine). done.line ∷ ls) (told_lines turns c library books (with_outcome run turn done))
+    ap (λ (ls : List OutLine). done.line ∷ ls) (lines_added turns c library books (with_outcome run turn done))
 
--- ---- a run on its way, with the lines that are told so far
+-- ---- a run on its way, with the lines that are printed so far
 
-pub record IsOnItsWay (c : Setting) (plan : PlanData) (all : List OutLine) (F : History) (V : CatalogHistory) (run : Run) (before : List Told) (turns : List Turn) : Type 0 where
+pub record IsOnItsWay (c : Setting) (plan : PlanData) (all : List OutLine) (F : History) (V : CatalogHistory) (run : Run) (before : List TaskLine) (turns : List Turn) : Type 0 where
   pub legal : IsLegal c F
   pub final : F ≡ (played c plan.library (books_of plan) run turns).history
   pub catalogs : V ≡ (played c plan.library (books_of plan) run turns).catalogs
@@ -260,7 +260,7 @@ rounds_at_most run turn turns earlier =
     (λ l h. All-head (λ (u : Turn). l.round ≤ u.round) turn turns h) run.lines earlier
 
 -- the lines of the rounds before a turn's are among those before it
-lines_before : (c : Setting) (plan : PlanData) (lines : List OutLine) (F : History) (V : CatalogHistory) (run : Run) (before : List Told) (turn : Turn) (turns : List Turn) → IsOnItsWay c plan lines F V run before (turn ∷ turns)
+lines_before : (c : Setting) (plan : PlanData) (lines : List OutLine) (F : History) (V : CatalogHistory) (run : Run) (before : List TaskLine) (turn : Turn) (turns : List Turn) → IsOnItsWay c plan lines F V run before (turn ∷ turns)
     → before_round turn.round lines ≡ before_round turn.round run.lines
 lines_before c plan lines F V run before turn turns w =
     let later : List OutLine = added c plan.library (books_of plan) run (turn ∷ turns) in
@@ -275,7 +275,7 @@ lines_before c plan lines F V run before turn turns w =
     ∙ append-nil (before_round turn.round run.lines)
 
 -- the lines before a turn are among those of the rounds up to its own
-lines_up_to : (c : Setting) (plan : PlanData) (lines : List OutLine) (F : History) (V : CatalogHistory) (run : Run) (before : List Told) (turn : Turn) (turns : List Turn) → IsOnItsWay c plan lines F V run before (turn ∷ turns)
+lines_up_to : (c : Setting) (plan : PlanData) (lines : List OutLine) (F : History) (V : CatalogHistory) (run : Run) (before : List TaskLine) (turn : Turn) (turns : List Turn) → IsOnItsWay c plan lines F V run before (turn ∷ turns)
     → up_to_round turn.round lines ≡ run.lines ++ up_to_round turn.round (added c plan.library (books_of plan) run (turn ∷ turns))
 lines_up_to c plan lines F V run before turn turns w =
     let later : List OutLine = added c plan.library (books_of plan) run (turn ∷ turns) in
@@ -295,14 +295,14 @@ up_to_first x H [] above from = tt
 up_to_first x H (p ∷ ps) above from = above p (All-head (λ (q : ℕ). length H ≤ q) p ps from)
 
 -- what the next line is judged by
-abbrev next_around : Setting → PlanData → List OutLine → History → CatalogHistory → Run → List Told → Turn → List Turn → Around
+abbrev next_around : Setting → PlanData → List OutLine → History → CatalogHistory → Run → List TaskLine → Turn → List Turn → Around
 next_around c plan lines F V run before turn turns =
-    around c plan lines V (calls_from F) before (told turns (added c plan.library (books_of plan) (with_outcome run turn (outcome c plan.library (books_of plan) run turn)) turns))
+    around c plan lines V (calls_from F) before (with_tasks turns (added c plan.library (books_of plan) (with_outcome run turn (outcome c plan.library (books_of plan) run turn)) turns))
 
-on_way : (c : Setting) (plan : PlanData) (lines : List OutLine) (F : History) (V : CatalogHistory) (run : Run) (before : List Told) (turns : List Turn) → IsOnItsWay c plan lines F V run before turns → GoesOnFrom run.history F
+on_way : (c : Setting) (plan : PlanData) (lines : List OutLine) (F : History) (V : CatalogHistory) (run : Run) (before : List TaskLine) (turns : List Turn) → IsOnItsWay c plan lines F V run before turns → GoesOnFrom run.history F
 on_way c plan lines F V run before turns w = subst (GoesOnFrom run.history) (sym w.final) (played_on c plan.library (books_of plan) run turns)
 
-version_is : (c : Setting) (plan : PlanData) (lines : List OutLine) (F : History) (V : CatalogHistory) (run : Run) (before : List Told) (turn : Turn) (turns : List Turn) → IsOnItsWay c plan lines F V run before (turn ∷ turns)
+version_is : (c : Setting) (plan : PlanData) (lines : List OutLine) (F : History) (V : CatalogHistory) (run : Run) (before : List TaskLine) (turn : Turn) (turns : List Turn) → IsOnItsWay c plan lines F V run before (turn ∷ turns)
     → IsVersion (next_around c plan lines F V run before turn turns) (next_caller run turn) (sets run.history)
 version_is c plan lines F V run before turn turns w =
     let x : Around = next_around c plan lines F V run before turn turns in
@@ -333,7 +333,7 @@ version_is c plan lines F V run before turn turns w =
     in
     let behind : All (λ (p : ℕ). length H ≤ p) (all_places (of_thread t (lines_of x.after))) =
     all_kept (λ (l : OutLine). places_in l.places) (λ (p : ℕ). length H ≤ p) (λ (l : OutLine). l.thread == t) (lines_of x.after)
-    (subst (λ (ls : List OutLine). All (λ (p : ℕ). length H ≤ p) (all_places ls)) (sym (told_lines turns c plan.library (books_of plan) next))
+    (subst (λ (ls : List OutLine). All (λ (p : ℕ). length H ≤ p) (all_places ls)) (sym (lines_added turns c plan.library (books_of plan) next))
     (added_from c plan.library (books_of plan) (length H) next turns (grown c plan.library (books_of plan) run turn)))
     in
     record {
@@ -341,15 +341,15 @@ version_is c plan lines F V run before turn turns w =
       rounds = below (length (all_places (before_round turn.round lines))) fewer;
       next = up_to_first x H (all_places (of_thread t (lines_of x.after))) above behind;
       round = above (length (all_places (up_to_round turn.round lines))) more;
-      told = all_kept (λ (l : OutLine). option_to_list l.global) (λ (v : ℕ). v ≤ sets H) (λ (l : OutLine). l.thread == t) (lines_of before) w.printed_before;
-      told_earlier = subst (λ (ls : List OutLine). All (λ (v : ℕ). v ≤ sets H) (versions ls)) (sym (lines_before c plan lines F V run before turn turns w))
+      printed = all_kept (λ (l : OutLine). option_to_list l.global) (λ (v : ℕ). v ≤ sets H) (λ (l : OutLine). l.thread == t) (lines_of before) w.printed_before;
+      printed_earlier = subst (λ (ls : List OutLine). All (λ (v : ℕ). v ≤ sets H) (versions ls)) (sym (lines_before c plan lines F V run before turn turns w))
           (all_kept (λ (l : OutLine). option_to_list l.global) (λ (v : ℕ). v ≤ sets H) (λ (l : OutLine). nat_lt l.round turn.round) run.lines w.printed);
     }
 
--- the next line tells what its turn asks for
-line_told : (c : Setting) (plan : PlanData) (lines : List OutLine) (F : History) (V : CatalogHistory) (run : Run) (before : List Told) (turn : Turn) (turns : List Turn) → IsOnItsWay c plan lines F V run before (turn ∷ turns)
-    → IsTold (next_around c plan lines F V run before turn turns) (told_of turn (outcome c plan.library (books_of plan) run turn).line)
-line_told c plan lines F V run before turn turns w =
+-- the next line prints what its turn asks for
+line_answered : (c : Setting) (plan : PlanData) (lines : List OutLine) (F : History) (V : CatalogHistory) (run : Run) (before : List TaskLine) (turn : Turn) (turns : List Turn) → IsOnItsWay c plan lines F V run before (turn ∷ turns)
+    → IsAnswered (next_around c plan lines F V run before turn turns) (task_line_of turn (outcome c plan.library (books_of plan) run turn).line)
+line_answered c plan lines F V run before turn turns w =
     let x : Around = next_around c plan lines F V run before turn turns in
     let at : Caller = next_caller run turn in
     let done : TurnOutcome = outcome c plan.library (books_of plan) run turn in
@@ -380,8 +380,8 @@ line_told c plan lines F V run before turn turns w =
 still_up : (H G : History) (vs : List ℕ) → sets H ≤ sets G → All (λ (v : ℕ). v ≤ sets H) vs → All (λ (v : ℕ). v ≤ sets G) vs
 still_up H G vs up = All-weaker (λ (v : ℕ). v ≤ sets H) (λ (v : ℕ). v ≤ sets G) (λ v le. omega (arith, le, up)) vs
 
-one_line_on : (c : Setting) (plan : PlanData) (lines : List OutLine) (F : History) (V : CatalogHistory) (run : Run) (before : List Told) (turn : Turn) (turns : List Turn) → IsOnItsWay c plan lines F V run before (turn ∷ turns)
-    → let done = outcome c plan.library (books_of plan) run turn in IsOnItsWay c plan lines F V (with_outcome run turn done) (told_of turn done.line ∷ before) turns
+one_line_on : (c : Setting) (plan : PlanData) (lines : List OutLine) (F : History) (V : CatalogHistory) (run : Run) (before : List TaskLine) (turn : Turn) (turns : List Turn) → IsOnItsWay c plan lines F V run before (turn ∷ turns)
+    → let done = outcome c plan.library (books_of plan) run turn in IsOnItsWay c plan lines F V (with_outcome run turn done) (task_line_of turn done.line ∷ before) turns
 one_line_on c plan lines F V run before turn turns w =
     let done : TurnOutcome = outcome c plan.library (books_of plan) run turn in
     let next : Run = with_outcome run turn done in
@@ -414,11 +414,11 @@ one_line_on c plan lines F V run before turn turns w =
       printed_before = All-append small (option_to_list l.global) (versions (lines_of before)) new (still_up run.history done.history (versions (lines_of before)) up w.printed_before);
     }
 
-pub are_told : (c : Setting) (plan : PlanData) (lines : List OutLine) (F : History) (V : CatalogHistory) (run : Run) (before : List Told) (turns : List Turn) → IsOnItsWay c plan lines F V run before turns
-    → AreTold c plan lines V (calls_from F) before (told turns (added c plan.library (books_of plan) run turns))
-are_told c plan lines F V run before [] w = tt
-are_told c plan lines F V run before (turn ∷ turns) w =
+pub are_answered : (c : Setting) (plan : PlanData) (lines : List OutLine) (F : History) (V : CatalogHistory) (run : Run) (before : List TaskLine) (turns : List Turn) → IsOnItsWay c plan lines F V run before turns
+    → AreAnswered c plan lines V (calls_from F) before (with_tasks turns (added c plan.library (books_of plan) run turns))
+are_answered c plan lines F V run before [] w = tt
+are_answered c plan lines F V run before (turn ∷ turns) w =
     let done : TurnOutcome = outcome c plan.library (books_of plan) run turn in (
-      line_told c plan lines F V run before turn turns w,
-      are_told c plan lines F V (with_outcome run turn done) (told_of turn done.line ∷ before) turns (one_line_on c plan lines F V run before turn turns w),
+      line_answered c plan lines F V run before turn turns w,
+      are_answered c plan lines F V (with_outcome run turn done) (task_line_of turn done.line ∷ before) turns (one_line_on c plan lines F V run before turn turns w),
     )

@@ -18,9 +18,9 @@ use script_lines::holds::{HoldChange, OpenHold, change_holds, held_as, hold_chan
 use std::alloc::{AllocError, Global};
 use std::marker::Model;
 
-/// What a thread keeps beside a table that does not tell it.
+/// What a thread keeps of its calls beside a table that its runner has alone.
 #[derive(Drop)]
-pub struct Kept {
+pub struct AloneSide {
     number: u32,
     own: Option<Object<Share>>,
     selected: Named,
@@ -28,20 +28,20 @@ pub struct Kept {
     holds: Vec<OpenHold>,
 }
 
-impl Model for Kept {
-    ghost use Rattle.script_serial.specs.Kept.{KeptData};
+impl Model for AloneSide {
+    ghost use Rattle.script_serial.specs.Alone.{AloneSideData};
 
-    ghost Value = { KeptData };
+    ghost Value = { AloneSideData };
 
     ghost view = { λ k. record { number = k.number; own = k.own; selected = k.selected; holds = k.holds.items } };
 }
 
-impl Kept {
+impl AloneSide {
     /// A thread before its first call.
-    pub fn new(alloc: Global, number: u32) -> Kept
+    pub fn new(alloc: Global, number: u32) -> AloneSide
         ensures { result ≡ record { number = number; own = None; selected = names.Global; holds = [] } }
     {
-        Kept {
+        AloneSide {
             number,
             own: None,
             selected: Named::Global,
@@ -81,8 +81,8 @@ impl Kept {
     }
 }
 
-impl Side for Kept {
-    ghost use Rattle.script_serial.specs.Kept.{Knows};
+impl Side for AloneSide {
+    ghost use Rattle.script_serial.specs.Alone.{Knows};
 
     ghost number_of = { λ k. k.number };
 
@@ -117,7 +117,7 @@ pub struct Alone {
 impl Model for Alone {
     ghost use Rattle.std.specs.Prelude.{◌≡◌};
     ghost use Rattle.script_lines.specs.Catalogs.{catalog_setting};
-    ghost use Rattle.script_serial.specs.Kept.{AloneData};
+    ghost use Rattle.script_serial.specs.Alone.{AloneData};
 
     ghost Value = { AloneData };
 
@@ -146,7 +146,7 @@ impl Board for Alone {
     ghost use Rattle.handle_table.specs.Table.{Fits};
     ghost use Rattle.script_serial.specs.Session.{IsAt, IsReady, CatalogsAreAt};
 
-    type Side = Kept;
+    type Side = AloneSide;
 
     ghost setting_of = { λ a. a.table.setting };
 
@@ -168,7 +168,11 @@ impl Board for Alone {
 
     ghost fewer = { λ n b s ready. let few = ready.steps in record { number = ready.number; steps = omega arith } };
 
-    fn call(&mut self, side: &mut Kept, op: Op<Share>) -> Result<(u64, Reply<Share>), AllocError> {
+    fn call(
+        &mut self,
+        side: &mut AloneSide,
+        op: Op<Share>,
+    ) -> Result<(u64, Reply<Share>), AllocError> {
         let next = selection_after(&op, side.selected);
         let change = hold_change(&op);
         let place = u64::from(self.table.steps());
@@ -177,14 +181,14 @@ impl Board for Alone {
         Ok((place, reply))
     }
 
-    fn global(&mut self, _side: &mut Kept) -> (u32, Object<Share>) {
+    fn global(&mut self, _side: &mut AloneSide) -> (u32, Object<Share>) {
         let global = self.table.global();
         (global.version(), global.peek().share())
     }
 
     fn catalog(
         &mut self,
-        side: &mut Kept,
+        side: &mut AloneSide,
         op: CatalogOp<BookShare>,
     ) -> (u64, CatalogReply<BookShare>) {
         let place = u64::from(self.asked);

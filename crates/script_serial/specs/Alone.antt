@@ -1,4 +1,4 @@
--- What a thread keeps beside a table that does not tell it, when it is right, and the table with its catalogs.
+-- What a thread keeps beside a table that its runner has alone, when it is right, and the table with its catalogs.
 use Rattle.std.specs.Prelude.{◌≡◌, ℕ, List, Option}
 use Rattle.mask_compose.specs.Parts.{Parts}
 use Rattle.handle_table.specs.declared.handle.Named.{Named}
@@ -12,14 +12,14 @@ use Rattle.script_lines.specs.Holds.{open_holds}
 
 -- the thread's number, the object that it has taken up (none where it goes by the global locale), what it has selected, and its
 -- open Holds in the order made
-pub record KeptData : Type 0 where
+pub record AloneSideData : Type 0 where
   pub number : ℕ
   pub own : Option Parts
   pub selected : Named
   pub holds : List OpenHold
 
 -- the thread keeps what a history says of it
-pub record Knows (k : KeptData) (H : History) : Type 0 where
+pub record Knows (k : AloneSideData) (H : History) : Type 0 where
   pub own : k.own ≡ own H k.number
   pub selected : k.selected ≡ selection H k.number
   pub holds : k.holds ≡ open_holds H k.number
