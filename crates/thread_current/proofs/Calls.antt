@@ -20,7 +20,8 @@ use Rattle.handle_table.specs.declared.handle.Named.TheVariants.{Global, Of}
 use Rattle.handle_table.specs.Shelf.{from_shelf}
 use Rattle.handle_table.specs.declared.op.Op.{Op as OpOf}
 use Rattle.handle_table.specs.declared.op.Reply.{Reply as ReplyOf}
-use Rattle.handle_table.specs.Entry.{Op, New, Dup, Free, Use, Hold, Release, SetGlobal, Install, Post, Fetch, Pins, End, Refusal, Reply, Was, Set, Refused, Entry, History, Setting, is_accepted}
+use Rattle.handle_table.specs.declared.op.Refusal.{Refusal}
+use Rattle.handle_table.specs.Entry.{Op, New, Dup, Free, Use, Hold, Release, SetGlobal, Install, Post, Fetch, Pins, End, Reply, Was, Set, Refused, Entry, History, Setting, is_accepted}
 use Rattle.handle_table.specs.Seen.{op_of, reply_of}
 use Rattle.handle_table.specs.History.{sets, global, global_at, selection_after, selection, holding_after, holding}
 use Rattle.handle_table.specs.Kept.{AreThreads}
