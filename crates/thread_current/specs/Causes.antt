@@ -1,6 +1,5 @@
 -- When a call of a thread is refused, over the history before the call. Each reason comes after the earlier ones of its call.
 use Rattle.std.specs.Prelude.{◌≡◌, ℕ, Option, Some, None, Result, Ok, Err, true, false}
-use Rattle.lc_base.specs.declared.category.Category.{Category}
 use Rattle.handle_table.specs.declared.handle.Named.{Named}
 use Rattle.handle_table.specs.declared.handle.Named.TheVariants.{Global, Of}
 use Rattle.handle_table.specs.declared.op.Refusal.{Refusal}

@@ -1,7 +1,6 @@
-use Rattle.std.proofs.Common.{◌≡◌, Some, sym, ap, ◌∙◌, subst}
+use Rattle.std.proofs.Common.{Some, sym, ap, ◌∙◌, subst}
 use Rattle.handle_table.specs.declared.op.Reply.{Reply as ReplyOf}
 use Rattle.handle_table.specs.Entry.{New}
-use Rattle.handle_table.specs.Answer.{answer}
 use Rattle.handle_table.specs.Seen.{reply_of}
 use Rattle.thread_current.specs.Thread.{before}
 use Rattle.thread_current.proofs.Refusals.{OnNew, on_new, reason_is}

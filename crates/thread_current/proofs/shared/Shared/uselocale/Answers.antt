@@ -1,4 +1,4 @@
-use Rattle.std.proofs.Common.{◌≡◌, Some, refl, sym, ap, ◌∙◌, subst}
+use Rattle.std.proofs.Common.{refl, ap}
 use Rattle.handle_table.specs.Seen.{reply_of}
 use Rattle.thread_current.proofs.Calls.{turned, used, use_refused}
 use Rattle.thread_current.proofs.shared.Shared.uselocale.Goals as goal
