@@ -9,6 +9,7 @@ use Rattle.category_store.specs.Catalog.{Catalog}
 use Rattle.handle_table.specs.declared.handle.Handle.{Handle}
 use Rattle.handle_table.specs.declared.handle.Named.{Named}
 use Rattle.handle_table.specs.declared.handle.Named.TheVariants as names
+use Rattle.handle_table.specs.declared.op.Refusal.{Refusal}
 use Rattle.handle_table.specs.Entry as table
 use Rattle.handle_table.specs.Entry.{History, Setting}
 use Rattle.handle_table.specs.History.{handle_named, object, pins, free_row}
@@ -190,7 +191,7 @@ accepted_own c library categories H t (table.Use n) private = tt
 accepted_own c library categories H t table.End private = tt
 accepted_own c library categories H t _ private = absurd (false≢true private.quiet)
 
-unless_own : (library : Catalog) (categories : Categories) (t : ℕ) (reason : Option table.Refusal) (reply : table.Reply) → IsOwnHandle t (handle_shown library categories reply)
+unless_own : (library : Catalog) (categories : Categories) (t : ℕ) (reason : Option Refusal) (reply : table.Reply) → IsOwnHandle t (handle_shown library categories reply)
     → IsOwnHandle t (handle_shown library categories (unless reason reply))
 unless_own library categories t (Some refusal) reply own = tt
 unless_own library categories t None reply own = own

@@ -2,8 +2,6 @@
 use Rattle.std.specs.Prelude.{ℕ, length, Option, Some, None}
 use Rattle.mask_compose.specs.Parts.{Parts}
 use Rattle.category_store.specs.Catalog.{Catalog}
-use Rattle.handle_table.specs.declared.op.Refusal.{Refusal}
-use Rattle.handle_table.specs.declared.op.Refusal.TheVariants as refusals
 use Rattle.handle_table.specs.Entry as table
 use Rattle.handle_table.specs.Entry.{History}
 use Rattle.script_words.specs.declared.categories.Categories.{Categories}
@@ -19,17 +17,6 @@ use Rattle.script_lines.specs.Reads.{local}
 
 -- ---- replies
 
--- the printed form of a refusal of the table
-abbrev pub refusal_shown : table.Refusal → Refusal
-refusal_shown (table.NoData category) = refusals.NoData category
-refusal_shown table.GlobalHandle = refusals.GlobalHandle
-refusal_shown table.NeverMade = refusals.NeverMade
-refusal_shown table.Stale = refusals.Stale
-refusal_shown table.TooMany = refusals.TooMany
-refusal_shown table.AlreadyHeld = refusals.AlreadyHeld
-refusal_shown table.NotHeld = refusals.NotHeld
-refusal_shown table.EmptyCell = refusals.EmptyCell
-
 -- the printed form of a reply of the table; a change of the global locale prints the name of what the command chose
 abbrev pub shown : Catalog → Categories → table.Reply → Said
 shown library categories (table.Made h) = said.Handle h
@@ -43,7 +30,7 @@ shown library categories table.Posted = said.Posted
 shown library categories (table.Got h) = said.Handle h
 shown library categories (table.Pinned count) = said.Pins count
 shown library categories table.Ended = said.Ended
-shown library categories (table.Refused refusal) = said.Refused (whys.Table (refusal_shown refusal))
+shown library categories (table.Refused refusal) = said.Refused (whys.Table refusal)
 
 -- the version that a reply prints: that of the global locale that it made
 abbrev pub version_made : table.Reply → Option ℕ

@@ -12,7 +12,9 @@ use Rattle.handle_table.specs.declared.handle.Handle.{Handle}
 use Rattle.handle_table.specs.declared.handle.Named.{Named}
 use Rattle.handle_table.specs.declared.handle.Named.TheVariants.{Global, Of}
 use Rattle.handle_table.specs.Entry as table
-use Rattle.handle_table.specs.Entry.{Op, New, Dup, Free, Use, Hold, Release, SetGlobal, Install, Post, Fetch, Pins, End, Reply, Released, NotHeld, Refusal, Entry, History, Setting, names, is_accepted}
+use Rattle.handle_table.specs.declared.op.Refusal.{Refusal}
+use Rattle.handle_table.specs.declared.op.Refusal.TheVariants.{NotHeld}
+use Rattle.handle_table.specs.Entry.{Op, New, Dup, Free, Use, Hold, Release, SetGlobal, Install, Post, Fetch, Pins, End, Reply, Released, Entry, History, Setting, names, is_accepted}
 use Rattle.handle_table.specs.History.{sets, global, selection, holding}
 use Rattle.handle_table.proofs.Numbering.{same_itself}
 use Rattle.handle_table.specs.Answer.{answer, own, IsLegal, first_reason, unless}

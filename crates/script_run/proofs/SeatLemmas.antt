@@ -8,7 +8,8 @@ use Rattle.mask_compose.specs.Parts.{Parts}
 use Rattle.handle_table.specs.declared.handle.Handle.{Handle}
 use Rattle.handle_table.specs.declared.handle.Named.{Named}
 use Rattle.handle_table.specs.declared.handle.Named.TheVariants.{Of}
-use Rattle.handle_table.specs.Entry.{Op, Use, Hold, Release, SetGlobal, Reply, Was, Set, Held, Released, Refusal, Refused, Entry, History, Setting, is_accepted}
+use Rattle.handle_table.specs.declared.op.Refusal.{Refusal}
+use Rattle.handle_table.specs.Entry.{Op, Use, Hold, Release, SetGlobal, Reply, Was, Set, Held, Released, Refused, Entry, History, Setting, is_accepted}
 use Rattle.handle_table.specs.History.{sets, global, global_at, selection}
 use Rattle.handle_table.specs.Answer.{answer, own, IsLegal}
 use Rattle.thread_current.specs.Mine.{HeldData}

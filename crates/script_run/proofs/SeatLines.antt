@@ -7,7 +7,8 @@ use Rattle.std.proofs.lemmas.List.Elements.{All-nil, All-cons, All-weaker}
 use Rattle.turn_gate.specs.declared.entry.Terms.{Terms}
 use Rattle.handle_table.specs.declared.handle.Handle.{Handle}
 use Rattle.handle_table.specs.declared.handle.Named.TheVariants.{Of}
-use Rattle.handle_table.specs.Entry.{Op, Release, Reply, Released, NotHeld, History, Setting}
+use Rattle.handle_table.specs.declared.op.Refusal.TheVariants.{NotHeld}
+use Rattle.handle_table.specs.Entry.{Op, Release, Reply, Released, History, Setting}
 use Rattle.handle_table.specs.History.{holding}
 use Rattle.handle_table.specs.Answer.{answer, first_reason, unless}
 use Rattle.handle_table.proofs.Numbering.{same_itself}

@@ -7,6 +7,7 @@ use Rattle.lc_base.specs.declared.category.Category.TheVariants as categories
 use Rattle.lc_base.specs.declared.item.Item.TheVariants.{Radixchar}
 use Rattle.catalog_table.specs.declared.setting.CatalogSetting.{CatalogSetting}
 use Rattle.catalog_table.specs.Entry.{History as CatalogHistory}
+use Rattle.handle_table.specs.declared.op.Refusal.TheVariants as refusals
 use Rattle.handle_table.specs.Entry as table
 use Rattle.handle_table.specs.Entry.{Setting}
 use Rattle.mask_compose.specs.Parts.{Parts}
@@ -163,7 +164,7 @@ abbrev first_lines : ℕ × List ℕ → List OutLine
 first_lines a =
     set_line 1
     ∷ read_line 1 1 1 a.0 a.1
-    ∷ line_of 1 1 2 (places.One 0) None (shown library AllCategories (table.Refused table.GlobalHandle))
+    ∷ line_of 1 1 2 (places.One 0) None (shown library AllCategories (table.Refused refusals.GlobalHandle))
     ∷ end_line 2 0 2 2
     ∷ end_line 2 1 3 3 ∷ []
 
@@ -220,7 +221,7 @@ refused_new = plan (codes "A" ∷ []) 1 (placed 1 0 (New (codes "x") 8 (codes "a
 
 abbrev refused_lines : Places → Said → List OutLine
 refused_lines at reply =
-    line_of 1 0 1 (places.One 0) None (shown library AllCategories (table.Refused (table.NoData categories.Time)))
+    line_of 1 0 1 (places.One 0) None (shown library AllCategories (table.Refused (refusals.NoData categories.Time)))
     ∷ line_of 1 0 2 at None reply
     ∷ end_line 2 0 3 1 ∷ []
 
