@@ -1,26 +1,12 @@
 -- Era segments, and the year of an era that a date has (XBD 7.3.5.2, era).
-use Rattle.std.specs.Prelude.{ℕ, ℤ, pos, ◌-ℤ◌, ◌+◌, ◌-◌, ◌*◌, ◌==◌, nat_lt, nat_le, Bool, true, false, ◌&&◌, List, [], ◌∷◌, codes, length, take, drop, position, find, min, max, Option, Some, None, option_map, if◌then◌else◌}
+use Rattle.std.specs.Prelude.{ℕ, ℤ, pos, ◌-ℤ◌, ◌+◌, ◌-◌, ◌*◌, ◌==◌, nat_lt, nat_le, Bool, true, false, ◌&&◌, List, [], ◌∷◌, codes, find, min, max, Option, Some, None, option_map, if◌then◌else◌}
 use Rattle.std.specs.Int.{is_in_range}
-use Rattle.std.specs.Char.{is_ascii_digit}
-use Rattle.std.specs.List.{list_all}
 use Rattle.std.specs.Str.{bytes_eq}
-use Rattle.std.specs.Str.Parse.{digits_value}
 use Rattle.lc_base.specs.Lines.{◌>>=◌}
+use Rattle.byte_words.specs.Cuts.{cut_at}
+use Rattle.byte_words.specs.Numbers.{few_digits}
 use Rattle.time_cat.specs.declared.segment.Date.{Date}
 use Rattle.time_cat.specs.declared.segment.Segment.{Segment}
-
--- what stands before and behind the byte at an index
-abbrev pub split_at : List ℕ → Option ℕ → Option (List ℕ × List ℕ)
-split_at text None = None
-split_at text (Some n) = Some (take n text, drop (n + 1) text)
-
--- what stands before and behind the first separator
-unfoldable pub split : ℕ → List ℕ → Option (List ℕ × List ℕ)
-split separator text = split_at text (position (λ c. c == separator) text)
-
--- the value of decimal digits, at least one and at most so many
-unfoldable pub few_digits : ℕ → List ℕ → Option ℕ
-few_digits most ds = if is_in_range 1 most (length ds) && list_all is_ascii_digit ds then Some (digits_value 10 ds) else None
 
 -- a number in a range
 abbrev pub within : ℕ → ℕ → Option ℕ → Option ℕ
@@ -54,8 +40,8 @@ after_all = 20000 * 16 * 32
 -- a date: year, month and day with `/` between
 unfoldable pub date : List ℕ → Option Date
 date text = do
-  y ← split 47 text
-  m ← split 47 y.1
+  y ← cut_at 47 text
+  m ← cut_at 47 y.1
   year ← year_of y.0
   month ← within 1 12 (few_digits 2 m.0)
   day ← within 1 31 (few_digits 2 m.1)
@@ -75,11 +61,11 @@ direction text = if bytes_eq text (codes "+") then Some true else (if bytes_eq t
 -- a segment: direction, offset, start, end, name and format, with `:` between. A segment is kept by its lesser end first
 unfoldable pub segment : List ℕ → Option Segment
 segment text = do
-  d ← split 58 text
-  o ← split 58 d.1
-  s ← split 58 o.1
-  e ← split 58 s.1
-  n ← split 58 e.1
+  d ← cut_at 58 text
+  o ← cut_at 58 d.1
+  s ← cut_at 58 o.1
+  e ← cut_at 58 s.1
+  n ← cut_at 58 e.1
   forward ← direction d.0
   offset ← few_digits 4 o.0
   start ← date s.0

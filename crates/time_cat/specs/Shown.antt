@@ -2,8 +2,8 @@
 use Rattle.std.specs.Prelude.{ℕ, zero, suc, ℤ, pos, negsuc, ◌+◌, ◌-◌, ◌/◌, ◌%◌, nat_lt, List, [], ◌∷◌, ◌++◌, count_by, slice_get, decimal, Option, Some, None, Result, Ok, Err, if◌then◌else◌}
 use Rattle.std.specs.List.{flat_map}
 use Rattle.std.specs.Fmt.{signed_decimal}
-use Rattle.time_cat.specs.declared.conversion.Named.{Named}
-use Rattle.time_cat.specs.declared.conversion.Named.TheVariants.{ShortWeekday, Weekday, ShortMonth, Month, HalfDay}
+use Rattle.time_cat.specs.declared.conversion.NameList.{NameList}
+use Rattle.time_cat.specs.declared.conversion.NameList.TheVariants.{ShortWeekday, Weekday, ShortMonth, Month, HalfDay}
 use Rattle.time_cat.specs.declared.conversion.Quantity.{Quantity}
 use Rattle.time_cat.specs.declared.conversion.Quantity.TheVariants as quantities
 use Rattle.time_cat.specs.declared.conversion.Layout.{Layout}
@@ -76,7 +76,7 @@ or_text (Some found) text = found
 -- ---- names and fixed forms
 
 -- a name of the locale
-abbrev pub name_text : TimeValues → TmValues → Named → List ℕ
+abbrev pub name_text : TimeValues → TmValues → NameList → List ℕ
 name_text v t ShortWeekday = text_at v.names.abday t.wday
 name_text v t Weekday = text_at v.names.day t.wday
 name_text v t ShortMonth = text_at v.names.abmon (t.mon - 1)

@@ -1,13 +1,12 @@
 //! Segments of eras (XBD 7.3.5.2, era).
 
-ghost use Rattle.std.specs.Prelude.{◌≡◌, ◌+◌, ◌*◌, ◌^◌, ◌<◌, ◌≤◌, ◌==◌, true, length, find, position, IfSome, IfOk, option_map, pos};
-ghost use Rattle.std.specs.Char.{is_ascii_digit};
-ghost use Rattle.std.specs.List.{list_all};
+ghost use Rattle.std.specs.Prelude.{◌≡◌, ◌<◌, ◌≤◌, find, IfSome, IfOk, option_map};
 ghost use Rattle.std.specs.Option.{option_copied};
-ghost use Rattle.std.specs.Str.Parse.{digits_value};
-ghost use Rattle.time_cat.specs.Eras.{split, few_digits, within, year_of, day_number, after_all, date, end_number, direction, segment, contains, distance, year_in};
+ghost use Rattle.byte_words.specs.Numbers.{few_digits};
+ghost use Rattle.time_cat.specs.Eras.{within, year_of, day_number, after_all, date, end_number, direction, segment, contains, distance, year_in};
 ghost use Rattle.time_cat.specs.Segments.{whole};
 
+use byte_words::{cut_at, few_digits};
 use lc_base::ByteText;
 use std::alloc::{AllocError, Global};
 
@@ -48,70 +47,14 @@ pub struct SegmentText<'a> {
     pub format: &'a [u8],
 }
 
-/// Where the first such byte stands.
-fn place_of(text: &[u8], separator: u8) -> Option<usize>
-    ensures is { result ≡ position (λ c. c == separator) text.now }
-    ensures within { IfSome result (λ n. n < length text.now) }
-{
-    text.iter().position(|c| *c == separator)
-}
-
-/// What stands before and behind the first separator.
-#[tactic(auto, unfolding(crate::specs::Eras::split))]
-fn split(text: &[u8], separator: u8) -> Option<(&[u8], &[u8])>
-    ensures { option_map (λ x. (x.0.now, x.1.now)) result ≡ split separator text.now }
-{
-    match place_of(text, separator) {
-        None => None,
-        Some(n) => Some((&text[..n], &text[n + 1..])),
-    }
-}
-
-/// The value of at most four digits.
-fn value_of(digits: &[u8]) -> u16
-    requires all_digits { list_all is_ascii_digit digits.now ≡ true }
-    requires few { length digits.now ≤ 4 }
-    ensures is { result ≡ digits_value 10 digits.now }
-    ensures small { result < 10000 }
-{
-    let mut value = 0;
-    for digit in digits {
-        value = value * 10 + u16::from(*digit - b'0');
-    }
-    value
-}
-
-/// Whether each byte is a digit.
-fn are_digits(bytes: &[u8]) -> bool
-    ensures { result ≡ list_all is_ascii_digit bytes.now }
-{
-    bytes.iter().all(|byte| byte.is_ascii_digit())
-}
-
-/// The value of at least one and at most so many digits.
-#[tactic(auto, unfolding(crate::specs::Eras::few_digits))]
-fn few_digits(most: usize, text: &[u8]) -> Option<u16>
-    requires { most ≤ 4 }
-    ensures is { result ≡ few_digits most text.now }
-    ensures small { IfSome result (λ n. n < 10000) }
-{
-    if text.is_empty() || text.len() > most {
-        return None;
-    }
-    if !are_digits(text) {
-        return None;
-    }
-    Some(value_of(text))
-}
-
 /// A number of two digits in a range.
-fn within(low: u16, high: u16, text: &[u8]) -> Option<u16>
+fn within(low: u32, high: u32, text: &[u8]) -> Option<u16>
     ensures is { result ≡ within low high (few_digits 2 text.now) }
     ensures capped { IfSome result (λ n. n ≤ high) }
 {
     let number = few_digits(2, text)?;
     if low <= number && number <= high {
-        Some(number)
+        Some(number as u16)
     } else {
         None
     }
@@ -127,11 +70,11 @@ fn year_of(text: &[u8]) -> Option<u16>
         [] => None,
         [b'-', digits @ ..] => {
             let year = few_digits(4, digits)?;
-            Some(10000 - year.saturating_sub(1))
+            Some(10000 - (year as u16).saturating_sub(1))
         }
         _ => {
             let year = few_digits(4, text)?;
-            Some(10000 + year)
+            Some(10000 + year as u16)
         }
     }
 }
@@ -148,8 +91,8 @@ pub fn day_number(year: u16, month: u16, day: u16) -> u32
 fn date_of(text: &[u8]) -> Option<Date>
     ensures { result ≡ date text.now }
 {
-    let (year, rest) = split(text, b'/')?;
-    let (month, day) = split(rest, b'/')?;
+    let (year, rest) = cut_at(b'/', text)?;
+    let (month, day) = cut_at(b'/', rest)?;
     let year = year_of(year)?;
     let month = within(1, 12, month)?;
     let day = within(1, 31, day)?;
@@ -194,13 +137,13 @@ fn direction(text: &[u8]) -> Option<bool>
 pub fn segment_of(text: &[u8]) -> Option<SegmentText<'_>>
     ensures { option_map whole result ≡ segment text.now }
 {
-    let (sign, rest) = split(text, b':')?;
-    let (offset, rest) = split(rest, b':')?;
-    let (start, rest) = split(rest, b':')?;
-    let (end, rest) = split(rest, b':')?;
-    let (name, format) = split(rest, b':')?;
+    let (sign, rest) = cut_at(b':', text)?;
+    let (offset, rest) = cut_at(b':', rest)?;
+    let (start, rest) = cut_at(b':', rest)?;
+    let (end, rest) = cut_at(b':', rest)?;
+    let (name, format) = cut_at(b':', rest)?;
     let forward = direction(sign)?;
-    let offset = few_digits(4, offset)?;
+    let offset = few_digits(4, offset)? as u16;
     let start = date_of(start)?;
     let end = end_number(end)?;
     Some(SegmentText {
