@@ -12,7 +12,7 @@ ghost use Rattle.strftime_fields.specs.Appending.{Appends};
 use crate::digits::{last_digit, put_bare, put_number, put_signed, two};
 use crate::output::{Stop, put, put_byte};
 use crate::weeks::{behind_monday, iso_week, monday_week, sunday_week};
-use time_cat::{EraHit, Layout, Named, Quantity, Shows, Time, Tm};
+use time_cat::{EraHit, Layout, NameList, Quantity, Shows, Time, Tm};
 
 /// A number of a time.
 #[inline(always)]
@@ -49,16 +49,16 @@ fn alternative(t: &Time, n: u32) -> Option<&[u8]>
 
 /// A name of the locale.
 #[inline(always)]
-pub fn name<'a>(t: &'a Time, tm: &Tm, named: Named) -> &'a [u8]
-    ensures { result.now ≡ name_text t.now tm.now named }
+pub fn name<'a>(t: &'a Time, tm: &Tm, list: NameList) -> &'a [u8]
+    ensures { result.now ≡ name_text t.now tm.now list }
 {
-    match named {
-        Named::ShortWeekday => t.abday(tm.wday() as u8),
-        Named::Weekday => t.day(tm.wday() as u8),
-        Named::ShortMonth => t.abmon((tm.mon() - 1) as u8),
-        Named::Month => t.mon((tm.mon() - 1) as u8),
-        Named::HalfDay if tm.hour() < 12 => t.am_pm(0),
-        Named::HalfDay => t.am_pm(1),
+    match list {
+        NameList::ShortWeekday => t.abday(tm.wday() as u8),
+        NameList::Weekday => t.day(tm.wday() as u8),
+        NameList::ShortMonth => t.abmon((tm.mon() - 1) as u8),
+        NameList::Month => t.mon((tm.mon() - 1) as u8),
+        NameList::HalfDay if tm.hour() < 12 => t.am_pm(0),
+        NameList::HalfDay => t.am_pm(1),
     }
 }
 
