@@ -40,13 +40,6 @@ pub fn number(quantity: Quantity, tm: &Tm) -> u32
     }
 }
 
-/// The alternative digit at a number.
-fn alternative(t: &Time, n: u32) -> Option<&[u8]>
-    ensures { option_copied result ≡ alternative t.now.alt_digits n }
-{
-    if n < 256 { t.alt_digit(n as u8) } else { None }
-}
-
 /// A name of the locale.
 #[inline(always)]
 pub fn name<'a>(t: &'a Time, tm: &Tm, list: NameList) -> &'a [u8]
@@ -286,7 +279,7 @@ fn put_alternative(
     requires { length out.old.items ≤ max }
     ensures { Appends max out.old.items (or_text (alternative t.now.alt_digits n) (laid_out layout n)) out.new.items result }
 {
-    match alternative(t, n) {
+    match t.alt_digit(n) {
         None => put_number(out, max, layout, n),
         Some(digit) => put(out, max, digit),
     }
@@ -299,7 +292,7 @@ pub fn put_plain(out: &mut Vec<u8>, max: usize, t: &Time, tm: &Tm, shows: Shows)
     ensures { Appends max out.old.items (plain_text t.now tm.now shows) out.new.items result }
 {
     match shows {
-        Shows::Name(named) => put(out, max, name(t, tm, named)),
+        Shows::Name(list) => put(out, max, name(t, tm, list)),
         Shows::Number(quantity, layout) => put_number(out, max, layout, number(quantity, tm)),
         Shows::Alternative(quantity, layout) => {
             put_alternative(out, max, t, layout, number(quantity, tm))
