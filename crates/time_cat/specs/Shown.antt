@@ -65,9 +65,9 @@ laid_out Two n = two n
 laid_out Three n = three n
 laid_out Spaced n = spaced n
 
--- the alternative digit at a number; a list has at most 100
+-- the alternative digit at a number
 abbrev pub alternative : List (List ℕ) → ℕ → Option (List ℕ)
-alternative digits n = if nat_lt n 256 then slice_get digits n else None
+alternative digits n = slice_get digits n
 
 abbrev pub or_text : Option (List ℕ) → List ℕ → List ℕ
 or_text None text = text

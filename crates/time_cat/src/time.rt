@@ -179,7 +179,7 @@ impl Time {
     }
 
     /// The text that stands for a number, if the list reaches so far.
-    pub fn alt_digit(&self, i: u8) -> Option<&[u8]>
+    pub fn alt_digit(&self, i: u32) -> Option<&[u8]>
         ensures { option_copied result ≡ slice_get self.now.alt_digits i }
     {
         let text = self.alt_digits.as_slice().get(i as usize)?;

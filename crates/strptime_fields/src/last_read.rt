@@ -7,7 +7,7 @@ use crate::item::Kind;
 
 /// The last value of each kind that was read.
 #[derive(Clone, Copy)]
-pub struct Kept {
+pub struct LastRead {
     pub year: Option<u16>,
     pub century: Option<u8>,
     pub year_of_century: Option<u8>,
@@ -22,15 +22,15 @@ pub struct Kept {
     pub year_day: Option<u16>,
 }
 
-impl Kept {
+impl LastRead {
     ghost use Rattle.std.specs.Prelude.{◌≡◌, Some};
     ghost use Rattle.strptime_fields.specs.Keeping.{nothing, keep};
 
     /// Nothing was read yet.
-    pub fn nothing() -> Kept
+    pub fn nothing() -> LastRead
         ensures { result ≡ nothing }
     {
-        Kept {
+        LastRead {
             year: None,
             century: None,
             year_of_century: None,
@@ -47,7 +47,7 @@ impl Kept {
     }
 
     /// The same with a value of a kind, in the place of an earlier one.
-    pub fn with(mut self, kind: Kind, value: u8) -> Kept
+    pub fn with(mut self, kind: Kind, value: u8) -> LastRead
         ensures { result ≡ keep kind value self }
     {
         match kind {
@@ -67,7 +67,7 @@ impl Kept {
     }
 
     /// The same with a day of the year.
-    pub fn with_year_day(mut self, day: u16) -> Kept
+    pub fn with_year_day(mut self, day: u16) -> LastRead
         ensures { result ≡ record self { year_day = Some day } }
     {
         self.year_day = Some(day);
@@ -75,7 +75,7 @@ impl Kept {
     }
 
     /// The same with a year.
-    pub fn with_year(mut self, year: u16) -> Kept
+    pub fn with_year(mut self, year: u16) -> LastRead
         ensures { result ≡ record self { year = Some year } }
     {
         self.year = Some(year);
