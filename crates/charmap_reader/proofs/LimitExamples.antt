@@ -13,7 +13,6 @@ use Rattle.charmap_reader.specs.CodedSet.{utf8, posix}
 use Rattle.std.specs.Int.{bytes_high_first}
 use Rattle.charmap_reader.specs.Encoding.{shortest}
 use Rattle.charmap_reader.specs.Numbering.{padded}
-use Rattle.charmap_reader.specs.Runs.{IsNextRun}
 use Rattle.charmap_reader.specs.Charmap.{Entry, counted_at, listed_at, mapping}
 
 at : ℕ → ℕ → Place
