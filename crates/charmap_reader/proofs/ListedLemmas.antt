@@ -1,5 +1,5 @@
 -- The charset of a charmap: its values, and the bytes of its characters.
-use Rattle.std.proofs.Common.{◌≡◌, ◌≢◌, ℕ, ◌<◌, Bool, true, false, cond, ◌||◌, List, [], ◌∷◌, ◌++◌, length, All, Option, Some, None, refl, sym, ◌∙◌, ap, arith}
+use Rattle.std.proofs.Common.{◌≡◌, ◌≢◌, ℕ, ◌<◌, ◌≤◌, Bool, true, false, cond, ◌||◌, List, [], ◌∷◌, ◌++◌, length, All, Option, Some, None, refl, sym, ◌∙◌, ap, arith}
 use Rattle.std.specs.Bool.{◌==◌}
 use Rattle.std.specs.Int.{is_in_range}
 use Rattle.std.specs.List.{list_any, find}
@@ -7,7 +7,7 @@ use Rattle.std.specs.Option.{option_map}
 use Rattle.std.specs.Str.{bytes_eq}
 use Rattle.std.proofs.lemmas.Bool.{eqb-true, true≢false}
 use Rattle.std.proofs.lemmas.Bool.Decides.{nat_tests}
-use Rattle.std.proofs.lemmas.List.Elements.{All-head, All-tail}
+use Rattle.std.proofs.lemmas.List.Elements.{All-head, All-tail, All-append, All-cons, All-nil}
 use Rattle.std.proofs.lemmas.List.Folds.{list_any-append}
 use Rattle.std.proofs.lemmas.Slice.Eq.{bytes_eq-Decides}
 use Rattle.charmap_reader.specs.Portable.{is_portable}
@@ -45,6 +45,13 @@ ranges_covered name es given ranges values covered w =
     ∙ ap (λ b. b || (is_in_range 0 0 w || (is_in_range 7 13 w || (is_in_range 32 126 w || false)))) (values w)
     ∙ ap (λ b. list_any (has_value w) es || (b || (is_in_range 7 13 w || (is_in_range 32 126 w || false)))) (zero_range w)
     ∙ or_in_order (w == 0) (is_in_range 7 13 w) (is_in_range 32 126 w) (list_any (has_value w) es)
+
+-- with those of the portable characters, ranges that do not run backward
+pub forward_more : (given : List (ℕ × ℕ)) → All (λ (range : ℕ × ℕ). range.0 ≤ range.1) given → All (λ (range : ℕ × ℕ). range.0 ≤ range.1) (given ++ (0, 0) ∷ (7, 13) ∷ (32, 126) ∷ [])
+forward_more given forward =
+    let P : ℕ × ℕ → Type 0 = λ (range : ℕ × ℕ). range.0 ≤ range.1 in
+    All-append P given ((0, 0) ∷ (7, 13) ∷ (32, 126) ∷ []) forward
+    (All-cons P (0, 0) ((7, 13) ∷ (32, 126) ∷ []) (omega arith) (All-cons P (7, 13) ((32, 126) ∷ []) (omega arith) (All-cons P (32, 126) [] (omega arith) (All-nil P))))
 
 -- ---- encodings
 
