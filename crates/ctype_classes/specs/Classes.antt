@@ -2,7 +2,8 @@
 use Rattle.std.specs.Prelude.{ℕ, Bool, List, [], ◌∷◌, ◌++◌, slice_get, Option, Some, None, unwrap_or, option_map}
 use Rattle.lc_base.specs.declared.place.Place.{Place}
 use Rattle.class_ranges.specs.Ranges.{Range, covers}
-use Rattle.charmap_reader.specs.Portable.{Name, first_named}
+use Rattle.byte_words.specs.Tables.{first_named}
+use Rattle.charmap_reader.specs.Portable.{Name}
 use Rattle.charmap_reader.specs.CodedSet.{CodedSet}
 use Rattle.keyword_lists.specs.declared.source.Value.{Value}
 use Rattle.keyword_lists.specs.declared.source.Entry.{Entry}

@@ -9,7 +9,8 @@ use Rattle.lc_base.specs.declared.reason.Reason.{Reason}
 use Rattle.lc_base.specs.declared.reason.Reason.TheVariants.{BadClassName, DigitsNotTen, NotCased}
 use Rattle.lc_base.specs.Reading.{Reads, ◌>>=◌}
 use Rattle.class_ranges.specs.Ranges.{covers}
-use Rattle.charmap_reader.specs.Portable.{Name, first_named}
+use Rattle.byte_words.specs.Tables.{first_named}
+use Rattle.charmap_reader.specs.Portable.{Name}
 use Rattle.charmap_reader.specs.CodedSet.{CodedSet}
 use Rattle.keyword_lists.specs.declared.source.Value.{Value}
 use Rattle.keyword_lists.specs.declared.source.Value.TheVariants.{Text, Number, Chars, Pair}

@@ -3,7 +3,7 @@ use Rattle.charmap_reader.specs.declared.names.TheConstants.{NAME_LIMIT}
 use Rattle.charmap_reader.specs.declared.spans.Span.{Span}
 use Rattle.charmap_reader.specs.Spans.{Adds}
 use Rattle.charmap_reader.proofs.NameLemmas.{kept_more, kept_push, block_formed, added_none, added_some}
-use Rattle.charmap_reader.proofs.names.Names.add.Goals as goal
+use Rattle.charmap_reader.proofs.names.CharacterNames.add.Goals as goal
 
 pub invariant_of-self : goal.invariant_of-self
 invariant_of-self c = kept_more c.self.inside.fronts c.number.new.self c.self.inside.spans c.self.inside.len c.number.ensures.keeps c.self.invariant

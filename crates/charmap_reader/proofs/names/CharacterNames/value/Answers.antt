@@ -5,7 +5,7 @@ use Rattle.charmap_reader.specs.Fronts.{IsPlaceOf}
 use Rattle.charmap_reader.specs.Spans.{Spot, is_in}
 use Rattle.charmap_reader.specs.Tails.{front, tail_number}
 use Rattle.charmap_reader.proofs.NameLemmas.{spot_of, spot_is, value_found, value_lacking, value_fits, value_absent}
-use Rattle.charmap_reader.proofs.names.Names.value.Goals as goal
+use Rattle.charmap_reader.proofs.names.CharacterNames.value.Goals as goal
 
 pub returns-in_err-front : goal.returns-in_err-front
 returns-in_err-front c =

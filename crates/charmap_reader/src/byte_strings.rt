@@ -7,20 +7,20 @@ use std::marker::Model;
 
 /// Byte strings, numbered in the order in which they were added.
 #[derive(Debug, Drop)]
-pub struct Texts {
+pub struct ByteStrings {
     bytes: Vec<u8>,
     /// Where each begins and ends.
     parts: Vec<(u32, u32)>,
 }
 
-impl Model for Texts {
+impl Model for ByteStrings {
     ghost use Rattle.std.specs.Prelude.{ℕ, List, All};
 
     ghost Value = { List (List ℕ) };
 
-    ghost use Rattle.charmap_reader.specs.Texts.{texts_in, IsPartOf};
+    ghost use Rattle.charmap_reader.specs.ByteStrings.{strings_in, IsPartOf};
 
-    ghost view = { λ t. texts_in t.bytes.items t.parts.items };
+    ghost view = { λ t. strings_in t.bytes.items t.parts.items };
 
     ghost invariant = { λ t. All (IsPartOf t.bytes.items) t.parts.items };
 }
@@ -35,11 +35,11 @@ pub fn number_of(count: usize) -> Result<u32, AllocError>
     }
 }
 
-impl Texts {
-    pub fn new(alloc: Global) -> Texts
+impl ByteStrings {
+    pub fn new(alloc: Global) -> ByteStrings
         ensures { result ≡ [] }
     {
-        Texts {
+        ByteStrings {
             bytes: Vec::new(alloc),
             parts: Vec::new(alloc),
         }
@@ -62,12 +62,12 @@ impl Texts {
     }
 
     /// Adds one.
-    pub fn push(&mut self, text: &[u8]) -> Result<(), AllocError>
-        ensures ok { OnOk result (self.new ≡ self.old ++ text.now ∷ []) }
+    pub fn push(&mut self, string: &[u8]) -> Result<(), AllocError>
+        ensures ok { OnOk result (self.new ≡ self.old ++ string.now ∷ []) }
         ensures err { OnErr result (self.new ≡ self.old) }
     {
         let start = number_of(self.bytes.len())?;
-        self.bytes.extend_from_slice(text)?;
+        self.bytes.extend_from_slice(string)?;
         let end = number_of(self.bytes.len())?;
         self.parts.push((start, end))?;
         Ok(())
