@@ -3,7 +3,7 @@
 ghost use Rattle.std.specs.Prelude.{◌≡◌, ◌<◌, ◌≤◌, find, IfSome, IfOk, option_map};
 ghost use Rattle.std.specs.Option.{option_copied};
 ghost use Rattle.byte_words.specs.Numbers.{few_digits};
-ghost use Rattle.time_cat.specs.Eras.{within, year_of, day_number, after_all, date, end_number, direction, segment, contains, distance, year_in};
+ghost use Rattle.time_cat.specs.Eras.{within, year_of, date, end_of, direction, segment, date_is_no_later, is_no_later, is_between, contains, distance};
 ghost use Rattle.time_cat.specs.Segments.{whole};
 
 use byte_words::{cut_at, few_digits};
@@ -11,12 +11,22 @@ use lc_base::ByteText;
 use std::alloc::{AllocError, Global};
 
 /// A date.
-#[derive(Clone, Copy, Debug, PartialEq, Eq)]
+#[derive(Clone, Copy, Debug)]
 pub struct Date {
     /// The year, counted so that the year 1 is 10001.
     pub year: u16,
-    /// The place among all dates.
-    pub number: u32,
+    pub month: u16,
+    pub day: u16,
+}
+
+/// An end of a segment.
+#[derive(Clone, Copy, Debug)]
+pub enum End {
+    /// Before all dates.
+    BeforeAll,
+    On(Date),
+    /// After all dates.
+    AfterAll,
 }
 
 /// A segment of an era.
@@ -25,12 +35,9 @@ pub struct Segment {
     /// Whether years count up behind the start.
     pub forward: bool,
     pub offset: u16,
-    /// The counted year of the start.
-    pub start: u16,
-    /// The number of the first date.
-    pub first: u32,
-    /// The number of the last date.
-    pub last: u32,
+    pub start: Date,
+    /// The other end, which may be before the start.
+    pub end: End,
     pub name: ByteText,
     pub format: ByteText,
 }
@@ -40,9 +47,8 @@ pub struct Segment {
 pub struct SegmentText<'a> {
     pub forward: bool,
     pub offset: u16,
-    pub start: u16,
-    pub first: u32,
-    pub last: u32,
+    pub start: Date,
+    pub end: End,
     pub name: &'a [u8],
     pub format: &'a [u8],
 }
@@ -79,13 +85,6 @@ fn year_of(text: &[u8]) -> Option<u16>
     }
 }
 
-/// The place of a date among all dates, whose year is counted.
-pub fn day_number(year: u16, month: u16, day: u16) -> u32
-    ensures { result ≡ day_number year month day }
-{
-    (u32::from(year) * 16 + u32::from(month)) * 32 + u32::from(day)
-}
-
 /// A date: year, month and day with `/` between.
 #[tactic(auto, unfolding(crate::specs::Eras::date))]
 fn date_of(text: &[u8]) -> Option<Date>
@@ -96,26 +95,23 @@ fn date_of(text: &[u8]) -> Option<Date>
     let year = year_of(year)?;
     let month = within(1, 12, month)?;
     let day = within(1, 31, day)?;
-    Some(Date {
-        year,
-        number: day_number(year, month, day),
-    })
+    Some(Date { year, month, day })
 }
 
 /// The end of a segment: a date, or before or after all dates.
-#[tactic(auto, unfolding(crate::specs::Eras::end_number))]
-fn end_number(text: &[u8]) -> Option<u32>
-    ensures { result ≡ end_number text.now }
+#[tactic(auto, unfolding(crate::specs::Eras::end_of))]
+fn end_of(text: &[u8]) -> Option<End>
+    ensures { result ≡ end_of text.now }
 {
     if text == b"-*".as_slice() {
-        return Some(0);
+        return Some(End::BeforeAll);
     }
     if text == b"+*".as_slice() {
-        return Some(20000 * 16 * 32);
+        return Some(End::AfterAll);
     }
     match date_of(text) {
         None => None,
-        Some(date) => Some(date.number),
+        Some(date) => Some(End::On(date)),
     }
 }
 
@@ -145,13 +141,12 @@ pub fn segment_of(text: &[u8]) -> Option<SegmentText<'_>>
     let forward = direction(sign)?;
     let offset = few_digits(4, offset)? as u16;
     let start = date_of(start)?;
-    let end = end_number(end)?;
+    let end = end_of(end)?;
     Some(SegmentText {
         forward,
         offset,
-        start: start.year,
-        first: start.number.min(end),
-        last: start.number.max(end),
+        start,
+        end,
         name,
         format,
     })
@@ -168,30 +163,63 @@ impl SegmentText<'_> {
             forward: self.forward,
             offset: self.offset,
             start: self.start,
-            first: self.first,
-            last: self.last,
+            end: self.end,
             name: ByteText::of(alloc, self.name)?,
             format: ByteText::of(alloc, self.format)?,
         })
     }
 }
 
-/// The first segment that contains the date of a number.
-pub fn segment_at(segments: &[Segment], number: u32) -> Option<&Segment>
-    ensures { option_copied result ≡ find (contains number) segments.now }
+/// Whether a date is no later than another.
+fn date_is_no_later(a: Date, b: Date) -> bool
+    ensures { result ≡ date_is_no_later a b }
 {
-    segments.iter().find(|segment| segment.first <= number && number <= segment.last)
+    a.year < b.year
+        || (a.year == b.year && (a.month < b.month || (a.month == b.month && a.day <= b.day)))
+}
+
+/// Whether an end is no later than another.
+fn is_no_later(a: End, b: End) -> bool
+    ensures { result ≡ is_no_later a b }
+{
+    match (a, b) {
+        (End::BeforeAll, _) | (_, End::AfterAll) => true,
+        (End::On(a), End::On(b)) => date_is_no_later(a, b),
+        (End::On(_), End::BeforeAll) | (End::AfterAll, _) => false,
+    }
+}
+
+/// Whether a date is between two ends, both included.
+fn is_between(from: End, to: End, date: Date) -> bool
+    ensures { result ≡ is_between from to date }
+{
+    is_no_later(from, End::On(date)) && is_no_later(End::On(date), to)
+}
+
+/// The first segment that contains a date.
+pub fn segment_at(segments: &[Segment], date: Date) -> Option<&Segment>
+    ensures { option_copied result ≡ find (contains date) segments.now }
+{
+    segments.iter().find(|segment| segment.contains(date))
 }
 
 impl Segment {
     ghost use Rattle.std.specs.Prelude.{◌≡◌, ◌+◌, ◌<◌, ◌≤◌};
-    ghost use Rattle.time_cat.specs.Eras.{distance, year_in};
+    ghost use Rattle.time_cat.specs.Eras.{contains, year_in};
+
+    /// Whether it contains a date.
+    fn contains(&self, date: Date) -> bool
+        ensures { result ≡ contains date self.now }
+    {
+        is_between(End::On(self.start), self.end, date)
+            || is_between(self.end, End::On(self.start), date)
+    }
 
     /// The era's year of a counted year.
     pub fn year_of(&self, year: u16) -> i32
         ensures { result ≡ year_in self.now year }
     {
-        let distance = distance(self.start, year);
+        let distance = distance(self.start.year, year);
         if self.forward {
             i32::from(self.offset) + i32::from(distance)
         } else {
