@@ -15,7 +15,7 @@ use Rattle.keyword_lists.specs.declared.source.Value.{Value}
 use Rattle.keyword_lists.specs.declared.source.Value.TheVariants.{Text, Number, Chars, Pair}
 use Rattle.keyword_lists.specs.declared.source.Entry.{Entry}
 use Rattle.keyword_table.specs.declared.row.Rule.{Rule}
-use Rattle.keyword_table.specs.declared.row.Rule.TheVariants.{Free, NotEmpty, EmptyOrFour, Between, TenDigits, Cased, ClassNames, Names, Format, Segments, Digits}
+use Rattle.keyword_table.specs.declared.row.Rule.TheVariants as rules
 use Rattle.ctype_classes.specs.Lines.{rule_of_line}
 use Rattle.ctype_classes.specs.Table.{declared_row}
 use Rattle.ctype_classes.specs.Classes.{Classes, with_class, twelve_classes}
@@ -110,17 +110,17 @@ declaring_values_other set entries classes (v ∷ vs) =
 
 after_operands_other : (set : CodedSet) (entries : List Entry) (classes : Classes) (rule : Option Rule) (vs : List (Place × Value)) → FaultsOther (after_operands set entries classes rule vs)
 after_operands_other set entries classes None vs = ok_other classes
-after_operands_other set entries classes (Some ClassNames) vs = declaring_values_other set entries classes vs
-after_operands_other set entries classes (Some TenDigits) vs = after_other (each_passes is_ten DigitsNotTen vs) (λ u. Ok classes) (passes_other is_ten DigitsNotTen no_digit vs) (λ u. ok_other classes)
-after_operands_other set entries classes (Some Cased) vs = after_other (each_passes (is_cased_pair classes) NotCased vs) (λ u. Ok classes) (passes_other (is_cased_pair classes) NotCased no_case vs) (λ u. ok_other classes)
-after_operands_other set entries classes (Some Free) vs = ok_other classes
-after_operands_other set entries classes (Some NotEmpty) vs = ok_other classes
-after_operands_other set entries classes (Some EmptyOrFour) vs = ok_other classes
-after_operands_other set entries classes (Some (Between low high)) vs = ok_other classes
-after_operands_other set entries classes (Some (Names n)) vs = ok_other classes
-after_operands_other set entries classes (Some (Format rank)) vs = ok_other classes
-after_operands_other set entries classes (Some Segments) vs = ok_other classes
-after_operands_other set entries classes (Some Digits) vs = ok_other classes
+after_operands_other set entries classes (Some rules.ClassNames) vs = declaring_values_other set entries classes vs
+after_operands_other set entries classes (Some rules.TenDigits) vs = after_other (each_passes is_ten DigitsNotTen vs) (λ u. Ok classes) (passes_other is_ten DigitsNotTen no_digit vs) (λ u. ok_other classes)
+after_operands_other set entries classes (Some rules.Cased) vs = after_other (each_passes (is_cased_pair classes) NotCased vs) (λ u. Ok classes) (passes_other (is_cased_pair classes) NotCased no_case vs) (λ u. ok_other classes)
+after_operands_other set entries classes (Some rules.Free) vs = ok_other classes
+after_operands_other set entries classes (Some rules.NotEmpty) vs = ok_other classes
+after_operands_other set entries classes (Some rules.EmptyOrFour) vs = ok_other classes
+after_operands_other set entries classes (Some (rules.Between low high)) vs = ok_other classes
+after_operands_other set entries classes (Some (rules.Names n)) vs = ok_other classes
+after_operands_other set entries classes (Some (rules.Format rank)) vs = ok_other classes
+after_operands_other set entries classes (Some rules.Segments) vs = ok_other classes
+after_operands_other set entries classes (Some rules.Digits) vs = ok_other classes
 
 after_lines_other : (set : CodedSet) (entries : List Entry) (classes : Classes) (es : List Entry) → FaultsOther (after_lines set entries classes es)
 after_lines_other set entries classes [] = ok_other classes
