@@ -1,5 +1,5 @@
 -- Refusals of classes with a common member.
-use Rattle.std.proofs.Common.{◌≡◌, ℕ, Bool, true, false, cond, ◌&&◌, ◌||◌, List, [], ◌∷◌, Option, Some, None, Result, Ok, Err, sym, ap, ◌∙◌, inl, inr}
+use Rattle.std.proofs.Common.{◌≡◌, ℕ, Bool, true, false, cond, ◌&&◌, List, [], ◌∷◌, Option, Some, None, Result, Ok, Err, sym, ap, ◌∙◌, inl, inr}
 use Rattle.std.specs.Prelude.{not, unwrap_or, OnOk}
 use Rattle.lc_base.specs.declared.place.Place.{Place}
 use Rattle.lc_base.specs.declared.fault.TextFault.{TextFault}
