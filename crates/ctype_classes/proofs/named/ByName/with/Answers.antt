@@ -1,6 +1,6 @@
 use Rattle.std.proofs.Common.{sym, ◌∙◌}
 use Rattle.ctype_classes.proofs.NamedLemmas.{places_more, is_some-copied}
-use Rattle.ctype_classes.proofs.named.Named.with.Goals as goal
+use Rattle.ctype_classes.proofs.named.ByName.with.Goals as goal
 
 pub invariant_of-result : goal.invariant_of-result
 invariant_of-result g c =

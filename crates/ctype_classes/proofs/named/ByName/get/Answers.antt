@@ -1,6 +1,6 @@
 use Rattle.std.proofs.Common.{sym, ◌∙◌}
 use Rattle.ctype_classes.proofs.NamedLemmas.{nothing_named, named_at}
-use Rattle.ctype_classes.proofs.named.Named.get.Goals as goal
+use Rattle.ctype_classes.proofs.named.ByName.get.Goals as goal
 
 pub returns-in_err-place : goal.returns-in_err-place
 returns-in_err-place g c =
