@@ -16,7 +16,7 @@ use crate::command::{Command, Read, Target};
 use crate::known::Known;
 use crate::scope::Scope;
 use lc_base::{ByteText, LinePart, List, Reason, TextFault};
-use script_words::{Stretch, Question, Verb, command_named};
+use script_words::{Question, Stretch, Verb, command_named};
 use std::alloc::Global;
 
 /// `ITEM`, of `info`.
@@ -131,11 +131,7 @@ fn read_words(alloc: Global, question: Question, rest: Stretch<'_>) -> Result<Re
 
 /// A base, which may be left out.
 #[tactic(auto, unfolding(crate::specs::Commands::base))]
-fn base(
-    alloc: Global,
-    scope: Scope<'_>,
-    rest: Stretch<'_>,
-) -> Result<Option<Target>, TextFault>
+fn base(alloc: Global, scope: Scope<'_>, rest: Stretch<'_>) -> Result<Option<Target>, TextFault>
     ensures is { Gives (λ x. x) result (base (option_copied scope.entry.known) scope.entry.threads.now (span rest.entry)) }
     ensures owned { IfOk result (IsBaseOwned (length scope.entry.threads.now)) }
 {
@@ -147,11 +143,7 @@ fn base(
 
 /// `new N MASK LOC`, `new N MASK LOC H`.
 #[tactic(auto, unfolding(crate::specs::Commands::new_command))]
-fn new_command(
-    alloc: Global,
-    scope: Scope<'_>,
-    rest: Stretch<'_>,
-) -> Result<Command, TextFault>
+fn new_command(alloc: Global, scope: Scope<'_>, rest: Stretch<'_>) -> Result<Command, TextFault>
     ensures is { Gives (λ x. x) result (new_command (option_copied scope.entry.known) scope.entry.threads.now (span rest.entry)) }
     ensures in_range { IfOk result (IsInRange (length scope.entry.threads.now)) }
 {
@@ -169,11 +161,7 @@ fn new_command(
 
 /// `dup N H`.
 #[tactic(auto, unfolding(crate::specs::Commands::dup_command))]
-fn dup_command(
-    alloc: Global,
-    scope: Scope<'_>,
-    rest: Stretch<'_>,
-) -> Result<Command, TextFault>
+fn dup_command(alloc: Global, scope: Scope<'_>, rest: Stretch<'_>) -> Result<Command, TextFault>
     ensures is { Gives (λ x. x) result (dup_command (option_copied scope.entry.known) scope.entry.threads.now (span rest.entry)) }
     ensures in_range { IfOk result (IsInRange (length scope.entry.threads.now)) }
 {
@@ -183,11 +171,7 @@ fn dup_command(
 }
 
 /// `?`, or what is selected.
-fn selection(
-    alloc: Global,
-    scope: Scope<'_>,
-    word: Stretch<'_>,
-) -> Result<Command, TextFault>
+fn selection(alloc: Global, scope: Scope<'_>, word: Stretch<'_>) -> Result<Command, TextFault>
     ensures is { Gives (λ x. x) result (selection (option_copied scope.entry.known) scope.entry.threads.now (span word.entry)) }
     ensures in_range { IfOk result (IsInRange (length scope.entry.threads.now)) }
 {
@@ -199,11 +183,7 @@ fn selection(
 
 /// `use H`, `use ?`.
 #[tactic(auto, unfolding(crate::specs::Commands::use_command))]
-fn use_command(
-    alloc: Global,
-    scope: Scope<'_>,
-    rest: Stretch<'_>,
-) -> Result<Command, TextFault>
+fn use_command(alloc: Global, scope: Scope<'_>, rest: Stretch<'_>) -> Result<Command, TextFault>
     ensures is { Gives (λ x. x) result (use_command (option_copied scope.entry.known) scope.entry.threads.now (span rest.entry)) }
     ensures in_range { IfOk result (IsInRange (length scope.entry.threads.now)) }
 {
@@ -246,11 +226,7 @@ fn install_command(
 
 /// `post K H`.
 #[tactic(auto, unfolding(crate::specs::Commands::post_command))]
-fn post_command(
-    alloc: Global,
-    scope: Scope<'_>,
-    rest: Stretch<'_>,
-) -> Result<Command, TextFault>
+fn post_command(alloc: Global, scope: Scope<'_>, rest: Stretch<'_>) -> Result<Command, TextFault>
     ensures is { Gives (λ x. x) result (post_command (option_copied scope.entry.known) scope.entry.threads.now (span rest.entry)) }
     ensures in_range { IfOk result (IsInRange (length scope.entry.threads.now)) }
 {
@@ -261,11 +237,7 @@ fn post_command(
 
 /// `fetch N THREAD.K`.
 #[tactic(auto, unfolding(crate::specs::Commands::fetch_command))]
-fn fetch_command(
-    alloc: Global,
-    scope: Scope<'_>,
-    rest: Stretch<'_>,
-) -> Result<Command, TextFault>
+fn fetch_command(alloc: Global, scope: Scope<'_>, rest: Stretch<'_>) -> Result<Command, TextFault>
     ensures is { Gives (λ x. x) result (fetch_command (option_copied scope.entry.known) scope.entry.threads.now (span rest.entry)) }
     ensures in_range { IfOk result (IsInRange (length scope.entry.threads.now)) }
 {
@@ -318,11 +290,7 @@ fn catopen_command(alloc: Global, rest: Stretch<'_>) -> Result<Command, TextFaul
 
 /// `catgets C SET MSG "DEFAULT"`.
 #[tactic(auto, unfolding(crate::specs::Commands::catgets_command))]
-fn catgets_command(
-    alloc: Global,
-    scope: Scope<'_>,
-    rest: Stretch<'_>,
-) -> Result<Command, TextFault>
+fn catgets_command(alloc: Global, scope: Scope<'_>, rest: Stretch<'_>) -> Result<Command, TextFault>
     ensures is { Gives (λ x. x) result (catgets_command (option_copied scope.entry.known) scope.entry.threads.now (span rest.entry)) }
     ensures in_range { IfOk result (IsInRange (length scope.entry.threads.now)) }
 {
