@@ -11,7 +11,7 @@ use Rattle.handle_table.specs.declared.handle.Handle.{Handle}
 use Rattle.handle_table.specs.declared.handle.Named.{Named}
 use Rattle.handle_table.specs.declared.op.Refusal.TheVariants as refusals
 use Rattle.strptime_fields.specs.declared.parsed.Parsed.{Parsed}
-use Rattle.script_words.specs.Tables.{first_named}
+use Rattle.byte_words.specs.Tables.{first_named}
 use Rattle.script_out.specs.declared.output.Said.{Said}
 use Rattle.script_out.specs.declared.output.Said.TheVariants as said
 use Rattle.script_out.specs.declared.output.Why.{Why}

@@ -4,9 +4,10 @@ ghost use Rattle.std.specs.Prelude.{◌≡◌, map, Some};
 ghost use Rattle.lc_base.specs.declared.category.Category.{Category};
 ghost use Rattle.lc_base.specs.Categories.{category_name};
 ghost use Rattle.time_cat.specs.declared.tm.TmField.{TmField};
-ghost use Rattle.script_words.specs.Tables.{first_named};
+ghost use Rattle.byte_words.specs.Tables.{first_named};
 ghost use Rattle.script_out.specs.Output.{field_text};
 
+use byte_words::first_named;
 use handle_table::Refusal;
 use lc_base::Category;
 use script_out::Why;
@@ -119,19 +120,6 @@ const FIELDS: [(&[u8], TmField); 9] = [
     (b"yday", TmField::Yday),
     (b"offset", TmField::Offset),
 ];
-
-/// What a table gives for a word.
-fn first_named<T: Copy>(mut table: &[(&[u8], T)], name: &[u8]) -> Option<T>
-    ensures { result ≡ first_named (map (λ row. (row.0.now, row.1)) table.entry.now) name.now }
-{
-    while let [row, rest @ ..] = table {
-        if row.0 == name {
-            return Some(row.1);
-        }
-        table = rest;
-    }
-    None
-}
 
 /// The form of the replies that begin with this word.
 pub fn reply_form(word: &[u8]) -> Option<ReplyForm>

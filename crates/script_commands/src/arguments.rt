@@ -17,14 +17,15 @@ ghost use Rattle.script_words.specs.Tables.{items_table};
 ghost use Rattle.script_commands.specs.Commands.{argument, read_as, no_more, is_over, handle, handle_word, target, target_word, lone_target, catalog, catalog_word, thread_cell, cell, key, max_bytes, format, command_text, amounts, whole_numbers, offset, zone, moment};
 
 use crate::command::{OpenCatalog, Target};
-use crate::known::{Known, THREAD_LIMIT, lacks_key, thread_number};
+use crate::known::{Known, lacks_key, thread_number};
+use crate::scope::Scope;
 use byte_words::decimal_number;
 use handle_table::Handle;
 use lc_base::{ByteText, CELLS, Item, Limit, LinePart, List, Place, Reason, TextFault};
 use script_words::{
-    AMOUNT_LIMIT, Categories, CommandText, DEFAULT_MAX, Format, NUMBER_LIMIT, Stretch, WrittenAmount,
-    WrittenCell, WrittenHandle, WrittenNumber, WrittenTime, amount_of_word, behind_front,
-    categories_of_word, cell_number, cell_of_word, class_of_word, handle_of_word,
+    AMOUNT_LIMIT, Categories, CommandText, DEFAULT_MAX, Format, NUMBER_LIMIT, Stretch,
+    WrittenAmount, WrittenCell, WrittenHandle, WrittenNumber, WrittenTime, amount_of_word,
+    behind_front, categories_of_word, cell_number, cell_of_word, class_of_word, handle_of_word,
     is_thread_name, item_named, key_of_word, mask_of_word, max_number, number_of_word,
     offset_of_word, quoted_of_word, short_number, text_of_word, three_numbers, variable_of_word,
     zone_of_word,
@@ -115,17 +116,14 @@ pub fn categories(rest: Stretch<'_>) -> Result<(Categories, Stretch<'_>), TextFa
 
 /// The handle that is written so.
 fn handle(
-    known: Option<&Known>,
-    threads: &List<ByteText>,
+    scope: Scope<'_>,
     word: Stretch<'_>,
     written: WrittenHandle<'_>,
 ) -> Result<Handle, TextFault>
-    requires some { 0 < length threads.now }
-    requires few { length threads.now ≤ THREAD_LIMIT }
-    ensures is { Gives (λ x. x) result (handle (option_copied known.entry) threads.now (span word.entry) (seen_handle written.entry)) }
-    ensures owned { IfOk result (λ h. h.owner < length threads.now) }
+    ensures is { Gives (λ x. x) result (handle (option_copied scope.entry.known) scope.entry.threads.now (span word.entry) (seen_handle written.entry)) }
+    ensures owned { IfOk result (λ h. h.owner < length scope.entry.threads.now) }
 {
-    let Some(owner) = thread_number(known, threads, written.thread) else {
+    let Some(owner) = thread_number(scope, written.thread) else {
         return Err(TextFault::At(word.place, Reason::NoThread));
     };
     Ok(Handle {
@@ -136,34 +134,21 @@ fn handle(
 }
 
 /// The handle that a word is.
-fn handle_word(
-    known: Option<&Known>,
-    threads: &List<ByteText>,
-    word: Stretch<'_>,
-) -> Result<Handle, TextFault>
-    requires some { 0 < length threads.now }
-    requires few { length threads.now ≤ THREAD_LIMIT }
-    ensures is { Gives (λ x. x) result (handle_word (option_copied known.entry) threads.now (span word.entry)) }
-    ensures owned { IfOk result (λ h. h.owner < length threads.now) }
+fn handle_word(scope: Scope<'_>, word: Stretch<'_>) -> Result<Handle, TextFault>
+    ensures is { Gives (λ x. x) result (handle_word (option_copied scope.entry.known) scope.entry.threads.now (span word.entry)) }
+    ensures owned { IfOk result (λ h. h.owner < length scope.entry.threads.now) }
 {
     match handle_of_word(word.bytes) {
-        Some(written) => handle(known, threads, word, written),
+        Some(written) => handle(scope, word, written),
         None => Err(wrong_word(word.place)),
     }
 }
 
 /// What a word names: `GLOBAL`, a variable or a handle.
 #[tactic(auto, unfolding(crate::specs::Commands::target))]
-pub fn target(
-    alloc: Global,
-    known: Option<&Known>,
-    threads: &List<ByteText>,
-    word: Stretch<'_>,
-) -> Result<Target, TextFault>
-    requires some { 0 < length threads.now }
-    requires few { length threads.now ≤ THREAD_LIMIT }
-    ensures is { Gives (λ x. x) result (target (option_copied known.entry) threads.now (span word.entry)) }
-    ensures owned { IfOk result (IsOwned (length threads.now)) }
+pub fn target(alloc: Global, scope: Scope<'_>, word: Stretch<'_>) -> Result<Target, TextFault>
+    ensures is { Gives (λ x. x) result (target (option_copied scope.entry.known) scope.entry.threads.now (span word.entry)) }
+    ensures owned { IfOk result (IsOwned (length scope.entry.threads.now)) }
 {
     if word.bytes == b"GLOBAL".as_slice() {
         return Ok(Target::Global);
@@ -171,79 +156,59 @@ pub fn target(
     if is_thread_name(word.bytes) {
         return Ok(Target::Variable(ByteText::of(alloc, word.bytes)?));
     }
-    Ok(Target::Handle(handle_word(known, threads, word)?))
+    Ok(Target::Handle(handle_word(scope, word)?))
 }
 
 /// What the next word names, and what follows it.
 #[tactic(auto, unfolding(crate::specs::Commands::target_word))]
 pub fn target_word<'a>(
     alloc: Global,
-    known: Option<&Known>,
-    threads: &List<ByteText>,
+    scope: Scope<'_>,
     rest: Stretch<'a>,
 ) -> Result<(Target, Stretch<'a>), TextFault>
-    requires some { 0 < length threads.now }
-    requires few { length threads.now ≤ THREAD_LIMIT }
-    ensures is { Gives (λ x. (x.0, span x.1)) result (target_word (option_copied known.entry) threads.now (span rest.entry)) }
-    ensures owned { IfOk result (λ x. IsOwned (length threads.now) x.0) }
+    ensures is { Gives (λ x. (x.0, span x.1)) result (target_word (option_copied scope.entry.known) scope.entry.threads.now (span rest.entry)) }
+    ensures owned { IfOk result (λ x. IsOwned (length scope.entry.threads.now) x.0) }
 {
     let (word, rest) = argument(rest)?;
-    let named = target(alloc, known, threads, word)?;
+    let named = target(alloc, scope, word)?;
     Ok((named, rest))
 }
 
 /// Just one word, which names something.
 #[tactic(auto, unfolding(crate::specs::Commands::lone_target))]
-pub fn lone_target(
-    alloc: Global,
-    known: Option<&Known>,
-    threads: &List<ByteText>,
-    rest: Stretch<'_>,
-) -> Result<Target, TextFault>
-    requires some { 0 < length threads.now }
-    requires few { length threads.now ≤ THREAD_LIMIT }
-    ensures is { Gives (λ x. x) result (lone_target (option_copied known.entry) threads.now (span rest.entry)) }
-    ensures owned { IfOk result (IsOwned (length threads.now)) }
+pub fn lone_target(alloc: Global, scope: Scope<'_>, rest: Stretch<'_>) -> Result<Target, TextFault>
+    ensures is { Gives (λ x. x) result (lone_target (option_copied scope.entry.known) scope.entry.threads.now (span rest.entry)) }
+    ensures owned { IfOk result (IsOwned (length scope.entry.threads.now)) }
 {
-    let (named, rest) = target_word(alloc, known, threads, rest)?;
+    let (named, rest) = target_word(alloc, scope, rest)?;
     no_more(rest)?;
     Ok(named)
 }
 
 /// What a word names: a variable of a catalog or the handle of one.
 #[tactic(auto, unfolding(crate::specs::Commands::catalog))]
-fn catalog(
-    alloc: Global,
-    known: Option<&Known>,
-    threads: &List<ByteText>,
-    word: Stretch<'_>,
-) -> Result<OpenCatalog, TextFault>
-    requires some { 0 < length threads.now }
-    requires few { length threads.now ≤ THREAD_LIMIT }
-    ensures is { Gives (λ x. x) result (catalog (option_copied known.entry) threads.now (span word.entry)) }
-    ensures owned { IfOk result (IsCatalogOwned (length threads.now)) }
+fn catalog(alloc: Global, scope: Scope<'_>, word: Stretch<'_>) -> Result<OpenCatalog, TextFault>
+    ensures is { Gives (λ x. x) result (catalog (option_copied scope.entry.known) scope.entry.threads.now (span word.entry)) }
+    ensures owned { IfOk result (IsCatalogOwned (length scope.entry.threads.now)) }
 {
     if is_thread_name(word.bytes) {
         return Ok(OpenCatalog::Variable(ByteText::of(alloc, word.bytes)?));
     }
-    Ok(OpenCatalog::Handle(handle_word(known, threads, word)?))
+    Ok(OpenCatalog::Handle(handle_word(scope, word)?))
 }
 
 /// The catalog that the next word names, and what follows it.
 #[tactic(auto, unfolding(crate::specs::Commands::catalog_word))]
 pub fn catalog_word<'a>(
     alloc: Global,
-    known: Option<&Known>,
-    threads: &List<ByteText>,
+    scope: Scope<'_>,
     rest: Stretch<'a>,
 ) -> Result<(OpenCatalog, Stretch<'a>), TextFault>
-    requires some { 0 < length threads.now }
-    requires few { length threads.now ≤ THREAD_LIMIT }
-    ensures is { Gives (λ x. (x.0, span x.1)) result (catalog_word (option_copied known.entry) threads.now (span rest.entry)) }
-    ensures owned { IfOk result (λ x. IsCatalogOwned (length threads.now) x.0) }
+    ensures is { Gives (λ x. (x.0, span x.1)) result (catalog_word (option_copied scope.entry.known) scope.entry.threads.now (span rest.entry)) }
+    ensures owned { IfOk result (λ x. IsCatalogOwned (length scope.entry.threads.now) x.0) }
 {
     let (word, rest) = argument(rest)?;
-    let named = catalog(alloc, known, threads, word)?;
+    let named = catalog(alloc, scope, word)?;
     Ok((named, rest))
 }
 
@@ -261,18 +226,15 @@ pub fn catalog_name(alloc: Global, rest: Stretch<'_>) -> Result<(ByteText, Stret
 
 /// The numbers of a thread and of its cell.
 fn thread_cell(
-    known: Option<&Known>,
-    threads: &List<ByteText>,
+    scope: Scope<'_>,
     word: Stretch<'_>,
     written: WrittenCell<'_>,
 ) -> Result<(u32, u32), TextFault>
-    requires some { 0 < length threads.now }
-    requires few { length threads.now ≤ THREAD_LIMIT }
     requires cell { written.cell < CELLS }
-    ensures is { Gives (λ x. x) result (thread_cell (option_copied known.entry) threads.now (span word.entry) (seen_cell written.entry)) }
-    ensures in_range { IfOk result (λ x. (x.0 < length threads.now) × (x.1 < CELLS)) }
+    ensures is { Gives (λ x. x) result (thread_cell (option_copied scope.entry.known) scope.entry.threads.now (span word.entry) (seen_cell written.entry)) }
+    ensures in_range { IfOk result (λ x. (x.0 < length scope.entry.threads.now) × (x.1 < CELLS)) }
 {
-    match thread_number(known, threads, written.thread) {
+    match thread_number(scope, written.thread) {
         Some(owner) => Ok((owner, written.cell)),
         None => Err(TextFault::At(word.place, Reason::NoThread)),
     }
@@ -280,18 +242,12 @@ fn thread_cell(
 
 /// The cell that a word names: the numbers of its thread and of the cell.
 #[tactic(auto, unfolding(crate::specs::Commands::cell))]
-pub fn cell(
-    known: Option<&Known>,
-    threads: &List<ByteText>,
-    word: Stretch<'_>,
-) -> Result<(u32, u32), TextFault>
-    requires some { 0 < length threads.now }
-    requires few { length threads.now ≤ THREAD_LIMIT }
-    ensures is { Gives (λ x. x) result (cell (option_copied known.entry) threads.now (span word.entry)) }
-    ensures in_range { IfOk result (λ x. (x.0 < length threads.now) × (x.1 < CELLS)) }
+pub fn cell(scope: Scope<'_>, word: Stretch<'_>) -> Result<(u32, u32), TextFault>
+    ensures is { Gives (λ x. x) result (cell (option_copied scope.entry.known) scope.entry.threads.now (span word.entry)) }
+    ensures in_range { IfOk result (λ x. (x.0 < length scope.entry.threads.now) × (x.1 < CELLS)) }
 {
     match cell_of_word(word.bytes) {
-        Some(written) => thread_cell(known, threads, word, written),
+        Some(written) => thread_cell(scope, word, written),
         None => Err(wrong_word(word.place)),
     }
 }
@@ -391,7 +347,10 @@ pub fn format(alloc: Global, rest: Stretch<'_>) -> Result<(Format, Stretch<'_>),
 
 /// A text in quotes, and what follows it.
 #[tactic(auto, unfolding(crate::specs::Commands::command_text))]
-pub fn command_text(alloc: Global, rest: Stretch<'_>) -> Result<(CommandText, Stretch<'_>), TextFault>
+pub fn command_text(
+    alloc: Global,
+    rest: Stretch<'_>,
+) -> Result<(CommandText, Stretch<'_>), TextFault>
     ensures { Gives (λ x. (x.0, span x.1)) result (command_text (span rest.entry)) }
 {
     let (word, rest) = argument(rest)?;

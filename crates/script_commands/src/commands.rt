@@ -13,9 +13,10 @@ use crate::arguments::{
     no_more, target, target_word, value, variable, whole_numbers,
 };
 use crate::command::{Command, Read, Target};
-use crate::known::{Known, THREAD_LIMIT};
+use crate::known::Known;
+use crate::scope::Scope;
 use lc_base::{ByteText, LinePart, List, Reason, TextFault};
-use script_words::{Stretch, Question, Verb, command_named};
+use script_words::{Question, Stretch, Verb, command_named};
 use std::alloc::Global;
 
 /// `ITEM`, of `info`.
@@ -130,40 +131,26 @@ fn read_words(alloc: Global, question: Question, rest: Stretch<'_>) -> Result<Re
 
 /// A base, which may be left out.
 #[tactic(auto, unfolding(crate::specs::Commands::base))]
-fn base(
-    alloc: Global,
-    known: Option<&Known>,
-    threads: &List<ByteText>,
-    rest: Stretch<'_>,
-) -> Result<Option<Target>, TextFault>
-    requires some { 0 < length threads.now }
-    requires few { length threads.now ≤ THREAD_LIMIT }
-    ensures is { Gives (λ x. x) result (base (option_copied known.entry) threads.now (span rest.entry)) }
-    ensures owned { IfOk result (IsBaseOwned (length threads.now)) }
+fn base(alloc: Global, scope: Scope<'_>, rest: Stretch<'_>) -> Result<Option<Target>, TextFault>
+    ensures is { Gives (λ x. x) result (base (option_copied scope.entry.known) scope.entry.threads.now (span rest.entry)) }
+    ensures owned { IfOk result (IsBaseOwned (length scope.entry.threads.now)) }
 {
     if is_over(rest) {
         return Ok(None);
     }
-    Ok(Some(lone_target(alloc, known, threads, rest)?))
+    Ok(Some(lone_target(alloc, scope, rest)?))
 }
 
 /// `new N MASK LOC`, `new N MASK LOC H`.
 #[tactic(auto, unfolding(crate::specs::Commands::new_command))]
-fn new_command(
-    alloc: Global,
-    known: Option<&Known>,
-    threads: &List<ByteText>,
-    rest: Stretch<'_>,
-) -> Result<Command, TextFault>
-    requires some { 0 < length threads.now }
-    requires few { length threads.now ≤ THREAD_LIMIT }
-    ensures is { Gives (λ x. x) result (new_command (option_copied known.entry) threads.now (span rest.entry)) }
-    ensures in_range { IfOk result (IsInRange (length threads.now)) }
+fn new_command(alloc: Global, scope: Scope<'_>, rest: Stretch<'_>) -> Result<Command, TextFault>
+    ensures is { Gives (λ x. x) result (new_command (option_copied scope.entry.known) scope.entry.threads.now (span rest.entry)) }
+    ensures in_range { IfOk result (IsInRange (length scope.entry.threads.now)) }
 {
     let (variable, rest) = variable(alloc, rest)?;
     let (mask, rest) = mask(rest)?;
     let (locale, rest) = locale(alloc, rest)?;
-    let base = base(alloc, known, threads, rest)?;
+    let base = base(alloc, scope, rest)?;
     Ok(Command::New {
         variable,
         mask,
@@ -174,55 +161,34 @@ fn new_command(
 
 /// `dup N H`.
 #[tactic(auto, unfolding(crate::specs::Commands::dup_command))]
-fn dup_command(
-    alloc: Global,
-    known: Option<&Known>,
-    threads: &List<ByteText>,
-    rest: Stretch<'_>,
-) -> Result<Command, TextFault>
-    requires some { 0 < length threads.now }
-    requires few { length threads.now ≤ THREAD_LIMIT }
-    ensures is { Gives (λ x. x) result (dup_command (option_copied known.entry) threads.now (span rest.entry)) }
-    ensures in_range { IfOk result (IsInRange (length threads.now)) }
+fn dup_command(alloc: Global, scope: Scope<'_>, rest: Stretch<'_>) -> Result<Command, TextFault>
+    ensures is { Gives (λ x. x) result (dup_command (option_copied scope.entry.known) scope.entry.threads.now (span rest.entry)) }
+    ensures in_range { IfOk result (IsInRange (length scope.entry.threads.now)) }
 {
     let (variable, rest) = variable(alloc, rest)?;
-    let from = lone_target(alloc, known, threads, rest)?;
+    let from = lone_target(alloc, scope, rest)?;
     Ok(Command::Dup { variable, from })
 }
 
 /// `?`, or what is selected.
-fn selection(
-    alloc: Global,
-    known: Option<&Known>,
-    threads: &List<ByteText>,
-    word: Stretch<'_>,
-) -> Result<Command, TextFault>
-    requires some { 0 < length threads.now }
-    requires few { length threads.now ≤ THREAD_LIMIT }
-    ensures is { Gives (λ x. x) result (selection (option_copied known.entry) threads.now (span word.entry)) }
-    ensures in_range { IfOk result (IsInRange (length threads.now)) }
+fn selection(alloc: Global, scope: Scope<'_>, word: Stretch<'_>) -> Result<Command, TextFault>
+    ensures is { Gives (λ x. x) result (selection (option_copied scope.entry.known) scope.entry.threads.now (span word.entry)) }
+    ensures in_range { IfOk result (IsInRange (length scope.entry.threads.now)) }
 {
     if word.bytes == b"?".as_slice() {
         return Ok(Command::Selected);
     }
-    Ok(Command::Use(target(alloc, known, threads, word)?))
+    Ok(Command::Use(target(alloc, scope, word)?))
 }
 
 /// `use H`, `use ?`.
 #[tactic(auto, unfolding(crate::specs::Commands::use_command))]
-fn use_command(
-    alloc: Global,
-    known: Option<&Known>,
-    threads: &List<ByteText>,
-    rest: Stretch<'_>,
-) -> Result<Command, TextFault>
-    requires some { 0 < length threads.now }
-    requires few { length threads.now ≤ THREAD_LIMIT }
-    ensures is { Gives (λ x. x) result (use_command (option_copied known.entry) threads.now (span rest.entry)) }
-    ensures in_range { IfOk result (IsInRange (length threads.now)) }
+fn use_command(alloc: Global, scope: Scope<'_>, rest: Stretch<'_>) -> Result<Command, TextFault>
+    ensures is { Gives (λ x. x) result (use_command (option_copied scope.entry.known) scope.entry.threads.now (span rest.entry)) }
+    ensures in_range { IfOk result (IsInRange (length scope.entry.threads.now)) }
 {
     let (word, rest) = argument(rest)?;
-    let command = selection(alloc, known, threads, word)?;
+    let command = selection(alloc, scope, word)?;
     no_more(rest)?;
     Ok(command)
 }
@@ -260,38 +226,24 @@ fn install_command(
 
 /// `post K H`.
 #[tactic(auto, unfolding(crate::specs::Commands::post_command))]
-fn post_command(
-    alloc: Global,
-    known: Option<&Known>,
-    threads: &List<ByteText>,
-    rest: Stretch<'_>,
-) -> Result<Command, TextFault>
-    requires some { 0 < length threads.now }
-    requires few { length threads.now ≤ THREAD_LIMIT }
-    ensures is { Gives (λ x. x) result (post_command (option_copied known.entry) threads.now (span rest.entry)) }
-    ensures in_range { IfOk result (IsInRange (length threads.now)) }
+fn post_command(alloc: Global, scope: Scope<'_>, rest: Stretch<'_>) -> Result<Command, TextFault>
+    ensures is { Gives (λ x. x) result (post_command (option_copied scope.entry.known) scope.entry.threads.now (span rest.entry)) }
+    ensures in_range { IfOk result (IsInRange (length scope.entry.threads.now)) }
 {
     let (cell, rest) = cell_word(rest)?;
-    let named = lone_target(alloc, known, threads, rest)?;
+    let named = lone_target(alloc, scope, rest)?;
     Ok(Command::Post { cell, named })
 }
 
 /// `fetch N THREAD.K`.
 #[tactic(auto, unfolding(crate::specs::Commands::fetch_command))]
-fn fetch_command(
-    alloc: Global,
-    known: Option<&Known>,
-    threads: &List<ByteText>,
-    rest: Stretch<'_>,
-) -> Result<Command, TextFault>
-    requires some { 0 < length threads.now }
-    requires few { length threads.now ≤ THREAD_LIMIT }
-    ensures is { Gives (λ x. x) result (fetch_command (option_copied known.entry) threads.now (span rest.entry)) }
-    ensures in_range { IfOk result (IsInRange (length threads.now)) }
+fn fetch_command(alloc: Global, scope: Scope<'_>, rest: Stretch<'_>) -> Result<Command, TextFault>
+    ensures is { Gives (λ x. x) result (fetch_command (option_copied scope.entry.known) scope.entry.threads.now (span rest.entry)) }
+    ensures in_range { IfOk result (IsInRange (length scope.entry.threads.now)) }
 {
     let (variable, rest) = variable(alloc, rest)?;
     let (word, rest) = argument(rest)?;
-    let (owner, cell) = cell(known, threads, word)?;
+    let (owner, cell) = cell(scope, word)?;
     no_more(rest)?;
     Ok(Command::Fetch {
         variable,
@@ -312,17 +264,14 @@ fn read_command(alloc: Global, question: Question, rest: Stretch<'_>) -> Result<
 #[tactic(auto, unfolding(crate::specs::Commands::read_of_command))]
 fn read_of_command(
     alloc: Global,
-    known: Option<&Known>,
-    threads: &List<ByteText>,
+    scope: Scope<'_>,
     question: Question,
     rest: Stretch<'_>,
 ) -> Result<Command, TextFault>
-    requires some { 0 < length threads.now }
-    requires few { length threads.now ≤ THREAD_LIMIT }
-    ensures is { Gives (λ x. x) result (read_of_command (option_copied known.entry) threads.now question (span rest.entry)) }
-    ensures in_range { IfOk result (IsInRange (length threads.now)) }
+    ensures is { Gives (λ x. x) result (read_of_command (option_copied scope.entry.known) scope.entry.threads.now question (span rest.entry)) }
+    ensures in_range { IfOk result (IsInRange (length scope.entry.threads.now)) }
 {
-    let (object, rest) = target_word(alloc, known, threads, rest)?;
+    let (object, rest) = target_word(alloc, scope, rest)?;
     let read = read_words(alloc, question, rest)?;
     Ok(Command::ReadOf { object, read })
 }
@@ -341,18 +290,11 @@ fn catopen_command(alloc: Global, rest: Stretch<'_>) -> Result<Command, TextFaul
 
 /// `catgets C SET MSG "DEFAULT"`.
 #[tactic(auto, unfolding(crate::specs::Commands::catgets_command))]
-fn catgets_command(
-    alloc: Global,
-    known: Option<&Known>,
-    threads: &List<ByteText>,
-    rest: Stretch<'_>,
-) -> Result<Command, TextFault>
-    requires some { 0 < length threads.now }
-    requires few { length threads.now ≤ THREAD_LIMIT }
-    ensures is { Gives (λ x. x) result (catgets_command (option_copied known.entry) threads.now (span rest.entry)) }
-    ensures in_range { IfOk result (IsInRange (length threads.now)) }
+fn catgets_command(alloc: Global, scope: Scope<'_>, rest: Stretch<'_>) -> Result<Command, TextFault>
+    ensures is { Gives (λ x. x) result (catgets_command (option_copied scope.entry.known) scope.entry.threads.now (span rest.entry)) }
+    ensures in_range { IfOk result (IsInRange (length scope.entry.threads.now)) }
 {
-    let (catalog, rest) = catalog_word(alloc, known, threads, rest)?;
+    let (catalog, rest) = catalog_word(alloc, scope, rest)?;
     let (set, rest) = value(rest)?;
     let (message, rest) = value(rest)?;
     let (default, rest) = command_text(alloc, rest)?;
@@ -369,16 +311,13 @@ fn catgets_command(
 #[tactic(auto, unfolding(crate::specs::Commands::catclose_command))]
 fn catclose_command(
     alloc: Global,
-    known: Option<&Known>,
-    threads: &List<ByteText>,
+    scope: Scope<'_>,
     rest: Stretch<'_>,
 ) -> Result<Command, TextFault>
-    requires some { 0 < length threads.now }
-    requires few { length threads.now ≤ THREAD_LIMIT }
-    ensures is { Gives (λ x. x) result (catclose_command (option_copied known.entry) threads.now (span rest.entry)) }
-    ensures in_range { IfOk result (IsInRange (length threads.now)) }
+    ensures is { Gives (λ x. x) result (catclose_command (option_copied scope.entry.known) scope.entry.threads.now (span rest.entry)) }
+    ensures in_range { IfOk result (IsInRange (length scope.entry.threads.now)) }
 {
-    let (catalog, rest) = catalog_word(alloc, known, threads, rest)?;
+    let (catalog, rest) = catalog_word(alloc, scope, rest)?;
     no_more(rest)?;
     Ok(Command::CatClose(catalog))
 }
@@ -386,53 +325,47 @@ fn catclose_command(
 /// The command of a verb.
 fn command_of(
     alloc: Global,
-    known: Option<&Known>,
-    threads: &List<ByteText>,
+    scope: Scope<'_>,
     verb: Verb,
     rest: Stretch<'_>,
 ) -> Result<Command, TextFault>
-    requires some { 0 < length threads.now }
-    requires few { length threads.now ≤ THREAD_LIMIT }
-    ensures is { Gives (λ x. x) result (command_of (option_copied known.entry) threads.now verb (span rest.entry)) }
-    ensures in_range { IfOk result (IsInRange (length threads.now)) }
+    ensures is { Gives (λ x. x) result (command_of (option_copied scope.entry.known) scope.entry.threads.now verb (span rest.entry)) }
+    ensures in_range { IfOk result (IsInRange (length scope.entry.threads.now)) }
 {
     match verb {
-        Verb::New => new_command(alloc, known, threads, rest),
-        Verb::Dup => dup_command(alloc, known, threads, rest),
-        Verb::Free => Ok(Command::Free(lone_target(alloc, known, threads, rest)?)),
-        Verb::Use => use_command(alloc, known, threads, rest),
-        Verb::Hold => Ok(Command::Hold(lone_target(alloc, known, threads, rest)?)),
-        Verb::Release => Ok(Command::Release(lone_target(alloc, known, threads, rest)?)),
+        Verb::New => new_command(alloc, scope, rest),
+        Verb::Dup => dup_command(alloc, scope, rest),
+        Verb::Free => Ok(Command::Free(lone_target(alloc, scope, rest)?)),
+        Verb::Use => use_command(alloc, scope, rest),
+        Verb::Hold => Ok(Command::Hold(lone_target(alloc, scope, rest)?)),
+        Verb::Release => Ok(Command::Release(lone_target(alloc, scope, rest)?)),
         Verb::Setlocale => setlocale_command(alloc, rest),
-        Verb::Install => install_command(alloc, known, rest),
-        Verb::Post => post_command(alloc, known, threads, rest),
-        Verb::Fetch => fetch_command(alloc, known, threads, rest),
-        Verb::Pins => Ok(Command::Pins(lone_target(alloc, known, threads, rest)?)),
+        Verb::Install => install_command(alloc, scope.known, rest),
+        Verb::Post => post_command(alloc, scope, rest),
+        Verb::Fetch => fetch_command(alloc, scope, rest),
+        Verb::Pins => Ok(Command::Pins(lone_target(alloc, scope, rest)?)),
         Verb::Read(question) => read_command(alloc, question, rest),
-        Verb::ReadOf(question) => read_of_command(alloc, known, threads, question, rest),
+        Verb::ReadOf(question) => read_of_command(alloc, scope, question, rest),
         Verb::CatOpen => catopen_command(alloc, rest),
-        Verb::CatGets => catgets_command(alloc, known, threads, rest),
-        Verb::CatClose => catclose_command(alloc, known, threads, rest),
+        Verb::CatGets => catgets_command(alloc, scope, rest),
+        Verb::CatClose => catclose_command(alloc, scope, rest),
     }
 }
 
-/// The command with this first word and the rest of its line, where the threads named so far are
-/// these.
+/// The command with this first word and the rest of its line, whose names are looked for in this
+/// scope.
 #[tactic(auto, unfolding(crate::specs::Commands::command))]
 pub fn command_of_line(
     alloc: Global,
-    known: Option<&Known>,
-    threads: &List<ByteText>,
+    scope: Scope<'_>,
     word: Stretch<'_>,
     rest: Stretch<'_>,
 ) -> Result<Command, TextFault>
-    requires some { 0 < length threads.now }
-    requires few { length threads.now ≤ THREAD_LIMIT }
-    ensures is { Gives (λ x. x) result (command (option_copied known.entry) threads.now (span word.entry) (span rest.entry)) }
-    ensures in_range { IfOk result (IsInRange (length threads.now)) }
+    ensures is { Gives (λ x. x) result (command (option_copied scope.entry.known) scope.entry.threads.now (span word.entry) (span rest.entry)) }
+    ensures in_range { IfOk result (IsInRange (length scope.entry.threads.now)) }
 {
     match command_named(word.bytes) {
-        Some(verb) => command_of(alloc, known, threads, verb, rest),
+        Some(verb) => command_of(alloc, scope, verb, rest),
         None => Err(TextFault::At(word.place, Reason::BadLine(LinePart::Command))),
     }
 }

@@ -1,11 +1,12 @@
 //! What is known of a whole bundle while its lines are read once more.
 
-ghost use Rattle.std.specs.Prelude.{◌≡◌, ◌<◌, ◌≤◌, length, IfSome};
+ghost use Rattle.std.specs.Prelude.{◌≡◌, ◌<◌, length, IfSome};
 ghost use Rattle.std.specs.Option.{option_copied};
 ghost use Rattle.script_commands.specs.Known.{lacks_charset, lacks_locale, lacks_key, thread_number};
 
 use crate::lists::{has_block, has_key, number_of};
-use lc_base::{Block, ByteText, Later, List};
+use crate::scope::Scope;
+use lc_base::{Block, Later, List};
 
 /// The most threads of a bundle.
 pub const THREAD_LIMIT: usize = 16;
@@ -57,14 +58,12 @@ pub fn lacks_key(known: Option<&Known>, key: &[u8]) -> bool
 }
 
 /// The number of a thread; 0 where no name is looked for.
-pub fn thread_number(known: Option<&Known>, threads: &List<ByteText>, name: &[u8]) -> Option<u32>
-    requires some { 0 < length threads.now }
-    requires few { length threads.now ≤ THREAD_LIMIT }
-    ensures is { result ≡ thread_number (option_copied known.entry) threads.now name.now }
-    ensures owned { IfSome result (λ n. n < length threads.now) }
+pub fn thread_number(scope: Scope<'_>, name: &[u8]) -> Option<u32>
+    ensures is { result ≡ thread_number (option_copied scope.entry.known) scope.entry.threads.now name.now }
+    ensures owned { IfSome result (λ n. n < length scope.entry.threads.now) }
 {
-    match known {
+    match scope.known {
         None => Some(0),
-        Some(_) => number_of(threads, name),
+        Some(_) => number_of(scope.threads, name),
     }
 }

@@ -15,7 +15,7 @@ use crate::directive::directive_line;
 use crate::reading::{BlockKind, Opened, Reading};
 use crate::steps::{at_first, push_command, push_value};
 use lc_base::{Block, ByteText, Later, Limit, LinePart, List, Place, Reason, TextFault, next_line};
-use script_commands::{Command, Known, THREAD_LIMIT, command_of_line};
+use script_commands::{Command, Known, Scope, THREAD_LIMIT, command_of_line};
 use script_words::Stretch;
 use std::alloc::{AllocError, Global};
 
@@ -40,7 +40,11 @@ fn thread_command(
     if reading.bundle.commands.len() >= COMMAND_LIMIT {
         return Err(TextFault::At(word.place, Reason::OverLimit(Limit::Commands)));
     }
-    let command = command_of_line(alloc, known, &reading.bundle.threads, word, rest)?;
+    let scope = Scope {
+        known,
+        threads: &reading.bundle.threads,
+    };
+    let command = command_of_line(alloc, scope, word, rest)?;
     Ok((thread, command))
 }
 
