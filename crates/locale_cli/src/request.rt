@@ -10,6 +10,7 @@ ghost use Rattle.locale_cli.specs.Request.{wide_value, wide_number, seed_number,
 
 use crate::words::{Mode, is_unpadded, mode_of, number_up_to, once};
 use bundle_maker::MOST_COMMANDS;
+use byte_words::are_digits;
 use lc_base::ByteText;
 use script_words::behind_front;
 
@@ -123,13 +124,6 @@ fn wide_number(digits: &[u8]) -> Option<u64>
         return None;
     }
     wide_value(digits)
-}
-
-/// Whether all bytes are digits.
-fn are_digits(bytes: &[u8]) -> bool
-    ensures { result ≡ list_all is_ascii_digit bytes.now }
-{
-    bytes.iter().all(|byte| byte.is_ascii_digit())
 }
 
 /// The value of digits, if it has 64 bits.
