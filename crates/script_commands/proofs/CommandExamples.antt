@@ -17,8 +17,8 @@ use Rattle.script_words.specs.Spans.{whole_line, next_word}
 use Rattle.byte_words.specs.Cuts.{cut_at}
 use Rattle.byte_words.specs.Numbers.{decimal_number}
 use Rattle.script_words.specs.Words.{text_of_word, categories_of_word, mask_of_word, variable_of_word, handle_of_word}
-use Rattle.script_words.specs.Tables.{commands_table, items_table}
-use Rattle.script_commands.specs.Commands.{argument, read_as, no_more, is_over, command, target, target_word, lone_target, base, new_command, use_command, setlocale_command, info_words}
+use Rattle.script_words.specs.Tables.{items_table}
+use Rattle.script_commands.specs.Commands.{argument, read_as, no_more, is_over, command, target, target_word, lone_target, base, new_command, use_command, setlocale_command, info_words, commands_table}
 
 -- ---- commands, as the second line of a script, where no name is looked for
 

@@ -23,9 +23,9 @@ use byte_words::decimal_number;
 use handle_table::Handle;
 use lc_base::{ByteText, CELLS, Item, Limit, LinePart, List, Place, Reason, TextFault};
 use script_words::{
-    AMOUNT_LIMIT, Categories, CommandText, DEFAULT_MAX, Format, NUMBER_LIMIT, Stretch, WrittenAmount,
-    WrittenCell, WrittenHandle, WrittenNumber, WrittenTime, amount_of_word, behind_front,
-    categories_of_word, cell_number, cell_of_word, class_of_word, handle_of_word,
+    AMOUNT_LIMIT, Categories, CommandText, DEFAULT_MAX, Format, NUMBER_LIMIT, Stretch,
+    WrittenAmount, WrittenCell, WrittenHandle, WrittenNumber, WrittenTime, amount_of_word,
+    behind_front, categories_of_word, cell_number, cell_of_word, class_of_word, handle_of_word,
     is_thread_name, item_named, key_of_word, mask_of_word, max_number, number_of_word,
     offset_of_word, quoted_of_word, short_number, text_of_word, three_numbers, variable_of_word,
     zone_of_word,
@@ -134,10 +134,7 @@ fn handle(
 }
 
 /// The handle that a word is.
-fn handle_word(
-    scope: Scope<'_>,
-    word: Stretch<'_>,
-) -> Result<Handle, TextFault>
+fn handle_word(scope: Scope<'_>, word: Stretch<'_>) -> Result<Handle, TextFault>
     ensures is { Gives (λ x. x) result (handle_word (option_copied scope.entry.known) scope.entry.threads.now (span word.entry)) }
     ensures owned { IfOk result (λ h. h.owner < length scope.entry.threads.now) }
 {
@@ -149,11 +146,7 @@ fn handle_word(
 
 /// What a word names: `GLOBAL`, a variable or a handle.
 #[tactic(auto, unfolding(crate::specs::Commands::target))]
-pub fn target(
-    alloc: Global,
-    scope: Scope<'_>,
-    word: Stretch<'_>,
-) -> Result<Target, TextFault>
+pub fn target(alloc: Global, scope: Scope<'_>, word: Stretch<'_>) -> Result<Target, TextFault>
     ensures is { Gives (λ x. x) result (target (option_copied scope.entry.known) scope.entry.threads.now (span word.entry)) }
     ensures owned { IfOk result (IsOwned (length scope.entry.threads.now)) }
 {
@@ -183,11 +176,7 @@ pub fn target_word<'a>(
 
 /// Just one word, which names something.
 #[tactic(auto, unfolding(crate::specs::Commands::lone_target))]
-pub fn lone_target(
-    alloc: Global,
-    scope: Scope<'_>,
-    rest: Stretch<'_>,
-) -> Result<Target, TextFault>
+pub fn lone_target(alloc: Global, scope: Scope<'_>, rest: Stretch<'_>) -> Result<Target, TextFault>
     ensures is { Gives (λ x. x) result (lone_target (option_copied scope.entry.known) scope.entry.threads.now (span rest.entry)) }
     ensures owned { IfOk result (IsOwned (length scope.entry.threads.now)) }
 {
@@ -198,11 +187,7 @@ pub fn lone_target(
 
 /// What a word names: a variable of a catalog or the handle of one.
 #[tactic(auto, unfolding(crate::specs::Commands::catalog))]
-fn catalog(
-    alloc: Global,
-    scope: Scope<'_>,
-    word: Stretch<'_>,
-) -> Result<OpenCatalog, TextFault>
+fn catalog(alloc: Global, scope: Scope<'_>, word: Stretch<'_>) -> Result<OpenCatalog, TextFault>
     ensures is { Gives (λ x. x) result (catalog (option_copied scope.entry.known) scope.entry.threads.now (span word.entry)) }
     ensures owned { IfOk result (IsCatalogOwned (length scope.entry.threads.now)) }
 {
@@ -257,10 +242,7 @@ fn thread_cell(
 
 /// The cell that a word names: the numbers of its thread and of the cell.
 #[tactic(auto, unfolding(crate::specs::Commands::cell))]
-pub fn cell(
-    scope: Scope<'_>,
-    word: Stretch<'_>,
-) -> Result<(u32, u32), TextFault>
+pub fn cell(scope: Scope<'_>, word: Stretch<'_>) -> Result<(u32, u32), TextFault>
     ensures is { Gives (λ x. x) result (cell (option_copied scope.entry.known) scope.entry.threads.now (span word.entry)) }
     ensures in_range { IfOk result (λ x. (x.0 < length scope.entry.threads.now) × (x.1 < CELLS)) }
 {
@@ -365,7 +347,10 @@ pub fn format(alloc: Global, rest: Stretch<'_>) -> Result<(Format, Stretch<'_>),
 
 /// A text in quotes, and what follows it.
 #[tactic(auto, unfolding(crate::specs::Commands::command_text))]
-pub fn command_text(alloc: Global, rest: Stretch<'_>) -> Result<(CommandText, Stretch<'_>), TextFault>
+pub fn command_text(
+    alloc: Global,
+    rest: Stretch<'_>,
+) -> Result<(CommandText, Stretch<'_>), TextFault>
     ensures { Gives (λ x. (x.0, span x.1)) result (command_text (span rest.entry)) }
 {
     let (word, rest) = argument(rest)?;

@@ -5,7 +5,7 @@ ghost use Rattle.std.specs.Option.{option_copied};
 ghost use Rattle.lc_base.specs.Reading.{Gives};
 ghost use Rattle.script_commands.specs.InRange.{IsBaseOwned, IsInRange};
 ghost use Rattle.script_words.specs.Spans.{span};
-ghost use Rattle.script_commands.specs.Commands.{info_words, conv_words, class_words, lone_value, money_words, time_words, number_words, parse_words, read_words, base, new_command, dup_command, selection, use_command, setlocale_command, install_command, post_command, fetch_command, read_command, read_of_command, catopen_command, catgets_command, catclose_command, command_of, command};
+ghost use Rattle.script_commands.specs.Commands.{info_words, conv_words, class_words, lone_value, money_words, time_words, number_words, parse_words, upper_words, lower_words, base, new_command, dup_command, selection, use_command, setlocale_command, install_command, post_command, fetch_command, read_of_command, catopen_command, catgets_command, catclose_command, command};
 
 use crate::arguments::{
     amounts, argument, catalog_name, catalog_word, categories, cell, cell_word, class,
@@ -16,7 +16,7 @@ use crate::command::{Command, Read, Target};
 use crate::known::Known;
 use crate::scope::Scope;
 use lc_base::{ByteText, LinePart, List, Reason, TextFault};
-use script_words::{Stretch, Question, Verb, command_named};
+use script_words::Stretch;
 use std::alloc::Global;
 
 /// `ITEM`, of `info`.
@@ -112,30 +112,25 @@ fn parse_words(alloc: Global, rest: Stretch<'_>) -> Result<Read, TextFault>
     Ok(Read::Parse { format, text })
 }
 
-/// The words of what is read.
-fn read_words(alloc: Global, question: Question, rest: Stretch<'_>) -> Result<Read, TextFault>
-    ensures { Gives (λ x. x) result (read_words question (span rest.entry)) }
+/// `W`, of `upper`.
+#[tactic(auto, unfolding(crate::specs::Commands::upper_words))]
+fn upper_words(rest: Stretch<'_>) -> Result<Read, TextFault>
+    ensures { Gives (λ x. x) result (upper_words (span rest.entry)) }
 {
-    match question {
-        Question::Info => info_words(rest),
-        Question::Conv => conv_words(rest),
-        Question::Class => class_words(alloc, rest),
-        Question::Upper => Ok(Read::Upper(lone_value(rest)?)),
-        Question::Lower => Ok(Read::Lower(lone_value(rest)?)),
-        Question::Money => money_words(alloc, rest),
-        Question::Time => time_words(alloc, rest),
-        Question::Number => number_words(alloc, rest),
-        Question::Parse => parse_words(alloc, rest),
-    }
+    Ok(Read::Upper(lone_value(rest)?))
+}
+
+/// `W`, of `lower`.
+#[tactic(auto, unfolding(crate::specs::Commands::lower_words))]
+fn lower_words(rest: Stretch<'_>) -> Result<Read, TextFault>
+    ensures { Gives (λ x. x) result (lower_words (span rest.entry)) }
+{
+    Ok(Read::Lower(lone_value(rest)?))
 }
 
 /// A base, which may be left out.
 #[tactic(auto, unfolding(crate::specs::Commands::base))]
-fn base(
-    alloc: Global,
-    scope: Scope<'_>,
-    rest: Stretch<'_>,
-) -> Result<Option<Target>, TextFault>
+fn base(alloc: Global, scope: Scope<'_>, rest: Stretch<'_>) -> Result<Option<Target>, TextFault>
     ensures is { Gives (λ x. x) result (base (option_copied scope.entry.known) scope.entry.threads.now (span rest.entry)) }
     ensures owned { IfOk result (IsBaseOwned (length scope.entry.threads.now)) }
 {
@@ -147,11 +142,7 @@ fn base(
 
 /// `new N MASK LOC`, `new N MASK LOC H`.
 #[tactic(auto, unfolding(crate::specs::Commands::new_command))]
-fn new_command(
-    alloc: Global,
-    scope: Scope<'_>,
-    rest: Stretch<'_>,
-) -> Result<Command, TextFault>
+fn new_command(alloc: Global, scope: Scope<'_>, rest: Stretch<'_>) -> Result<Command, TextFault>
     ensures is { Gives (λ x. x) result (new_command (option_copied scope.entry.known) scope.entry.threads.now (span rest.entry)) }
     ensures in_range { IfOk result (IsInRange (length scope.entry.threads.now)) }
 {
@@ -169,11 +160,7 @@ fn new_command(
 
 /// `dup N H`.
 #[tactic(auto, unfolding(crate::specs::Commands::dup_command))]
-fn dup_command(
-    alloc: Global,
-    scope: Scope<'_>,
-    rest: Stretch<'_>,
-) -> Result<Command, TextFault>
+fn dup_command(alloc: Global, scope: Scope<'_>, rest: Stretch<'_>) -> Result<Command, TextFault>
     ensures is { Gives (λ x. x) result (dup_command (option_copied scope.entry.known) scope.entry.threads.now (span rest.entry)) }
     ensures in_range { IfOk result (IsInRange (length scope.entry.threads.now)) }
 {
@@ -183,11 +170,7 @@ fn dup_command(
 }
 
 /// `?`, or what is selected.
-fn selection(
-    alloc: Global,
-    scope: Scope<'_>,
-    word: Stretch<'_>,
-) -> Result<Command, TextFault>
+fn selection(alloc: Global, scope: Scope<'_>, word: Stretch<'_>) -> Result<Command, TextFault>
     ensures is { Gives (λ x. x) result (selection (option_copied scope.entry.known) scope.entry.threads.now (span word.entry)) }
     ensures in_range { IfOk result (IsInRange (length scope.entry.threads.now)) }
 {
@@ -199,11 +182,7 @@ fn selection(
 
 /// `use H`, `use ?`.
 #[tactic(auto, unfolding(crate::specs::Commands::use_command))]
-fn use_command(
-    alloc: Global,
-    scope: Scope<'_>,
-    rest: Stretch<'_>,
-) -> Result<Command, TextFault>
+fn use_command(alloc: Global, scope: Scope<'_>, rest: Stretch<'_>) -> Result<Command, TextFault>
     ensures is { Gives (λ x. x) result (use_command (option_copied scope.entry.known) scope.entry.threads.now (span rest.entry)) }
     ensures in_range { IfOk result (IsInRange (length scope.entry.threads.now)) }
 {
@@ -246,11 +225,7 @@ fn install_command(
 
 /// `post K H`.
 #[tactic(auto, unfolding(crate::specs::Commands::post_command))]
-fn post_command(
-    alloc: Global,
-    scope: Scope<'_>,
-    rest: Stretch<'_>,
-) -> Result<Command, TextFault>
+fn post_command(alloc: Global, scope: Scope<'_>, rest: Stretch<'_>) -> Result<Command, TextFault>
     ensures is { Gives (λ x. x) result (post_command (option_copied scope.entry.known) scope.entry.threads.now (span rest.entry)) }
     ensures in_range { IfOk result (IsInRange (length scope.entry.threads.now)) }
 {
@@ -261,11 +236,7 @@ fn post_command(
 
 /// `fetch N THREAD.K`.
 #[tactic(auto, unfolding(crate::specs::Commands::fetch_command))]
-fn fetch_command(
-    alloc: Global,
-    scope: Scope<'_>,
-    rest: Stretch<'_>,
-) -> Result<Command, TextFault>
+fn fetch_command(alloc: Global, scope: Scope<'_>, rest: Stretch<'_>) -> Result<Command, TextFault>
     ensures is { Gives (λ x. x) result (fetch_command (option_copied scope.entry.known) scope.entry.threads.now (span rest.entry)) }
     ensures in_range { IfOk result (IsInRange (length scope.entry.threads.now)) }
 {
@@ -280,27 +251,115 @@ fn fetch_command(
     })
 }
 
-/// What is read of the thread's own object, or of the global locale.
-fn read_command(alloc: Global, question: Question, rest: Stretch<'_>) -> Result<Command, TextFault>
-    ensures is { Gives (λ x. x) result (read_command question (span rest.entry)) }
-    ensures in_range { (n : ℕ) → IfOk result (IsInRange n) }
-{
-    Ok(Command::Read(read_words(alloc, question, rest)?))
-}
-
-/// The same words behind a handle: what is read of its object.
+/// `info_l H`, and the words of `info`.
 #[tactic(auto, unfolding(crate::specs::Commands::read_of_command))]
-fn read_of_command(
-    alloc: Global,
-    scope: Scope<'_>,
-    question: Question,
-    rest: Stretch<'_>,
-) -> Result<Command, TextFault>
-    ensures is { Gives (λ x. x) result (read_of_command (option_copied scope.entry.known) scope.entry.threads.now question (span rest.entry)) }
+fn info_of_command(alloc: Global, scope: Scope<'_>, rest: Stretch<'_>) -> Result<Command, TextFault>
+    ensures is { Gives (λ x. x) result (read_of_command (option_copied scope.entry.known) scope.entry.threads.now info_words (span rest.entry)) }
     ensures in_range { IfOk result (IsInRange (length scope.entry.threads.now)) }
 {
     let (object, rest) = target_word(alloc, scope, rest)?;
-    let read = read_words(alloc, question, rest)?;
+    let read = info_words(rest)?;
+    Ok(Command::ReadOf { object, read })
+}
+
+/// `class_l H`, and the words of `class`.
+#[tactic(auto, unfolding(crate::specs::Commands::read_of_command))]
+fn class_of_command(
+    alloc: Global,
+    scope: Scope<'_>,
+    rest: Stretch<'_>,
+) -> Result<Command, TextFault>
+    ensures is { Gives (λ x. x) result (read_of_command (option_copied scope.entry.known) scope.entry.threads.now class_words (span rest.entry)) }
+    ensures in_range { IfOk result (IsInRange (length scope.entry.threads.now)) }
+{
+    let (object, rest) = target_word(alloc, scope, rest)?;
+    let read = class_words(alloc, rest)?;
+    Ok(Command::ReadOf { object, read })
+}
+
+/// `upper_l H`, and the words of `upper`.
+#[tactic(auto, unfolding(crate::specs::Commands::read_of_command))]
+fn upper_of_command(
+    alloc: Global,
+    scope: Scope<'_>,
+    rest: Stretch<'_>,
+) -> Result<Command, TextFault>
+    ensures is { Gives (λ x. x) result (read_of_command (option_copied scope.entry.known) scope.entry.threads.now upper_words (span rest.entry)) }
+    ensures in_range { IfOk result (IsInRange (length scope.entry.threads.now)) }
+{
+    let (object, rest) = target_word(alloc, scope, rest)?;
+    let read = upper_words(rest)?;
+    Ok(Command::ReadOf { object, read })
+}
+
+/// `lower_l H`, and the words of `lower`.
+#[tactic(auto, unfolding(crate::specs::Commands::read_of_command))]
+fn lower_of_command(
+    alloc: Global,
+    scope: Scope<'_>,
+    rest: Stretch<'_>,
+) -> Result<Command, TextFault>
+    ensures is { Gives (λ x. x) result (read_of_command (option_copied scope.entry.known) scope.entry.threads.now lower_words (span rest.entry)) }
+    ensures in_range { IfOk result (IsInRange (length scope.entry.threads.now)) }
+{
+    let (object, rest) = target_word(alloc, scope, rest)?;
+    let read = lower_words(rest)?;
+    Ok(Command::ReadOf { object, read })
+}
+
+/// `money_l H`, and the words of `money`.
+#[tactic(auto, unfolding(crate::specs::Commands::read_of_command))]
+fn money_of_command(
+    alloc: Global,
+    scope: Scope<'_>,
+    rest: Stretch<'_>,
+) -> Result<Command, TextFault>
+    ensures is { Gives (λ x. x) result (read_of_command (option_copied scope.entry.known) scope.entry.threads.now money_words (span rest.entry)) }
+    ensures in_range { IfOk result (IsInRange (length scope.entry.threads.now)) }
+{
+    let (object, rest) = target_word(alloc, scope, rest)?;
+    let read = money_words(alloc, rest)?;
+    Ok(Command::ReadOf { object, read })
+}
+
+/// `time_l H`, and the words of `time`.
+#[tactic(auto, unfolding(crate::specs::Commands::read_of_command))]
+fn time_of_command(alloc: Global, scope: Scope<'_>, rest: Stretch<'_>) -> Result<Command, TextFault>
+    ensures is { Gives (λ x. x) result (read_of_command (option_copied scope.entry.known) scope.entry.threads.now time_words (span rest.entry)) }
+    ensures in_range { IfOk result (IsInRange (length scope.entry.threads.now)) }
+{
+    let (object, rest) = target_word(alloc, scope, rest)?;
+    let read = time_words(alloc, rest)?;
+    Ok(Command::ReadOf { object, read })
+}
+
+/// `number_l H`, and the words of `number`.
+#[tactic(auto, unfolding(crate::specs::Commands::read_of_command))]
+fn number_of_command(
+    alloc: Global,
+    scope: Scope<'_>,
+    rest: Stretch<'_>,
+) -> Result<Command, TextFault>
+    ensures is { Gives (λ x. x) result (read_of_command (option_copied scope.entry.known) scope.entry.threads.now number_words (span rest.entry)) }
+    ensures in_range { IfOk result (IsInRange (length scope.entry.threads.now)) }
+{
+    let (object, rest) = target_word(alloc, scope, rest)?;
+    let read = number_words(alloc, rest)?;
+    Ok(Command::ReadOf { object, read })
+}
+
+/// `parse_l H`, and the words of `parse`.
+#[tactic(auto, unfolding(crate::specs::Commands::read_of_command))]
+fn parse_of_command(
+    alloc: Global,
+    scope: Scope<'_>,
+    rest: Stretch<'_>,
+) -> Result<Command, TextFault>
+    ensures is { Gives (λ x. x) result (read_of_command (option_copied scope.entry.known) scope.entry.threads.now parse_words (span rest.entry)) }
+    ensures in_range { IfOk result (IsInRange (length scope.entry.threads.now)) }
+{
+    let (object, rest) = target_word(alloc, scope, rest)?;
+    let read = parse_words(alloc, rest)?;
     Ok(Command::ReadOf { object, read })
 }
 
@@ -318,11 +377,7 @@ fn catopen_command(alloc: Global, rest: Stretch<'_>) -> Result<Command, TextFaul
 
 /// `catgets C SET MSG "DEFAULT"`.
 #[tactic(auto, unfolding(crate::specs::Commands::catgets_command))]
-fn catgets_command(
-    alloc: Global,
-    scope: Scope<'_>,
-    rest: Stretch<'_>,
-) -> Result<Command, TextFault>
+fn catgets_command(alloc: Global, scope: Scope<'_>, rest: Stretch<'_>) -> Result<Command, TextFault>
     ensures is { Gives (λ x. x) result (catgets_command (option_copied scope.entry.known) scope.entry.threads.now (span rest.entry)) }
     ensures in_range { IfOk result (IsInRange (length scope.entry.threads.now)) }
 {
@@ -354,39 +409,9 @@ fn catclose_command(
     Ok(Command::CatClose(catalog))
 }
 
-/// The command of a verb.
-fn command_of(
-    alloc: Global,
-    scope: Scope<'_>,
-    verb: Verb,
-    rest: Stretch<'_>,
-) -> Result<Command, TextFault>
-    ensures is { Gives (λ x. x) result (command_of (option_copied scope.entry.known) scope.entry.threads.now verb (span rest.entry)) }
-    ensures in_range { IfOk result (IsInRange (length scope.entry.threads.now)) }
-{
-    match verb {
-        Verb::New => new_command(alloc, scope, rest),
-        Verb::Dup => dup_command(alloc, scope, rest),
-        Verb::Free => Ok(Command::Free(lone_target(alloc, scope, rest)?)),
-        Verb::Use => use_command(alloc, scope, rest),
-        Verb::Hold => Ok(Command::Hold(lone_target(alloc, scope, rest)?)),
-        Verb::Release => Ok(Command::Release(lone_target(alloc, scope, rest)?)),
-        Verb::Setlocale => setlocale_command(alloc, rest),
-        Verb::Install => install_command(alloc, scope.known, rest),
-        Verb::Post => post_command(alloc, scope, rest),
-        Verb::Fetch => fetch_command(alloc, scope, rest),
-        Verb::Pins => Ok(Command::Pins(lone_target(alloc, scope, rest)?)),
-        Verb::Read(question) => read_command(alloc, question, rest),
-        Verb::ReadOf(question) => read_of_command(alloc, scope, question, rest),
-        Verb::CatOpen => catopen_command(alloc, rest),
-        Verb::CatGets => catgets_command(alloc, scope, rest),
-        Verb::CatClose => catclose_command(alloc, scope, rest),
-    }
-}
-
 /// The command with this first word and the rest of its line, whose names are looked for in this
 /// scope.
-#[tactic(auto, unfolding(crate::specs::Commands::command))]
+#[tactic(auto, unfolding(crate::specs::Commands::command, crate::specs::Commands::commands_table))]
 pub fn command_of_line(
     alloc: Global,
     scope: Scope<'_>,
@@ -396,8 +421,38 @@ pub fn command_of_line(
     ensures is { Gives (λ x. x) result (command (option_copied scope.entry.known) scope.entry.threads.now (span word.entry) (span rest.entry)) }
     ensures in_range { IfOk result (IsInRange (length scope.entry.threads.now)) }
 {
-    match command_named(word.bytes) {
-        Some(verb) => command_of(alloc, scope, verb, rest),
-        None => Err(TextFault::At(word.place, Reason::BadLine(LinePart::Command))),
+    match word.bytes {
+        b"new" => new_command(alloc, scope, rest),
+        b"dup" => dup_command(alloc, scope, rest),
+        b"free" => Ok(Command::Free(lone_target(alloc, scope, rest)?)),
+        b"use" => use_command(alloc, scope, rest),
+        b"hold" => Ok(Command::Hold(lone_target(alloc, scope, rest)?)),
+        b"release" => Ok(Command::Release(lone_target(alloc, scope, rest)?)),
+        b"setlocale" => setlocale_command(alloc, rest),
+        b"install" => install_command(alloc, scope.known, rest),
+        b"post" => post_command(alloc, scope, rest),
+        b"fetch" => fetch_command(alloc, scope, rest),
+        b"pins" => Ok(Command::Pins(lone_target(alloc, scope, rest)?)),
+        b"info" => Ok(Command::Read(info_words(rest)?)),
+        b"info_l" => info_of_command(alloc, scope, rest),
+        b"conv" => Ok(Command::Read(conv_words(rest)?)),
+        b"class" => Ok(Command::Read(class_words(alloc, rest)?)),
+        b"class_l" => class_of_command(alloc, scope, rest),
+        b"upper" => Ok(Command::Read(upper_words(rest)?)),
+        b"upper_l" => upper_of_command(alloc, scope, rest),
+        b"lower" => Ok(Command::Read(lower_words(rest)?)),
+        b"lower_l" => lower_of_command(alloc, scope, rest),
+        b"money" => Ok(Command::Read(money_words(alloc, rest)?)),
+        b"money_l" => money_of_command(alloc, scope, rest),
+        b"time" => Ok(Command::Read(time_words(alloc, rest)?)),
+        b"time_l" => time_of_command(alloc, scope, rest),
+        b"number" => Ok(Command::Read(number_words(alloc, rest)?)),
+        b"number_l" => number_of_command(alloc, scope, rest),
+        b"parse" => Ok(Command::Read(parse_words(alloc, rest)?)),
+        b"parse_l" => parse_of_command(alloc, scope, rest),
+        b"catopen" => catopen_command(alloc, rest),
+        b"catgets" => catgets_command(alloc, scope, rest),
+        b"catclose" => catclose_command(alloc, scope, rest),
+        _ => Err(TextFault::At(word.place, Reason::BadLine(LinePart::Command))),
     }
 }

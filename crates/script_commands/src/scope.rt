@@ -1,8 +1,9 @@
 //! Where the names in commands are looked for.
 
 ghost use Rattle.std.specs.Prelude.{◌<◌, ◌≤◌, length};
+ghost use Rattle.script_commands.specs.declared.known.TheConstants.{THREAD_LIMIT};
 
-use crate::known::{Known, THREAD_LIMIT};
+use crate::known::Known;
 use lc_base::{ByteText, List};
 
 /// What the names in a command are looked for in: what is known of the bundle, and the names of its

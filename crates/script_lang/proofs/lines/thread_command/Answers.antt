@@ -2,8 +2,8 @@ use Rattle.std.proofs.Common.{arith, refl}
 use Rattle.script_lang.proofs.StepLemmas.{thread_there, command_read}
 use Rattle.script_lang.proofs.lines.thread_command.Goals as goal
 
-pub command_of_line-requires : goal.command_of_line-requires
-command_of_line-requires c = record {
+pub invariant_of-scope : goal.invariant_of-scope
+invariant_of-scope c = record {
   some = omega (arith, thread_there 0 c.args.reading.now _ c.in-Some.is c.requires);
   few = c.requires.accepted.few_threads;
 }
