@@ -1,8 +1,7 @@
 #!/usr/bin/env python3
 """rows.py: whether the table of reasons of tool_explain has a row for each reason of lc_base, with each part
-and limit, and for each refusal of a command; whether its table of keywords has each keyword of locale_reader
-that is read; and whether the man page names each command and each argument of tool_commands. Prints what is
-lacking; the status is 1 where something is."""
+and limit, and for each refusal of a command; and whether the man page names each command and each argument of
+tool_commands. Prints what is lacking; the status is 1 where something is."""
 import re
 import sys
 
@@ -34,14 +33,6 @@ def quoted(file, form):
     return re.findall(form, open(file).read())
 
 
-lists = quoted("crates/tool_explain/src/keywords.rt", r"keywords: &\[([^]]*)\]")
-keywords = re.findall(r'"(\w+)"', " ".join(lists))
-for it in set(quoted("crates/keyword_table/src/table.rt", r'name: b"(\w+)", takes: Operands::(?!PassedOver)')) - set(keywords):
-    print(f"tool_explain does not say what `{it}` takes")
-    lacking.append(it)
-if len(set(keywords)) != len(keywords):
-    print("tool_explain has a keyword twice")
-    lacking.append("")
 page = open("docs/man/locale_tool.1").read().replace("\\-", "-")
 for it in quoted("crates/tool_commands/src/rows.rt", r'name: "(\w+)"'):
     if not re.search(rf"\b{it}\b", page):

@@ -8,8 +8,8 @@ use Rattle.lc_base.specs.Mask.{category_bit}
 use Rattle.lc_base.specs.Reading.{Reads}
 use Rattle.locale_sources.specs.Sources.{Source}
 use Rattle.locale_sources.specs.Sections.{section_at}
-use Rattle.category_copies.specs.declared.numbers.Numbers.{Numbers}
-use Rattle.category_copies.specs.declared.rows.Row.{Row}
+use Rattle.category_copies.specs.declared.numbers.SourceNumbers.{SourceNumbers}
+use Rattle.category_copies.specs.declared.rows.LocaleRow.{LocaleRow}
 use Rattle.category_copies.specs.Copies.{end_of, copy_fault}
 
 -- the bit of a category that a source has
@@ -22,7 +22,7 @@ available sources n =
     bit_at sources n Ctype + bit_at sources n Numeric + bit_at sources n Monetary + bit_at sources n Time + bit_at sources n Messages
 
 -- the numbers of the sources in which the categories of a source are written
-abbrev pub ends_at : List Source → ℕ → Numbers
+abbrev pub ends_at : List Source → ℕ → SourceNumbers
 ends_at sources n = record {
   ctype = end_of sources Ctype n;
   numeric = end_of sources Numeric n;
@@ -32,11 +32,11 @@ ends_at sources n = record {
 }
 
 -- a locale: its name, its categories, and where they are written
-abbrev pub row_of : List Source → ℕ → Source → Row
+abbrev pub row_of : List Source → ℕ → Source → LocaleRow
 row_of sources n s = record { name = s.name; available = available sources n; ends = ends_at sources n }
 
 -- the locales of sources, of which the first has this number
-abbrev pub rows_from : List Source → ℕ → List Source → List Row
+abbrev pub rows_from : List Source → ℕ → List Source → List LocaleRow
 rows_from sources n [] = []
 rows_from sources n (s ∷ ss) = row_of sources n s ∷ rows_from sources (n + 1) ss
 
@@ -46,5 +46,5 @@ given_unless None x = Ok x
 given_unless (Some fault) x = Err fault
 
 -- the locales of sources, or the first fault of their copies
-abbrev pub rows_of : List Source → Reads (List Row)
+abbrev pub rows_of : List Source → Reads (List LocaleRow)
 rows_of sources = given_unless (copy_fault sources) (rows_from sources 1 sources)

@@ -8,15 +8,15 @@ ghost use Rattle.category_copies.specs.Copies.{locale_numbers, target, step};
 
 use keyword_lists::Body;
 use lc_base::Category;
-use locale_sources::{Named, Source, add_named, get_named, is_posix, section_at};
+use locale_sources::{ByName, Source, add_named, get_named, is_posix, section_at};
 use std::alloc::{AllocError, Global};
 
 /// The numbers of locales by their names; a later version is none.
-pub fn locale_numbers(alloc: Global, sources: &[Source<'_>]) -> Result<Named<u32>, AllocError>
+pub fn locale_numbers(alloc: Global, sources: &[Source<'_>]) -> Result<ByName<u32>, AllocError>
     requires { length sources.now < 2 ^ 31 }
     ensures { IfOk result (λ named. pairs_of named ≡ locale_numbers (map source sources.now)) }
 {
-    let mut named = Named::new(alloc);
+    let mut named = ByName::new(alloc);
     let mut number = 1;
     for source in sources {
         if source.key.is_none() {
@@ -30,7 +30,7 @@ pub fn locale_numbers(alloc: Global, sources: &[Source<'_>]) -> Result<Named<u32
 /// The number of the locale whose category a copy of this name takes.
 pub fn target(
     sources: &[Source<'_>],
-    locales: &Named<u32>,
+    locales: &ByName<u32>,
     category: Category,
     name: &[u8],
 ) -> Option<u32>
@@ -48,7 +48,7 @@ pub fn target(
 /// Where one copy leads from a number.
 fn step(
     sources: &[Source<'_>],
-    locales: &Named<u32>,
+    locales: &ByName<u32>,
     category: Category,
     number: u32,
 ) -> Option<u32>
@@ -68,7 +68,7 @@ fn step(
 pub fn steps(
     alloc: Global,
     sources: &[Source<'_>],
-    locales: &Named<u32>,
+    locales: &ByName<u32>,
     category: Category,
 ) -> Result<Vec<Option<u32>>, AllocError>
     requires known { pairs_of locales.now ≡ locale_numbers (map source sources.now) }

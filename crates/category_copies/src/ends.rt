@@ -12,7 +12,7 @@ use crate::copies::{steps, target};
 use crate::table::{led, repeated};
 use keyword_lists::{Body, Section};
 use lc_base::{Category, Place, Reason};
-use locale_sources::{Named, Source, section_at};
+use locale_sources::{ByName, Source, section_at};
 use std::alloc::{AllocError, Global};
 
 /// For each category where the copies end that begin at each number.
@@ -30,7 +30,7 @@ impl Ends {
     pub fn of(
         alloc: Global,
         sources: &[Source<'_>],
-        locales: &Named<u32>,
+        locales: &ByName<u32>,
     ) -> Result<Ends, AllocError>
         requires known { pairs_of locales.now ≡ locale_numbers (map source sources.now) }
         requires few { length sources.now < 2 ^ 31 }
@@ -61,7 +61,7 @@ impl Ends {
 fn ends_of(
     alloc: Global,
     sources: &[Source<'_>],
-    locales: &Named<u32>,
+    locales: &ByName<u32>,
     category: Category,
 ) -> Result<Vec<Option<u32>>, AllocError>
     requires known { pairs_of locales.now ≡ locale_numbers (map source sources.now) }
@@ -122,7 +122,7 @@ fn is_cycle(sources: &[Source<'_>], ends: &Ends, category: Category, number: u32
 /// The fault of a section of the source with a number.
 fn section_fault(
     sources: &[Source<'_>],
-    locales: &Named<u32>,
+    locales: &ByName<u32>,
     ends: &Ends,
     number: u32,
     section: &Section,
@@ -148,7 +148,7 @@ fn section_fault(
 /// The first fault of the sections of the source with a number.
 fn sections_fault(
     sources: &[Source<'_>],
-    locales: &Named<u32>,
+    locales: &ByName<u32>,
     ends: &Ends,
     number: u32,
     sections: &[Section],
@@ -169,7 +169,7 @@ fn sections_fault(
 /// The first fault of the copies, by place.
 pub fn copy_fault(
     sources: &[Source<'_>],
-    locales: &Named<u32>,
+    locales: &ByName<u32>,
     ends: &Ends,
 ) -> Option<(Place, Reason)>
     requires known { pairs_of locales.now ≡ locale_numbers (map source sources.now) }

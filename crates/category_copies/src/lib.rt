@@ -8,5 +8,5 @@ mod rows;
 mod table;
 
 pub use copies::locale_numbers;
-pub use numbers::Numbers;
-pub use rows::{Row, read_rows};
+pub use numbers::SourceNumbers;
+pub use rows::{LocaleRow, read_rows};

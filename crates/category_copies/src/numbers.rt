@@ -2,7 +2,7 @@
 
 /// For each category the number of the source in which it is written; 0 is the POSIX locale.
 #[derive(Clone, Copy)]
-pub struct Numbers {
+pub struct SourceNumbers {
     pub ctype: u32,
     pub numeric: u32,
     pub monetary: u32,

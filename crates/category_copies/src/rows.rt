@@ -9,17 +9,17 @@ ghost use Rattle.category_copies.specs.Ends.{AreEnds};
 ghost use Rattle.category_copies.specs.Rows.{available, bit_at, ends_at, rows_from, rows_of};
 
 use crate::ends::{Ends, copy_fault, end_of};
-use crate::numbers::Numbers;
+use crate::numbers::SourceNumbers;
 use lc_base::{ByteText, Category, Mask, TextFault};
-use locale_sources::{Named, Source, section_at};
+use locale_sources::{ByName, Source, section_at};
 use std::alloc::{AllocError, Global};
 
 /// A locale: its name, the categories that it has, and where each of them is written.
 #[derive(Drop)]
-pub struct Row {
+pub struct LocaleRow {
     pub name: ByteText,
     pub available: Mask,
-    pub ends: Numbers,
+    pub ends: SourceNumbers,
 }
 
 /// The bit of a category that a source has, else 0.
@@ -45,12 +45,12 @@ fn available(sources: &[Source<'_>], number: u32) -> Mask
 }
 
 /// The numbers of the sources in which the categories of a source are written.
-fn ends_at(sources: &[Source<'_>], ends: &Ends, number: u32) -> Numbers
+fn ends_at(sources: &[Source<'_>], ends: &Ends, number: u32) -> SourceNumbers
     requires ends { AreEnds (map source sources.now) ends.now }
     requires within { number ≤ length sources.now }
     ensures { result ≡ ends_at (map source sources.now) number }
 {
-    Numbers {
+    SourceNumbers {
         ctype: end_of(sources, ends, Category::Ctype, number),
         numeric: end_of(sources, ends, Category::Numeric, number),
         monetary: end_of(sources, ends, Category::Monetary, number),
@@ -66,14 +66,14 @@ fn row_of(
     ends: &Ends,
     number: u32,
     name: &[u8],
-) -> Result<Row, AllocError>
+) -> Result<LocaleRow, AllocError>
     requires ends { AreEnds (map source sources.now) ends.now }
     requires within { number ≤ length sources.now }
     ensures name { IfOk result (λ r. r.name ≡ name.now) }
     ensures available { IfOk result (λ r. r.available ≡ available (map source sources.now) number) }
     ensures ends { IfOk result (λ r. r.ends ≡ ends_at (map source sources.now) number) }
 {
-    Ok(Row {
+    Ok(LocaleRow {
         name: ByteText::of(alloc, name)?,
         available: available(sources, number),
         ends: ends_at(sources, ends, number),
@@ -81,7 +81,7 @@ fn row_of(
 }
 
 /// The locales of sources whose copies end.
-fn rows(alloc: Global, sources: &[Source<'_>], ends: &Ends) -> Result<Vec<Row>, AllocError>
+fn rows(alloc: Global, sources: &[Source<'_>], ends: &Ends) -> Result<Vec<LocaleRow>, AllocError>
     requires ends { AreEnds (map source sources.now) ends.now }
     requires few { length sources.now < 2 ^ 31 }
     ensures { IfOk result (λ v. let S = map source sources.now in v.items ≡ rows_from S 1 S) }
@@ -102,8 +102,8 @@ fn rows(alloc: Global, sources: &[Source<'_>], ends: &Ends) -> Result<Vec<Row>, 
 pub fn read_rows(
     alloc: Global,
     sources: &[Source<'_>],
-    locales: &Named<u32>,
-) -> Result<Vec<Row>, TextFault>
+    locales: &ByName<u32>,
+) -> Result<Vec<LocaleRow>, TextFault>
     requires known { pairs_of locales.now ≡ locale_numbers (map source sources.now) }
     requires few { length sources.now < 2 ^ 31 }
     ensures { Gives (λ v. v.items) result (rows_of (map source sources.now)) }

@@ -4,6 +4,7 @@ use Rattle.lc_base.specs.declared.place.Place.{Place}
 use Rattle.lc_base.specs.declared.category.Category.{Category}
 use Rattle.lc_base.specs.declared.category.Category.TheVariants.{Numeric, Time}
 use Rattle.lc_base.specs.declared.reason.Reason.TheVariants.{CopyMissing}
+use Rattle.mask_compose.specs.Offer.{no_offer}
 use Rattle.charmap_reader.specs.CodedSet.{utf8}
 use Rattle.keyword_lists.specs.declared.source.Value.TheVariants.{Text}
 use Rattle.keyword_lists.specs.declared.source.Section.{Section}
@@ -13,7 +14,7 @@ use Rattle.numeric_cat.specs.Numeric.{posix_values}
 use Rattle.locale_sources.specs.Sources.{Source}
 use Rattle.compiled_categories.specs.Locale.{Locale, posix_locale}
 use Rattle.category_store.specs.Catalog.{Catalog}
-use Rattle.category_store.specs.Library.{names_of, keys_of, catalog_from, catalog_of, locale_at, numbers, opening, later, posix_object, no_offer}
+use Rattle.category_store.specs.Library.{names_of, keys_of, catalog_from, catalog_of, locale_at, numbers, opening, later, posix_object}
 
 at : ℕ → ℕ → Place
 at line column = record { line = line; column = column }

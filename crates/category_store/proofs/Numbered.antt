@@ -11,7 +11,9 @@ use Rattle.lc_base.specs.Categories.{categories}
 use Rattle.lc_base.specs.Mask.{includes}
 use Rattle.lc_base.specs.Reading.{Reads}
 use Rattle.lc_base.proofs.ReadingLemmas.{value_of}
-use Rattle.charmap_reader.specs.Portable.{Name, first_named}
+use Rattle.mask_compose.specs.Offer.{AreOnShelf}
+use Rattle.byte_words.specs.Tables.{first_named}
+use Rattle.charmap_reader.specs.Portable.{Name}
 use Rattle.locale_sources.specs.Named.{with_named}
 use Rattle.locale_sources.specs.Sources.{Source}
 use Rattle.locale_sources.specs.Sections.{is_posix}
@@ -20,7 +22,7 @@ use Rattle.compiled_categories.specs.Locale.{Locale}
 use Rattle.compiled_categories.specs.Compiled.{locales_of}
 use Rattle.category_store.specs.Catalog.{Catalog}
 use Rattle.category_store.specs.Library.{names_after, names_of, plain_number, native_number, catalog_of, unless_fault, catalog_from, number_of, number_in, ◌then◌, numbers_in, names_given, numbers, first_offer, opening}
-use Rattle.category_store.specs.Shelf.{AreOnShelf, IsNumbered}
+use Rattle.category_store.specs.Shelf.{IsNumbered}
 
 -- each name has a number up to that of the names
 abbrev pub AreUpTo : ℕ → List (Name × ℕ) → Type 0
@@ -139,4 +141,4 @@ each_on_shelf c mask (category ∷ cs) (name ∷ names) counted = joined c (numb
 -- the names of the library of sources are numbered
 pub is_numbered : (native : Option Name) (sources : List Source) (c : Catalog) → catalog_from native sources ≡ Ok c → IsNumbered c
 is_numbered native sources c e = λ name mask.
-    IfOk-weaker (numbers c name mask) (OnShelf c) (AreOnShelf c) (λ ns on. All-from_recursion _ ns on) (each_on_shelf c mask categories (names_given name) (catalog_counted native sources c e))
+    IfOk-weaker (numbers c name mask) (OnShelf c) (AreOnShelf (opening c)) (λ ns on. All-from_recursion _ ns on) (each_on_shelf c mask categories (names_given name) (catalog_counted native sources c e))

@@ -8,10 +8,11 @@ use Rattle.lc_base.specs.declared.block.Block.{Block}
 use Rattle.lc_base.specs.declared.block.Later.{Later}
 use Rattle.lc_base.specs.Mask.{includes}
 use Rattle.lc_base.specs.Reading.{Reads, ◌>>=◌}
-use Rattle.charmap_reader.specs.Portable.{Name, first_named}
+use Rattle.byte_words.specs.Tables.{first_named}
+use Rattle.charmap_reader.specs.Portable.{Name}
 use Rattle.charmap_reader.specs.CodedSet.{CodedSet}
 use Rattle.mask_compose.specs.Parts.{Parts}
-use Rattle.mask_compose.specs.Offer.{Offered}
+use Rattle.mask_compose.specs.Offer.{Offered, no_offer}
 use Rattle.lc_base.specs.Categories.{categories}
 use Rattle.mask_compose.specs.Names.{mixed_parts}
 use Rattle.locale_sources.specs.Named.{with_named}
@@ -134,10 +135,6 @@ posix_object = object_of 0 0
 -- what the compiled locale with a number offers: its categories
 abbrev pub offer_at : Catalog → ℕ → Offered
 offer_at c n = let mask = (locale_at c n).available in record { object = object_of mask n; available = mask }
-
--- what a name that no locale has at first offers
-abbrev pub no_offer : Offered
-no_offer = record { object = posix_object; available = 0 }
 
 -- what a name offers at first: its locale, or nothing where only a later version has the name
 abbrev pub first_offer : Catalog → Name → Offered

@@ -6,7 +6,7 @@ ghost use Rattle.lc_base.specs.Reading.{Gives};
 ghost use Rattle.mask_compose.specs.Names.{spanned};
 ghost use Rattle.locale_sources.specs.Named.{pairs_of};
 ghost use Rattle.locale_sources.specs.Seen.{source};
-ghost use Rattle.source_blocks.specs.Blocks.{IsSized};
+ghost use Rattle.lc_base.specs.Blocks.{IsSized};
 ghost use Rattle.category_copies.specs.Copies.{locale_numbers, copy_fault};
 ghost use Rattle.compiled_categories.specs.Compiled.{locales_of};
 ghost use Rattle.category_store.specs.Library.{catalog, catalog_over, catalog_from, locale_at, number_of, number_in, numbers, names_given, posix_object, object_of, offer_at, first_offer, name_at, opening, later, unless_fault};
@@ -17,7 +17,7 @@ use crate::share::Share;
 use category_copies::read_rows;
 use compiled_categories::{Compiled, Locales};
 use lc_base::{Block, Category, Later, List, Mask, TextFault};
-use locale_sources::{Named, Source, get_named};
+use locale_sources::{ByName, Source, get_named};
 use mask_compose::{Object, Offer, read_names};
 use source_blocks::{Charsets, read_blocks};
 use std::alloc::{AllocError, Global};
@@ -238,7 +238,7 @@ fn spanned(text: &[u8], span: (usize, usize)) -> &[u8]
 }
 
 /// Compiles the locales of sources, or refuses the first fault of their copies.
-fn compile(alloc: Global, sources: &[Source<'_>], first: &Named<u32>) -> Result<Locales, TextFault>
+fn compile(alloc: Global, sources: &[Source<'_>], first: &ByName<u32>) -> Result<Locales, TextFault>
     requires known { pairs_of first.now ≡ locale_numbers (map source sources.now) }
     requires few { length sources.now < 2 ^ 31 }
     ensures { let S = map source sources.now in Gives (λ l. l) result (unless_fault (copy_fault S) (locales_of S)) }

@@ -8,18 +8,18 @@ ghost use Rattle.category_copies.specs.Copies.{locale_numbers};
 ghost use Rattle.category_store.specs.Library.{names_of, keys_of, plain_number, native_number};
 
 use category_copies::locale_numbers;
-use locale_sources::{Named, Source, add_named, get_named, is_posix};
+use locale_sources::{ByName, Source, add_named, get_named, is_posix};
 use std::alloc::{AllocError, Global};
 
 /// The names of a library with their numbers.
 #[derive(Drop)]
 pub struct Names {
     /// All names, in the order in which they first appear.
-    pub names: Named<u32>,
+    pub names: ByName<u32>,
     /// Those that a locale has at first, with the number of that locale.
-    pub first: Named<u32>,
+    pub first: ByName<u32>,
     /// The keys of later versions, with their numbers.
-    pub keys: Named<u32>,
+    pub keys: ByName<u32>,
     /// The number of the native locale's name.
     pub native: u32,
 }
@@ -51,11 +51,11 @@ impl Names {
 }
 
 /// The names of sources with their numbers, in the order in which they first appear.
-fn names_of(alloc: Global, sources: &[Source<'_>]) -> Result<Named<u32>, AllocError>
+fn names_of(alloc: Global, sources: &[Source<'_>]) -> Result<ByName<u32>, AllocError>
     requires { length sources.now < 2 ^ 31 }
     ensures { IfOk result (λ named. pairs_of named ≡ names_of (map source sources.now)) }
 {
-    let mut names = Named::new(alloc);
+    let mut names = ByName::new(alloc);
     for source in sources {
         add_name(alloc, &mut names, source.name)?;
     }
@@ -63,7 +63,7 @@ fn names_of(alloc: Global, sources: &[Source<'_>]) -> Result<Named<u32>, AllocEr
 }
 
 /// Gives a new name the next number.
-fn add_name(alloc: Global, names: &mut Named<u32>, name: &[u8]) -> Result<(), AllocError>
+fn add_name(alloc: Global, names: &mut ByName<u32>, name: &[u8]) -> Result<(), AllocError>
     requires { length (pairs_of names.old) < 2 ^ 31 }
     ensures named { OnOk result (pairs_of names.new ≡ with_named (pairs_of names.old) name.now (length (pairs_of names.old) + 1)) }
     ensures few { OnOk result (length (pairs_of names.new) ≤ length (pairs_of names.old) + 1) }
@@ -73,11 +73,11 @@ fn add_name(alloc: Global, names: &mut Named<u32>, name: &[u8]) -> Result<(), Al
 }
 
 /// The keys of later versions, with the numbers of their sources.
-fn keys_of(alloc: Global, sources: &[Source<'_>]) -> Result<Named<u32>, AllocError>
+fn keys_of(alloc: Global, sources: &[Source<'_>]) -> Result<ByName<u32>, AllocError>
     requires { length sources.now < 2 ^ 31 }
     ensures { IfOk result (λ named. pairs_of named ≡ keys_of (map source sources.now)) }
 {
-    let mut keys = Named::new(alloc);
+    let mut keys = ByName::new(alloc);
     let mut number = 0;
     for source in sources {
         number += 1;
@@ -89,7 +89,7 @@ fn keys_of(alloc: Global, sources: &[Source<'_>]) -> Result<Named<u32>, AllocErr
 }
 
 /// The number of a plain name.
-pub fn plain_number(names: &Named<u32>, name: &[u8]) -> Option<u32>
+pub fn plain_number(names: &ByName<u32>, name: &[u8]) -> Option<u32>
     ensures { result ≡ plain_number (pairs_of names.now) name.now }
 {
     if is_posix(name) {
@@ -99,7 +99,7 @@ pub fn plain_number(names: &Named<u32>, name: &[u8]) -> Option<u32>
 }
 
 /// The number of the native locale's name.
-fn native_number(names: &Named<u32>, native: Option<&[u8]>) -> u32
+fn native_number(names: &ByName<u32>, native: Option<&[u8]>) -> u32
     ensures { result ≡ native_number (pairs_of names.now) (option_copied native.entry) }
 {
     match native {

@@ -9,12 +9,13 @@ use Rattle.std.proofs.lemmas.Slice.Eq.{bytes_eq-Decides}
 use Rattle.lc_base.specs.declared.place.Place.{Place}
 use Rattle.lc_base.specs.declared.reason.Reason.TheVariants.{NameTwice, PortableMoved, OverLimit}
 use Rattle.lc_base.specs.declared.reason.Limit.TheVariants.{Names}
-use Rattle.charmap_reader.specs.Portable.{Name, first_named}
+use Rattle.byte_words.specs.Tables.{first_named}
+use Rattle.charmap_reader.specs.Portable.{Name}
 use Rattle.charmap_reader.specs.declared.names.TheConstants.{NAME_LIMIT}
 use Rattle.charmap_reader.specs.CodedSet.{big_endian}
 use Rattle.charmap_reader.specs.Subject.{Subject}
 use Rattle.charmap_reader.specs.Charmap.{Entry, added, is_moved, listed_with, listed_at, counted_at}
-use Rattle.charmap_reader.specs.Names.{IsAdded}
+use Rattle.charmap_reader.specs.CharacterNames.{IsAdded}
 
 -- ---- what names give
 

@@ -6,11 +6,12 @@ use Rattle.std.proofs.Math.Nat.{pow-suc, pow-le-pow_right}
 use Rattle.std.proofs.lemmas.List.{append_assoc, length-drop, replicate_more, take-append-drop}
 use Rattle.std.proofs.lemmas.List.FromFn.{length-map-range_with_len}
 use Rattle.std.proofs.lemmas.Int.Digits.{digits_value-lt}
-use Rattle.charmap_reader.specs.Portable.{Name, first_named}
+use Rattle.byte_words.specs.Tables.{first_named}
+use Rattle.charmap_reader.specs.Portable.{Name}
 use Rattle.std.specs.Option.{is_some}
 use Rattle.charmap_reader.specs.declared.spans.Block.{Block}
 use Rattle.charmap_reader.specs.Blocks.{block_from}
-use Rattle.charmap_reader.specs.Names.{block_entry, block_entries, valued_after, valued_names, IsBlockOf}
+use Rattle.charmap_reader.specs.CharacterNames.{block_entry, block_entries, valued_after, valued_names, IsBlockOf}
 use Rattle.charmap_reader.specs.Charmap.{Entry, added}
 use Rattle.charmap_reader.specs.Encoding.{shortest}
 use Rattle.charmap_reader.specs.Numbering.{digit_count, stem, digits, number, padded}

@@ -84,26 +84,26 @@ under_after {A} recent after key front other n own grown =
 -- ---- the number of a front
 
 -- a search among sorted numbers that finds one
-pub found_at : (texts : List Name) (sorted : List ℕ) (text : Name) (at n : ℕ) → at < length sorted → ((d : ℕ) → slice_cmp nat_cmp (get_or texts (get_or sorted at d) []) text ≡ Equal) → n ≡ get_or sorted at n → HasFront texts sorted text n
-found_at texts sorted text at n within ties is =
-    ((at, within, sym is), ap (λ k. get_or texts k []) is ∙ tied_bytes (get_or texts (get_or sorted at n) []) text (ties n))
+pub found_at : (strings : List Name) (sorted : List ℕ) (string : Name) (at n : ℕ) → at < length sorted → ((d : ℕ) → slice_cmp nat_cmp (get_or strings (get_or sorted at d) []) string ≡ Equal) → n ≡ get_or sorted at n → HasFront strings sorted string n
+found_at strings sorted string at n within ties is =
+    ((at, within, sym is), ap (λ k. get_or strings k []) is ∙ tied_bytes (get_or strings (get_or sorted at n) []) string (ties n))
 
--- a text ties with itself
-itself : (text : Name) → slice_cmp nat_cmp text text ≡ Equal
-itself text = tied_itself nat_list_cmp_total text
+-- a string ties with itself
+itself : (string : Name) → slice_cmp nat_cmp string string ≡ Equal
+itself string = tied_itself nat_list_cmp_total string
 
 -- a search that finds none
-pub absent_from : (texts : List Name) (sorted : List ℕ) (text : Name) (at : ℕ) → IsSortedBy (comes_before texts) sorted → IsBinarySearchResult (λ n. slice_cmp nat_cmp (get_or texts n []) text) sorted (Err at) → All (LacksFront texts text) sorted
-absent_from texts sorted text at rising search = λ k d within same.
-    let parted = search (searchable_from_sorted nat_list_cmp_total (λ (n : ℕ). get_or texts n []) sorted text rising) in
-    let ties : slice_cmp nat_cmp (get_or texts (get_or sorted k d) []) text ≡ Equal = ap (λ (t : Name). slice_cmp nat_cmp t text) same ∙ itself text in
+pub absent_from : (strings : List Name) (sorted : List ℕ) (string : Name) (at : ℕ) → IsSortedBy (comes_before strings) sorted → IsBinarySearchResult (λ n. slice_cmp nat_cmp (get_or strings n []) string) sorted (Err at) → All (LacksFront strings string) sorted
+absent_from strings sorted string at rising search = λ k d within same.
+    let parted = search (searchable_from_sorted nat_list_cmp_total (λ (n : ℕ). get_or strings n []) sorted string rising) in
+    let ties : slice_cmp nat_cmp (get_or strings (get_or sorted k d) []) string ≡ Equal = ap (λ (t : Name). slice_cmp nat_cmp t string) same ∙ itself string in
     ⊎_elim
     (λ before.
-    let less : slice_cmp nat_cmp (get_or texts (get_or sorted k d) []) text ≡ Less = parted.0 k d (omega arith) before in
+    let less : slice_cmp nat_cmp (get_or strings (get_or sorted k d) []) string ≡ Less = parted.0 k d (omega arith) before in
     let both : Less ≡ Equal = sym less ∙ ties in
     absurd (cc))
     (λ behind.
-    let more : slice_cmp nat_cmp (get_or texts (get_or sorted k d) []) text ≡ Greater = parted.1 k d behind within in
+    let more : slice_cmp nat_cmp (get_or strings (get_or sorted k d) []) string ≡ Greater = parted.1 k d behind within in
     let both : Greater ≡ Equal = sym more ∙ ties in
     absurd (cc))
     (cases_lt k at)

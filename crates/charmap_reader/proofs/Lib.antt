@@ -7,7 +7,7 @@ pub mod ShortBytes
 pub mod NameLemmas
 pub mod ValueLemmas
 pub mod ListedLemmas
-mod TextLemmas
+mod ByteStringLemmas
 mod FrontLemmas
 mod TailLemmas
 mod BlockLemmas
@@ -17,7 +17,6 @@ pub mod Moving
 mod Examples
 pub mod Headers
 pub mod Bodies
-pub mod Intervals
 pub mod Shortest
 mod CharmapExamples
 mod LimitExamples

@@ -9,11 +9,10 @@ use Rattle.src_lines.specs.Atoms.{items_from}
 use Rattle.src_lines.specs.Tokens.{run}
 use Rattle.src_lines.specs.Fields.{field, fields}
 use Rattle.charmap_reader.specs.Portable.{portable_code}
-use Rattle.charmap_reader.specs.CodedSet.{utf8, posix}
+use Rattle.charmap_reader.specs.CodedSet.{utf8, posix, IsNextRun}
 use Rattle.std.specs.Int.{bytes_high_first}
 use Rattle.charmap_reader.specs.Encoding.{shortest}
 use Rattle.charmap_reader.specs.Numbering.{padded}
-use Rattle.charmap_reader.specs.Runs.{IsNextRun}
 use Rattle.charmap_reader.specs.Charmap.{Entry, counted_at, listed_at, mapping}
 
 at : ℕ → ℕ → Place

@@ -1,5 +1,5 @@
 -- The charset of a charmap: its values, and the bytes of its characters.
-use Rattle.std.proofs.Common.{◌≡◌, ◌≢◌, ℕ, ◌<◌, Bool, true, false, cond, ◌||◌, List, [], ◌∷◌, ◌++◌, length, All, Option, Some, None, refl, sym, ◌∙◌, ap, arith}
+use Rattle.std.proofs.Common.{◌≡◌, ◌≢◌, ℕ, ◌<◌, ◌≤◌, Bool, true, false, cond, ◌||◌, List, [], ◌∷◌, ◌++◌, length, All, Option, Some, None, refl, sym, ◌∙◌, ap, arith}
 use Rattle.std.specs.Bool.{◌==◌}
 use Rattle.std.specs.Int.{is_in_range}
 use Rattle.std.specs.List.{list_any, find}
@@ -7,7 +7,7 @@ use Rattle.std.specs.Option.{option_map}
 use Rattle.std.specs.Str.{bytes_eq}
 use Rattle.std.proofs.lemmas.Bool.{eqb-true, true≢false}
 use Rattle.std.proofs.lemmas.Bool.Decides.{nat_tests}
-use Rattle.std.proofs.lemmas.List.Elements.{All-head, All-tail}
+use Rattle.std.proofs.lemmas.List.Elements.{All-head, All-tail, All-append, All-cons, All-nil}
 use Rattle.std.proofs.lemmas.List.Folds.{list_any-append}
 use Rattle.std.proofs.lemmas.Slice.Eq.{bytes_eq-Decides}
 use Rattle.charmap_reader.specs.Portable.{is_portable}
@@ -15,15 +15,16 @@ use Rattle.charmap_reader.specs.CodedSet.{CodedSet, listed, has, has_value, enco
 use Rattle.charmap_reader.specs.Charmap.{Entry}
 use Rattle.charmap_reader.specs.Encoding.{shortest}
 use Rattle.charmap_reader.specs.Listing.{IsShort, IsListing}
-use Rattle.charmap_reader.specs.Runs.{covers}
+use Rattle.class_ranges.specs.Ranges.{covers}
 use Rattle.charmap_reader.proofs.Encodings.{value_read-encoded}
 use Rattle.charmap_reader.proofs.ShortBytes.{shortest-one, length-shortest}
 
 -- ---- values
 
 -- tests in the order of the definition
-or_in_order : (zero controls visible old : Bool) → (zero || ((old || (controls || false)) || (visible || false))) ≡ (((zero || controls) || visible) || old)
-or_in_order true controls visible old = refl
+or_in_order : (zero controls visible old : Bool) → (old || (zero || (controls || (visible || false)))) ≡ (((zero || controls) || visible) || old)
+or_in_order true controls visible true = refl
+or_in_order true controls visible false = refl
 or_in_order false true visible true = refl
 or_in_order false true visible false = refl
 or_in_order false false true true = refl
@@ -31,15 +32,26 @@ or_in_order false false true false = refl
 or_in_order false false false true = refl
 or_in_order false false false false = refl
 
--- runs of 0, of the values of entries and of the portable characters are those of the set
-pub runs_covered : (name : List ℕ) (es : List Entry) (given runs : List (ℕ × ℕ)) → ((w : ℕ) → covers given w ≡ list_any (has_value w) es)
-    → ((w : ℕ) → covers runs w ≡ ((w == 0) || covers ((given ++ (7, 13) ∷ []) ++ (32, 126) ∷ []) w)) → (w : ℕ) → covers runs w ≡ has (listed name es) w
-runs_covered name es given runs values covered w =
+-- a range of 0 alone
+zero_range : (w : ℕ) → is_in_range 0 0 w ≡ (w == 0)
+zero_range w = grind (arith, nat_tests)
+
+-- ranges of the values of entries and of the portable characters are those of the set
+pub ranges_covered : (name : List ℕ) (es : List Entry) (given ranges : List (ℕ × ℕ)) → ((w : ℕ) → covers given w ≡ list_any (has_value w) es)
+    → ((w : ℕ) → covers ranges w ≡ covers (given ++ (0, 0) ∷ (7, 13) ∷ (32, 126) ∷ []) w) → (w : ℕ) → covers ranges w ≡ has (listed name es) w
+ranges_covered name es given ranges values covered w =
     covered w
-    ∙ ap (λ b. (w == 0) || b) (list_any-append (λ (run : ℕ × ℕ). is_in_range run.0 run.1 w) (given ++ (7, 13) ∷ []) ((32, 126) ∷ []))
-    ∙ ap (λ b. (w == 0) || (b || (is_in_range 32 126 w || false))) (list_any-append (λ (run : ℕ × ℕ). is_in_range run.0 run.1 w) given ((7, 13) ∷ []))
-    ∙ ap (λ b. (w == 0) || ((b || (is_in_range 7 13 w || false)) || (is_in_range 32 126 w || false))) (values w)
+    ∙ list_any-append (λ (range : ℕ × ℕ). is_in_range range.0 range.1 w) given ((0, 0) ∷ (7, 13) ∷ (32, 126) ∷ [])
+    ∙ ap (λ b. b || (is_in_range 0 0 w || (is_in_range 7 13 w || (is_in_range 32 126 w || false)))) (values w)
+    ∙ ap (λ b. list_any (has_value w) es || (b || (is_in_range 7 13 w || (is_in_range 32 126 w || false)))) (zero_range w)
     ∙ or_in_order (w == 0) (is_in_range 7 13 w) (is_in_range 32 126 w) (list_any (has_value w) es)
+
+-- with those of the portable characters, ranges that do not run backward
+pub forward_more : (given : List (ℕ × ℕ)) → All (λ (range : ℕ × ℕ). range.0 ≤ range.1) given → All (λ (range : ℕ × ℕ). range.0 ≤ range.1) (given ++ (0, 0) ∷ (7, 13) ∷ (32, 126) ∷ [])
+forward_more given forward =
+    let P : ℕ × ℕ → Type 0 = λ (range : ℕ × ℕ). range.0 ≤ range.1 in
+    All-append P given ((0, 0) ∷ (7, 13) ∷ (32, 126) ∷ []) forward
+    (All-cons P (0, 0) ((7, 13) ∷ (32, 126) ∷ []) (omega arith) (All-cons P (7, 13) ((32, 126) ∷ []) (omega arith) (All-cons P (32, 126) [] (omega arith) (All-nil P))))
 
 -- ---- encodings
 
@@ -66,9 +78,9 @@ encoded-shortest name es w short =
     let P : Bool → Type 0 = λ b. is_portable w ≡ b → cond b (Some (w ∷ [])) (option_map (λ (entry : Entry). entry.1) (find (has_value w) es)) ≡ cond (b || list_any (has_value w) es) (Some (shortest w)) None in
     (elim (is_portable w) as P [ true ↦ λ own. ap Some (portable-shortest w own) | false ↦ λ own. found-shortest es w short ]) refl
 
--- the same, as the runs of the set tell
-pub encoded-covered : (name : List ℕ) (es : List Entry) (runs : List (ℕ × ℕ)) (w : ℕ) (covered : Bool) → IsListing name es runs → covered ≡ covers runs w → cond covered (Some (shortest w)) None ≡ encoded (listed name es) w
-encoded-covered name es runs w covered kept is = ap (λ (b : Bool). cond b (Some (shortest w)) None) (is ∙ kept.covered w) ∙ sym (encoded-shortest name es w kept.short)
+-- the same, as the ranges of the set tell
+pub encoded-covered : (name : List ℕ) (es : List Entry) (ranges : List (ℕ × ℕ)) (w : ℕ) (covered : Bool) → IsListing name es ranges → covered ≡ covers ranges w → cond covered (Some (shortest w)) None ≡ encoded (listed name es) w
+encoded-covered name es ranges w covered kept is = ap (λ (b : Bool). cond b (Some (shortest w)) None) (is ∙ kept.covered w) ∙ sym (encoded-shortest name es w kept.short)
 
 -- so no character has more than four bytes
 pub encoded-long : (name : List ℕ) (es : List Entry) (bytes : List ℕ) → All IsShort es → 4 < length bytes → (w : ℕ) → encoded (listed name es) w ≢ Some bytes

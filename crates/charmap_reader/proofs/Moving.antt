@@ -9,7 +9,8 @@ use Rattle.std.proofs.lemmas.Bool.{cases_eq, eq-eqb, false_from_ne_true}
 use Rattle.std.proofs.lemmas.Bool.Decides.{nat_tests}
 use Rattle.std.proofs.lemmas.Grind.{common_steps}
 use Rattle.std.proofs.lemmas.Slice.Eq.{bytes_eq-Decides}
-use Rattle.charmap_reader.specs.Portable.{Name, first_named, letter_code, portable_names, portable_code}
+use Rattle.byte_words.specs.Tables.{first_named}
+use Rattle.charmap_reader.specs.Portable.{Name, letter_code, portable_names, portable_code}
 use Rattle.charmap_reader.specs.CodedSet.{big_endian}
 use Rattle.charmap_reader.specs.Numbering.{stem, digits, number}
 use Rattle.charmap_reader.specs.Subject.{Subject, more_names, more_between, name_at, name_after}

@@ -11,13 +11,14 @@ use Rattle.std.proofs.lemmas.List.FromFn.{length-map-range_with_len}
 use Rattle.charmap_reader.specs.declared.names.TheConstants.{NAME_LIMIT}
 use Rattle.charmap_reader.specs.declared.spans.Block.{Block}
 use Rattle.charmap_reader.specs.declared.spans.Span.{Span}
-use Rattle.charmap_reader.specs.Portable.{Name, first_named}
+use Rattle.byte_words.specs.Tables.{first_named}
+use Rattle.charmap_reader.specs.Portable.{Name}
 use Rattle.charmap_reader.specs.CodedSet.{big_endian}
 use Rattle.charmap_reader.specs.Charmap.{Entry, added}
 use Rattle.charmap_reader.specs.Encoding.{shortest}
 use Rattle.charmap_reader.specs.Fronts.{IsPlaceOf, Keeps}
 use Rattle.charmap_reader.specs.Listing.{IsShort}
-use Rattle.charmap_reader.specs.Names.{block_entry, block_entries, span_entries, all_entries, IsBlockOf, IsFormed, IsKept}
+use Rattle.charmap_reader.specs.CharacterNames.{block_entry, block_entries, span_entries, all_entries, IsBlockOf, IsFormed, IsKept}
 use Rattle.charmap_reader.specs.Numbering.{padded}
 use Rattle.charmap_reader.specs.Spans.{Spot, last_of, is_in, Meets, IsNew}
 use Rattle.charmap_reader.specs.Tails.{front, tail_width, tail_number}

@@ -13,7 +13,7 @@ use Rattle.std.specs.Int.Digits.{number_from_digits_after}
 use Rattle.charmap_reader.specs.CodedSet.{big_endian}
 use Rattle.charmap_reader.specs.Encoding.{atom_number, and_bytes, numbers, is_encoding, encoding, short_bytes, shortest}
 use Rattle.charmap_reader.specs.Charmap.{Entry, entries}
-use Rattle.charmap_reader.specs.Names.{valued_names}
+use Rattle.charmap_reader.specs.CharacterNames.{valued_names}
 use Rattle.charmap_reader.specs.Subject.{Subject, name_at, more_names}
 use Rattle.charmap_reader.proofs.BlockLemmas.{name_at_after}
 

@@ -1,4 +1,4 @@
--- The wide values of names, as runs.
+-- The wide values of names, as ranges.
 use Rattle.std.proofs.Common.{◌≡◌, ℕ, zero, suc, ◌+◌, ◌<◌, ◌≤◌, Bool, true, false, leb, ltb, ◌&&◌, ◌||◌, List, [], ◌∷◌, ◌++◌, length, get_or, take, map, refl, sym, ◌∙◌, ap, arith}
 use Rattle.std.specs.Bool.{◌==◌}
 use Rattle.std.specs.Int.{is_in_range}
@@ -10,8 +10,8 @@ use Rattle.charmap_reader.specs.declared.spans.Block.{Block}
 use Rattle.charmap_reader.specs.declared.spans.Span.{Span}
 use Rattle.charmap_reader.specs.Portable.{Name}
 use Rattle.charmap_reader.specs.CodedSet.{has_value}
-use Rattle.charmap_reader.specs.Names.{block_entry, block_entries, span_entries, all_entries}
-use Rattle.charmap_reader.specs.Runs.{covers}
+use Rattle.charmap_reader.specs.CharacterNames.{block_entry, block_entries, span_entries, all_entries}
+use Rattle.class_ranges.specs.Ranges.{covers}
 use Rattle.charmap_reader.proofs.ShortBytes.{big_endian-shortest}
 
 -- tests of values that count up, one more in front
@@ -34,9 +34,9 @@ block_values start b w a (suc n) =
     ∙ ap (λ t. ((b.value + a) == w) || t) (block_values start b w (a + 1) n ∙ ap (λ k. leb k w && ltb w (b.value + (a + 1) + n)) next ∙ ap (λ k. leb (b.value + a + 1) w && ltb w k) end)
     ∙ count_more (b.value + a) (b.value + a + suc n) w (omega arith)
 
--- the values of a block are a run
-block_run : (start : Name) (b : Block) (w : ℕ) → list_any (has_value w) (block_entries start b) ≡ is_in_range b.value (b.value + b.more) w
-block_run start b w = block_values start b w 0 (b.more + 1) ∙ grind (arith, nat_tests)
+-- the values of a block are a range
+block_range : (start : Name) (b : Block) (w : ℕ) → list_any (has_value w) (block_entries start b) ≡ is_in_range b.value (b.value + b.more) w
+block_range start b w = block_values start b w 0 (b.more + 1) ∙ grind (arith, nat_tests)
 
 -- a test and nothing more
 or_nothing : (a b : Bool) → (a || (b || false)) ≡ (a || b)
@@ -48,12 +48,12 @@ or_nothing false false = refl
 abbrev pub has_in : ℕ → Span → Bool
 has_in w s = is_in_range s.block.value (s.block.value + s.block.more) w
 
--- one more run, that of the next span
-pub runs_more : (spans : List Span) (i : ℕ) (s d : Span) (runs : List (ℕ × ℕ)) (w : ℕ) → i < length spans → s ≡ get_or spans i d → covers runs w ≡ list_any (has_in w) (take i spans)
-    → covers (runs ++ (s.block.value, s.block.value + s.block.more) ∷ []) w ≡ list_any (has_in w) (take (i + 1) spans)
-runs_more spans i s d runs w within is so_far =
-    list_any-append (λ (run : ℕ × ℕ). is_in_range run.0 run.1 w) runs ((s.block.value, s.block.value + s.block.more) ∷ [])
-    ∙ or_nothing (covers runs w) (has_in w s)
+-- one more range, that of the next span
+pub ranges_more : (spans : List Span) (i : ℕ) (s d : Span) (ranges : List (ℕ × ℕ)) (w : ℕ) → i < length spans → s ≡ get_or spans i d → covers ranges w ≡ list_any (has_in w) (take i spans)
+    → covers (ranges ++ (s.block.value, s.block.value + s.block.more) ∷ []) w ≡ list_any (has_in w) (take (i + 1) spans)
+ranges_more spans i s d ranges w within is so_far =
+    list_any-append (λ (range : ℕ × ℕ). is_in_range range.0 range.1 w) ranges ((s.block.value, s.block.value + s.block.more) ∷ [])
+    ∙ or_nothing (covers ranges w) (has_in w s)
     ∙ ap (λ t. t || has_in w s) so_far
     ∙ ap (λ (t : Span). list_any (has_in w) (take i spans) || has_in w t) is
     ∙ sym (list_any_more (has_in w) spans i d within)
@@ -62,10 +62,10 @@ runs_more spans i s d runs w within is so_far =
 spans_values : (fronts : List Name) (spans : List Span) (w : ℕ) → list_any (has_in w) spans ≡ list_any (has_value w) (all_entries fronts spans)
 spans_values fronts [] w = refl
 spans_values fronts (s ∷ spans) w =
-    ap (λ t. t || list_any (has_in w) spans) (sym (block_run (get_or fronts s.front []) s.block w))
+    ap (λ t. t || list_any (has_in w) spans) (sym (block_range (get_or fronts s.front []) s.block w))
     ∙ ap (λ t. list_any (has_value w) (span_entries fronts s) || t) (spans_values fronts spans w)
     ∙ sym (list_any-append (has_value w) (span_entries fronts s) (all_entries fronts spans))
 
--- the runs of all spans have the values of all names
-pub runs_all : (fronts : List Name) (spans : List Span) (i : ℕ) (runs : List (ℕ × ℕ)) (w : ℕ) → length spans ≤ i → covers runs w ≡ list_any (has_in w) (take i spans) → covers runs w ≡ list_any (has_value w) (all_entries fronts spans)
-runs_all fronts spans i runs w all so_far = so_far ∙ ap (λ (ss : List Span). list_any (has_in w) ss) (take_all i spans all) ∙ spans_values fronts spans w
+-- the ranges of all spans have the values of all names
+pub ranges_all : (fronts : List Name) (spans : List Span) (i : ℕ) (ranges : List (ℕ × ℕ)) (w : ℕ) → length spans ≤ i → covers ranges w ≡ list_any (has_in w) (take i spans) → covers ranges w ≡ list_any (has_value w) (all_entries fronts spans)
+ranges_all fronts spans i ranges w all so_far = so_far ∙ ap (λ (ss : List Span). list_any (has_in w) ss) (take_all i spans all) ∙ spans_values fronts spans w

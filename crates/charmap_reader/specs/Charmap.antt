@@ -19,7 +19,8 @@ use Rattle.src_lines.specs.Pieces.{only_bytes}
 use Rattle.src_lines.specs.Tokens.{tokens}
 use Rattle.src_lines.specs.Fields.{fields}
 use Rattle.charmap_reader.specs.declared.names.TheConstants.{NAME_LIMIT}
-use Rattle.charmap_reader.specs.Portable.{Name, first_named, portable_code}
+use Rattle.byte_words.specs.Tables.{first_named}
+use Rattle.charmap_reader.specs.Portable.{Name, portable_code}
 use Rattle.charmap_reader.specs.CodedSet.{CodedSet, listed, big_endian}
 use Rattle.charmap_reader.specs.Subject.{Subject, subject, more_names, name_at}
 use Rattle.charmap_reader.specs.Encoding.{encoding}

@@ -5,7 +5,9 @@ use Rattle.std.specs.Int.Digits.{number_from_digits}
 use Rattle.std.specs.List.{list_any, find}
 use Rattle.std.specs.Option.{option_or, option_map}
 use Rattle.std.specs.Str.{bytes_eq, chars}
-use Rattle.charmap_reader.specs.Portable.{Name, first_named, portable_code, is_portable}
+use Rattle.class_ranges.specs.Runs.{IsRunOf}
+use Rattle.byte_words.specs.Tables.{first_named}
+use Rattle.charmap_reader.specs.Portable.{Name, portable_code, is_portable}
 use Rattle.charmap_reader.specs.Hex.{numbered}
 
 -- a coded character set: one of two built-in ones, or a code set name with the names of a charmap and their bytes
@@ -52,6 +54,10 @@ named_beside (listed _ entries) name = option_map big_endian (first_named entrie
 -- the wide value of the character with a name
 abbrev pub named : CodedSet → Name → Option ℕ
 named set name = option_or (portable_code name) (named_beside set name)
+
+-- an answer is the next run of a set's characters, or none where no character is left
+abbrev pub IsNextRun : CodedSet → ℕ → Option (ℕ × ℕ) → Type 0
+IsNextRun set w answer = IsRunOf (has set) w answer
 
 -- the bytes of the character with a wide value
 abbrev pub encoded : CodedSet → ℕ → Option (List ℕ)

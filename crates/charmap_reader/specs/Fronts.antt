@@ -20,17 +20,17 @@ Keeps old new = (new ≡ old) ⊎ ((front : Name) × (new ≡ old ++ front ∷ [
 abbrev pub number_under : {A : Type 0} → BTreeMap (Vec ℕ A) ℕ → Name → Option ℕ
 number_under numbers front = get_by (λ (key : Vec ℕ _). slice_cmp nat_cmp front key.items) numbers
 
--- whether the text of a number comes before that of another
+-- whether the string of a number comes before that of another
 abbrev pub comes_before : List Name → ℕ → ℕ → Bool
-comes_before texts a b = is_lt (slice_cmp nat_cmp (get_or texts a []) (get_or texts b []))
+comes_before strings a b = is_lt (slice_cmp nat_cmp (get_or strings a []) (get_or strings b []))
 
--- a number has a text, and is among these
+-- a number has a string, and is among these
 abbrev pub HasFront : List Name → List ℕ → Name → ℕ → Type 0
-HasFront texts numbers text n = Contains numbers n × (get_or texts n [] ≡ text)
+HasFront strings numbers string n = Contains numbers n × (get_or strings n [] ≡ string)
 
--- a number does not have a text
+-- a number does not have a string
 abbrev pub LacksFront : List Name → Name → ℕ → Type 0
-LacksFront texts text n = get_or texts n [] ≢ text
+LacksFront strings string n = get_or strings n [] ≢ string
 
 -- each front has one number, which stands either in the order of their bytes or under the front
 pub record IsPlaced {A : Type 0} (fronts : List Name) (sorted : List ℕ) (recent : BTreeMap (Vec ℕ A) ℕ) : Type 0 where

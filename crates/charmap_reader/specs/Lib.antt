@@ -1,7 +1,6 @@
 pub mod Portable
 pub mod Hex
 pub mod CodedSet
-pub mod Runs
 pub mod Code
 pub mod Numbering
 pub mod Distances
@@ -9,10 +8,10 @@ pub mod Subject
 pub mod Seen
 pub mod Encoding
 pub mod Tails
-pub mod Texts
+pub mod ByteStrings
 pub mod Fronts
 pub mod Spans
 pub mod Blocks
-pub mod Names
+pub mod CharacterNames
 pub mod Listing
 pub mod Charmap

@@ -3,13 +3,13 @@ use Rattle.std.specs.Prelude.{◌≡◌, ℕ, List, All}
 use Rattle.charmap_reader.specs.Charmap.{Entry}
 use Rattle.charmap_reader.specs.CodedSet.{listed, has, big_endian}
 use Rattle.charmap_reader.specs.Encoding.{shortest}
-use Rattle.charmap_reader.specs.Runs.{covers}
+use Rattle.class_ranges.specs.Ranges.{covers}
 
 -- an entry has the one encoding that its wide value may have
 abbrev pub IsShort : Entry → Type 0
 IsShort e = shortest (big_endian e.1) ≡ e.1
 
--- runs that have just the values of the charset with these names, and encodings that their values give back
-pub record IsListing (name : List ℕ) (entries : List Entry) (runs : List (ℕ × ℕ)) : Type 0 where
-  pub covered : (w : ℕ) → covers runs w ≡ has (listed name entries) w
+-- ranges that have just the values of the charset with these names, and encodings that their values give back
+pub record IsListing (name : List ℕ) (entries : List Entry) (ranges : List (ℕ × ℕ)) : Type 0 where
+  pub covered : (w : ℕ) → covers ranges w ≡ has (listed name entries) w
   pub short : All IsShort entries

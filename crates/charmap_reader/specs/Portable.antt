@@ -3,16 +3,11 @@ use Rattle.std.specs.Prelude.{ℕ, Bool, ◌==◌, ◌||◌, List, [], ◌∷◌
 use Rattle.std.specs.Char.{is_ascii_alphabetic}
 use Rattle.std.specs.Int.{is_in_range}
 use Rattle.std.specs.Option.{option_or}
-use Rattle.std.specs.Str.{bytes_eq}
+use Rattle.byte_words.specs.Tables.{first_named}
 
 -- a name, without the signs < and > round it
 abbrev pub Name : Type 0
 Name = List ℕ
-
--- what a list of names gives for a name: what stands with its first place
-abbrev pub first_named : {A : Type 0} → List (Name × A) → Name → Option A
-first_named [] name = None
-first_named (entry ∷ entries) name = if bytes_eq entry.0 name then Some entry.1 else first_named entries name
 
 -- a letter names itself
 abbrev pub letter_code : Name → Option ℕ

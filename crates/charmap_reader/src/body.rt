@@ -5,7 +5,7 @@ ghost use Rattle.std.specs.List.{list_any};
 ghost use Rattle.lc_base.specs.Reading.{Gives};
 ghost use Rattle.charmap_reader.specs.CodedSet.{big_endian};
 ghost use Rattle.charmap_reader.specs.Code.{code_bytes};
-ghost use Rattle.charmap_reader.specs.Names.{valued_names, IsAdded};
+ghost use Rattle.charmap_reader.specs.CharacterNames.{valued_names, IsAdded};
 ghost use Rattle.charmap_reader.specs.Blocks.{block_from};
 ghost use Rattle.std.specs.Str.Parse.{AllDigits};
 ghost use Rattle.charmap_reader.specs.Subject.{more_names};
@@ -15,7 +15,7 @@ ghost use Rattle.charmap_reader.specs.Charmap.{entries, is_moved, listed_at, cou
 
 use crate::code::Code;
 use crate::encoding::encoding_in;
-use crate::names::{NAME_LIMIT, Names};
+use crate::names::{CharacterNames, NAME_LIMIT};
 use crate::numbering::{next_block, split_number};
 use crate::portable::portable_code;
 use crate::spans::Block;
@@ -56,7 +56,7 @@ fn block_from(tail: &[u8], more: u32, value: u32) -> Block
 /// Adds names that count up: the first one and so many more. Tells whether all are new.
 fn add_names(
     alloc: Global,
-    names: &mut Names,
+    names: &mut CharacterNames,
     first: &[u8],
     more: u32,
     value: u32,
@@ -111,7 +111,7 @@ fn past(code: &Code) -> u64
 /// Adds the names of a line's first field, the first with this encoding.
 fn add_subject(
     alloc: Global,
-    names: &mut Names,
+    names: &mut CharacterNames,
     place: Place,
     subject: &Subject<'_>,
     more: u32,
@@ -136,7 +136,7 @@ fn add_subject(
 /// unless the encodings or the names would be too many.
 fn add_counted(
     alloc: Global,
-    names: &mut Names,
+    names: &mut CharacterNames,
     name: &Field,
     code: &Field,
     subject: &Subject<'_>,
@@ -159,7 +159,7 @@ fn add_counted(
 /// Adds the names of a line with these two fields.
 pub fn add_line(
     alloc: Global,
-    names: &mut Names,
+    names: &mut CharacterNames,
     name: &Field,
     code: &Field,
 ) -> Result<(), TextFault>

@@ -8,7 +8,7 @@ ghost use Rattle.charmap_reader.specs.Charmap.{opens_body, headers, mapping, map
 use crate::body::add_line;
 use crate::charset::Charset;
 use crate::header::read_header;
-use crate::names::Names;
+use crate::names::CharacterNames;
 use lc_base::{ByteText, Place, Reason, TextFault};
 use src_lines::{Kind, Lines, ends_head, next_word, split_front};
 use std::alloc::Global;
@@ -55,7 +55,12 @@ fn read_headers(
 
 /// Adds the names of a line of the body.
 #[tactic(auto, unfolding(crate::specs::Charmap::mapping))]
-fn read_line(alloc: Global, names: &mut Names, lines: &Lines, i: usize) -> Result<(), TextFault>
+fn read_line(
+    alloc: Global,
+    names: &mut CharacterNames,
+    lines: &Lines,
+    i: usize,
+) -> Result<(), TextFault>
     requires { i < length lines.now }
     ensures { Gives (λ _. names.new) result (mapping names.old (line_at lines.now i)) }
 {
@@ -64,12 +69,17 @@ fn read_line(alloc: Global, names: &mut Names, lines: &Lines, i: usize) -> Resul
 }
 
 /// The names of the lines from `start` up to `end`.
-fn read_body(alloc: Global, lines: &Lines, start: usize, end: usize) -> Result<Names, TextFault>
+fn read_body(
+    alloc: Global,
+    lines: &Lines,
+    start: usize,
+    end: usize,
+) -> Result<CharacterNames, TextFault>
     requires order { start ≤ end }
     requires within { end ≤ length lines.now }
     ensures { Gives (λ names. names) result (mappings [] (take (end - start) (drop start lines.now))) }
 {
-    let mut names = Names::new(alloc);
+    let mut names = CharacterNames::new(alloc);
     for i in start..end {
         read_line(alloc, &mut names, lines, i)?;
     }

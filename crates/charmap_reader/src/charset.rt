@@ -2,14 +2,13 @@
 
 ghost use Rattle.std.specs.Prelude.{◌≡◌, true, ◌≤◌, IsOkAnd, IfOk, IfSome, is_some};
 ghost use Rattle.std.specs.Option.{option_map};
-ghost use Rattle.charmap_reader.specs.CodedSet.{utf8, posix, listed, set_name, has, named, named_beside, encoded, Decodes, valued};
+ghost use Rattle.charmap_reader.specs.CodedSet.{utf8, posix, listed, set_name, has, named, named_beside, encoded, Decodes, IsNextRun, valued};
 ghost use Rattle.charmap_reader.specs.Code.{code_bytes, IsPadded};
-ghost use Rattle.charmap_reader.specs.Runs.{IsNextRun};
 
 use crate::code::Code;
 use crate::kind::Kind;
 use crate::listed::Listed;
-use crate::names::Names;
+use crate::names::CharacterNames;
 use crate::portable::portable_code;
 use crate::{ascii, unicode};
 use lc_base::ByteText;
@@ -48,7 +47,11 @@ impl Charset {
     }
 
     /// The charset of a charmap with this code set name and these names.
-    pub(crate) fn listed(alloc: Global, name: ByteText, names: Names) -> Result<Charset, AllocError>
+    pub(crate) fn listed(
+        alloc: Global,
+        name: ByteText,
+        names: CharacterNames,
+    ) -> Result<Charset, AllocError>
         ensures { IfOk result (λ c. c ≡ listed name names) }
     {
         Ok(Charset {

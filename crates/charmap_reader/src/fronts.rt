@@ -7,7 +7,7 @@ ghost use Rattle.std.specs.Ordering.{nat_cmp};
 ghost use Rattle.std.specs.List.Sorted.{IsPermutation, IsSortedBy};
 ghost use Rattle.charmap_reader.specs.Fronts.{comes_before, HasFront, LacksFront, IsPlaceOf, Keeps};
 
-use crate::texts::{Texts, number_of};
+use crate::byte_strings::{ByteStrings, number_of};
 use std::alloc::{AllocError, Global};
 use std::cmp::Ordering;
 use std::collections::BTreeMap;
@@ -19,7 +19,7 @@ const FEW: usize = 256;
 /// Fronts of names, numbered in the order in which they came first.
 #[derive(Debug, Drop)]
 pub struct Fronts {
-    texts: Texts,
+    strings: ByteStrings,
     /// The numbers of the earlier ones, in the order of their bytes.
     sorted: Vec<u32>,
     /// The numbers of the later ones.
@@ -33,23 +33,23 @@ impl Model for Fronts {
 
     ghost use Rattle.charmap_reader.specs.Fronts.{IsPlaced};
 
-    ghost view = { λ f. f.texts };
+    ghost view = { λ f. f.strings };
 
-    ghost invariant = { λ f. IsPlaced f.texts f.sorted.items f.recent };
+    ghost invariant = { λ f. IsPlaced f.strings f.sorted.items f.recent };
 }
 
-/// How the text of a number compares to another text.
-fn compare_to(texts: &Texts, number: u32, other: &[u8]) -> Ordering
-    ensures { result ≡ slice_cmp nat_cmp (get_or texts.now number []) other.now }
+/// How the string of a number compares to another string.
+fn compare_to(strings: &ByteStrings, number: u32, other: &[u8]) -> Ordering
+    ensures { result ≡ slice_cmp nat_cmp (get_or strings.now number []) other.now }
 {
-    texts.get(number).cmp(other)
+    strings.get(number).cmp(other)
 }
 
-/// How the texts of two numbers compare.
-fn compare(texts: &Texts, number: u32, other: u32) -> Ordering
-    ensures { result ≡ slice_cmp nat_cmp (get_or texts.now number []) (get_or texts.now other []) }
+/// How the strings of two numbers compare.
+fn compare(strings: &ByteStrings, number: u32, other: u32) -> Ordering
+    ensures { result ≡ slice_cmp nat_cmp (get_or strings.now number []) (get_or strings.now other []) }
 {
-    compare_to(texts, number, texts.get(other))
+    compare_to(strings, number, strings.get(other))
 }
 
 /// Sorted numbers, and behind them those of a map.
@@ -65,23 +65,23 @@ fn joined(
     Ok(numbers)
 }
 
-/// The numbers of texts in the order of these.
-fn by_texts(texts: &Texts, numbers: Vec<u32>) -> Result<Vec<u32>, AllocError>
+/// The numbers of strings in the order of these.
+fn by_strings(strings: &ByteStrings, numbers: Vec<u32>) -> Result<Vec<u32>, AllocError>
     ensures moved { IfOk result (λ sorted. IsPermutation numbers.items sorted.items) }
-    ensures rising { IfOk result (λ sorted. IsSortedBy (comes_before texts.now) sorted.items) }
+    ensures rising { IfOk result (λ sorted. IsSortedBy (comes_before strings.now) sorted.items) }
 {
     let mut numbers = numbers;
-    numbers.sort_by(|a, b| compare(texts, *a, *b))?;
+    numbers.sort_by(|a, b| compare(strings, *a, *b))?;
     Ok(numbers)
 }
 
-/// The number of a text, found among sorted numbers.
-fn number_in(texts: &Texts, sorted: &[u32], text: &[u8]) -> Option<u32>
-    requires { IsSortedBy (comes_before texts.now) sorted.now }
-    ensures found { IfSome result (HasFront texts.now sorted.now text.now) }
-    ensures absent { IfNone result (All (LacksFront texts.now text.now) sorted.now) }
+/// The number of a string, found among sorted numbers.
+fn number_in(strings: &ByteStrings, sorted: &[u32], string: &[u8]) -> Option<u32>
+    requires { IsSortedBy (comes_before strings.now) sorted.now }
+    ensures found { IfSome result (HasFront strings.now sorted.now string.now) }
+    ensures absent { IfNone result (All (LacksFront strings.now string.now) sorted.now) }
 {
-    match sorted.binary_search_by(|number| compare_to(texts, *number, text)) {
+    match sorted.binary_search_by(|number| compare_to(strings, *number, string)) {
         Ok(at) => Some(sorted[at]),
         Err(_) => None,
     }
@@ -92,7 +92,7 @@ impl Fronts {
         ensures { result ≡ [] }
     {
         Fronts {
-            texts: Texts::new(alloc),
+            strings: ByteStrings::new(alloc),
             sorted: Vec::new(alloc),
             recent: BTreeMap::new(alloc),
         }
@@ -102,7 +102,7 @@ impl Fronts {
     pub fn find(&self, front: &[u8]) -> Option<u32>
         ensures { IsPlaceOf front.now self.now result }
     {
-        match number_in(&self.texts, &self.sorted, front) {
+        match number_in(&self.strings, &self.sorted, front) {
             Some(number) => Some(number),
             None => self.recent.get(front).copied(),
         }
@@ -113,7 +113,7 @@ impl Fronts {
         ensures { self.new ≡ self.old }
     {
         let numbers = joined(alloc, &self.sorted, &self.recent)?;
-        self.sorted = by_texts(&self.texts, numbers)?;
+        self.sorted = by_strings(&self.strings, numbers)?;
         self.recent = BTreeMap::new(alloc);
         Ok(())
     }
@@ -124,11 +124,11 @@ impl Fronts {
         ensures keeps { Keeps self.old self.new }
         ensures number { IfOk result (λ n. IsPlaceOf front.now self.new (Some n)) }
     {
-        let number = number_of(self.texts.len())?;
+        let number = number_of(self.strings.len())?;
         let key = Vec::from_slice(alloc, front)?;
-        self.texts.push(front)?;
+        self.strings.push(front)?;
         if let Err(_) = self.recent.insert(key, number) {
-            self.texts.pop();
+            self.strings.pop();
             return Err(AllocError);
         }
         Ok(number)

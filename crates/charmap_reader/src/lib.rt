@@ -3,6 +3,7 @@
 
 mod ascii;
 mod body;
+mod byte_strings;
 mod charmap;
 mod charset;
 mod code;
@@ -15,11 +16,9 @@ mod listed;
 mod names;
 mod numbering;
 mod portable;
-mod runs;
 mod spans;
 mod subject;
 mod tail;
-mod texts;
 mod unicode;
 
 pub use charmap::read_charmap;

@@ -1,29 +1,25 @@
 //! The charset of a charmap.
 
 ghost use Rattle.std.specs.Prelude.{◌≡◌, ◌≤◌, IfOk, IfSome, option_map};
-ghost use Rattle.charmap_reader.specs.CodedSet.{listed, set_name, has, named_beside, encoded, Decodes};
+ghost use Rattle.charmap_reader.specs.CodedSet.{listed, set_name, has, named_beside, encoded, Decodes, IsNextRun};
 ghost use Rattle.charmap_reader.specs.Code.{code_bytes, IsPadded};
-ghost use Rattle.charmap_reader.specs.Runs.{IsNextRun};
 
 use crate::code::Code;
-use crate::names::Names;
-use crate::runs::Runs;
+use crate::names::CharacterNames;
+use class_ranges::Ranges;
 use lc_base::ByteText;
 use std::alloc::{AllocError, Global};
 use std::marker::Model;
 
-/// The codes of the portable control characters but 0.
-const CONTROLS: (u32, u32) = (7, 13);
+/// The codes of the portable characters.
+const PORTABLE_CODES: [(u32, u32); 3] = [(0, 0), (7, 13), (32, 126)];
 
-/// The codes of the other portable characters.
-const VISIBLE: (u32, u32) = (32, 126);
-
-/// A code set name, names with their wide values, and all wide values as runs.
+/// A code set name, names with their wide values, and all wide values.
 #[derive(Debug, Drop)]
 pub struct Listed {
     name: ByteText,
-    names: Names,
-    runs: Runs,
+    names: CharacterNames,
+    ranges: Ranges,
 }
 
 impl Model for Listed {
@@ -34,19 +30,22 @@ impl Model for Listed {
 
     ghost view = { λ l. listed l.name l.names };
 
-    ghost invariant = { λ l. IsListing l.name l.names l.runs };
+    ghost invariant = { λ l. IsListing l.name l.names l.ranges };
 }
 
 impl Listed {
     /// The charset with this code set name and these names.
-    pub fn of(alloc: Global, name: ByteText, names: Names) -> Result<Listed, AllocError>
+    pub fn of(alloc: Global, name: ByteText, names: CharacterNames) -> Result<Listed, AllocError>
         ensures { IfOk result (λ l. l ≡ listed name names) }
     {
-        let mut parts = names.runs(alloc)?;
-        parts.push(CONTROLS)?;
-        parts.push(VISIBLE)?;
-        let runs = Runs::of(alloc, parts)?;
-        Ok(Listed { name, names, runs })
+        let mut pairs = names.ranges(alloc)?;
+        pairs.extend_from_slice(&PORTABLE_CODES)?;
+        let ranges = Ranges::of_pairs(alloc, &pairs)?;
+        Ok(Listed {
+            name,
+            names,
+            ranges,
+        })
     }
 
     /// The code set name.
@@ -60,7 +59,7 @@ impl Listed {
     pub fn has(&self, w: u32) -> bool
         ensures { result ≡ has self.now w }
     {
-        self.runs.has(w)
+        self.ranges.contains(w)
     }
 
     /// The character of a name that is no portable one.
@@ -76,7 +75,7 @@ impl Listed {
         ensures len { IfSome result (λ code. 1 ≤ code.len) }
         ensures padding { IfSome result IsPadded }
     {
-        if self.runs.has(w) {
+        if self.ranges.contains(w) {
             Some(Code::shortest(w))
         } else {
             None
@@ -87,12 +86,12 @@ impl Listed {
     pub fn decode(&self, bytes: &[u8]) -> Option<u32>
         ensures { Decodes self.now bytes.now result }
     {
-        let runs = &self.runs;
+        let ranges = &self.ranges;
         if bytes.len() > 4 {
             return None;
         }
         let w = Code::of(bytes).value();
-        if !runs.has(w) {
+        if !ranges.contains(w) {
             return None;
         }
         let code = Code::shortest(w);
@@ -107,6 +106,6 @@ impl Listed {
     pub fn run_from(&self, w: u32) -> Option<(u32, u32)>
         ensures { IsNextRun self.now w result }
     {
-        self.runs.next(w)
+        self.ranges.next(w)
     }
 }

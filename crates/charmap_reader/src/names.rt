@@ -2,11 +2,11 @@
 
 ghost use Rattle.std.specs.Prelude.{◌≡◌, ℕ, ◌+◌, ◌<◌, ◌≤◌, [], All, length, IfOk, option_map};
 ghost use Rattle.std.specs.List.{list_any};
-ghost use Rattle.charmap_reader.specs.Portable.{first_named};
+ghost use Rattle.byte_words.specs.Tables.{first_named};
 ghost use Rattle.charmap_reader.specs.CodedSet.{big_endian, has_value};
-ghost use Rattle.charmap_reader.specs.Runs.{covers};
+ghost use Rattle.class_ranges.specs.Ranges.{covers};
 ghost use Rattle.charmap_reader.specs.Listing.{IsShort};
-ghost use Rattle.charmap_reader.specs.Names.{block_entries, IsBlockOf, IsAdded};
+ghost use Rattle.charmap_reader.specs.CharacterNames.{block_entries, IsBlockOf, IsAdded};
 
 use crate::fronts::Fronts;
 use crate::spans::{Block, Span, Spans};
@@ -19,30 +19,30 @@ pub const NAME_LIMIT: usize = 65536;
 
 /// Names with wide values. Names that count up are one entry.
 #[derive(Debug, Drop)]
-pub struct Names {
+pub struct CharacterNames {
     fronts: Fronts,
     spans: Spans,
     len: usize,
 }
 
-impl Model for Names {
+impl Model for CharacterNames {
     ghost use Rattle.std.specs.Prelude.{List};
     ghost use Rattle.charmap_reader.specs.Charmap.{Entry};
 
     ghost Value = { List Entry };
 
-    ghost use Rattle.charmap_reader.specs.Names.{all_entries, IsKept};
+    ghost use Rattle.charmap_reader.specs.CharacterNames.{all_entries, IsKept};
 
     ghost view = { λ n. all_entries n.fronts n.spans };
 
     ghost invariant = { λ n. IsKept n.fronts n.spans n.len };
 }
 
-impl Names {
-    pub fn new(alloc: Global) -> Names
+impl CharacterNames {
+    pub fn new(alloc: Global) -> CharacterNames
         ensures { result ≡ [] }
     {
-        Names {
+        CharacterNames {
             fronts: Fronts::new(alloc),
             spans: Spans::new(alloc),
             len: 0,
@@ -81,18 +81,18 @@ impl Names {
         Ok(is_new)
     }
 
-    /// The wide values of the names, as runs in the order of the text.
-    pub fn runs(&self, alloc: Global) -> Result<Vec<(u32, u32)>, AllocError>
-        ensures covered { IfOk result (λ runs. (w : ℕ) → covers runs.items w ≡ list_any (has_value w) self.now) }
-        ensures forward { IfOk result (λ runs. All (λ run. run.0 ≤ run.1) runs.items) }
+    /// The wide values of the names, as ranges in the order of the text.
+    pub fn ranges(&self, alloc: Global) -> Result<Vec<(u32, u32)>, AllocError>
+        ensures covered { IfOk result (λ ranges. (w : ℕ) → covers ranges.items w ≡ list_any (has_value w) self.now) }
+        ensures forward { IfOk result (λ ranges. All (λ range. range.0 ≤ range.1) ranges.items) }
         ensures short { IfOk result (λ _. All IsShort self.now) }
     {
         let spans = self.spans.as_slice();
-        let mut runs = Vec::with_capacity(alloc, spans.len() + 2)?;
+        let mut ranges = Vec::with_capacity(alloc, spans.len())?;
         for span in spans {
             let Block { value, more, .. } = span.block;
-            runs.push((value, value + more))?;
+            ranges.push((value, value + more))?;
         }
-        Ok(runs)
+        Ok(ranges)
     }
 }

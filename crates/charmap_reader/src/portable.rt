@@ -1,7 +1,9 @@
 //! The names of the portable character set.
 
-ghost use Rattle.std.specs.Prelude.{◌≡◌, map};
+ghost use Rattle.std.specs.Prelude.{◌≡◌};
 ghost use Rattle.charmap_reader.specs.Portable as spec;
+
+use byte_words::first_named;
 
 const PORTABLE: [(&[u8], u32); 59] = [
     (b"NUL", 0),
@@ -64,18 +66,6 @@ const PORTABLE: [(&[u8], u32); 59] = [
     (b"right-curly-bracket", 125),
     (b"tilde", 126),
 ];
-
-fn first_named(mut table: &[(&[u8], u32)], name: &[u8]) -> Option<u32>
-    ensures { result ≡ spec.first_named (map (λ e. (e.0.now, e.1)) table.entry.now) name.now }
-{
-    while let [entry, rest @ ..] = table {
-        if entry.0 == name {
-            return Some(entry.1);
-        }
-        table = rest;
-    }
-    None
-}
 
 fn letter_code(name: &[u8]) -> Option<u32>
     ensures { result ≡ spec.letter_code name.now }

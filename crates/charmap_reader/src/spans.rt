@@ -3,7 +3,7 @@
 ghost use Rattle.std.specs.Prelude.{◌≡◌, ◌+◌, ◌^◌, ◌<◌, [], find, IfOk, OnErr, MatchBool};
 ghost use Rattle.charmap_reader.specs.Spans.{last_of, end_of, is_in, Meets, IsClear, Adds, IsFirstFrom, IsNext};
 
-use crate::texts::number_of;
+use crate::byte_strings::number_of;
 use std::alloc::{AllocError, Global};
 use std::collections::BTreeMap;
 use std::marker::Model;

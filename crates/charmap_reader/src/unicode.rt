@@ -2,9 +2,8 @@
 
 ghost use Rattle.std.specs.Prelude.{◌≡◌, ◌≤◌, IfSome};
 ghost use Rattle.std.specs.Option.{option_map};
-ghost use Rattle.charmap_reader.specs.CodedSet.{utf8, has, named_beside, encoded, Decodes};
+ghost use Rattle.charmap_reader.specs.CodedSet.{utf8, has, named_beside, encoded, Decodes, IsNextRun};
 ghost use Rattle.charmap_reader.specs.Code.{code_bytes, IsPadded};
-ghost use Rattle.charmap_reader.specs.Runs.{IsNextRun};
 
 use crate::code::Code;
 use crate::hex::numbered;

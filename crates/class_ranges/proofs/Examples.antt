@@ -1,6 +1,8 @@
--- Ranges joined, and the least values of two sets.
-use Rattle.std.proofs.Common.{◌≡◌, true, false, [], ◌∷◌, Some, None, refl}
+-- Ranges joined, the least values of two sets, and the runs of one.
+use Rattle.std.proofs.Common.{◌≡◌, true, false, [], ◌∷◌, Some, None, refl, arith}
+use Rattle.std.proofs.lemmas.Bool.Decides.{nat_tests}
 use Rattle.class_ranges.specs.Ranges.{covers, ranges_of, first_common}
+use Rattle.class_ranges.specs.Runs.{IsRunOf}
 
 -- ranges that meet or touch are one
 merged : ranges_of ((5, 9) ∷ (1, 2) ∷ (3, 4) ∷ (8, 12) ∷ []) ≡ (1, 12) ∷ []
@@ -37,3 +39,21 @@ last_common = refl
 -- the least one, in the second ranges of both
 later_common : first_common ((1, 2) ∷ (10, 20) ∷ []) ((4, 8) ∷ (15, 30) ∷ []) ≡ Some 15
 later_common = refl
+
+-- the run from a value inside a range, and from one in a gap
+run_inside : IsRunOf (covers ((1, 5) ∷ (7, 9) ∷ [])) 3 (Some (3, 5))
+run_inside = record { within = (omega arith, omega arith); least = λ v above below. absurd (omega arith); unbroken = λ v above below. grind (arith, nat_tests); whole = refl }
+
+run_behind_gap : IsRunOf (covers ((1, 5) ∷ (7, 9) ∷ [])) 6 (Some (7, 9))
+run_behind_gap = record { within = (omega arith, omega arith); least = λ v above below. grind (arith, nat_tests); unbroken = λ v above below. grind (arith, nat_tests); whole = refl }
+
+-- ranges that touch have one run
+run_joined : IsRunOf (covers ((1, 5) ∷ (6, 9) ∷ [])) 0 (Some (1, 9))
+run_joined = record { within = (omega arith, omega arith); least = λ v above below. grind (arith, nat_tests); unbroken = λ v above below. grind (arith, nat_tests); whole = refl }
+
+no_run_left : IsRunOf (covers ((1, 5) ∷ (7, 9) ∷ [])) 10 None
+no_run_left = λ v above. grind (arith, nat_tests)
+
+-- no run over a gap
+not_over_gap : IsRunOf (covers ((1, 5) ∷ (7, 9) ∷ [])) 3 (Some (3, 9)) → ⊥
+not_over_gap run = let none : false ≡ true = run.unbroken 6 (omega arith) (omega arith) in cc

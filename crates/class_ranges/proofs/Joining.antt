@@ -1,9 +1,9 @@
 -- Ranges of values in order: what they cover, and what stands next in them.
-use Rattle.std.proofs.Common.{◌≡◌, ℕ, ◌+◌, ◌<◌, ◌≤◌, max, Bool, true, false, ◌||◌, ◌⊎◌, inl, inr, ⊎_elim, List, [], ◌∷◌, ◌++◌, length, get_or, take, All, refl, sym, ap, ◌∙◌, arith, leb, ltb, ltb-true, ltb-false, length-append, take_all}
+use Rattle.std.proofs.Common.{◌≡◌, ℕ, ◌+◌, ◌<◌, ◌≤◌, max, Bool, true, false, ◌||◌, ◌⊎◌, inl, inr, ⊎_elim, List, [], ◌∷◌, ◌++◌, length, get_or, take, All, refl, sym, ap, ◌∙◌, arith, ltb, ltb-true, ltb-false, length-append, take_all}
 use Rattle.std.specs.Int.{is_in_range}
 use Rattle.std.proofs.Math.ListN.{get_or-append}
 use Rattle.std.proofs.Math.Seq.{get_or-append_seam}
-use Rattle.std.proofs.lemmas.Bool.{cases_order, cases_lt, le-leb, lt-leb}
+use Rattle.std.proofs.lemmas.Bool.{cases_order}
 use Rattle.std.proofs.lemmas.Bool.Decides.{nat_tests}
 use Rattle.std.proofs.lemmas.List.{get_or_default}
 use Rattle.std.proofs.lemmas.List.Elements.{All-push, at_read}
@@ -11,6 +11,7 @@ use Rattle.std.proofs.lemmas.List.Folds.{list_any_at, list_any_none, list_any-ap
 use Rattle.std.proofs.lemmas.List.Quantifiers.{all_pairs_push}
 use Rattle.std.specs.List.Sorted.{IsNonDecreasingBy, IsPartitionPoint}
 use Rattle.class_ranges.specs.Ranges.{covers, IsApart}
+use Rattle.class_ranges.specs.Runs.{IsRunFrom, HoldsNowhereFrom}
 
 -- a value is in a range
 inside : (low high v : ℕ) → low ≤ v → v ≤ high → is_in_range low high v ≡ true
@@ -176,25 +177,43 @@ pub start_among : (parts : List (ℕ × ℕ)) (start d : ℕ × ℕ) (w : ℕ) �
 start_among [] start d w within is = absurd (omega arith)
 start_among (p ∷ ps) start d w within is = rw is (or_again (is_in_range p.0 p.1 w) (covers ps w))
 
--- a search for the first range that does not end before a value finds none, so the value is in none
-pub none_found : (ranges : List (ℕ × ℕ)) (w i : ℕ)
-    → IsPartitionPoint (λ (range : ℕ × ℕ). ltb range.1 w ≡ true) (λ (range : ℕ × ℕ). ltb range.1 w ≡ false) ranges i
-    → length ranges ≤ i → covers ranges w ≡ false
-none_found ranges w i point end = covers_none ranges w (λ k d within. inr (ltb-true (get_or ranges k d).1 w (point.0 k d (omega arith) (omega arith))))
+-- where each range ends before a value, nothing from it on is covered
+covers_nothing : (ranges : List (ℕ × ℕ)) (w : ℕ) → All (λ (range : ℕ × ℕ). range.1 < w) ranges → HoldsNowhereFrom (covers ranges) w
+covers_nothing ranges w before = λ v above. covers_none ranges v (λ k d within. let end : (get_or ranges k d).1 < w = before k d within in inr (omega arith))
 
--- it finds one, and the value is in the set exactly where it is not before that range
-pub some_found : (ranges : List (ℕ × ℕ)) (w i : ℕ) (range : ℕ × ℕ) → IsApart ranges
-    → IsPartitionPoint (λ (range : ℕ × ℕ). ltb range.1 w ≡ true) (λ (range : ℕ × ℕ). ltb range.1 w ≡ false) ranges i
-    → i < length ranges → range ≡ get_or ranges i range → covers ranges w ≡ leb range.0 w
-some_found ranges w i range order point within is =
+-- the first range that does not end before a value has the next run
+run_at : (ranges : List (ℕ × ℕ)) (w i : ℕ) (range : ℕ × ℕ) → IsApart ranges → i < length ranges → range ≡ get_or ranges i range
+    → ((k : ℕ) (d : ℕ × ℕ) → k < i → (get_or ranges k d).1 < w) → w ≤ range.1 → IsRunFrom (covers ranges) w (max range.0 w) range.1
+run_at ranges w i range order within is before end =
     let here : (d : ℕ × ℕ) → get_or ranges i d ≡ range = at_read ranges (λ (r : ℕ × ℕ). r ≡ range) i range within is refl in
+    let forward : range.0 ≤ range.1 = rw (here range) at (order.forward i range within) in
+    let past : (k : ℕ) (d : ℕ × ℕ) → i < k → k < length ranges → range.1 + 1 < (get_or ranges k d).0 =
+    λ k d after in_ranges. rw (here d) at (order.apart i k d after in_ranges) in
+    let gap : (k : ℕ) (d : ℕ × ℕ) → k < i → (get_or ranges k d).1 + 1 < range.0 =
+    λ k d earlier. rw (here d) at (order.apart k i d earlier within) in
+    record {
+      within = (omega arith, omega arith);
+      least = λ v above below. apart_at ranges i v range here
+          (λ k d earlier. omega (arith, before k d earlier))
+          (inl (omega arith))
+          (λ k d later in_ranges. omega (arith, past k d later in_ranges));
+      unbroken = λ v above below. covers_at ranges i v range within (rw (here range) (omega arith)) (rw (here range) below);
+      whole = apart_at ranges i (range.1 + 1) range here
+          (λ k d earlier. omega (arith, gap k d earlier))
+          (inr (omega arith))
+          (λ k d later in_ranges. past k d later in_ranges);
+    }
+
+-- a search for the first range that does not end before a value finds none, so nothing is left
+pub none_next : (ranges : List (ℕ × ℕ)) (w i : ℕ)
+    → IsPartitionPoint (λ (range : ℕ × ℕ). ltb range.1 w ≡ true) (λ (range : ℕ × ℕ). ltb range.1 w ≡ false) ranges i
+    → i ≡ length ranges → HoldsNowhereFrom (covers ranges) w
+none_next ranges w i point end = covers_nothing ranges w (λ k d within. ltb-true (get_or ranges k d).1 w (point.0 k d (omega arith) (omega arith)))
+
+-- it finds one, and that range, from the value on, is the next run
+pub some_next : (ranges : List (ℕ × ℕ)) (w i : ℕ) (range : ℕ × ℕ) → IsApart ranges
+    → IsPartitionPoint (λ (range : ℕ × ℕ). ltb range.1 w ≡ true) (λ (range : ℕ × ℕ). ltb range.1 w ≡ false) ranges i
+    → i < length ranges → range ≡ get_or ranges i range → IsRunFrom (covers ranges) w (max range.0 w) range.1
+some_next ranges w i range order point within is =
     let end : ltb range.1 w ≡ false = rw (← is) at (point.1 i range (omega arith) within) in
-    let upto : w ≤ range.1 = ltb-false range.1 w end in
-    ⊎_elim
-    (λ below. apart_at ranges i w range here
-    (λ k d earlier. ltb-true (get_or ranges k d).1 w (point.0 k d (omega arith) earlier))
-    (inl below)
-    (λ k d later in_ranges. let gap : range.1 + 1 < (get_or ranges k d).0 = rw (here d) at (order.apart i k d later in_ranges) in omega arith)
-    ∙ sym (lt-leb range.0 w below))
-    (λ above. covers_at ranges i w range within (rw (here range) above) (rw (here range) upto) ∙ sym (le-leb range.0 w above))
-    (cases_lt w range.0)
+    run_at ranges w i range order within is (λ k d earlier. ltb-true (get_or ranges k d).1 w (point.0 k d (omega arith) earlier)) (ltb-false range.1 w end)

@@ -2,6 +2,7 @@
 
 ghost use Rattle.std.specs.Prelude.{◌≡◌, ℕ, ◌≤◌, ◌&&◌, All, IfOk};
 ghost use Rattle.class_ranges.specs.Ranges.{IsApart, IsLeast, covers, ranges_of, first_common};
+ghost use Rattle.class_ranges.specs.Runs.{IsRunOf};
 
 use crate::merge::{first_common, merged};
 use std::alloc::{AllocError, Global};
@@ -44,11 +45,23 @@ impl Ranges {
     pub fn contains(&self, w: u32) -> bool
         ensures { result ≡ covers self.now w }
     {
+        match self.next(w) {
+            Some((first, _)) => first == w,
+            None => false,
+        }
+    }
+
+    /// The least value of the set that is not below `w`, and the last one of the run from it.
+    /// `None` exactly where no such value is left. Takes the logarithm of the ranges.
+    pub fn next(&self, w: u32) -> Option<(u32, u32)>
+        ensures { IsRunOf (covers self.now) w result }
+    {
         let at = self.ranges.partition_point(|range| range.1 < w);
         if at == self.ranges.len() {
-            return false;
+            return None;
         }
-        self.ranges[at].0 <= w
+        let (first, last) = self.ranges[at];
+        Some((first.max(w), last))
     }
 
     /// The least value that is in both sets. `None` exactly where there is none.

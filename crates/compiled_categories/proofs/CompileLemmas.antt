@@ -14,8 +14,8 @@ use Rattle.numeric_cat.specs.Numeric.{posix_values}
 use Rattle.monetary_cat.specs.Monetary.{posix_values as posix_money}
 use Rattle.time_cat.specs.Values.{posix_values as posix_times}
 use Rattle.messages_cat.specs.Messages.{posix_values as posix_messages}
-use Rattle.compiled_categories.specs.declared.kept.Kept.{Kept}
-use Rattle.category_copies.specs.declared.rows.Row.{Row}
+use Rattle.compiled_categories.specs.declared.kept.CategoryLists.{CategoryLists}
+use Rattle.category_copies.specs.declared.rows.LocaleRow.{LocaleRow}
 use Rattle.locale_sources.specs.Sources.{Source}
 use Rattle.category_copies.specs.Copies.{end_of}
 use Rattle.compiled_categories.specs.Written.{Written, written_for, written_at}
@@ -97,21 +97,21 @@ from_told S n (s ∷ ss) =
     ∙ more (ends_fault (kept_of S) (row_of S n s).ends) (rows_fault (kept_of S) (rows_from S (n + 1) ss)) (locale_in (kept_of S) (row_of S n s)) (map (locale_in (kept_of S)) (rows_from S (n + 1) ss)))
 
 -- the locales of what is kept, or the first fault in it
-pub told : (S : List Source) (k : Kept) (rows : List Row) (fault : Option Fault) → k ≡ kept_of S → rows ≡ rows_from S 1 S → fault ≡ rows_fault k rows → locales_from S 1 S ≡ given_unless fault (map (locale_in k) rows)
+pub told : (S : List Source) (k : CategoryLists) (rows : List LocaleRow) (fault : Option Fault) → k ≡ kept_of S → rows ≡ rows_from S 1 S → fault ≡ rows_fault k rows → locales_from S 1 S ≡ given_unless fault (map (locale_in k) rows)
 told S k rows fault are_kept are_rows is = rw (is, are_kept, are_rows) (from_told S 1 S)
 
 -- ---- one locale by its number
 
 -- the locale of a row, if there is one
-abbrev pub found : Kept → Option Row → Locale
+abbrev pub found : CategoryLists → Option LocaleRow → Locale
 found k None = posix_locale
 found k (Some r) = locale_in k r
 
-found_get : (k : Kept) (rows : List Row) (i : ℕ) → unwrap_or (slice_get (map (locale_in k) rows) i) posix_locale ≡ found k (slice_get rows i)
+found_get : (k : CategoryLists) (rows : List LocaleRow) (i : ℕ) → unwrap_or (slice_get (map (locale_in k) rows) i) posix_locale ≡ found k (slice_get rows i)
 found_get k [] i = refl
 found_get k (r ∷ rows) zero = refl
 found_get k (r ∷ rows) (suc i) = found_get k rows i
 
-pub found_is : (k : Kept) (rows : List Row) (n : ℕ) → locale_among (map (locale_in k) rows) n ≡ found k (row_at rows n)
+pub found_is : (k : CategoryLists) (rows : List LocaleRow) (n : ℕ) → locale_among (map (locale_in k) rows) n ≡ found k (row_at rows n)
 found_is k rows zero = refl
 found_is k rows (suc i) = found_get k rows i

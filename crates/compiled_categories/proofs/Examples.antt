@@ -9,6 +9,7 @@ use Rattle.keyword_lists.specs.declared.source.Value.TheVariants.{Text, Chars}
 use Rattle.keyword_lists.specs.declared.source.Entry.{Entry}
 use Rattle.keyword_lists.specs.declared.source.Section.{Section}
 use Rattle.keyword_lists.specs.declared.source.Body.TheVariants.{Copy, Entries}
+use Rattle.ctype_classes.specs.Lines.{rule_of_line}
 use Rattle.ctype_classes.specs.Lists.{classes_of}
 use Rattle.ctype_classes.specs.Ctype.{ctype_values, posix_values as posix_classes}
 use Rattle.numeric_cat.specs.NumericValues.{NumericValues}
@@ -128,7 +129,7 @@ copied_money = refl
 
 -- LC_CTYPE comes before LC_NUMERIC, wherever it stands in the text
 classes_first : locales_of (locale (codes "a") (numeric 2 [] ∷ digits 5 58 ∷ []) ∷ []) ≡ Err (at 6 7, DigitsNotTen)
-unfolding at numeric digits locale ctype_values classes_of
+unfolding at numeric digits locale ctype_values classes_of rule_of_line
 classes_first = refl
 
 -- LC_MONETARY comes before LC_TIME, wherever it stands in the text

@@ -13,9 +13,9 @@ use Rattle.monetary_cat.specs.Monetary.{posix_values as posix_money}
 use Rattle.time_cat.specs.Values.{posix_values as posix_times}
 use Rattle.messages_cat.specs.Messages.{posix_values as posix_messages}
 use Rattle.locale_sources.specs.Sources.{Source}
-use Rattle.category_copies.specs.declared.numbers.Numbers.{Numbers}
-use Rattle.category_copies.specs.declared.rows.Row.{Row}
-use Rattle.compiled_categories.specs.declared.kept.Kept.{Kept}
+use Rattle.category_copies.specs.declared.numbers.SourceNumbers.{SourceNumbers}
+use Rattle.category_copies.specs.declared.rows.LocaleRow.{LocaleRow}
+use Rattle.compiled_categories.specs.declared.kept.CategoryLists.{CategoryLists}
 use Rattle.compiled_categories.specs.Written.{Written, written_for}
 use Rattle.compiled_categories.specs.Locale.{Locale}
 use Rattle.compiled_categories.specs.Compiled.{ctype_of, numeric_of, monetary_of, time_of, messages_of}
@@ -52,7 +52,7 @@ fault_in (Err fault) = Some fault
 -- ---- the five categories
 
 -- the categories of sources
-abbrev pub kept_of : List Source → Kept
+abbrev pub kept_of : List Source → CategoryLists
 kept_of sources = record {
   ctype = slots ctype_of sources Ctype;
   numeric = slots numeric_of sources Numeric;
@@ -62,7 +62,7 @@ kept_of sources = record {
 }
 
 -- a locale whose categories are kept under these numbers
-abbrev pub locale_with : List ℕ → ℕ → Kept → Numbers → Locale
+abbrev pub locale_with : List ℕ → ℕ → CategoryLists → SourceNumbers → Locale
 locale_with name mask kept ends = record {
   name = name;
   available = mask;
@@ -74,7 +74,7 @@ locale_with name mask kept ends = record {
 }
 
 -- the first fault of the categories that are kept under these numbers
-abbrev pub ends_fault : Kept → Numbers → Option (Place × Reason)
+abbrev pub ends_fault : CategoryLists → SourceNumbers → Option (Place × Reason)
 ends_fault kept ends =
     option_or (option_or (option_or (option_or
     (fault_in (kept_or posix_classes kept.ctype ends.ctype))
@@ -86,11 +86,11 @@ ends_fault kept ends =
 -- ---- rows
 
 -- the locale of a row
-abbrev pub locale_in : Kept → Row → Locale
+abbrev pub locale_in : CategoryLists → LocaleRow → Locale
 locale_in kept r = locale_with r.name r.available kept r.ends
 
 -- the first fault of rows
-abbrev pub rows_fault : Kept → List Row → Option (Place × Reason)
+abbrev pub rows_fault : CategoryLists → List LocaleRow → Option (Place × Reason)
 rows_fault kept [] = None
 rows_fault kept (r ∷ rs) = option_or (ends_fault kept r.ends) (rows_fault kept rs)
 

@@ -3,8 +3,8 @@
 ghost use Rattle.std.specs.Prelude.{◌≡◌};
 ghost use Rattle.compiled_categories.specs.Kept.{locale_with};
 
-use crate::kept::Kept;
-use category_copies::Numbers;
+use crate::kept::CategoryLists;
+use category_copies::SourceNumbers;
 use ctype_classes::Ctype;
 use lc_base::Mask;
 use messages_cat::Messages;
@@ -18,8 +18,8 @@ use time_cat::Time;
 pub struct Compiled<'a> {
     name: &'a [u8],
     available: Mask,
-    kept: &'a Kept,
-    ends: Numbers,
+    kept: &'a CategoryLists,
+    ends: SourceNumbers,
 }
 
 impl<'a> Model for Compiled<'a> {
@@ -32,7 +32,12 @@ impl<'a> Model for Compiled<'a> {
 }
 
 impl<'a> Compiled<'a> {
-    pub(crate) fn of(name: &'a [u8], available: Mask, kept: &'a Kept, ends: Numbers) -> Compiled<'a>
+    pub(crate) fn of(
+        name: &'a [u8],
+        available: Mask,
+        kept: &'a CategoryLists,
+        ends: SourceNumbers,
+    ) -> Compiled<'a>
         ensures { result ≡ locale_with name.now available kept.now ends }
     {
         Compiled {

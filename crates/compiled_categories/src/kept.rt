@@ -8,7 +8,7 @@ ghost use Rattle.compiled_categories.specs.Kept.{slots, kept, kept_or, value_or,
 
 use crate::built::Built;
 use crate::written::written_for;
-use category_copies::Numbers;
+use category_copies::SourceNumbers;
 use ctype_classes::Ctype;
 use lc_base::{Category, Place, Reason, TextFault};
 use locale_sources::Source;
@@ -135,7 +135,7 @@ fn both<A: Drop, B: Drop>(
 
 /// The categories of all sources.
 #[derive(Drop)]
-pub struct Kept {
+pub struct CategoryLists {
     pub ctype: Slots<Ctype>,
     pub numeric: Slots<Numeric>,
     pub monetary: Slots<Monetary>,
@@ -143,9 +143,9 @@ pub struct Kept {
     pub messages: Slots<Messages>,
 }
 
-impl Kept {
+impl CategoryLists {
     /// Compiles what the sources write, each keyword list once.
-    pub fn read(alloc: Global, sources: &[Source<'_>]) -> Result<Kept, AllocError>
+    pub fn read(alloc: Global, sources: &[Source<'_>]) -> Result<CategoryLists, AllocError>
         ensures { IfOk result (λ k. k ≡ kept_of (map source sources.now)) }
     {
         let ctype = Slots::read(alloc, sources, Category::Ctype);
@@ -156,7 +156,7 @@ impl Kept {
         let amounts = both(numeric, monetary);
         let words = both(time, messages);
         match both(ctype, both(amounts, words)) {
-            Ok((ctype, ((numeric, monetary), (time, messages)))) => Ok(Kept {
+            Ok((ctype, ((numeric, monetary), (time, messages)))) => Ok(CategoryLists {
                 ctype,
                 numeric,
                 monetary,
@@ -168,7 +168,7 @@ impl Kept {
     }
 
     /// The first fault of the categories that are kept under these numbers.
-    pub fn fault(&self, ends: Numbers) -> Option<(Place, Reason)>
+    pub fn fault(&self, ends: SourceNumbers) -> Option<(Place, Reason)>
         ensures { result ≡ ends_fault self.now ends }
     {
         self.ctype

@@ -10,8 +10,8 @@ ghost use Rattle.compiled_categories.specs.Kept.{rows_fault, row_at};
 ghost use Rattle.compiled_categories.specs.Locale.{locale_among};
 
 use crate::compiled::Compiled;
-use crate::kept::Kept;
-use category_copies::{Numbers, Row};
+use crate::kept::CategoryLists;
+use category_copies::{LocaleRow, SourceNumbers};
 use lc_base::{Mask, Place, Reason, TextFault};
 use locale_sources::Source;
 use std::alloc::Global;
@@ -20,8 +20,8 @@ use std::marker::Model;
 /// Compiled locales by their numbers. What several of them share stands once.
 #[derive(Drop)]
 pub struct Locales {
-    rows: Vec<Row>,
-    kept: Kept,
+    rows: Vec<LocaleRow>,
+    kept: CategoryLists,
 }
 
 impl Model for Locales {
@@ -42,12 +42,12 @@ impl Locales {
     pub fn compile(
         alloc: Global,
         sources: &[Source<'_>],
-        rows: Vec<Row>,
+        rows: Vec<LocaleRow>,
     ) -> Result<Locales, TextFault>
         requires { let S = map source sources.now in rows.items ≡ rows_from S 1 S }
         ensures { Gives (λ l. l) result (locales_of (map source sources.now)) }
     {
-        let kept = Kept::read(alloc, sources)?;
+        let kept = CategoryLists::read(alloc, sources)?;
         let fault = rows_fault(&kept, rows.as_slice());
         made_unless(fault, Locales { rows, kept })
     }
@@ -59,7 +59,7 @@ impl Locales {
         match row_at(self.rows.as_slice(), number) {
             Some(row) => Compiled::of(row.name.as_bytes(), row.available, &self.kept, row.ends),
             None => {
-                let ends = Numbers {
+                let ends = SourceNumbers {
                     ctype: 0,
                     numeric: 0,
                     monetary: 0,
@@ -83,7 +83,7 @@ fn made_unless<T: Drop>(fault: Option<(Place, Reason)>, made: T) -> Result<T, Te
 }
 
 /// The first fault of rows.
-fn rows_fault(kept: &Kept, rows: &[Row]) -> Option<(Place, Reason)>
+fn rows_fault(kept: &CategoryLists, rows: &[LocaleRow]) -> Option<(Place, Reason)>
     ensures { result ≡ rows_fault kept.now rows.now }
 {
     for row in rows {
@@ -95,7 +95,7 @@ fn rows_fault(kept: &Kept, rows: &[Row]) -> Option<(Place, Reason)>
 }
 
 /// The row with a number, from 1.
-fn row_at(rows: &[Row], number: u32) -> Option<&Row>
+fn row_at(rows: &[LocaleRow], number: u32) -> Option<&LocaleRow>
     ensures { option_copied result ≡ row_at rows.now number }
 {
     if number == 0 {

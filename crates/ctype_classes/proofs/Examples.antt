@@ -11,6 +11,7 @@ use Rattle.keyword_lists.specs.declared.source.Entry.{Entry}
 use Rattle.ctype_classes.specs.Characters.{characters}
 use Rattle.ctype_classes.specs.Named.{place_of}
 use Rattle.ctype_classes.specs.Classes.{Classes, members_of, numbered_answer}
+use Rattle.ctype_classes.specs.Lines.{rule_of_line}
 use Rattle.ctype_classes.specs.Lists.{classes_of}
 use Rattle.ctype_classes.specs.Exclusions.{all_kept_apart}
 use Rattle.ctype_classes.specs.Case.{upper_pairs, lower_pairs, map_of, image}
@@ -57,27 +58,27 @@ posix_print = refl
 
 -- the row of classes of an empty list over POSIX, by the table of memberships
 graph_letter : membership posix [] (codes "graph") 70 ≡ Some true
-unfolding membership
+unfolding membership rule_of_line
 graph_letter = refl
 
 graph_space : membership posix [] (codes "graph") 32 ≡ Some false
-unfolding membership
+unfolding membership rule_of_line
 graph_space = refl
 
 print_space : membership posix [] (codes "print") 32 ≡ Some true
-unfolding membership
+unfolding membership rule_of_line
 print_space = refl
 
 cntrl_delete : membership posix [] (codes "cntrl") 127 ≡ Some true
-unfolding membership
+unfolding membership rule_of_line
 cntrl_delete = refl
 
 outside_charset : membership posix [] (codes "alpha") 200 ≡ Some false
-unfolding membership
+unfolding membership rule_of_line
 outside_charset = refl
 
 no_class : membership posix [] (codes "vowel") 65 ≡ None
-unfolding membership
+unfolding membership rule_of_line
 no_class = refl
 
 posix_image : image posix_values.upper 122 ≡ 90
@@ -97,11 +98,11 @@ demo_list =
     line 11 (codes "toupper") ((at 11 9, Pair 233 201) ∷ (at 11 31, Pair 97 65) ∷ (at 11 41, Pair 98 65) ∷ []) ∷ []
 
 demo_alpha : membership demo demo_list (codes "alpha") 33280 ≡ Some true
-unfolding membership
+unfolding membership rule_of_line
 demo_alpha = refl
 
 demo_between : membership demo demo_list (codes "alpha") 33282 ≡ Some false
-unfolding membership
+unfolding membership rule_of_line
 demo_between = refl
 
 -- an absent tolower is the reverse of toupper, and of two pairs with one image the first counts
@@ -137,12 +138,12 @@ by_number = refl
 
 -- an underscore that is a letter is still in punct
 letter_and_punct : ctype_values (line 3 (codes "alpha") ((at 3 7, one 95) ∷ []) ∷ []) (at 2 1) posix ≡ Err (at 2 1, Excluded Alpha Punct 95)
-unfolding ctype_values classes_of all_kept_apart characters
+unfolding ctype_values classes_of rule_of_line all_kept_apart characters
 letter_and_punct = refl
 
 -- the least common value of a range and of two characters
 least_common : ctype_values (line 3 (codes "alpha") ((at 3 7, Chars 254 258) ∷ []) ∷ line 4 (codes "punct") ((at 4 7, one 256) ∷ (at 4 15, one 258) ∷ []) ∷ []) (at 2 1) utf8 ≡ Err (at 2 1, Excluded Alpha Punct 256)
-unfolding ctype_values classes_of all_kept_apart characters
+unfolding ctype_values classes_of rule_of_line all_kept_apart characters
 least_common = refl
 
 -- the space character is not in punct
@@ -152,61 +153,61 @@ space_in_punct = refl
 
 -- a digit that is none of the ten, at its operand, before an exclusion
 other_digit : classes_of posix (line 3 (codes "upper") ((at 3 7, one 49) ∷ []) ∷ line 4 (codes "digit") ((at 4 7, one 50) ∷ (at 4 9, Chars 57 58) ∷ []) ∷ []) ≡ Err (at 4 9, DigitsNotTen)
-unfolding classes_of characters
+unfolding classes_of rule_of_line characters
 other_digit = refl
 
 -- a pair without case, on either side
 caseless_second : classes_of posix (line 3 (codes "toupper") ((at 3 9, Pair 97 65) ∷ (at 3 15, Pair 98 49) ∷ []) ∷ []) ≡ Err (at 3 15, NotCased)
-unfolding classes_of characters
+unfolding classes_of rule_of_line characters
 caseless_second = refl
 
 caseless_first : classes_of posix (line 3 (codes "tolower") ((at 3 9, Pair 49 97) ∷ []) ∷ []) ≡ Err (at 3 9, NotCased)
-unfolding classes_of characters
+unfolding classes_of rule_of_line characters
 caseless_first = refl
 
 -- names of classes: a keyword, one declared before, one too long, and one that begins with a digit
 keyword_declared : classes_of posix (line 3 (codes "charclass") ((at 3 11, Text (codes "vowel")) ∷ (at 3 17, Text (codes "toupper")) ∷ []) ∷ []) ≡ Err (at 3 17, BadClassName)
-unfolding classes_of characters
+unfolding classes_of rule_of_line characters
 keyword_declared = refl
 
 declared_twice : classes_of posix (line 3 (codes "charclass") ((at 3 11, Text (codes "vowel")) ∷ []) ∷ line 4 (codes "charclass") ((at 4 11, Text (codes "vowel")) ∷ []) ∷ []) ≡ Err (at 4 11, BadClassName)
-unfolding classes_of characters
+unfolding classes_of rule_of_line characters
 declared_twice = refl
 
 long_name : classes_of posix (line 3 (codes "charclass") ((at 3 11, Text (codes "abcdefghijklmno")) ∷ []) ∷ []) ≡ Err (at 3 11, BadClassName)
-unfolding classes_of characters
+unfolding classes_of rule_of_line characters
 long_name = refl
 
 digit_first : classes_of posix (line 3 (codes "charclass") ((at 3 11, Text (codes "2nd")) ∷ []) ∷ []) ≡ Err (at 3 11, BadClassName)
-unfolding classes_of characters
+unfolding classes_of rule_of_line characters
 digit_first = refl
 
 -- a declared class has its listed members, or none
 declared_list : membership posix (line 3 (codes "charclass") ((at 3 11, Text (codes "vowel")) ∷ (at 3 17, Text (codes "copy")) ∷ []) ∷ line 4 (codes "vowel") ((at 4 7, one 97) ∷ []) ∷ []) (codes "vowel") 97 ≡ Some true
-unfolding membership
+unfolding membership rule_of_line
 declared_list = refl
 
 declared_alone : membership posix (line 3 (codes "charclass") ((at 3 11, Text (codes "vowel")) ∷ (at 3 17, Text (codes "copy")) ∷ []) ∷ []) (codes "copy") 97 ≡ Some false
-unfolding membership
+unfolding membership rule_of_line
 declared_alone = refl
 
 -- a listed cntrl has just its listed members, also where it lists none
 listed_cntrl : membership posix (line 3 (codes "cntrl") [] ∷ []) (codes "cntrl") 7 ≡ Some false
-unfolding membership
+unfolding membership rule_of_line
 listed_cntrl = refl
 
 -- listed members of xdigit are in graph
 graph_of_xdigit : membership utf8 (line 3 (codes "xdigit") ((at 3 8, one 0xFF21) ∷ []) ∷ []) (codes "graph") 0xFF21 ≡ Some true
-unfolding membership
+unfolding membership rule_of_line
 graph_of_xdigit = refl
 
 -- an underscore that is a letter: the first pair with a common member, and no less one
 letter_in_both : in_both (is_in posix (line 3 (codes "alpha") ((at 3 7, one 95) ∷ []) ∷ [])) (Alpha, Punct) 95 ≡ true
-unfolding membership
+unfolding membership rule_of_line
 letter_in_both = refl
 
 none_less : in_both (is_in posix (line 3 (codes "alpha") ((at 3 7, one 95) ∷ []) ∷ [])) (Alpha, Punct) 94 ≡ false
-unfolding membership
+unfolding membership rule_of_line
 none_less = refl
 
 -- behind the last pair it is the space character in punct

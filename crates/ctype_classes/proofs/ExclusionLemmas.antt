@@ -1,6 +1,6 @@
 -- Refusals of classes with a common member.
-use Rattle.std.proofs.Common.{◌≡◌, ℕ, Bool, true, false, cond, ◌&&◌, ◌||◌, List, [], ◌∷◌, Option, Some, None, Result, Ok, Err, sym, ap, ◌∙◌, inl, inr}
-use Rattle.std.specs.Prelude.{codes, not, unwrap_or, OnOk}
+use Rattle.std.proofs.Common.{◌≡◌, ℕ, Bool, true, false, cond, ◌&&◌, List, [], ◌∷◌, Option, Some, None, Result, Ok, Err, sym, ap, ◌∙◌, inl, inr}
+use Rattle.std.specs.Prelude.{not, unwrap_or, OnOk}
 use Rattle.lc_base.specs.declared.place.Place.{Place}
 use Rattle.lc_base.specs.declared.fault.TextFault.{TextFault}
 use Rattle.lc_base.specs.declared.fault.TextFault.TheVariants.{At, Memory}
@@ -14,10 +14,12 @@ use Rattle.charmap_reader.specs.CodedSet.{CodedSet}
 use Rattle.keyword_lists.specs.declared.source.Value.{Value}
 use Rattle.keyword_lists.specs.declared.source.Value.TheVariants.{Text, Number, Chars, Pair}
 use Rattle.keyword_lists.specs.declared.source.Entry.{Entry}
-use Rattle.ctype_classes.specs.Lines.{is_line}
+use Rattle.keyword_table.specs.declared.row.Rule.{Rule}
+use Rattle.keyword_table.specs.declared.row.Rule.TheVariants as rules
+use Rattle.ctype_classes.specs.Lines.{rule_of_line}
 use Rattle.ctype_classes.specs.Table.{declared_row}
 use Rattle.ctype_classes.specs.Classes.{Classes, with_class, twelve_classes}
-use Rattle.ctype_classes.specs.Lists.{is_ten, is_cased_pair, each_passes, is_class_name, is_taken, declaring, declaring_value, declaring_values, after_line, after_lines, classes_of}
+use Rattle.ctype_classes.specs.Lists.{is_ten, is_cased_pair, each_passes, is_class_name, is_taken, declaring, declaring_value, declaring_values, after_operands, after_line, after_lines, classes_of}
 use Rattle.ctype_classes.specs.Exclusions.{class_name, exclusions}
 use Rattle.ctype_classes.specs.Excluded.{is_in, is_kept_in, in_both, IsExcluded, AreApart, IsFirstExcluded, AreAllApart, Names}
 use Rattle.ctype_classes.specs.CtypeValues.{CtypeValues}
@@ -106,22 +108,24 @@ declaring_values_other set entries classes [] = ok_other classes
 declaring_values_other set entries classes (v ∷ vs) =
     after_other (declaring_value set entries classes v) (λ more. declaring_values set entries more vs) (declaring_value_other set entries classes v) (λ more. declaring_values_other set entries more vs)
 
-after_line_other : (set : CodedSet) (entries : List Entry) (classes : Classes) (e : Entry) → FaultsOther (after_line set entries classes e)
-after_line_other set entries classes e =
-    let digits = each_passes is_ten DigitsNotTen e.values >>= (λ u. Ok classes) in
-    let pairs = each_passes (is_cased_pair classes) NotCased e.values >>= (λ u. Ok classes) in
-    let paired = cond (is_line (codes "toupper") e || is_line (codes "tolower") e) pairs (Ok classes) in
-    let P : Bool → Type 0 = λ c. FaultsOther (cond c pairs (Ok classes)) in
-    let last = elim (is_line (codes "toupper") e || is_line (codes "tolower") e) as P [ true ↦ after_other (each_passes (is_cased_pair classes) NotCased e.values) (λ u. Ok classes) (passes_other (is_cased_pair classes) NotCased no_case e.values) (λ u. ok_other classes) | false ↦ ok_other classes ] in
-    let Q : Bool → Type 0 = λ c. FaultsOther (cond c digits paired) in
-    let later = elim (is_line (codes "digit") e) as Q [ true ↦ after_other (each_passes is_ten DigitsNotTen e.values) (λ u. Ok classes) (passes_other is_ten DigitsNotTen no_digit e.values) (λ u. ok_other classes) | false ↦ last ] in
-    let R : Bool → Type 0 = λ c. FaultsOther (cond c (declaring_values set entries classes e.values) (cond (is_line (codes "digit") e) digits paired)) in
-    elim (is_line (codes "charclass") e) as R [ true ↦ declaring_values_other set entries classes e.values | false ↦ later ]
+after_operands_other : (set : CodedSet) (entries : List Entry) (classes : Classes) (rule : Option Rule) (vs : List (Place × Value)) → FaultsOther (after_operands set entries classes rule vs)
+after_operands_other set entries classes None vs = ok_other classes
+after_operands_other set entries classes (Some rules.ClassNames) vs = declaring_values_other set entries classes vs
+after_operands_other set entries classes (Some rules.TenDigits) vs = after_other (each_passes is_ten DigitsNotTen vs) (λ u. Ok classes) (passes_other is_ten DigitsNotTen no_digit vs) (λ u. ok_other classes)
+after_operands_other set entries classes (Some rules.Cased) vs = after_other (each_passes (is_cased_pair classes) NotCased vs) (λ u. Ok classes) (passes_other (is_cased_pair classes) NotCased no_case vs) (λ u. ok_other classes)
+after_operands_other set entries classes (Some rules.Free) vs = ok_other classes
+after_operands_other set entries classes (Some rules.NotEmpty) vs = ok_other classes
+after_operands_other set entries classes (Some rules.EmptyOrFour) vs = ok_other classes
+after_operands_other set entries classes (Some (rules.Between low high)) vs = ok_other classes
+after_operands_other set entries classes (Some (rules.Names n)) vs = ok_other classes
+after_operands_other set entries classes (Some (rules.Format rank)) vs = ok_other classes
+after_operands_other set entries classes (Some rules.Segments) vs = ok_other classes
+after_operands_other set entries classes (Some rules.Digits) vs = ok_other classes
 
 after_lines_other : (set : CodedSet) (entries : List Entry) (classes : Classes) (es : List Entry) → FaultsOther (after_lines set entries classes es)
 after_lines_other set entries classes [] = ok_other classes
 after_lines_other set entries classes (e ∷ es) =
-    after_other (after_line set entries classes e) (λ more. after_lines set entries more es) (after_line_other set entries classes e) (λ more. after_lines_other set entries more es)
+    after_other (after_line set entries classes e) (λ more. after_lines set entries more es) (after_operands_other set entries classes (rule_of_line e) e.values) (λ more. after_lines_other set entries more es)
 
 pub lines_other : (set : CodedSet) (entries : List Entry) → FaultsOther (classes_of set entries)
 unfolding classes_of

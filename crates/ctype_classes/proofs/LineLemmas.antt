@@ -1,16 +1,15 @@
 -- The first lines of keywords, as they are kept.
 use Rattle.std.proofs.Common.{◌≡◌, Bool, true, false, cond, List, [], ◌∷◌, ◌++◌, Option, Some, None, Bor, refl, sym, ap, ◌∙◌, ⊎_elim}
-use Rattle.std.specs.List.{find}
-use Rattle.std.specs.Option.{option_copied, option_map, option_or, is_some}
+use Rattle.std.specs.Option.{option_copied, option_or, is_some}
 use Rattle.std.specs.Str.{bytes_eq}
 use Rattle.std.proofs.lemmas.Bool.{cases_Bool}
-use Rattle.std.proofs.lemmas.List.Folds.{find-append}
 use Rattle.std.proofs.lemmas.Slice.Eq.{bytes_eq-Decides}
 use Rattle.lc_base.specs.declared.place.Place.{Place}
-use Rattle.charmap_reader.specs.Portable.{Name, first_named}
+use Rattle.byte_words.specs.Tables.{first_named}
+use Rattle.charmap_reader.specs.Portable.{Name}
 use Rattle.keyword_lists.specs.declared.source.Value.{Value}
 use Rattle.keyword_lists.specs.declared.source.Entry.{Entry}
-use Rattle.ctype_classes.specs.Lines.{is_line}
+use Rattle.keyword_values.specs.Keywords.{operands}
 use Rattle.ctype_classes.specs.Named.{with_named}
 use Rattle.ctype_classes.specs.FirstLines.{AreFirstLines}
 
@@ -46,9 +45,16 @@ pub first_named-with_named : {A : Type 0} (named : List (Name × A)) (name : Nam
 first_named-with_named {A} named name x key =
     with_found named name x key (first_named named name) refl
 
+-- the operands of a keyword after one more line
+operands-append : (entries : List Entry) (e : Entry) (keyword : Name) → operands (entries ++ e ∷ []) keyword ≡ option_or (operands entries keyword) (cond (bytes_eq e.keyword keyword) (Some e.values) None)
+operands-append [] e keyword = refl
+operands-append (x ∷ xs) e keyword =
+    let P : Bool → Type 0 = λ b. cond b (Some x.values) (operands (xs ++ e ∷ []) keyword) ≡ option_or (cond b (Some x.values) (operands xs keyword)) (cond (bytes_eq e.keyword keyword) (Some e.values) None) in
+    elim (bytes_eq x.keyword keyword) as P [ true ↦ refl | false ↦ operands-append xs e keyword ]
+
 -- what is kept of a line more, and what the lines have
-line_more : (o : Option (Bor Operands)) (f : Option Entry) (t : Bool) (x : Bor Operands) (e : Entry) → option_copied o ≡ option_map (λ (l : Entry). l.values) f → x.now ≡ e.values
-    → option_copied (option_or o (cond t (Some x) None)) ≡ option_map (λ (l : Entry). l.values) (option_or f (cond t (Some e) None))
+line_more : (o : Option (Bor Operands)) (f : Option Operands) (t : Bool) (x : Bor Operands) (e : Entry) → option_copied o ≡ f → x.now ≡ e.values
+    → option_copied (option_or o (cond t (Some x) None)) ≡ option_or f (cond t (Some e.values) None)
 line_more None None true x e h same = ap {B = Option Operands} (λ (v : Operands). Some v) same
 line_more None None false x e h same = refl
 line_more None (Some l) t x e h same = absurd (cc)
@@ -59,5 +65,5 @@ line_more (Some v) (Some l) t x e h same = h
 pub first_lines_more : (entries : List Entry) (lines : List (Name × Bor Operands)) (e : Entry) (x : Bor Operands) → x.now ≡ e.values → AreFirstLines entries lines → AreFirstLines (entries ++ e ∷ []) (with_named lines e.keyword x)
 first_lines_more entries lines e x same h keyword =
     ap (λ (o : Option (Bor Operands)). option_copied o) (first_named-with_named lines e.keyword x keyword)
-    ∙ line_more (first_named lines keyword) (find (is_line keyword) entries) (is_line keyword e) x e (h keyword) same
-    ∙ sym (ap (λ (o : Option Entry). option_map (λ (l : Entry). l.values) o) (find-append (is_line keyword) entries (e ∷ [])))
+    ∙ line_more (first_named lines keyword) (operands entries keyword) (bytes_eq e.keyword keyword) x e (h keyword) same
+    ∙ sym (operands-append entries e keyword)

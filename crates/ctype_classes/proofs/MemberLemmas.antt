@@ -1,6 +1,6 @@
 -- The classes as they are kept, and membership value by value.
 use Rattle.std.proofs.Common.{◌≡◌, ℕ, Bool, true, false, cond, ◌&&◌, ◌||◌, List, [], ◌∷◌, ◌++◌, map, Option, Some, None, Ok, Err, refl, sym, ap, ◌∙◌}
-use Rattle.std.specs.Prelude.{codes, not}
+use Rattle.std.specs.Prelude.{not}
 use Rattle.std.specs.Option.{option_map, unwrap_or, is_some}
 use Rattle.std.specs.Str.{bytes_eq}
 use Rattle.std.proofs.lemmas.List.{map-append}
@@ -9,22 +9,26 @@ use Rattle.lc_base.specs.declared.reason.Reason.{Reason}
 use Rattle.lc_base.specs.declared.reason.Reason.TheVariants.{BadClassName, DigitsNotTen, NotCased}
 use Rattle.lc_base.specs.Reading.{Reads, ◌>>=◌}
 use Rattle.class_ranges.specs.Ranges.{Range, covers}
-use Rattle.charmap_reader.specs.Portable.{Name, first_named}
+use Rattle.byte_words.specs.Tables.{first_named}
+use Rattle.charmap_reader.specs.Portable.{Name}
 use Rattle.charmap_reader.specs.CodedSet.{CodedSet, has}
 use Rattle.keyword_lists.specs.declared.source.Value.{Value}
 use Rattle.keyword_lists.specs.declared.source.Value.TheVariants.{Text, Number, Chars, Pair}
 use Rattle.keyword_lists.specs.declared.source.Entry.{Entry}
-use Rattle.ctype_classes.specs.Lines.{is_line, operands_of}
+use Rattle.keyword_table.specs.declared.row.Rule.{Rule}
+use Rattle.keyword_table.specs.declared.row.Rule.TheVariants.{Free, NotEmpty, EmptyOrFour, Between, TenDigits, Cased, ClassNames, Names, Format, Segments, Digits}
+use Rattle.keyword_values.specs.Keywords.{operands, texts}
+use Rattle.ctype_classes.specs.Lines.{rule_of_line}
 use Rattle.ctype_classes.specs.Named.{with_named}
 use Rattle.ctype_classes.specs.Characters.{characters}
 use Rattle.ctype_classes.specs.Table.{ClassRow, class_table, declared_row}
 use Rattle.ctype_classes.specs.Classes.{Classes, members_of, members_of_all, all_members, listed_members, with_class, with_classes, twelve_classes, class_answer}
-use Rattle.ctype_classes.specs.Lists.{is_ten, is_cased_pair, each_passes, is_class_name, is_taken, declaring, declaring_value, declaring_values, after_line, after_lines, classes_of}
+use Rattle.ctype_classes.specs.Lists.{is_ten, is_cased_pair, each_passes, is_class_name, is_taken, declaring, declaring_values, after_operands, after_line, after_lines, classes_of}
 use Rattle.ctype_classes.specs.Exclusions.{all_kept_apart}
 use Rattle.ctype_classes.specs.Case.{upper_pairs, lower_pairs, image, first_image}
 use Rattle.ctype_classes.specs.CtypeValues.{CtypeValues}
 use Rattle.ctype_classes.specs.Ctype.{ctype_with, ctype_values}
-use Rattle.ctype_classes.specs.Members.{name_of_value, names_in, declared_names, rows_of, is_in_any, is_member, memberships, membership}
+use Rattle.ctype_classes.specs.Members.{declared_in, declared_names, rows_of, is_in_any, is_member, memberships, membership}
 use Rattle.ctype_classes.proofs.CaseLemmas.{image-map_of}
 use Rattle.ctype_classes.proofs.CharacterLemmas.{covers-append, covers-characters}
 
@@ -62,9 +66,9 @@ grouped false b c = refl
 
 -- a class has just its members
 covers-all_members : (entries : List Entry) (w : ℕ) (classes : Classes) (r : ClassRow) → covers (all_members entries classes r) w
-    ≡ (covers (listed_members r.absent (operands_of entries r.name)) w || (covers r.always w || is_in_any (answers w classes) r.parts))
+    ≡ (covers (listed_members r.absent (operands entries r.name)) w || (covers r.always w || is_in_any (answers w classes) r.parts))
 covers-all_members entries w classes r =
-    let listed = listed_members r.absent (operands_of entries r.name) in
+    let listed = listed_members r.absent (operands entries r.name) in
     let parts = members_of_all classes r.parts in
     covers-append (listed ++ r.always) parts w
     ∙ ap (λ (b : Bool). b || covers parts w) (covers-append listed r.always w)
@@ -117,56 +121,48 @@ chosen_is false x out fault h = absurd (cc)
 declaring_is : (set : CodedSet) (entries : List Entry) (classes out : Classes) (place : Place) (name : Name) → declaring set entries classes place name ≡ Ok out → out ≡ with_class set entries classes (declared_row name)
 declaring_is set entries classes out place name h = chosen_is (is_class_name name && not (is_taken classes name)) (with_class set entries classes (declared_row name)) out (place, BadClassName) h
 
-declaring_value_is : (set : CodedSet) (entries : List Entry) (classes out : Classes) (v : Place × Value) → declaring_value set entries classes v ≡ Ok out → out ≡ with_classes set entries classes (map declared_row (name_of_value v.1))
-declaring_value_is set entries classes out (place, Text name) h = declaring_is set entries classes out place name h
-declaring_value_is set entries classes out (place, Number n) h = cc
-declaring_value_is set entries classes out (place, Chars a b) h = cc
-declaring_value_is set entries classes out (place, Pair a b) h = cc
-
 -- rows of names, one list after another
 rows-append : (set : CodedSet) (entries : List Entry) (classes : Classes) (ms ns : List Name) → with_classes set entries classes (map declared_row (ms ++ ns)) ≡ with_classes set entries (with_classes set entries classes (map declared_row ms)) (map declared_row ns)
 rows-append set entries classes ms ns =
     ap (λ (rs : List ClassRow). with_classes set entries classes rs) (map-append declared_row ms ns) ∙ with_classes-append set entries classes (map declared_row ms) (map declared_row ns)
 
-declaring_values_is : (set : CodedSet) (entries : List Entry) (classes out : Classes) (vs : List (Place × Value)) → declaring_values set entries classes vs ≡ Ok out → out ≡ with_classes set entries classes (map declared_row (names_in vs))
+declaring_values_is : (set : CodedSet) (entries : List Entry) (classes out : Classes) (vs : List (Place × Value)) → declaring_values set entries classes vs ≡ Ok out → out ≡ with_classes set entries classes (map declared_row (texts vs))
 declaring_values_is set entries classes out [] h = cc
-declaring_values_is set entries classes out (v ∷ vs) h =
-    let step = both_read (declaring_value set entries classes v) (λ more. declaring_values set entries more vs) out h in
-    let first : step.0 ≡ with_classes set entries classes (map declared_row (name_of_value v.1)) = declaring_value_is set entries classes step.0 v step.1 in
+declaring_values_is set entries classes out ((place, Text name) ∷ vs) h =
+    let step = both_read (declaring set entries classes place name) (λ more. declaring_values set entries more vs) out h in
     declaring_values_is set entries step.0 out vs step.2
-    ∙ ap (λ (cs : Classes). with_classes set entries cs (map declared_row (names_in vs))) first
-    ∙ sym (rows-append set entries classes (name_of_value v.1) (names_in vs))
+    ∙ ap (λ (cs : Classes). with_classes set entries cs (map declared_row (texts vs))) (declaring_is set entries classes step.0 place name step.1)
+declaring_values_is set entries classes out ((place, Number n) ∷ vs) h = declaring_values_is set entries classes out vs h
+declaring_values_is set entries classes out ((place, Chars a b) ∷ vs) h = declaring_values_is set entries classes out vs h
+declaring_values_is set entries classes out ((place, Pair a b) ∷ vs) h = declaring_values_is set entries classes out vs h
 
 -- a line that declares nothing leaves the classes
 checked_is : (classes out : Classes) (r : Reads (Unit {0})) → (r >>= (λ u. Ok classes)) ≡ Ok out → out ≡ classes
 checked_is classes out (Ok u) h = cc
 checked_is classes out (Err e) h = absurd (cc)
 
--- where a line declares no class, the classes stay
-plain_line_is : (classes out : Classes) (e : Entry)
-    → cond (is_line (codes "digit") e) (each_passes is_ten DigitsNotTen e.values >>= (λ u. Ok classes)) (cond (is_line (codes "toupper") e || is_line (codes "tolower") e) (each_passes (is_cased_pair classes) NotCased e.values >>= (λ u. Ok classes)) (Ok classes)) ≡ Ok out
-    → out ≡ classes
-plain_line_is classes out e h =
-    let pairs = each_passes (is_cased_pair classes) NotCased e.values >>= (λ u. Ok classes) in
-    let P : Bool → Type 0 = λ b. cond b pairs (Ok classes) ≡ Ok out → out ≡ classes in
-    let later = elim (is_line (codes "toupper") e || is_line (codes "tolower") e) as P [ true ↦ λ k. checked_is classes out (each_passes (is_cased_pair classes) NotCased e.values) k | false ↦ λ k. cc ] in
-    let Q : Bool → Type 0 = λ b. cond b (each_passes is_ten DigitsNotTen e.values >>= (λ u. Ok classes)) (cond (is_line (codes "toupper") e || is_line (codes "tolower") e) pairs (Ok classes)) ≡ Ok out → out ≡ classes in
-    (elim (is_line (codes "digit") e) as Q [ true ↦ λ k. checked_is classes out (each_passes is_ten DigitsNotTen e.values) k | false ↦ λ k. later k ]) h
-
--- the classes after a line are those that it declares
-after_line_is : (set : CodedSet) (entries : List Entry) (classes out : Classes) (e : Entry) → after_line set entries classes e ≡ Ok out
-    → out ≡ with_classes set entries classes (map declared_row (cond (is_line (codes "charclass") e) (names_in e.values) []))
-after_line_is set entries classes out e h =
-    let plain = cond (is_line (codes "digit") e) (each_passes is_ten DigitsNotTen e.values >>= (λ u. Ok classes)) (cond (is_line (codes "toupper") e || is_line (codes "tolower") e) (each_passes (is_cased_pair classes) NotCased e.values >>= (λ u. Ok classes)) (Ok classes)) in
-    let P : Bool → Type 0 = λ b. cond b (declaring_values set entries classes e.values) plain ≡ Ok out → out ≡ with_classes set entries classes (map declared_row (cond b (names_in e.values) [])) in
-    (elim (is_line (codes "charclass") e) as P [ true ↦ λ k. declaring_values_is set entries classes out e.values k | false ↦ λ k. plain_line_is classes out e k ]) h
+-- the classes after operands are those that they declare
+after_operands_is : (set : CodedSet) (entries : List Entry) (classes out : Classes) (rule : Option Rule) (vs : List (Place × Value)) → after_operands set entries classes rule vs ≡ Ok out
+    → out ≡ with_classes set entries classes (map declared_row (declared_in rule vs))
+after_operands_is set entries classes out None vs h = cc
+after_operands_is set entries classes out (Some ClassNames) vs h = declaring_values_is set entries classes out vs h
+after_operands_is set entries classes out (Some TenDigits) vs h = checked_is classes out (each_passes is_ten DigitsNotTen vs) h
+after_operands_is set entries classes out (Some Cased) vs h = checked_is classes out (each_passes (is_cased_pair classes) NotCased vs) h
+after_operands_is set entries classes out (Some Free) vs h = cc
+after_operands_is set entries classes out (Some NotEmpty) vs h = cc
+after_operands_is set entries classes out (Some EmptyOrFour) vs h = cc
+after_operands_is set entries classes out (Some (Between low high)) vs h = cc
+after_operands_is set entries classes out (Some (Names n)) vs h = cc
+after_operands_is set entries classes out (Some (Format rank)) vs h = cc
+after_operands_is set entries classes out (Some Segments) vs h = cc
+after_operands_is set entries classes out (Some Digits) vs h = cc
 
 after_lines_is : (set : CodedSet) (entries : List Entry) (classes out : Classes) (es : List Entry) → after_lines set entries classes es ≡ Ok out → out ≡ with_classes set entries classes (map declared_row (declared_names es))
 after_lines_is set entries classes out [] h = cc
 after_lines_is set entries classes out (e ∷ es) h =
     let step = both_read (after_line set entries classes e) (λ more. after_lines set entries more es) out h in
-    let names : List Name = cond (is_line (codes "charclass") e) (names_in e.values) [] in
-    let first : step.0 ≡ with_classes set entries classes (map declared_row names) = after_line_is set entries classes step.0 e step.1 in
+    let names : List Name = declared_in (rule_of_line e) e.values in
+    let first : step.0 ≡ with_classes set entries classes (map declared_row names) = after_operands_is set entries classes step.0 (rule_of_line e) e.values step.1 in
     after_lines_is set entries step.0 out es step.2
     ∙ ap (λ (cs : Classes). with_classes set entries cs (map declared_row (declared_names es))) first
     ∙ sym (rows-append set entries classes names (declared_names es))

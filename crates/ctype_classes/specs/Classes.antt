@@ -2,11 +2,12 @@
 use Rattle.std.specs.Prelude.{ℕ, Bool, List, [], ◌∷◌, ◌++◌, slice_get, Option, Some, None, unwrap_or, option_map}
 use Rattle.lc_base.specs.declared.place.Place.{Place}
 use Rattle.class_ranges.specs.Ranges.{Range, covers}
-use Rattle.charmap_reader.specs.Portable.{Name, first_named}
+use Rattle.byte_words.specs.Tables.{first_named}
+use Rattle.charmap_reader.specs.Portable.{Name}
 use Rattle.charmap_reader.specs.CodedSet.{CodedSet}
 use Rattle.keyword_lists.specs.declared.source.Value.{Value}
 use Rattle.keyword_lists.specs.declared.source.Entry.{Entry}
-use Rattle.ctype_classes.specs.Lines.{operands_of, ranges_in}
+use Rattle.keyword_values.specs.Keywords.{operands, ranges}
 use Rattle.ctype_classes.specs.Named.{with_named}
 use Rattle.ctype_classes.specs.Characters.{characters}
 use Rattle.ctype_classes.specs.Table.{ClassRow, class_table}
@@ -27,11 +28,11 @@ members_of_all classes (name ∷ names) = members_of classes name ++ members_of_
 -- the listed members, or those that stand for an absent keyword
 abbrev pub listed_members : List Range → Option (List (Place × Value)) → List Range
 listed_members absent None = absent
-listed_members absent (Some operands) = ranges_in operands
+listed_members absent (Some vs) = ranges vs
 
 -- the members of a class, listed and automatic, in any order
 abbrev pub all_members : List Entry → Classes → ClassRow → List Range
-all_members entries classes r = listed_members r.absent (operands_of entries r.name) ++ r.always ++ members_of_all classes r.parts
+all_members entries classes r = listed_members r.absent (operands entries r.name) ++ r.always ++ members_of_all classes r.parts
 
 -- the classes after one more
 abbrev pub with_class : CodedSet → List Entry → Classes → ClassRow → Classes

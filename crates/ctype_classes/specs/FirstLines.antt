@@ -3,11 +3,12 @@ use Rattle.std.specs.Prelude.{◌≡◌, List}
 use Rattle.std.specs.Option.{option_copied}
 use Rattle.std.specs.Borrow.{Bor}
 use Rattle.lc_base.specs.declared.place.Place.{Place}
-use Rattle.charmap_reader.specs.Portable.{Name, first_named}
+use Rattle.byte_words.specs.Tables.{first_named}
+use Rattle.charmap_reader.specs.Portable.{Name}
 use Rattle.keyword_lists.specs.declared.source.Value.{Value}
 use Rattle.keyword_lists.specs.declared.source.Entry.{Entry}
-use Rattle.ctype_classes.specs.Lines.{operands_of}
+use Rattle.keyword_values.specs.Keywords.{operands}
 
 -- a list of names gives the operands of the first line of each keyword
 abbrev pub AreFirstLines : List Entry → List (Name × Bor (List (Place × Value))) → Type 0
-AreFirstLines entries lines = (keyword : Name) → option_copied (first_named lines keyword) ≡ operands_of entries keyword
+AreFirstLines entries lines = (keyword : Name) → option_copied (first_named lines keyword) ≡ operands entries keyword

@@ -1,5 +1,5 @@
 -- The faults of the lines of LC_CTYPE, and the classes that they declare (XBD 7.3.1).
-use Rattle.std.specs.Prelude.{ℕ, Bool, true, ◌||◌, ◌&&◌, not, List, [], ◌∷◌, length, slice_index, codes, is_some, Ok, Err, if◌then◌else◌}
+use Rattle.std.specs.Prelude.{ℕ, Bool, true, ◌||◌, ◌&&◌, not, List, [], ◌∷◌, length, slice_index, codes, Option, Some, is_some, Ok, Err, if◌then◌else◌}
 use Rattle.std.specs.Char.{is_ascii_alphabetic, is_ascii_alphanumeric}
 use Rattle.std.specs.Int.{is_in_range}
 use Rattle.std.specs.List.{list_any, list_all}
@@ -9,12 +9,15 @@ use Rattle.lc_base.specs.declared.reason.Reason.{Reason}
 use Rattle.lc_base.specs.declared.reason.Reason.TheVariants.{BadClassName, DigitsNotTen, NotCased}
 use Rattle.lc_base.specs.Reading.{Reads, ◌>>=◌}
 use Rattle.class_ranges.specs.Ranges.{covers}
-use Rattle.charmap_reader.specs.Portable.{Name, first_named}
+use Rattle.byte_words.specs.Tables.{first_named}
+use Rattle.charmap_reader.specs.Portable.{Name}
 use Rattle.charmap_reader.specs.CodedSet.{CodedSet}
 use Rattle.keyword_lists.specs.declared.source.Value.{Value}
 use Rattle.keyword_lists.specs.declared.source.Value.TheVariants.{Text, Number, Chars, Pair}
 use Rattle.keyword_lists.specs.declared.source.Entry.{Entry}
-use Rattle.ctype_classes.specs.Lines.{is_line}
+use Rattle.keyword_table.specs.declared.row.Rule.{Rule}
+use Rattle.keyword_table.specs.declared.row.Rule.TheVariants.{TenDigits, Cased, ClassNames}
+use Rattle.ctype_classes.specs.Lines.{rule_of_line}
 use Rattle.ctype_classes.specs.Table.{declared_row, other_keywords}
 use Rattle.ctype_classes.specs.Classes.{Classes, members_of, with_class, twelve_classes}
 
@@ -69,13 +72,16 @@ abbrev pub declaring_values : CodedSet → List Entry → Classes → List (Plac
 declaring_values set entries classes [] = Ok classes
 declaring_values set entries classes (v ∷ vs) = declaring_value set entries classes v >>= λ more. declaring_values set entries more vs
 
+-- the classes after the operands of a line with this rule
+abbrev pub after_operands : CodedSet → List Entry → Classes → Option Rule → List (Place × Value) → Reads Classes
+after_operands set entries classes (Some ClassNames) vs = declaring_values set entries classes vs
+after_operands set entries classes (Some TenDigits) vs = each_passes is_ten DigitsNotTen vs >>= λ _. Ok classes
+after_operands set entries classes (Some Cased) vs = each_passes (is_cased_pair classes) NotCased vs >>= λ _. Ok classes
+after_operands set entries classes _ vs = Ok classes
+
 -- the classes after a line
 abbrev pub after_line : CodedSet → List Entry → Classes → Entry → Reads Classes
-after_line set entries classes e =
-    if is_line (codes "charclass") e then declaring_values set entries classes e.values
-    else (if is_line (codes "digit") e then (each_passes is_ten DigitsNotTen e.values >>= λ _. Ok classes)
-    else (if is_line (codes "toupper") e || is_line (codes "tolower") e then (each_passes (is_cased_pair classes) NotCased e.values >>= λ _. Ok classes)
-    else Ok classes))
+after_line set entries classes e = after_operands set entries classes (rule_of_line e) e.values
 
 -- the classes after lines of a keyword list
 abbrev pub after_lines : CodedSet → List Entry → Classes → List Entry → Reads Classes

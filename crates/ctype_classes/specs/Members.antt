@@ -1,32 +1,29 @@
 -- Membership in a class, value by value: the table of classes with their automatic members (XBD 7.3.1).
-use Rattle.std.specs.Prelude.{ℕ, Bool, false, ◌||◌, ◌&&◌, List, [], ◌∷◌, ◌++◌, map, codes, Option, unwrap_or, if◌then◌else◌}
+use Rattle.std.specs.Prelude.{ℕ, Bool, false, ◌||◌, ◌&&◌, List, [], ◌∷◌, ◌++◌, map, Option, Some, unwrap_or}
 use Rattle.lc_base.specs.declared.place.Place.{Place}
 use Rattle.class_ranges.specs.Ranges.{covers}
-use Rattle.charmap_reader.specs.Portable.{Name, first_named}
+use Rattle.byte_words.specs.Tables.{first_named}
+use Rattle.charmap_reader.specs.Portable.{Name}
 use Rattle.charmap_reader.specs.CodedSet.{CodedSet, has}
 use Rattle.keyword_lists.specs.declared.source.Value.{Value}
-use Rattle.keyword_lists.specs.declared.source.Value.TheVariants.{Text, Number, Chars, Pair}
 use Rattle.keyword_lists.specs.declared.source.Entry.{Entry}
-use Rattle.ctype_classes.specs.Lines.{is_line, operands_of}
+use Rattle.keyword_table.specs.declared.row.Rule.{Rule}
+use Rattle.keyword_table.specs.declared.row.Rule.TheVariants.{ClassNames}
+use Rattle.keyword_values.specs.Keywords.{operands, texts}
+use Rattle.ctype_classes.specs.Lines.{rule_of_line}
 use Rattle.ctype_classes.specs.Named.{with_named}
 use Rattle.ctype_classes.specs.Table.{ClassRow, class_table, declared_row}
 use Rattle.ctype_classes.specs.Classes.{listed_members}
 
--- the name of a class that a value declares
-abbrev pub name_of_value : Value → List Name
-name_of_value (Text name) = name ∷ []
-name_of_value (Number n) = []
-name_of_value (Chars a b) = []
-name_of_value (Pair a b) = []
-
-abbrev pub names_in : List (Place × Value) → List Name
-names_in [] = []
-names_in (v ∷ vs) = name_of_value v.1 ++ names_in vs
+-- the names of the classes that the operands of a line with this rule declare
+abbrev pub declared_in : Option Rule → List (Place × Value) → List Name
+declared_in (Some ClassNames) vs = texts vs
+declared_in _ vs = []
 
 -- the names of the classes that lines declare, in order
 abbrev pub declared_names : List Entry → List Name
 declared_names [] = []
-declared_names (e ∷ es) = (if is_line (codes "charclass") e then names_in e.values else []) ++ declared_names es
+declared_names (e ∷ es) = declared_in (rule_of_line e) e.values ++ declared_names es
 
 -- the classes of a locale: the twelve, and the declared ones, which have their listed members alone
 abbrev pub rows_of : List Entry → List ClassRow
@@ -40,7 +37,7 @@ is_in_any given (name ∷ names) = unwrap_or (first_named given name) false || i
 -- whether a value is in the class of a row: a character of the charset that is listed or an automatic member
 abbrev pub is_member : CodedSet → List Entry → ℕ → List (Name × Bool) → ClassRow → Bool
 is_member set entries w given r =
-    has set w && (covers (listed_members r.absent (operands_of entries r.name)) w || (covers r.always w || is_in_any given r.parts))
+    has set w && (covers (listed_members r.absent (operands entries r.name)) w || (covers r.always w || is_in_any given r.parts))
 
 -- for the classes given and then those of rows, whether a value is in each
 abbrev pub memberships : CodedSet → List Entry → ℕ → List (Name × Bool) → List ClassRow → List (Name × Bool)

@@ -2,6 +2,8 @@
 use Rattle.std.specs.Prelude.{List, [], ◌∷◌, codes}
 use Rattle.class_ranges.specs.Ranges.{Range}
 use Rattle.charmap_reader.specs.Portable.{Name}
+use Rattle.lc_base.specs.declared.category.Category.TheVariants as categories
+use Rattle.keyword_table.specs.LookUp.{posix_ranges}
 
 -- a class: its name, the values that it always has, those that it has where its keyword is absent, and the classes above it in
 -- the table whose members it has
@@ -11,28 +13,29 @@ pub record ClassRow : Type 0 where
   pub absent : List Range
   pub parts : List Name
 
-abbrev row : Name → List Range → List Range → List Name → ClassRow
-row name always absent parts = record { name = name; always = always; absent = absent; parts = parts }
+-- a class of the table of keywords
+abbrev pub row : Name → List Range → List Name → ClassRow
+row name always parts = record { name = name; always = always; absent = posix_ranges categories.Ctype name; parts = parts }
 
 -- the twelve classes; which members are automatic beyond the standard's is our own rule
 abbrev pub class_table : List ClassRow
 class_table =
-    row (codes "upper") ((65, 90) ∷ []) [] [] ∷
-    row (codes "lower") ((97, 122) ∷ []) [] [] ∷
-    row (codes "alpha") [] [] (codes "upper" ∷ codes "lower" ∷ []) ∷
-    row (codes "digit") ((48, 57) ∷ []) [] [] ∷
-    row (codes "alnum") [] [] (codes "alpha" ∷ codes "digit" ∷ []) ∷
-    row (codes "blank") ((9, 9) ∷ (32, 32) ∷ []) [] [] ∷
-    row (codes "space") ((9, 13) ∷ (32, 32) ∷ []) [] (codes "blank" ∷ []) ∷
-    row (codes "cntrl") [] ((0, 31) ∷ (127, 127) ∷ []) [] ∷
-    row (codes "punct") [] ((33, 47) ∷ (58, 64) ∷ (91, 96) ∷ (123, 126) ∷ []) [] ∷
-    row (codes "xdigit") ((48, 57) ∷ (65, 70) ∷ (97, 102) ∷ []) [] [] ∷
-    row (codes "graph") [] [] (codes "upper" ∷ codes "lower" ∷ codes "alpha" ∷ codes "digit" ∷ codes "xdigit" ∷ codes "punct" ∷ []) ∷
-    row (codes "print") ((32, 32) ∷ []) [] (codes "graph" ∷ []) ∷ []
+    row (codes "upper") ((65, 90) ∷ []) [] ∷
+    row (codes "lower") ((97, 122) ∷ []) [] ∷
+    row (codes "alpha") [] (codes "upper" ∷ codes "lower" ∷ []) ∷
+    row (codes "digit") ((48, 57) ∷ []) [] ∷
+    row (codes "alnum") [] (codes "alpha" ∷ codes "digit" ∷ []) ∷
+    row (codes "blank") ((9, 9) ∷ (32, 32) ∷ []) [] ∷
+    row (codes "space") ((9, 13) ∷ (32, 32) ∷ []) (codes "blank" ∷ []) ∷
+    row (codes "cntrl") [] [] ∷
+    row (codes "punct") [] [] ∷
+    row (codes "xdigit") ((48, 57) ∷ (65, 70) ∷ (97, 102) ∷ []) [] ∷
+    row (codes "graph") [] (codes "upper" ∷ codes "lower" ∷ codes "alpha" ∷ codes "digit" ∷ codes "xdigit" ∷ codes "punct" ∷ []) ∷
+    row (codes "print") ((32, 32) ∷ []) (codes "graph" ∷ []) ∷ []
 
 -- a class that a charclass line declares has its listed members alone
 abbrev pub declared_row : Name → ClassRow
-declared_row name = row name [] [] []
+declared_row name = record { name = name; always = []; absent = []; parts = [] }
 
 -- the keywords of LC_CTYPE that are no class
 abbrev pub other_keywords : List Name

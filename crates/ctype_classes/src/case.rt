@@ -2,45 +2,25 @@
 
 ghost use Rattle.std.specs.Prelude.{◌≡◌, ◌++◌, map, IfOk};
 ghost use Rattle.std.specs.Option.{option_copied};
-ghost use Rattle.ctype_classes.specs.Lines.{pairs_in};
-ghost use Rattle.ctype_classes.specs.Case.{letter_pairs, reversed, upper_pairs, lower_pairs, map_of, image};
+ghost use Rattle.ctype_classes.specs.Case.{reversed, upper_pairs, lower_pairs, map_of, image};
 
 use crate::first_lines::KeywordList;
-use keyword_lists::{ValueRef, Values};
+use keyword_table::posix_pairs;
+use keyword_values::pairs;
+use lc_base::Category;
 use std::alloc::{AllocError, Global};
 use std::collections::BTreeMap;
 
 /// A case map: the values that it maps, with their images.
 pub type CaseMap = BTreeMap<u32, u32>;
 
-/// The case pairs among operands.
-fn pairs_in(alloc: Global, operands: &Values) -> Result<Vec<(u32, u32)>, AllocError>
-    ensures { IfOk result (λ v. v.items ≡ pairs_in operands.now) }
-{
-    let mut pairs = Vec::new(alloc);
-    let mut walk = operands.walk();
-    while let Some((_, value)) = walk.next() {
-        if let ValueRef::Pair(first, second) = value {
-            pairs.push((first, second))?;
-        }
-    }
-    Ok(pairs)
-}
-
-/// The case pairs of the portable letters.
-fn letter_pairs(alloc: Global) -> Result<Vec<(u32, u32)>, AllocError>
-    ensures { IfOk result (λ v. v.items ≡ letter_pairs) }
-{
-    (0..26u32).map(|k| (97 + k, 65 + k)).collect(alloc)
-}
-
 /// The pairs that map to upper case.
 pub fn upper_pairs(alloc: Global, list: &KeywordList<'_>) -> Result<Vec<(u32, u32)>, AllocError>
     ensures { IfOk result (λ v. v.items ≡ upper_pairs list.now) }
 {
     match list.operands(b"toupper") {
-        None => letter_pairs(alloc),
-        Some(operands) => pairs_in(alloc, operands),
+        None => Vec::from_slice(alloc, posix_pairs(Category::Ctype, b"toupper")),
+        Some(operands) => pairs(alloc, operands),
     }
 }
 
@@ -62,7 +42,7 @@ pub fn lower_pairs(
 {
     match list.operands(b"tolower") {
         None => reversed(alloc, upper),
-        Some(operands) => pairs_in(alloc, operands),
+        Some(operands) => pairs(alloc, operands),
     }
 }
 

@@ -3,21 +3,21 @@
 ghost use Rattle.std.specs.Prelude.{◌≡◌, ◌++◌, map, IfOk};
 ghost use Rattle.std.specs.Option.{option_copied};
 ghost use Rattle.class_ranges.specs.Ranges.{covers};
-ghost use Rattle.ctype_classes.specs.Lines.{ranges_in};
-ghost use Rattle.ctype_classes.specs.Rows.{row_of};
+ghost use Rattle.ctype_classes.specs.Rows.{row_of, automatic_row};
 ghost use Rattle.ctype_classes.specs.Classes.{members_of, members_of_all, all_members, listed_members, with_class, with_classes, twelve_classes};
 
 use crate::characters::characters;
 use crate::first_lines::KeywordList;
-use crate::named::Named;
-use crate::table::{Row, TABLE};
+use crate::named::ByName;
+use crate::table::{AutomaticMembers, ClassRow, TABLE};
 use charmap_reader::Charset;
 use class_ranges::Ranges;
-use keyword_lists::{ValueRef, Values};
+use keyword_lists::Values;
+use keyword_values::ranges;
 use std::alloc::{AllocError, Global};
 
 /// Classes with their members.
-pub type Classes = Named<Ranges>;
+pub type Classes = ByName<Ranges>;
 
 /// Whether a class has a value. A class that is not there has none.
 pub fn has_member(classes: &Classes, name: &[u8], w: u32) -> bool
@@ -27,20 +27,6 @@ pub fn has_member(classes: &Classes, name: &[u8], w: u32) -> bool
         Some(members) => members.contains(w),
         None => false,
     }
-}
-
-/// Adds the ranges of characters among operands.
-fn add_listed(members: Vec<(u32, u32)>, operands: &Values) -> Result<Vec<(u32, u32)>, AllocError>
-    ensures { IfOk result (λ v. v.items ≡ members.items ++ ranges_in operands.now) }
-{
-    let mut members = members;
-    let mut walk = operands.walk();
-    while let Some((_, value)) = walk.next() {
-        if let ValueRef::Chars(first, last) = value {
-            members.push((first, last))?;
-        }
-    }
-    Ok(members)
 }
 
 /// The listed members of a class, or those that stand for an absent keyword.
@@ -53,7 +39,7 @@ fn listed_members(
 {
     match operands {
         None => Vec::from_slice(alloc, absent),
-        Some(operands) => add_listed(Vec::new(alloc), operands),
+        Some(operands) => ranges(alloc, operands),
     }
 }
 
@@ -79,7 +65,7 @@ fn all_members(
     alloc: Global,
     list: &KeywordList<'_>,
     classes: &Classes,
-    row: &Row<'_>,
+    row: &ClassRow<'_>,
 ) -> Result<Vec<(u32, u32)>, AllocError>
     ensures { IfOk result (λ v. v.items ≡ all_members list.now classes.now (row_of row.now)) }
 {
@@ -94,7 +80,7 @@ pub fn with_class(
     charset: &Charset,
     list: &KeywordList<'_>,
     classes: Classes,
-    row: &Row<'_>,
+    row: &ClassRow<'_>,
 ) -> Result<Classes, AllocError>
     ensures { IfOk result (λ more. more ≡ with_class charset.now list.now classes (row_of row.now)) }
 {
@@ -109,13 +95,13 @@ fn with_classes(
     charset: &Charset,
     list: &KeywordList<'_>,
     classes: Classes,
-    rows: &[Row<'_>],
+    rows: &[AutomaticMembers<'_>],
 ) -> Result<Classes, AllocError>
-    ensures { IfOk result (λ more. more ≡ with_classes charset.now list.now classes (map row_of rows.now)) }
+    ensures { IfOk result (λ more. more ≡ with_classes charset.now list.now classes (map automatic_row rows.now)) }
 {
     let mut classes = classes;
     for row in rows {
-        classes = with_class(alloc, charset, list, classes, row)?;
+        classes = with_class(alloc, charset, list, classes, &row.row())?;
     }
     Ok(classes)
 }

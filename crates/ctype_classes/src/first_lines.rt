@@ -2,10 +2,10 @@
 
 ghost use Rattle.std.specs.Prelude.{◌≡◌, IfOk};
 ghost use Rattle.std.specs.Option.{option_copied};
-ghost use Rattle.ctype_classes.specs.Lines.{operands_of};
+ghost use Rattle.keyword_values.specs.Keywords.{operands};
 ghost use Rattle.ctype_classes.specs.FirstLines.{AreFirstLines};
 
-use crate::named::Named;
+use crate::named::ByName;
 use keyword_lists::{Entry, Values};
 use std::alloc::{AllocError, Global};
 use std::marker::Model;
@@ -14,7 +14,7 @@ use std::marker::Model;
 #[derive(Drop)]
 pub struct KeywordList<'a> {
     entries: &'a [Entry],
-    first: Named<&'a Values>,
+    first: ByName<&'a Values>,
 }
 
 impl<'a> Model for KeywordList<'a> {
@@ -30,10 +30,10 @@ impl<'a> Model for KeywordList<'a> {
 }
 
 /// The operands of the first line of each keyword.
-fn first_lines<'a>(alloc: Global, entries: &'a [Entry]) -> Result<Named<&'a Values>, AllocError>
+fn first_lines<'a>(alloc: Global, entries: &'a [Entry]) -> Result<ByName<&'a Values>, AllocError>
     ensures { IfOk result (λ lines. AreFirstLines entries.now lines) }
 {
-    let mut lines = Named::new(alloc);
+    let mut lines = ByName::new(alloc);
     for entry in entries {
         lines = lines.with(alloc, entry.keyword.as_bytes(), &entry.values)?;
     }
@@ -57,7 +57,7 @@ impl<'a> KeywordList<'a> {
 
     /// The operands of the first line with a keyword.
     pub fn operands(&self, keyword: &[u8]) -> Option<&'a Values>
-        ensures { option_copied result ≡ operands_of self.now keyword.now }
+        ensures { option_copied result ≡ operands self.now keyword.now }
     {
         self.first.get(keyword).copied()
     }

@@ -7,26 +7,20 @@ ghost use Rattle.std.specs.Str.{bytes_eq};
 ghost use Rattle.lc_base.specs.Reading.{Gives};
 ghost use Rattle.lc_base.specs.declared.reason.Reason.TheVariants.{DigitsNotTen as NotTen, NotCased as Caseless};
 ghost use Rattle.keyword_lists.specs.Cells.{seen};
-ghost use Rattle.ctype_classes.specs.Lists.{is_ten, is_cased, is_cased_pair, each_passes, is_word, is_class_name, is_taken, declaring, declaring_value, declaring_values, after_line, after_lines, classes_of};
+ghost use Rattle.ctype_classes.specs.Lines.{rule_of_line};
+ghost use Rattle.ctype_classes.specs.Lists.{is_ten, is_cased, is_cased_pair, each_passes, is_word, is_class_name, is_taken, declaring, declaring_value, declaring_values, after_operands, after_line, after_lines, classes_of};
 
 use crate::classes::{Classes, has_member, twelve_classes, with_class};
 use crate::first_lines::KeywordList;
-use crate::table::Row;
+use crate::table::ClassRow;
 use charmap_reader::Charset;
 use keyword_lists::{Entry, ValueRef, Values};
-use lc_base::{Place, Reason, TextFault};
+use keyword_table::{Rule, rule_of};
+use lc_base::{Category, Place, Reason, TextFault};
 use std::alloc::Global;
 
-const DIGIT: &[u8] = b"digit";
-
-const TOUPPER: &[u8] = b"toupper";
-
-const TOLOWER: &[u8] = b"tolower";
-
-const CHARCLASS: &[u8] = b"charclass";
-
 /// The keywords of LC_CTYPE that are no class.
-const OTHER_KEYWORDS: [&[u8]; 3] = [CHARCLASS, TOUPPER, TOLOWER];
+const OTHER_KEYWORDS: [&[u8]; 3] = [b"charclass", b"toupper", b"tolower"];
 
 /// Whether a value of the line `digit` has none but the ten digits.
 fn is_ten(value: ValueRef<'_>) -> bool
@@ -131,7 +125,7 @@ fn declaring(
     if !is_class_name(name) || is_taken(&classes, name) {
         return Err(TextFault::At(place, Reason::BadClassName));
     }
-    let row = Row {
+    let row = ClassRow {
         name,
         always: &[],
         absent: &[],
@@ -175,6 +169,39 @@ fn declaring_values(
     Ok(classes)
 }
 
+/// The classes after the operands of a line with this rule.
+fn after_operands(
+    alloc: Global,
+    charset: &Charset,
+    list: &KeywordList<'_>,
+    classes: Classes,
+    rule: Option<Rule>,
+    operands: &Values,
+) -> Result<Classes, TextFault>
+    ensures { Gives (λ c. c) result (after_operands charset.now list.now classes rule operands.now) }
+{
+    match rule {
+        Some(Rule::ClassNames) => declaring_values(alloc, charset, list, classes, operands),
+        Some(Rule::TenDigits) => {
+            check_digits(operands)?;
+            Ok(classes)
+        }
+        Some(Rule::Cased) => {
+            check_pairs(&classes, operands)?;
+            Ok(classes)
+        }
+        _ => Ok(classes),
+    }
+}
+
+/// The rule of a line's operands.
+#[tactic(auto, unfolding(crate::specs::Lines::rule_of_line))]
+fn rule_of_line(line: &Entry) -> Option<Rule>
+    ensures { result ≡ rule_of_line line.now }
+{
+    rule_of(Category::Ctype, line.keyword.as_bytes())
+}
+
 /// The classes after a line.
 fn after_line(
     alloc: Global,
@@ -185,18 +212,8 @@ fn after_line(
 ) -> Result<Classes, TextFault>
     ensures { Gives (λ c. c) result (after_line charset.now list.now classes line.now) }
 {
-    let keyword = line.keyword.as_bytes();
-    if keyword == CHARCLASS {
-        declaring_values(alloc, charset, list, classes, &line.values)
-    } else if keyword == DIGIT {
-        check_digits(&line.values)?;
-        Ok(classes)
-    } else if keyword == TOUPPER || keyword == TOLOWER {
-        check_pairs(&classes, &line.values)?;
-        Ok(classes)
-    } else {
-        Ok(classes)
-    }
+    let rule = rule_of_line(line);
+    after_operands(alloc, charset, list, classes, rule, &line.values)
 }
 
 /// The classes of a keyword list, or the first fault of its lines.

@@ -2,7 +2,7 @@
 
 ghost use Rattle.std.specs.Prelude.{◌≡◌, [], slice_get, option_map, IfOk};
 ghost use Rattle.std.specs.Option.{option_copied};
-ghost use Rattle.charmap_reader.specs.Portable.{first_named};
+ghost use Rattle.byte_words.specs.Tables.{first_named};
 ghost use Rattle.ctype_classes.specs.Named.{with_named, place_of};
 
 use lc_base::ByteText;
@@ -12,12 +12,12 @@ use std::marker::Model;
 
 /// Names in the order in which they came, each with what it names, looked up in an ordered map.
 #[derive(Drop)]
-pub struct Named<V> {
+pub struct ByName<V> {
     entries: Vec<(ByteText, V)>,
     places: BTreeMap<Vec<u8>, usize>,
 }
 
-impl<V> Model for Named<V> {
+impl<V> Model for ByName<V> {
     ghost use Rattle.std.specs.Prelude.{ℕ, List};
 
     ghost Value = { List (List ℕ × V) };
@@ -29,11 +29,11 @@ impl<V> Model for Named<V> {
     ghost invariant = { λ n. AreFirstPlaces n.places n.entries.items };
 }
 
-impl<V> Named<V> {
-    pub fn new(alloc: Global) -> Named<V>
+impl<V> ByName<V> {
+    pub fn new(alloc: Global) -> ByName<V>
         ensures { result ≡ [] }
     {
-        Named {
+        ByName {
             entries: Vec::new(alloc),
             places: BTreeMap::new(alloc),
         }
@@ -63,7 +63,7 @@ impl<V> Named<V> {
     }
 
     /// The names with one more, unless it is there already.
-    pub fn with(self, alloc: Global, name: &[u8], value: V) -> Result<Named<V>, AllocError>
+    pub fn with(self, alloc: Global, name: &[u8], value: V) -> Result<ByName<V>, AllocError>
     where
         V: Drop,
         ensures { IfOk result (λ more. more ≡ with_named self name.now value) }
@@ -71,12 +71,12 @@ impl<V> Named<V> {
         if self.get(name).is_some() {
             return Ok(self);
         }
-        let Named {
+        let ByName {
             mut entries,
             mut places,
         } = self;
         places.insert(Vec::from_slice(alloc, name)?, entries.len())?;
         entries.push((ByteText::of(alloc, name)?, value))?;
-        Ok(Named { entries, places })
+        Ok(ByName { entries, places })
     }
 }

@@ -1,8 +1,11 @@
 //! The classes that each locale has.
 
+use keyword_table::posix_ranges;
+use lc_base::Category;
+
 /// A class of a locale.
 #[derive(Clone, Copy)]
-pub struct Row<'a> {
+pub struct ClassRow<'a> {
     pub name: &'a [u8],
     /// The values that it always has.
     pub always: &'a [(u32, u32)],
@@ -12,79 +15,94 @@ pub struct Row<'a> {
     pub parts: &'a [&'a [u8]],
 }
 
+/// A class of the table of keywords, with its automatic members.
+#[derive(Clone, Copy)]
+pub struct AutomaticMembers<'a> {
+    pub name: &'a [u8],
+    /// The values that it always has.
+    pub always: &'a [(u32, u32)],
+    /// The classes above it whose members it has.
+    pub parts: &'a [&'a [u8]],
+}
+
+impl<'a> AutomaticMembers<'a> {
+    ghost use Rattle.std.specs.Prelude.{◌≡◌};
+    ghost use Rattle.ctype_classes.specs.Rows.{row_of, automatic_row};
+
+    /// The class, which has its POSIX value where its keyword is absent.
+    pub fn row(&self) -> ClassRow<'a>
+        ensures { row_of result ≡ automatic_row self.now }
+    {
+        ClassRow {
+            name: self.name,
+            always: self.always,
+            absent: posix_ranges(Category::Ctype, self.name),
+            parts: self.parts,
+        }
+    }
+}
+
 /// The classes with their automatic members.
 #[rattlefmt::skip]
-pub const TABLE: [Row<'static>; 12] = [
-    Row {
+pub const TABLE: [AutomaticMembers<'static>; 12] = [
+    AutomaticMembers {
         name: b"upper",
         always: &[(65, 90)],
-        absent: &[],
         parts: &[],
     },
-    Row {
+    AutomaticMembers {
         name: b"lower",
         always: &[(97, 122)],
-        absent: &[],
         parts: &[],
     },
-    Row {
+    AutomaticMembers {
         name: b"alpha",
         always: &[],
-        absent: &[],
         parts: &[b"upper", b"lower"],
     },
-    Row {
+    AutomaticMembers {
         name: b"digit",
         always: &[(48, 57)],
-        absent: &[],
         parts: &[],
     },
-    Row {
+    AutomaticMembers {
         name: b"alnum",
         always: &[],
-        absent: &[],
         parts: &[b"alpha", b"digit"],
     },
-    Row {
+    AutomaticMembers {
         name: b"blank",
         always: &[(9, 9), (32, 32)],
-        absent: &[],
         parts: &[],
     },
-    Row {
+    AutomaticMembers {
         name: b"space",
         always: &[(9, 13), (32, 32)],
-        absent: &[],
         parts: &[b"blank"],
     },
-    Row {
+    AutomaticMembers {
         name: b"cntrl",
         always: &[],
-        absent: &[(0, 31), (127, 127)],
         parts: &[],
     },
-    Row {
+    AutomaticMembers {
         name: b"punct",
         always: &[],
-        absent: &[(33, 47), (58, 64), (91, 96), (123, 126)],
         parts: &[],
     },
-    Row {
+    AutomaticMembers {
         name: b"xdigit",
         always: &[(48, 57), (65, 70), (97, 102)],
-        absent: &[],
         parts: &[],
     },
-    Row {
+    AutomaticMembers {
         name: b"graph",
         always: &[],
-        absent: &[],
         parts: &[b"upper", b"lower", b"alpha", b"digit", b"xdigit", b"punct"],
     },
-    Row {
+    AutomaticMembers {
         name: b"print",
         always: &[(32, 32)],
-        absent: &[],
         parts: &[b"graph"],
     },
 ];

@@ -5,14 +5,15 @@ use Rattle.std.proofs.lemmas.Bool.{eqb-false, true≢false}
 use Rattle.std.proofs.lemmas.List.Elements.{All-cons, All-nil}
 use Rattle.lc_base.specs.declared.category.Category.TheVariants as categories
 use Rattle.mask_compose.specs.Parts.{Parts}
-use Rattle.mask_compose.specs.Offer.{Offered}
+use Rattle.mask_compose.specs.Offer.{Offered, AreOnShelf}
 use Rattle.handle_table.specs.declared.handle.Handle.{Handle}
 use Rattle.handle_table.specs.declared.handle.Named.TheVariants.{Global, Of}
-use Rattle.handle_table.specs.Entry.{Op, names, New, Dup, Free, Use, Hold, Release, SetGlobal, Install, Post, Fetch, Pins, End, NoData, GlobalHandle, NeverMade, Stale, TooMany, AlreadyHeld, NotHeld, EmptyCell, Reply, Made, Freed, Was, Held, Released, Set, Installed, Posted, Got, Pinned, Ended, Refused, History, Setting}
+use Rattle.handle_table.specs.declared.op.Refusal.TheVariants.{NoData, GlobalHandle, NeverMade, Stale, TooMany, AlreadyHeld, NotHeld, EmptyCell}
+use Rattle.handle_table.specs.Entry.{Op, names, New, Dup, Free, Use, Hold, Release, SetGlobal, Install, Post, Fetch, Pins, End, Reply, Made, Freed, Was, Held, Released, Set, Installed, Posted, Got, Pinned, Ended, Refused, History, Setting}
 use Rattle.handle_table.specs.Shelf.{lacking}
 use Rattle.handle_table.specs.History.{global_at, holders, Selects, Holds, free_row}
 use Rattle.handle_table.specs.Answer.{answer, entry, own_after, own}
-use Rattle.handle_table.specs.Table.{AreOnShelf, IsOpening, Fits, has_base, SaysTheSame}
+use Rattle.handle_table.specs.Table.{IsOpening, Fits, has_base, SaysTheSame}
 use Rattle.handle_table.proofs.Unchanged.{refused_changes_nothing}
 
 -- the history after some calls, given oldest first
@@ -272,7 +273,7 @@ ended = refl
 -- ---- conditions of a call
 
 -- each name of a New or a SetGlobal is on the shelf of five, also outside the mask; the handles of a call may be any
-five_names : (a b c d e : ℕ) → a < 5 → b < 5 → c < 5 → d < 5 → e < 5 → AreOnShelf usual (a ∷ b ∷ c ∷ d ∷ e ∷ [])
+five_names : (a b c d e : ℕ) → a < 5 → b < 5 → c < 5 → d < 5 → e < 5 → AreOnShelf usual.opening (a ∷ b ∷ c ∷ d ∷ e ∷ [])
 five_names a b c d e first second third fourth fifth =
     let below : ℕ → Type 0 = λ n. n < 5 in
     All-cons below a (b ∷ c ∷ d ∷ e ∷ []) first (All-cons below b (c ∷ d ∷ e ∷ []) second (All-cons below c (d ∷ e ∷ []) third (All-cons below d (e ∷ []) fourth (All-cons below e [] fifth (All-nil below)))))

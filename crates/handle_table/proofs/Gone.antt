@@ -5,7 +5,9 @@ use Rattle.std.specs.Prelude.{if◌then◌else◌}
 use Rattle.handle_table.specs.declared.handle.Handle.{Handle}
 use Rattle.handle_table.specs.declared.handle.Named.{Named}
 use Rattle.handle_table.specs.declared.handle.Named.TheVariants.{Global, Of}
-use Rattle.handle_table.specs.Entry.{Op, New, Dup, Free, Use, Hold, Release, SetGlobal, Post, Fetch, Pins, End, Install, Refusal, NeverMade, Stale, Reply, Entry, History, Setting, names, is_accepted}
+use Rattle.handle_table.specs.declared.op.Refusal.{Refusal}
+use Rattle.handle_table.specs.declared.op.Refusal.TheVariants.{NeverMade, Stale}
+use Rattle.handle_table.specs.Entry.{Op, New, Dup, Free, Use, Hold, Release, SetGlobal, Post, Fetch, Pins, End, Install, Reply, Entry, History, Setting, names, is_accepted}
 use Rattle.handle_table.specs.History.{makes_handle, made, frees_handle, live, selection, selection_after, holding, holding_after}
 use Rattle.handle_table.specs.Answer.{global_handle, never_made, stale, already_held, first_reason, reasons, unless, reply_to, answer, IsLegal}
 use Rattle.handle_table.proofs.Numbering.{same_handles, made_once}

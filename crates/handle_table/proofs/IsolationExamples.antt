@@ -4,7 +4,8 @@ use Rattle.std.proofs.lemmas.Bool.{and_parts}
 use Rattle.std.specs.Prelude.{◌&&◌, ◌||◌, if◌then◌else◌}
 use Rattle.lc_base.specs.declared.category.Category.TheVariants as categories
 use Rattle.handle_table.specs.declared.handle.Named.TheVariants.{Global, Of}
-use Rattle.handle_table.specs.Entry.{Op, New, Dup, Free, Use, Hold, Release, SetGlobal, Install, Post, Fetch, Pins, End, NoData, NeverMade, Stale, TooMany, EmptyCell, Made, Freed, Was, Held, Posted, Got, Pinned, Ended, Refused, Entry, History, Setting}
+use Rattle.handle_table.specs.declared.op.Refusal.TheVariants.{NoData, NeverMade, Stale, TooMany, EmptyCell}
+use Rattle.handle_table.specs.Entry.{Op, New, Dup, Free, Use, Hold, Release, SetGlobal, Install, Post, Fetch, Pins, End, Made, Freed, Was, Held, Posted, Got, Pinned, Ended, Refused, Entry, History, Setting}
 use Rattle.handle_table.specs.Answer.{entry}
 use Rattle.handle_table.specs.Isolation.{has_thread, keeps_apart, IsClosed, part_of, calls_of, replies_of}
 use Rattle.handle_table.proofs.Examples.{played, offers, handle, all, make, all_of}

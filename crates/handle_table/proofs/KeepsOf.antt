@@ -8,7 +8,9 @@ use Rattle.handle_table.specs.declared.handle.Handle.{Handle}
 use Rattle.handle_table.specs.declared.handle.Named.{Named}
 use Rattle.handle_table.specs.declared.handle.Named.TheVariants.{Global, Of}
 use Rattle.lc_base.specs.declared.cells.TheConstants.{CELLS}
-use Rattle.handle_table.specs.Entry.{Op, New, Dup, Free, Use, Hold, Release, SetGlobal, Install, Post, Fetch, Pins, End, Refusal, AlreadyHeld, NotHeld, Entry, History, Setting, names, is_accepted}
+use Rattle.handle_table.specs.declared.op.Refusal.{Refusal}
+use Rattle.handle_table.specs.declared.op.Refusal.TheVariants.{AlreadyHeld, NotHeld}
+use Rattle.handle_table.specs.Entry.{Op, New, Dup, Free, Use, Hold, Release, SetGlobal, Install, Post, Fetch, Pins, End, Entry, History, Setting, names, is_accepted}
 use Rattle.handle_table.specs.Shelf.{posix, shelf, installs, from_shelf}
 use Rattle.handle_table.specs.History.{handle_in, makes, live, object_named, replies_with, object, selection, holding, posted, sets, global, is_free, free_row}
 use Rattle.handle_table.specs.Answer.{no_data, never_made, stale, global_handle, already_held, not_held, first_reason, reasons, unless, made_in, reply_to, answer, entry}

@@ -2,12 +2,12 @@
 use Rattle.std.proofs.Common.{◌≡◌, ℕ, ◌<◌, ◌≤◌, true, Option, None, Some, sym, arith}
 use Rattle.std.proofs.lemmas.Bool.{and_parts, ltb-true}
 use Rattle.std.specs.Prelude.{slice_index_or, nat_lt, not, ◌||◌, IfSome}
+use Rattle.mask_compose.specs.Offer.{no_offer}
 use Rattle.handle_table.specs.declared.handle.Handle.{Handle}
 use Rattle.handle_table.specs.declared.handle.Named.TheVariants.{Global}
 use Rattle.handle_table.specs.declared.row.Row.{Row}
 use Rattle.lc_base.specs.declared.cells.TheConstants.{CELLS}
 use Rattle.handle_table.specs.Entry.{History, Setting}
-use Rattle.handle_table.specs.Shelf.{no_offer}
 use Rattle.handle_table.specs.History.{made, live, holding, pins, free_row, selection, posted, object, least_below}
 use Rattle.handle_table.specs.Grid.{GridData, cell}
 use Rattle.handle_table.specs.Rows.{row_at, says_made, says_live, says_held, says_pins, is_free_row}

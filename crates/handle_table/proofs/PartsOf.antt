@@ -4,14 +4,14 @@ use Rattle.std.proofs.lemmas.Bool.{eq-eqb, ne_eqb, or_cases, cases_Bool, cases_e
 use Rattle.std.proofs.lemmas.List.{length-set}
 use Rattle.std.specs.Prelude.{if◌then◌else◌, slice_set, slice_index_or, unwrap_or}
 use Rattle.mask_compose.specs.Parts.{Parts, composed}
-use Rattle.mask_compose.specs.Offer.{Offered}
+use Rattle.mask_compose.specs.Offer.{Offered, no_offer}
 use Rattle.global_locale.specs.Versioned.{Versioned}
 use Rattle.handle_table.specs.declared.handle.Handle.{Handle}
 use Rattle.handle_table.specs.declared.handle.Named.{Named}
 use Rattle.handle_table.specs.declared.handle.Named.TheVariants.{Global, Of}
 use Rattle.lc_base.specs.declared.cells.TheConstants.{CELLS}
 use Rattle.handle_table.specs.Entry.{New, SetGlobal, Install, Post, Entry, History, Setting, is_accepted, same_handle}
-use Rattle.handle_table.specs.Shelf.{no_offer, opening_offer, shelf, from_shelf}
+use Rattle.handle_table.specs.Shelf.{opening_offer, shelf, from_shelf}
 use Rattle.handle_table.specs.History.{handle_made, is_handle, makes_handle, made, makes, object, selection_after, selection, is_kept, handle_named, posted, sets, global}
 use Rattle.handle_table.specs.Answer.{answer, entry, IsLegal}
 use Rattle.handle_table.specs.Grid.{GridData, cell, with_cell}

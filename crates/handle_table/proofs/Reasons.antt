@@ -1,7 +1,7 @@
 -- The first of some reasons.
 use Rattle.std.proofs.Common.{◌≡◌, List, [], ◌∷◌, Option, None, Some, refl}
 use Rattle.std.specs.Option.{option_or}
-use Rattle.handle_table.specs.Entry.{Refusal}
+use Rattle.handle_table.specs.declared.op.Refusal.{Refusal}
 use Rattle.handle_table.specs.Answer.{first_reason}
 
 -- a lone reason is the first, if it is there

@@ -4,10 +4,10 @@ use Rattle.std.proofs.lemmas.Bool.{eq-eqb, ltb-true, lt-ltb, leb-true, le-leb, a
 use Rattle.std.specs.Prelude.{if◌then◌else◌, nat_lt, nat_le}
 use Rattle.std.specs.Option.{option_or}
 use Rattle.mask_compose.specs.Parts.{Parts}
+use Rattle.mask_compose.specs.Offer.{no_offer}
 use Rattle.handle_table.specs.declared.handle.Handle.{Handle}
 use Rattle.handle_table.specs.declared.row.Row.{Row}
 use Rattle.handle_table.specs.Entry.{History, Setting}
-use Rattle.handle_table.specs.Shelf.{no_offer}
 use Rattle.handle_table.specs.History.{made, live, holding, pins, object, is_kept, is_free, least_below, free_row}
 use Rattle.handle_table.specs.Answer.{IsLegal}
 use Rattle.handle_table.specs.Grid.{GridData, cell}

@@ -1,11 +1,11 @@
 -- One entry of a history: who called, what was asked and what was replied, as plain data.
 use Rattle.std.specs.Prelude.{ℕ, List, Option, Bool, true, false, ◌==◌, ◌&&◌}
-use Rattle.lc_base.specs.declared.category.Category.{Category}
 use Rattle.mask_compose.specs.Parts.{Parts}
 use Rattle.mask_compose.specs.Offer.{Offered}
 use Rattle.handle_table.specs.declared.handle.Handle.{Handle}
 use Rattle.handle_table.specs.declared.handle.Named.{Named}
 use Rattle.handle_table.specs.declared.handle.Named.TheVariants.{Global, Of}
+use Rattle.handle_table.specs.declared.op.Refusal.{Refusal}
 
 -- what a thread asks of the table; masks are bits, and the five numbers of a New or a SetGlobal are
 -- those of locale names, one for each category in their order
@@ -22,17 +22,6 @@ pub data Op : Type 0 where
   Fetch : ℕ → ℕ → Op
   Pins : Named → Op
   End : Op
-
--- why an op is refused
-pub data Refusal : Type 0 where
-  NoData : Category → Refusal
-  GlobalHandle : Refusal
-  NeverMade : Refusal
-  Stale : Refusal
-  TooMany : Refusal
-  AlreadyHeld : Refusal
-  NotHeld : Refusal
-  EmptyCell : Refusal
 
 -- what the table replies
 pub data Reply : Type 0 where

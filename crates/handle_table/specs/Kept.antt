@@ -1,7 +1,7 @@
 -- What a table keeps of a history.
 use Rattle.std.specs.Prelude.{◌≡◌, ℕ, ◌*◌, ◌<◌, ◌≤◌, true, List, [], ◌∷◌, length, slice_index_or, unwrap_or, Option, None}
 use Rattle.mask_compose.specs.Parts.{Parts}
-use Rattle.mask_compose.specs.Offer.{Offered}
+use Rattle.mask_compose.specs.Offer.{Offered, no_offer}
 use Rattle.global_locale.specs.Versioned.{Versioned}
 use Rattle.handle_table.specs.declared.handle.Handle.{Handle}
 use Rattle.handle_table.specs.declared.handle.Named.{Named}
@@ -10,7 +10,7 @@ use Rattle.handle_table.specs.declared.row.Row.{Row}
 use Rattle.handle_table.specs.declared.setting.TheConstants.{MAX_THREADS}
 use Rattle.lc_base.specs.declared.cells.TheConstants.{CELLS}
 use Rattle.handle_table.specs.Entry.{History, Setting}
-use Rattle.handle_table.specs.Shelf.{no_offer, opening_offer, shelf, installs}
+use Rattle.handle_table.specs.Shelf.{opening_offer, shelf, installs}
 use Rattle.handle_table.specs.History.{makes, live, object, selection, holding, pins, is_kept, posted, sets, global}
 use Rattle.handle_table.specs.Answer.{IsLegal}
 use Rattle.handle_table.specs.Grid.{GridData, cell}

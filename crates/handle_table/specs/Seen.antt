@@ -6,7 +6,6 @@ use Rattle.handle_table.specs.declared.op.Op.TheVariants.{New, Dup, Free, Use, H
 use Rattle.handle_table.specs.declared.op.Reply.{Reply}
 use Rattle.handle_table.specs.declared.op.Reply.TheVariants as replies
 use Rattle.handle_table.specs.declared.op.Refusal.{Refusal}
-use Rattle.handle_table.specs.declared.op.Refusal.TheVariants as refusals
 
 -- an op as data
 abbrev pub op_of : {P : _} → Op P → data_of.Op
@@ -23,17 +22,6 @@ op_of (Fetch owner cell) = data_of.Fetch owner cell
 op_of (Pins h) = data_of.Pins h
 op_of End = data_of.End
 
--- a refusal as data
-abbrev pub refusal_of : Refusal → data_of.Refusal
-refusal_of (refusals.NoData category) = data_of.NoData category
-refusal_of refusals.GlobalHandle = data_of.GlobalHandle
-refusal_of refusals.NeverMade = data_of.NeverMade
-refusal_of refusals.Stale = data_of.Stale
-refusal_of refusals.TooMany = data_of.TooMany
-refusal_of refusals.AlreadyHeld = data_of.AlreadyHeld
-refusal_of refusals.NotHeld = data_of.NotHeld
-refusal_of refusals.EmptyCell = data_of.EmptyCell
-
 -- a reply as data
 abbrev pub reply_of : {P : _} → Reply P → data_of.Reply
 reply_of (replies.Made h) = data_of.Made h
@@ -47,9 +35,9 @@ reply_of replies.Posted = data_of.Posted
 reply_of (replies.Got h) = data_of.Got h
 reply_of (replies.Pins count) = data_of.Pinned count
 reply_of replies.Ended = data_of.Ended
-reply_of (replies.Refused refusal) = data_of.Refused (refusal_of refusal)
+reply_of (replies.Refused refusal) = data_of.Refused refusal
 
 -- the reason that a check gives as its error
-abbrev pub reason_of : {X : Type 0} → Result X Refusal → Option data_of.Refusal
+abbrev pub reason_of : {X : Type 0} → Result X Refusal → Option Refusal
 reason_of (Ok x) = None
-reason_of (Err refusal) = Some (refusal_of refusal)
+reason_of (Err refusal) = Some refusal

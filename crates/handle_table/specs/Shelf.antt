@@ -7,7 +7,7 @@ use Rattle.lc_base.specs.declared.category.Category.TheVariants.{Ctype, Numeric,
 use Rattle.lc_base.specs.Categories.{categories}
 use Rattle.lc_base.specs.Mask.{includes}
 use Rattle.mask_compose.specs.Parts.{Parts, part_of}
-use Rattle.mask_compose.specs.Offer.{Offered}
+use Rattle.mask_compose.specs.Offer.{Offered, no_offer}
 use Rattle.handle_table.specs.Entry.{Op, Install, History, Setting, is_accepted}
 
 -- the place of a category in their order
@@ -21,10 +21,6 @@ category_index Messages = 4
 -- the number of the locale that is named for a category
 abbrev pub number_for : List ℕ → Category → ℕ
 number_for numbers category = slice_index numbers (category_index category)
-
--- an offer of nothing, for a shelf without offers
-abbrev pub no_offer : Offered
-no_offer = record { object = record { ctype = 0; numeric = 0; monetary = 0; time = 0; messages = 0 }; available = 0 }
 
 -- the POSIX locale's offer: the first opening one
 abbrev pub posix_offer : Setting → Offered

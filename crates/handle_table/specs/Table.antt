@@ -1,7 +1,6 @@
 -- What a table is seen as, the histories that it stands for, and what a call of it must give and leaves.
 use Rattle.std.specs.Prelude.{◌≡◌, ℕ, ◌<◌, ◌≤◌, Bool, false, List, [], ◌∷◌, length, Some}
-use Rattle.std.specs.List.{All}
-use Rattle.mask_compose.specs.Offer.{Offered}
+use Rattle.mask_compose.specs.Offer.{Offered, AreOnShelf}
 use Rattle.handle_table.specs.declared.handle.Handle.{Handle}
 use Rattle.handle_table.specs.declared.setting.TheConstants.{MAX_THREADS}
 use Rattle.lc_base.specs.declared.cells.TheConstants.{CELLS}
@@ -41,20 +40,16 @@ abbrev pub IsOpening : List Offered → Type 0
 IsOpening [] = ⊥
 IsOpening (offer ∷ offers) = offer.available ≡ 31
 
--- the numbers of locale names are on the shelf
-abbrev pub AreOnShelf : Setting → List ℕ → Type 0
-AreOnShelf c numbers = All (λ n. n < length c.opening) numbers
-
 -- the numbers that an op gives are of the table: locale names are on the shelf, and the POSIX locale is
 -- never installed; a thread is one of the table's, and a cell one of a thread's
 abbrev pub Fits : Setting → Op → Type 0
-Fits c (New mask numbers base) = AreOnShelf c numbers
+Fits c (New mask numbers base) = AreOnShelf c.opening numbers
 Fits c (Dup n) = Unit {0}
 Fits c (Free n) = Unit {0}
 Fits c (Use n) = Unit {0}
 Fits c (Hold n) = Unit {0}
 Fits c (Release n) = Unit {0}
-Fits c (SetGlobal mask numbers) = AreOnShelf c numbers
+Fits c (SetGlobal mask numbers) = AreOnShelf c.opening numbers
 Fits c (Install m offer) = (1 ≤ m) × (m < length c.opening)
 Fits c (Post k n) = k < CELLS
 Fits c (Fetch owner k) = (owner < c.threads) × (k < CELLS)

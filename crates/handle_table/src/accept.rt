@@ -1,11 +1,11 @@
 //! Calls with nothing against them.
 
 ghost use Rattle.std.specs.Prelude.{◌≡◌, ◌∷◌, ℕ, ◌-◌, ◌<◌, ◌≤◌, ◌^◌, length, Some, None};
-ghost use Rattle.mask_compose.specs.Offer.{Offered};
+ghost use Rattle.mask_compose.specs.Offer.{Offered, AreOnShelf};
 ghost use Rattle.handle_table.specs.Entry.{New, Dup, Free, Use, Hold, Release, SetGlobal, Install, Post, Fetch, Pins, End, History};
 ghost use Rattle.handle_table.specs.History.{free_row, object_named, object, global};
 ghost use Rattle.handle_table.specs.Answer.{made_in, target_object, first_reason, reasons, answer, entry};
-ghost use Rattle.handle_table.specs.Table.{AreOnShelf, Fits};
+ghost use Rattle.handle_table.specs.Table.{Fits};
 ghost use Rattle.handle_table.specs.Seen.{op_of, reply_of};
 ghost use Rattle.handle_table.specs.Kept.{Keeps};
 ghost use Rattle.handle_table.specs.Effects.{after_make};
@@ -81,7 +81,7 @@ fn new_object<P: Part>(
     base: Option<Named>,
 ) -> Reply<P>
     requires who { who < kept.old.rows.lines }
-    requires names { AreOnShelf setting.now names.now }
+    requires names { AreOnShelf setting.now.opening names.now }
     ensures accepts { Accepts setting.now who (New mask names.now base) kept.old kept.new (reply_of result) }
     ensures shape { SameShape kept.old kept.new }
 {
@@ -100,7 +100,7 @@ fn change<P: Part>(
     base: Named,
 ) -> Reply<P>
     requires who { who < kept.old.rows.lines }
-    requires names { AreOnShelf setting.now names.now }
+    requires names { AreOnShelf setting.now.opening names.now }
     ensures accepts { Accepts setting.now who (New mask names.now (Some base)) kept.old kept.new (reply_of result) }
     ensures shape { SameShape kept.old kept.new }
 {
@@ -118,7 +118,7 @@ fn make_new<P: Part>(
     names: &[u32; 5],
 ) -> Reply<P>
     requires who { who < kept.old.rows.lines }
-    requires names { AreOnShelf setting.now names.now }
+    requires names { AreOnShelf setting.now.opening names.now }
     ensures accepts { Accepts setting.now who (New mask names.now None) kept.old kept.new (reply_of result) }
     ensures shape { SameShape kept.old kept.new }
 {
@@ -150,7 +150,7 @@ fn rebuild<P: Part>(
     h: Handle,
 ) -> Reply<P>
     requires who { who < kept.old.rows.lines }
-    requires names { AreOnShelf setting.now names.now }
+    requires names { AreOnShelf setting.now.opening names.now }
     ensures accepts { Accepts setting.now who (New mask names.now (Some (Named.Of h))) kept.old kept.new (reply_of result) }
     ensures shape { SameShape kept.old kept.new }
 {
@@ -244,7 +244,7 @@ fn set_global<P: Part>(
     names: &[u32; 5],
 ) -> Reply<P>
     requires who { who < kept.old.rows.lines }
-    requires names { AreOnShelf setting.now names.now }
+    requires names { AreOnShelf setting.now.opening names.now }
     requires version { kept.old.global.version < 2 ^ 32 - 1 }
     ensures accepts { Accepts setting.now who (SetGlobal mask names.now) kept.old kept.new (reply_of result) }
     ensures shape { SameShape kept.old kept.new }

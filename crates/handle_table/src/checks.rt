@@ -2,10 +2,11 @@
 
 ghost use Rattle.std.specs.Prelude.{◌≡◌, ℕ, ◌<◌, ◌≤◌, ◌∷◌, [], List, Option};
 ghost use Rattle.std.specs.Option.{option_or};
-ghost use Rattle.handle_table.specs.Entry.{New, Dup, Hold, Release, Pins, Refusal as RefusalData, Setting as SettingData, History};
+ghost use Rattle.mask_compose.specs.Offer.{AreOnShelf};
+ghost use Rattle.handle_table.specs.Entry.{New, Dup, Hold, Release, Pins, Setting as SettingData, History};
 ghost use Rattle.handle_table.specs.History.{free_row, posted};
 ghost use Rattle.handle_table.specs.Answer.{no_data, global_handle, never_made, stale, too_many, already_held, not_held, empty_cell, reasons, first_reason};
-ghost use Rattle.handle_table.specs.Table.{AreOnShelf, Fits};
+ghost use Rattle.handle_table.specs.Table.{Fits};
 ghost use Rattle.handle_table.specs.Seen.{op_of, reason_of};
 ghost use Rattle.handle_table.specs.Kept.{Keeps};
 
@@ -24,7 +25,7 @@ fn has_data<P: Part>(
     mask: Mask,
     names: &[u32; 5],
 ) -> Result<(), Refusal>
-    ensures { (H : History) → Keeps setting.now H kept.now → AreOnShelf setting.now names.now →
+    ensures { (H : History) → Keeps setting.now H kept.now → AreOnShelf setting.now.opening names.now →
         reason_of result ≡ no_data setting.now H mask names.now }
 {
     match lacking(setting, kept, mask, names) {
@@ -112,7 +113,7 @@ fn is_full<P: Part>(kept: &Kept<P>, owner: u32, number: u32) -> Result<(), Refus
 
 /// Whether the name is the global locale's, or an object's that was made and is live.
 fn is_target<P: Part>(kept: &Kept<P>, named: Named) -> Result<(), Refusal>
-    ensures { (c : SettingData) (H : History) (others : List (Option RefusalData)) → Keeps c H kept.now →
+    ensures { (c : SettingData) (H : History) (others : List (Option Refusal)) → Keeps c H kept.now →
         first_reason (never_made H named ∷ stale H named ∷ others) ≡ option_or (reason_of result) (first_reason others) }
 {
     was_made(kept, named)?;
@@ -121,7 +122,7 @@ fn is_target<P: Part>(kept: &Kept<P>, named: Named) -> Result<(), Refusal>
 
 /// Whether the name is an object's that was made and is live.
 fn is_object<P: Part>(kept: &Kept<P>, named: Named) -> Result<(), Refusal>
-    ensures { (c : SettingData) (H : History) (others : List (Option RefusalData)) → Keeps c H kept.now →
+    ensures { (c : SettingData) (H : History) (others : List (Option Refusal)) → Keeps c H kept.now →
         first_reason (global_handle named ∷ never_made H named ∷ stale H named ∷ others) ≡ option_or (reason_of result) (first_reason others) }
 {
     is_no_global(named)?;
@@ -155,7 +156,7 @@ fn may_make<P: Part>(
     base: Option<Named>,
 ) -> Result<(), Refusal>
     requires { who < kept.now.rows.lines }
-    ensures { (H : History) → Keeps setting.now H kept.now → AreOnShelf setting.now names.now →
+    ensures { (H : History) → Keeps setting.now H kept.now → AreOnShelf setting.now.opening names.now →
         reason_of result ≡ first_reason (reasons setting.now H who (New mask names.now base)) }
 {
     has_data(setting, kept, mask, names)?;

@@ -3,9 +3,9 @@
 ghost use Rattle.std.specs.Prelude.{◌≡◌, ◌<◌};
 ghost use Rattle.std.specs.List.{find};
 ghost use Rattle.lc_base.specs.declared.category.Category.{Category};
+ghost use Rattle.mask_compose.specs.Offer.{AreOnShelf};
 ghost use Rattle.handle_table.specs.Entry.{History};
 ghost use Rattle.handle_table.specs.Shelf.{category_index, number_for, shelf, part_from_shelf, from_shelf, is_lacking, lacking};
-ghost use Rattle.handle_table.specs.Table.{AreOnShelf};
 ghost use Rattle.handle_table.specs.Kept.{Keeps};
 
 use crate::kept::Kept;
@@ -20,7 +20,7 @@ pub fn from_shelf<P: Part>(
     mask: Mask,
     names: &[u32; 5],
 ) -> Object<P>
-    ensures { (H : History) → Keeps setting.now H kept.now → AreOnShelf setting.now names.now →
+    ensures { (H : History) → Keeps setting.now H kept.now → AreOnShelf setting.now.opening names.now →
         result ≡ from_shelf setting.now H mask names.now }
 {
     Object::of(
@@ -40,7 +40,7 @@ fn part_from_shelf<P: Part>(
     names: &[u32; 5],
     category: Category,
 ) -> P
-    ensures { (H : History) → Keeps setting.now H kept.now → AreOnShelf setting.now names.now →
+    ensures { (H : History) → Keeps setting.now H kept.now → AreOnShelf setting.now.opening names.now →
         P.number result ≡ part_from_shelf setting.now H mask names.now category }
 {
     if !mask.has(category) {
@@ -59,7 +59,7 @@ fn offer_for<P: Part>(
     names: &[u32; 5],
     category: Category,
 ) -> Offer<P>
-    ensures { (H : History) → Keeps setting.now H kept.now → AreOnShelf setting.now names.now →
+    ensures { (H : History) → Keeps setting.now H kept.now → AreOnShelf setting.now.opening names.now →
         result ≡ shelf setting.now H (number_for names.now category) }
 {
     kept.offer(setting, number_for(names, category))
@@ -72,7 +72,7 @@ pub fn lacking<P: Part>(
     mask: Mask,
     names: &[u32; 5],
 ) -> Option<Category>
-    ensures { (H : History) → Keeps setting.now H kept.now → AreOnShelf setting.now names.now →
+    ensures { (H : History) → Keeps setting.now H kept.now → AreOnShelf setting.now.opening names.now →
         result ≡ lacking setting.now H mask names.now }
 {
     first_lacking(setting, kept, mask, names, &CATEGORIES)
@@ -86,7 +86,7 @@ fn first_lacking<P: Part>(
     names: &[u32; 5],
     categories: &[Category],
 ) -> Option<Category>
-    ensures { (H : History) → Keeps setting.now H kept.now → AreOnShelf setting.now names.now →
+    ensures { (H : History) → Keeps setting.now H kept.now → AreOnShelf setting.now.opening names.now →
         result ≡ find (is_lacking setting.now H mask names.now) categories.now }
 {
     for category in categories {
@@ -105,7 +105,7 @@ fn is_lacking<P: Part>(
     names: &[u32; 5],
     category: Category,
 ) -> bool
-    ensures { (H : History) → Keeps setting.now H kept.now → AreOnShelf setting.now names.now →
+    ensures { (H : History) → Keeps setting.now H kept.now → AreOnShelf setting.now.opening names.now →
         result ≡ is_lacking setting.now H mask names.now category }
 {
     let offer = offer_for(setting, kept, names, category);

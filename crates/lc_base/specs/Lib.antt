@@ -4,5 +4,6 @@ pub mod Faults
 pub mod Reading
 pub mod Bytes
 pub mod Lines
+pub mod Blocks
 pub mod Counted
 pub mod Memory

@@ -9,9 +9,9 @@ use Rattle.lc_base.specs.declared.fault.TextFault.TheVariants.{At, Memory}
 abbrev pub Reads : Type 0 → Type 0
 Reads A = Result A (Place × Reason)
 
--- one part of a text after another, up to the first fault
+-- one part after another, as of a text, up to the first fault
 infixl 10 ◌>>=◌
-abbrev pub ◌>>=◌ : {A B : Type 0} → Reads A → (A → Reads B) → Reads B
+abbrev pub ◌>>=◌ : {A B E : Type 0} → Result A E → (A → Result B E) → Result B E
 (Ok x) >>= f = f x
 (Err e) >>= f = Err e
 

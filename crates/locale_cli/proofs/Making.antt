@@ -118,7 +118,7 @@ made_is_not seed commands k U r wrong d f w m (inl (inl t)) e = absurd (wrong_li
 made_is_not seed commands k U r wrong d f w m (inl (inr t)) e = absurd (w (sym t.0 ∙ e))
 made_is_not seed commands k U r wrong d f w m (inr u) e = absurd (m (sym u.1 ∙ e))
 
--- where nothing is told, nothing is written
+-- where nothing is due, nothing is written
 no_memory : (commands : ℕ) (r : Reads PlanData) → status_for (lines_text commands r) ≡ Memory → ⊥
 no_memory commands (Ok plan) e = cc
 no_memory commands (Err fault) e = cc

@@ -19,7 +19,7 @@ use Rattle.locale_cli.specs.declared.answer.Answer.{Answer}
 use Rattle.locale_cli.specs.Answer.{Outputs, OutputsOf, status_for, text_for, IsAnswer}
 use Rattle.script_serial.specs.Plan.{PlanData, counts, plan_of}
 use Rattle.script_out.specs.Refusal.{refusal_line}
-use Rattle.locale_cli.specs.Run.{SourceStep, SinkStep, Told, Ran}
+use Rattle.locale_cli.specs.Run.{SourceStep, SinkStep, Wrote, Ran}
 use Rattle.locale_cli.specs.Status.{too_large_line, WholeInput, IsDone, IsChecked, IsRefused, IsCutShort, status_of, due_status, IsDue, StayedSound}
 
 -- ---- what may be printed of a plan, or its fault
@@ -133,9 +133,9 @@ is_checked left left' written written' d =
 
 -- ---- which counts stay
 
-pub told_sound : (status : Status) (text : List ℕ) (r : Status) (k : SinkStep) → Told status text r k → r ≢ WriteFault → k.faults' ≡ k.faults
-told_sound status text r k (inl t) sound = t.2
-told_sound status text r k (inr f) sound = absurd (sound f.0)
+pub wrote_sound : (status : Status) (text : List ℕ) (r : Status) (k : SinkStep) → Wrote status text r k → r ≢ WriteFault → k.faults' ≡ k.faults
+wrote_sound status text r k (inl t) sound = t.2
+wrote_sound status text r k (inr f) sound = absurd (sound f.0)
 
 pub ran_read_sound : (mode : Mode) (s : SourceStep) (k : SinkStep) (U : Type 0) (r : Status) → Ran mode s k U r → r ≢ ReadFault → s.faults' ≡ s.faults
 ran_read_sound mode s k U r (inl (inl a)) sound = a.3
@@ -144,8 +144,8 @@ ran_read_sound mode s k U r (inr (u, inl f)) sound = absurd (sound f.0)
 ran_read_sound mode s k U r (inr (u, inr m)) sound = m.1
 
 pub ran_write_sound : (mode : Mode) (s : SourceStep) (k : SinkStep) (U : Type 0) (r : Status) → (U → k.faults' ≡ k.faults) → Ran mode s k U r → r ≢ WriteFault → k.faults' ≡ k.faults
-ran_write_sound mode s k U r still (inl (inl a)) sound = told_sound a.1.status a.1.text r k a.5 sound
-ran_write_sound mode s k U r still (inl (inr a)) sound = told_sound TooLarge too_large_line r k a.2 sound
+ran_write_sound mode s k U r still (inl (inl a)) sound = wrote_sound a.1.status a.1.text r k a.5 sound
+ran_write_sound mode s k U r still (inl (inr a)) sound = wrote_sound TooLarge too_large_line r k a.2 sound
 ran_write_sound mode s k U r still (inr u) sound = still u.0
 
 -- ---- the status that is due

@@ -1,4 +1,4 @@
--- A summary does not tell the places of lines.
+-- A summary does not have the places of lines.
 use Rattle.std.proofs.Common.{◌≡◌, ℕ, ◌+◌, true, Result, Ok, Err, List, [], ◌∷◌, refl, sym, ap, ◌∙◌}
 use Rattle.std.specs.Prelude.{map, IfOk, if◌then◌else◌}
 use Rattle.std.specs.List.{sum_by}

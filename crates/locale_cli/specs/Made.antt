@@ -14,7 +14,7 @@ use Rattle.locale_cli.specs.declared.answer.Status.{Status}
 use Rattle.locale_cli.specs.declared.answer.Status.TheVariants.{Memory}
 use Rattle.locale_cli.specs.declared.words.TheConstants.{DEFAULT_ROWS, DEFAULT_GENERATIONS}
 use Rattle.locale_cli.specs.Answer.{text_for, answer_for}
-use Rattle.locale_cli.specs.Run.{SinkStep, Told}
+use Rattle.locale_cli.specs.Run.{SinkStep, Wrote}
 use Rattle.locale_cli.specs.Status.{status_of}
 
 -- the summary of what `serial` prints of a plan with so many commands
@@ -44,5 +44,5 @@ IsMadeCut seed commands written written' = AddsPrefix written written' (text_for
 -- the answer was written, or nothing for want of memory
 abbrev pub RanMade : ℕ → ℕ → SinkStep → Type 0 → Status → Type 0
 RanMade seed commands k Unwritten result =
-    Told (answer_for (made_text seed commands)).status (answer_for (made_text seed commands)).text result k
+    Wrote (answer_for (made_text seed commands)).status (answer_for (made_text seed commands)).text result k
     ⊎ (Unwritten × (result ≡ Memory))

@@ -19,8 +19,8 @@ pub record SinkStep : Type 0 where
   pub faults' : ℕ
 
 -- the text was written without a fault and the status is this one, or the sink failed behind the front of the text
-abbrev pub Told : Status → List ℕ → Status → SinkStep → Type 0
-Told status text result k =
+abbrev pub Wrote : Status → List ℕ → Status → SinkStep → Type 0
+Wrote status text result k =
     ((result ≡ status) × Appends k.written k.written' text × (k.faults' ≡ k.faults))
     ⊎ ((result ≡ WriteFault) × AddsPrefix k.written k.written' text × Rose k.faults k.faults')
 
@@ -33,11 +33,11 @@ pub record SourceStep : Type 0 where
 
 -- the whole input came without a fault and was answered
 abbrev pub AnsweredWhole : Mode → SourceStep → SinkStep → Status → Type 0
-AnsweredWhole mode s k result = (input : List ℕ) × (a : Answer) × WholeInput s.left s.left' input × (s.faults' ≡ s.faults) × IsAnswer mode input a × Told a.status a.text result k
+AnsweredWhole mode s k result = (input : List ℕ) × (a : Answer) × WholeInput s.left s.left' input × (s.faults' ≡ s.faults) × IsAnswer mode input a × Wrote a.status a.text result k
 
 -- more bytes came than the limit allows, without a fault
 abbrev pub AnsweredLarge : SourceStep → SinkStep → Status → Type 0
-AnsweredLarge s k result = CameExactly s.left s.left' (INPUT_LIMIT + 1) × (s.faults' ≡ s.faults) × Told TooLarge too_large_line result k
+AnsweredLarge s k result = CameExactly s.left s.left' (INPUT_LIMIT + 1) × (s.faults' ≡ s.faults) × Wrote TooLarge too_large_line result k
 
 -- the source failed
 abbrev pub FailedToRead : SourceStep → Status → Type 0

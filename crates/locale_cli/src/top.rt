@@ -11,7 +11,7 @@ ghost use Rattle.bundle_maker.specs.declared.text.TheConstants.{MOST_COMMANDS};
 ghost use Rattle.locale_cli.specs.Words.{IsFromOneTo, IsSized};
 ghost use Rattle.locale_cli.specs.Request.{request_of};
 ghost use Rattle.locale_cli.specs.Made.{made_status, IsMade, IsMadeRefused, IsMadeCut, RanMade};
-ghost use Rattle.locale_cli.specs.Run.{Told, Ran};
+ghost use Rattle.locale_cli.specs.Run.{Wrote, Ran};
 ghost use Rattle.locale_cli.specs.Status.{usage_line, IsDone, IsChecked, IsRefused, IsTooLarge, IsCutShort, due_status, IsDue, StayedSound};
 
 use crate::answer::{Status, answer_to};
@@ -73,7 +73,7 @@ pub fn top<R: Threads + Wait + Sync, S: Source, K: Sink, P: Pause + Sync>(
     ensures made_complete { (seed commands : ℕ) → request_of words.now ≡ Some (Make seed commands) → StayedSound (K.faults sink.old) (K.faults sink.new) → (result ≡ made_status seed commands) ⊎ (result ≡ Status.Memory) }
 {
     match request_of(words) {
-        None => tell(sink, Status::Usage, b"refused: usage\n"),
+        None => written_status(sink, Status::Usage, b"refused: usage\n"),
         Some(Request::Read(mode)) => run(rt, alloc, mode, source, sink, pause),
         Some(Request::Make { seed, commands }) => make(rt, alloc, seed, commands, sink, pause),
     }
@@ -94,7 +94,7 @@ fn make<R: Threads + Wait + Sync, K: Sink, P: Pause + Sync>(
         (sink.new ≡ sink.old) result }
 {
     match made_answer(rt, alloc, seed, commands, pause) {
-        Ok(answer) => tell(sink, answer.status, answer.text.as_bytes()),
+        Ok(answer) => written_status(sink, answer.status, answer.text.as_bytes()),
         Err(_) => Status::Memory,
     }
 }
@@ -118,20 +118,20 @@ fn run<R: Threads + Wait + Sync, S: Source, K: Sink, P: Pause + Sync>(
     let text = match read_all(alloc, source, INPUT_LIMIT) {
         Ok(text) => text,
         Err(ReadRefusal::TooLarge) => {
-            return tell(sink, Status::TooLarge, b"refused: too large\n");
+            return written_status(sink, Status::TooLarge, b"refused: too large\n");
         }
         Err(ReadRefusal::ReadFault) => return Status::ReadFault,
         Err(ReadRefusal::Memory) => return Status::Memory,
     };
     match answer_to(rt, alloc, mode, text.as_bytes(), pause) {
-        Ok(answer) => tell(sink, answer.status, answer.text.as_bytes()),
+        Ok(answer) => written_status(sink, answer.status, answer.text.as_bytes()),
         Err(_) => Status::Memory,
     }
 }
 
 /// Writes a text and gives the status that goes with it.
-fn tell<K: Sink>(sink: &mut K, status: Status, text: &[u8]) -> Status
-    ensures { Told status text.now result
+fn written_status<K: Sink>(sink: &mut K, status: Status, text: &[u8]) -> Status
+    ensures { Wrote status text.now result
         (record { written = K.written sink.old; written' = K.written sink.new; faults = K.faults sink.old; faults' = K.faults sink.new }) }
 {
     match write_all(sink, text) {

@@ -3,4 +3,3 @@ pub mod WordLemmas
 pub mod Lists
 pub mod LineSteps
 pub mod Sections
-pub mod NumberLemmas

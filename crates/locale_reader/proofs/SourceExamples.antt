@@ -3,6 +3,7 @@ use Rattle.std.proofs.Common.{◌≡◌, ℕ, List, [], ◌∷◌, ◌++◌, map
 use Rattle.std.specs.Prelude.{pos, negsuc}
 use Rattle.std.specs.Char.{encode_utf8}
 use Rattle.std.specs.Str.{chars}
+use Rattle.byte_words.specs.Numbers.{few_digits}
 use Rattle.lc_base.specs.declared.place.Place.{Place}
 use Rattle.lc_base.specs.declared.category.Category.TheVariants.{Numeric, Messages}
 use Rattle.lc_base.specs.declared.reason.Reason.{Reason}
@@ -89,7 +90,7 @@ empty = refl
 -- a number may have a sign and leading zeros
 numbers : map (λ (line : List ℕ). values (read posix (codes "LC_NUMERIC" ∷ line ∷ codes "END LC_NUMERIC" ∷ []))) (codes "grouping 3;-1;\\d0492;-0" ∷ codes "grouping 123456789" ∷ [])
     ≡ ((at 2 10, Number (pos 3)) ∷ (at 2 12, Number (negsuc 0)) ∷ (at 2 15, Number (pos 12)) ∷ (at 2 22, Number (pos 0)) ∷ []) ∷ ((at 2 10, Number (pos 123456789)) ∷ []) ∷ []
-unfolding values read text_of at source front front_from outside section_from with_section body keyword_line allowed taken tokens operands separated operand run text items_from element number
+unfolding values read text_of at source front front_from outside section_from with_section body keyword_line allowed taken tokens operands separated operand run text items_from element number few_digits
 numbers = refl
 
 -- ---- faults

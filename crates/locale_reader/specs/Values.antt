@@ -1,9 +1,6 @@
 -- Operands, decoded by a charset (XBD 7.3.1).
-use Rattle.std.specs.Prelude.{ℕ, ℤ, pos, neg_ℤ, Bool, true, false, ◌==◌, ◌&&◌, nat_lt, List, [], ◌∷◌, ◌++◌, length, Option, Some, None, option_map, option_and_then, Ok, Err, if◌then◌else◌}
-use Rattle.std.specs.Int.{is_in_range}
-use Rattle.std.specs.Char.{is_ascii_digit}
-use Rattle.std.specs.List.{list_all}
-use Rattle.std.specs.Str.Parse.{digits_value}
+use Rattle.std.specs.Prelude.{ℕ, ℤ, pos, neg_ℤ, Bool, true, false, ◌==◌, nat_lt, List, [], ◌∷◌, ◌++◌, length, Option, Some, None, option_map, option_and_then, Ok, Err, if◌then◌else◌}
+use Rattle.byte_words.specs.Numbers.{few_digits}
 use Rattle.lc_base.specs.declared.place.Place.{Place}
 use Rattle.lc_base.specs.declared.reason.Reason.{Reason}
 use Rattle.lc_base.specs.declared.reason.Reason.TheVariants.{WrongOperand, UnknownCharacter, OverLimit}
@@ -112,14 +109,10 @@ word set (place, Paired left right) = Err (place, WrongOperand)
 
 -- ---- numbers
 
--- one to nine decimal digits
-abbrev pub magnitude : List ℕ → Option ℕ
-magnitude ds = if is_in_range 1 9 (length ds) && list_all is_ascii_digit ds then Some (digits_value 10 ds) else None
-
--- the same, perhaps behind a `-`
+-- one to nine decimal digits, perhaps behind a `-`
 abbrev pub signed : List ℕ → Option ℤ
 signed [] = None
-signed (b ∷ bs) = if b == 45 then option_map (λ n. neg_ℤ (pos n)) (magnitude bs) else option_map (λ n. pos n) (magnitude (b ∷ bs))
+signed (b ∷ bs) = if b == 45 then option_map (λ n. neg_ℤ (pos n)) (few_digits 9 bs) else option_map (λ n. pos n) (few_digits 9 (b ∷ bs))
 
 unfoldable pub number : Placed → Reads ℤ
 number (place, Plain pieces) = or_fault place WrongOperand (option_and_then signed (only_bytes pieces))

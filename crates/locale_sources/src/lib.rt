@@ -5,6 +5,6 @@ mod named;
 mod sections;
 mod source;
 
-pub use named::{Named, add_named, get_named};
+pub use named::{ByName, add_named, get_named};
 pub use sections::{is_posix, section_at, section_of};
 pub use source::Source;

@@ -2,17 +2,17 @@
 
 ghost use Rattle.std.specs.Prelude.{◌≡◌, OnOk};
 ghost use Rattle.std.specs.Option.{option_copied};
-ghost use Rattle.charmap_reader.specs.Portable.{first_named};
+ghost use Rattle.byte_words.specs.Tables.{first_named};
 ghost use Rattle.locale_sources.specs.Named.{pairs_of, with_named};
 
 use indexmap::IndexMap;
 use std::alloc::{AllocError, Global};
 
 /// Names in the order in which they came, each with what it names, looked up by hash.
-pub type Named<V> = IndexMap<Vec<u8>, V>;
+pub type ByName<V> = IndexMap<Vec<u8>, V>;
 
 /// What a name names.
-pub fn get_named<'a, V>(named: &'a Named<V>, name: &[u8]) -> Option<&'a V>
+pub fn get_named<'a, V>(named: &'a ByName<V>, name: &[u8]) -> Option<&'a V>
     ensures { option_copied result ≡ first_named (pairs_of named.now) name.now }
 {
     named.get(name)
@@ -21,7 +21,7 @@ pub fn get_named<'a, V>(named: &'a Named<V>, name: &[u8]) -> Option<&'a V>
 /// Adds a name, unless it is there already.
 pub fn add_named<V: Drop>(
     alloc: Global,
-    named: &mut Named<V>,
+    named: &mut ByName<V>,
     name: &[u8],
     value: V,
 ) -> Result<(), AllocError>

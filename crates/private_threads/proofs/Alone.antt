@@ -23,10 +23,10 @@ use Rattle.script_out.specs.declared.output.Why.{Why}
 use Rattle.script_lines.specs.Turns.{Task}
 use Rattle.script_lines.specs.Variables.{Bound, bindings_of, bindings_after, variable_bound}
 use Rattle.script_lines.specs.Wishes.{Wish, Calls, ReadsOf, Reads, AsksSelection, AsksName, OpensCatalog, GetsMessage, ClosesCatalog, wish_of, ops_of}
-use Rattle.script_lines.specs.Lines.{Caller, told_line, placed_line, object_line, global_read_line, global_name_line}
+use Rattle.script_lines.specs.Lines.{Caller, plain_line, placed_line, object_line, global_read_line, global_name_line}
 use Rattle.script_serial.specs.Plan.{PlanData}
 use Rattle.script_serial.specs.Isolation.{SaysTheSameTo}
-use Rattle.script_serial.specs.Prints.{Told, bound_by, places_in, all_places, up_to_round, PlacedCall, call_of, calls_of, calls_after, with_placed, history_below, Around, around, behind_last, or_earlier, next_place, seen, lines_of, IsVersion, global_of, IsRead, IsGranted, AreTold, caller_of}
+use Rattle.script_serial.specs.Prints.{TaskLine, bound_by, places_in, all_places, up_to_round, PlacedCall, call_of, calls_of, calls_after, with_placed, history_below, Around, around, behind_last, or_earlier, next_place, seen, lines_of, IsVersion, global_of, IsRead, IsGranted, AreAnswered, caller_of}
 use Rattle.script_serial.proofs.Fronts.{part_says_the_same}
 use Rattle.script_serial.proofs.PlacedCalls.{place_of, AreOnce, stands_at, below_legal}
 use Rattle.private_threads.specs.Private.{placeless}
@@ -62,22 +62,22 @@ read_alone c library at read None = global_read_line library at read 0 (posix c)
 
 -- the line of what a thread asks for, without places, by the history of its own calls
 abbrev line_alone : Setting → Catalog → History → Caller → Result Wish Why → OutLine
-line_alone c library H at (Err why) = told_line at (said.Refused why)
+line_alone c library H at (Err why) = plain_line at (said.Refused why)
 line_alone c library H at (Ok (Calls categories op)) = placeless (placed_line library 0 at categories (answer c H at.thread op))
-line_alone c library H at (Ok (ReadsOf n read)) = told_line at said.Held
+line_alone c library H at (Ok (ReadsOf n read)) = plain_line at said.Held
 line_alone c library H at (Ok (Reads read)) = read_alone c library at read (own H at.thread)
-line_alone c library H at (Ok AsksSelection) = told_line at (said.Is (selection H at.thread))
+line_alone c library H at (Ok AsksSelection) = plain_line at (said.Is (selection H at.thread))
 line_alone c library H at (Ok (AsksName categories)) = global_name_line library at categories 0 (posix c)
-line_alone c library H at (Ok (OpensCatalog name)) = told_line at said.Held
-line_alone c library H at (Ok (GetsMessage h set message default)) = told_line at said.Held
-line_alone c library H at (Ok (ClosesCatalog h)) = told_line at said.Held
+line_alone c library H at (Ok (OpensCatalog name)) = plain_line at said.Held
+line_alone c library H at (Ok (GetsMessage h set message default)) = plain_line at said.Held
+line_alone c library H at (Ok (ClosesCatalog h)) = plain_line at said.Held
 
 -- who asks, and what
 pub record Asked : Type 0 where
   pub task : Task
   pub at : Caller
 
-abbrev pub asked : Told → Asked
+abbrev pub asked : TaskLine → Asked
 asked d = record { task = d.task; at = caller_of d.line }
 
 -- the lines of what is asked, each by the own calls of its thread
@@ -91,28 +91,28 @@ lines_alone c library K bounds (a ∷ more) =
 
 -- ---- lines that are left of a script, where those before them stand
 
-pub record Stands (c : Setting) (plan : PlanData) (lines : List OutLine) (M : CatalogHistory) (calls : List PlacedCall) (K : Histories) (before after : List Told) : Type 0 where
+pub record Stands (c : Setting) (plan : PlanData) (lines : List OutLine) (M : CatalogHistory) (calls : List PlacedCall) (K : Histories) (before after : List TaskLine) : Type 0 where
   pub done : List PlacedCall
   pub is : calls ≡ done ++ calls_after plan.library before after
-  pub are_told : AreTold c plan lines M calls before after
-  pub keep : All (λ (d : Told). keeps d.task ≡ true) after
+  pub are_answered : AreAnswered c plan lines M calls before after
+  pub keep : All (λ (d : TaskLine). keeps d.task ≡ true) after
   pub own : All IsOwnBound (bound_by before)
   pub part : (t : ℕ) → part_of (t ∷ []) (history_below c calls (next_place t before)) ≡ K t
   pub behind : (t : ℕ) → All (λ (k : PlacedCall). k.thread ≡ t → k.place < next_place t before) done
   pub ahead : (t : ℕ) → All (λ (k : PlacedCall). k.thread ≡ t → next_place t before ≤ k.place) (calls_after plan.library before after)
   pub rise : Rise (calls_after plan.library before after)
 
-abbrev next_with : ℕ → List Told → Bool → Places → ℕ
+abbrev next_with : ℕ → List TaskLine → Bool → Places → ℕ
 next_with s before same at = if same then or_earlier (behind_last (places_in at)) (next_place s before) else next_place s before
 
 -- what is known of the calls of a script whose threads keep to themselves
 module _ (c : Setting) (plan : PlanData) (lines : List OutLine) (M : CatalogHistory) (calls : List PlacedCall) (once : AreOnce (map place_of calls)) (private : All IsPrivateCall calls) where
-  abbrev Left : Histories → List Told → List Told → Type 0
+  abbrev Left : Histories → List TaskLine → List TaskLine → Type 0
   Left K before after = Stands c plan lines M calls K before after
 
   -- ---- a line without a call
 
-  silent : (K : Histories) (before after : List Told) (d : Told) → Left K before (d ∷ after) → All IsOwnBound (bound_by (d ∷ before)) → d.line.places ≡ places.None
+  silent : (K : Histories) (before after : List TaskLine) (d : TaskLine) → Left K before (d ∷ after) → All IsOwnBound (bound_by (d ∷ before)) → d.line.places ≡ places.None
       → Left K (d ∷ before) after
   silent K before after d w own none =
       let rest : List PlacedCall = calls_after plan.library (d ∷ before) after in
@@ -125,8 +125,8 @@ module _ (c : Setting) (plan : PlanData) (lines : List OutLine) (M : CatalogHist
       record {
         done = w.done;
         is = w.is ∙ ap (λ (ks : List PlacedCall). w.done ++ (ks ++ rest)) here;
-        are_told = w.are_told.1;
-        keep = All-tail (λ (e : Told). keeps e.task ≡ true) d after w.keep;
+        are_answered = w.are_answered.1;
+        keep = All-tail (λ (e : TaskLine). keeps e.task ≡ true) d after w.keep;
         own = own;
         part = λ s. ap (λ (n : ℕ). part_of (s ∷ []) (history_below c calls n)) (next s) ∙ w.part s;
         behind = λ s. subst (λ (n : ℕ). All (λ (k : PlacedCall). k.thread ≡ s → k.place < n) w.done) (sym (next s)) (w.behind s);
@@ -139,14 +139,14 @@ module _ (c : Setting) (plan : PlanData) (lines : List OutLine) (M : CatalogHist
   -- ---- a line with a call
 
   -- a line with one call, which stands first of those that are left
-  record Makes (K : Histories) (before after : List Told) (d : Told) (call : PlacedCall) : Type 0 where
+  record Makes (K : Histories) (before after : List TaskLine) (d : TaskLine) (call : PlacedCall) : Type 0 where
     thread : call.thread ≡ d.line.thread
     left : Left K before (d ∷ after)
     places : d.line.places ≡ places.One call.place
     here : calls_of plan.library (bound_by before) d ≡ call ∷ []
     op : IsPrivate d.line.thread call.op
 
-  module _ (K : Histories) (before after : List Told) (d : Told) (call : PlacedCall) (m : Makes K before after d call) where
+  module _ (K : Histories) (before after : List TaskLine) (d : TaskLine) (call : PlacedCall) (m : Makes K before after d call) where
     abbrev rest : List PlacedCall
     rest = calls_after plan.library (d ∷ before) after
 
@@ -245,8 +245,8 @@ module _ (c : Setting) (plan : PlanData) (lines : List OutLine) (M : CatalogHist
     calling own = record {
       done = m.left.done ++ call ∷ [];
       is = all_is ∙ sym (append_assoc m.left.done (call ∷ []) rest);
-      are_told = m.left.are_told.1;
-      keep = All-tail (λ (e : Told). keeps e.task ≡ true) d after m.left.keep;
+      are_answered = m.left.are_answered.1;
+      keep = All-tail (λ (e : TaskLine). keeps e.task ≡ true) d after m.left.keep;
       own = own;
       part = λ s. part_next s (s == t) refl;
       behind = λ s. behind_next s (t == s) refl;
@@ -254,14 +254,14 @@ module _ (c : Setting) (plan : PlanData) (lines : List OutLine) (M : CatalogHist
       rise = rise_here.1;
     }
 
-  -- ---- what a line tells
+  -- ---- what a line prints
 
   -- the line is the one of its thread alone, and those behind it stand as well
-  record Follows (K : Histories) (before after : List Told) (d : Told) (w : Result Wish Why) : Type 0 where
+  record Follows (K : Histories) (before after : List TaskLine) (d : TaskLine) (w : Result Wish Why) : Type 0 where
     line : placeless d.line ≡ line_alone c plan.library (K d.line.thread) (caller_of d.line) w
     left : Left (after_wish c K d.line.thread w) (d ∷ before) after
 
-  said_alone : (K : Histories) (before after : List Told) (d : Told) → Left K before (d ∷ after)
+  said_alone : (K : Histories) (before after : List TaskLine) (d : TaskLine) → Left K before (d ∷ after)
       → SaysTheSameTo c d.line.thread (seen (around c plan lines M calls before after) d.line.thread) (part_of (d.line.thread ∷ []) (seen (around c plan lines M calls before after) d.line.thread))
   said_alone K before after d w =
       let t : ℕ = d.line.thread in
@@ -269,14 +269,14 @@ module _ (c : Setting) (plan : PlanData) (lines : List OutLine) (M : CatalogHist
       part_says_the_same c (t ∷ []) t (its_own t) (history_below c calls n) (below_legal c calls n) (private_closed t (history_below c calls n) (private_below c calls private n))
 
   -- a version is the first, since nobody sets the global locale
-  first_version : (before after : List Told) (at : Caller) (version : ℕ) → IsVersion (around c plan lines M calls before after) at version → version ≡ 0
+  first_version : (before after : List TaskLine) (at : Caller) (version : ℕ) → IsVersion (around c plan lines M calls before after) at version → version ≡ 0
   first_version before after at version v =
       let n : ℕ = length (all_places (up_to_round at.round lines)) in
       let none : sets (history_below c calls n) ≡ 0 = no_sets (history_below c calls n) (private_below c calls private n) in
       let le : version ≤ sets (history_below c calls n) = v.round in
       omega (arith, none, le)
 
-  read_is : (before after : List Told) (at : Caller) (l : OutLine) (read : Read) (o : Option Parts) → IsRead (around c plan lines M calls before after) at l read o
+  read_is : (before after : List TaskLine) (at : Caller) (l : OutLine) (read : Read) (o : Option Parts) → IsRead (around c plan lines M calls before after) at l read o
       → (placeless l ≡ read_alone c plan.library at read o) × (l.places ≡ places.None)
   read_is before after at l read (Some object) is = (ap placeless is, ap (λ (k : OutLine). k.places) is)
   read_is before after at l read None r =
@@ -287,7 +287,7 @@ module _ (c : Setting) (plan : PlanData) (lines : List OutLine) (M : CatalogHist
         ap (λ (k : OutLine). k.places) r.is,
       )
 
-  follows : (K : Histories) (before after : List Told) (d : Told) (w : Result Wish Why) → wish_of plan.library (bindings_of d.line.thread (bound_by before)) d.task ≡ w → Left K before (d ∷ after)
+  follows : (K : Histories) (before after : List TaskLine) (d : TaskLine) (w : Result Wish Why) → wish_of plan.library (bindings_of d.line.thread (bound_by before)) d.task ≡ w → Left K before (d ∷ after)
       → IsGranted (around c plan lines M calls before after) (caller_of d.line) d.line w → IsOwnWish d.line.thread (variable_bound d.task) w → All IsOwnBound (bound_by (d ∷ before)) → Follows K before after d w
   follows K before after d (Err why) asks w is wished bounds = record { line = ap placeless is; left = silent K before after d w bounds (ap (λ (k : OutLine). k.places) is) }
   follows K before after d (Ok (Calls categories op)) asks w r wished bounds =
@@ -316,13 +316,13 @@ module _ (c : Setting) (plan : PlanData) (lines : List OutLine) (M : CatalogHist
       let t : ℕ = d.line.thread in
       let x : Around = around c plan lines M calls before after in
       let same : own (seen x t) t ≡ own (K t) t = (said_alone K before after d w).own ∙ ap (λ (G : History). own G t) (w.part t) in
-      let told = read_is before after (caller_of d.line) d.line read (own (K t) t) (subst (IsRead x (caller_of d.line) d.line read) same is) in
-      record { line = told.0; left = silent K before after d w bounds told.1 }
+      let as_read = read_is before after (caller_of d.line) d.line read (own (K t) t) (subst (IsRead x (caller_of d.line) d.line read) same is) in
+      record { line = as_read.0; left = silent K before after d w bounds as_read.1 }
   follows K before after d (Ok AsksSelection) asks w is wished bounds =
       let t : ℕ = d.line.thread in
       let same : selection (seen (around c plan lines M calls before after) t) t ≡ selection (K t) t = (said_alone K before after d w).selection ∙ ap (λ (G : History). selection G t) (w.part t) in
       record {
-        line = ap placeless is ∙ ap (λ (n : Named). told_line (caller_of d.line) (said.Is n)) same;
+        line = ap placeless is ∙ ap (λ (n : Named). plain_line (caller_of d.line) (said.Is n)) same;
         left = silent K before after d w bounds (ap (λ (k : OutLine). k.places) is);
       }
   follows K before after d (Ok (AsksName categories)) asks w r wished bounds =
@@ -336,15 +336,15 @@ module _ (c : Setting) (plan : PlanData) (lines : List OutLine) (M : CatalogHist
       }
 
   -- all lines that are left are those of their threads alone
-  pub all_alone : (K : Histories) (before after : List Told) → Left K before after → map placeless (lines_of after) ≡ lines_alone c plan.library K (bound_by before) (map asked after)
+  pub all_alone : (K : Histories) (before after : List TaskLine) → Left K before after → map placeless (lines_of after) ≡ lines_alone c plan.library K (bound_by before) (map asked after)
   all_alone K before [] w = refl
   all_alone K before (d ∷ after) w =
       let t : ℕ = d.line.thread in
       let library : Catalog = plan.library in
       let asks : Result Wish Why = wish_of library (bindings_of t (bound_by before)) d.task in
       let x : Around = around c plan lines M calls before after in
-      let wished : IsOwnWish t (variable_bound d.task) asks = task_own library t (bound_by before) d.task w.own (All-head (λ (e : Told). keeps e.task ≡ true) d after w.keep) in
-      let own : All IsOwnBound (bound_by (d ∷ before)) = own_next x (caller_of d.line) d.line (bound_by before) (variable_bound d.task) asks w.are_told.0 wished w.own in
-      let f : Follows K before after d asks = follows K before after d asks refl w w.are_told.0 wished own in
+      let wished : IsOwnWish t (variable_bound d.task) asks = task_own library t (bound_by before) d.task w.own (All-head (λ (e : TaskLine). keeps e.task ≡ true) d after w.keep) in
+      let own : All IsOwnBound (bound_by (d ∷ before)) = own_next x (caller_of d.line) d.line (bound_by before) (variable_bound d.task) asks w.are_answered.0 wished w.own in
+      let f : Follows K before after d asks = follows K before after d asks refl w w.are_answered.0 wished own in
       ap (λ (ls : List OutLine). placeless d.line ∷ ls) (all_alone (after_wish c K t asks) (d ∷ before) after f.left)
       ∙ ap (λ (l : OutLine). l ∷ lines_alone c library (after_wish c K t asks) (bindings_after t (bound_by before) d.task l.reply) (map asked after)) f.line

@@ -3,11 +3,13 @@ use Rattle.std.proofs.Common.{◌≡◌, ℕ, Bool, true, false, cond, List, [],
 use Rattle.std.specs.Prelude.{◌==◌, filter, zip, All}
 use Rattle.std.proofs.lemmas.Bool.{eqb-true, eq-eqb, false≢true, or_left}
 use Rattle.std.proofs.lemmas.List.Elements.{All-nil, All-cons, All-head, All-tail, All-map}
+use Rattle.lc_base.specs.Reading.{◌>>=◌}
 use Rattle.mask_compose.specs.Parts.{Parts}
 use Rattle.category_store.specs.Catalog.{Catalog}
 use Rattle.handle_table.specs.declared.handle.Handle.{Handle}
 use Rattle.handle_table.specs.declared.handle.Named.{Named}
 use Rattle.handle_table.specs.declared.handle.Named.TheVariants as names
+use Rattle.handle_table.specs.declared.op.Refusal.{Refusal}
 use Rattle.handle_table.specs.Entry as table
 use Rattle.handle_table.specs.Entry.{History, Setting}
 use Rattle.handle_table.specs.History.{handle_named, object, pins, free_row}
@@ -25,7 +27,7 @@ use Rattle.script_out.specs.declared.output.Places.{Places}
 use Rattle.script_out.specs.declared.output.Why.{Why}
 use Rattle.script_lines.specs.Turns.{Task, Runs, Releases, Ends}
 use Rattle.script_lines.specs.Variables.{Variable, locale_variable, is_same_variable, Bindings, bound, Bound, bindings_of, variable_bound, handle_said, with_binding}
-use Rattle.script_lines.specs.Wishes.{◌>>=◌, handle_or_unset, named, base_named, mask_of, named_numbers, op_on, Wish, Calls, ReadsOf, Reads, AsksSelection, AsksName, OpensCatalog, GetsMessage, ClosesCatalog, called, wish, wish_of, ops_of}
+use Rattle.script_lines.specs.Wishes.{handle_or_unset, named, base_named, mask_of, named_numbers, op_on, Wish, Calls, ReadsOf, Reads, AsksSelection, AsksName, OpensCatalog, GetsMessage, ClosesCatalog, called, wish, wish_of, ops_of}
 use Rattle.script_lines.specs.Lines.{Caller, shown}
 use Rattle.script_serial.specs.Prints.{places_in, call_of, Around, past, seen, IsRead, IsGranted}
 use Rattle.script_serial.proofs.PlacedCalls.{place_of}
@@ -189,7 +191,7 @@ accepted_own c library categories H t (table.Use n) private = tt
 accepted_own c library categories H t table.End private = tt
 accepted_own c library categories H t _ private = absurd (false≢true private.quiet)
 
-unless_own : (library : Catalog) (categories : Categories) (t : ℕ) (reason : Option table.Refusal) (reply : table.Reply) → IsOwnHandle t (handle_shown library categories reply)
+unless_own : (library : Catalog) (categories : Categories) (t : ℕ) (reason : Option Refusal) (reply : table.Reply) → IsOwnHandle t (handle_shown library categories reply)
     → IsOwnHandle t (handle_shown library categories (unless reason reply))
 unless_own library categories t (Some refusal) reply own = tt
 unless_own library categories t None reply own = own

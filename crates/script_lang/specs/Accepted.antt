@@ -1,9 +1,10 @@
 -- The accepted bundle, or the bundle's first fault (our own).
-use Rattle.std.specs.Prelude.{◌≡◌, ℕ, ◌-◌, ◌<◌, ◌≤◌, ◌^◌, true, List, [], length, Option, Some, None, Ok, Err}
+use Rattle.std.specs.Prelude.{◌≡◌, ℕ, ◌-◌, ◌<◌, ◌≤◌, true, List, [], length, Option, Some, None, Ok, Err}
 use Rattle.std.specs.List.{All}
 use Rattle.lc_base.specs.declared.block.Block.{Block}
 use Rattle.lc_base.specs.declared.block.Later.{Later}
 use Rattle.lc_base.specs.declared.reason.Reason.TheVariants.{NoEnd}
+use Rattle.lc_base.specs.Blocks.{IsSized}
 use Rattle.lc_base.specs.Lines.{lines_of}
 use Rattle.lc_base.specs.Reading.{Reads, ◌>>=◌}
 use Rattle.script_lang.specs.declared.bundle.TheConstants.{CHARMAP_LIMIT, LOCALE_LIMIT, LATER_LIMIT, CATALOG_LIMIT, ROUND_LIMIT, COMMAND_LIMIT}
@@ -37,11 +38,6 @@ unfoldable pub bundle_of : List ℕ → Reads Bundle
 bundle_of text = bundle_with None [] (lines_of text) >>= λ first. bundle_with (Some (known_of first)) first.threads (lines_of text)
 
 -- ---- what holds of each accepted bundle
-
--- a block whose text and first line have the sizes that readers of texts take
-pub record IsSized (block : Block) : Type 0 where
-  pub text : length block.text < 2 ^ 31
-  pub line : block.first_line < 2 ^ 31
 
 -- a command is one of so many threads', in one of so many rounds, and its numbers are in range
 pub record IsPlaced (threads rounds : ℕ) (p : Placed) : Type 0 where

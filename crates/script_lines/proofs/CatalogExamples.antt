@@ -23,7 +23,7 @@ use Rattle.script_lines.specs.Variables.{Variable, Bindings, bound, locale_varia
 use Rattle.script_lines.specs.Wishes.{Wish, Calls, OpensCatalog, GetsMessage, ClosesCatalog}
 use Rattle.script_lines.specs.Lines.{Caller, line}
 use Rattle.script_lines.specs.Catalogs.{Books, book_named, message_at, book_for, catalog_op_by, message_shown, handle_reply_shown}
-use Rattle.script_lines.specs.Outcome.{Outcome, tells, granted, catalogs_left}
+use Rattle.script_lines.specs.Outcome.{Outcome, without_entry, granted, catalogs_left}
 
 -- ---- the catalog `greet`, of a locale `us` and of POSIX
 
@@ -157,14 +157,14 @@ abbrev greet_by : History → catalogs.History → Outcome
 greet_by H M = granted setting library books H M caller (Ok (OpensCatalog (codes "greet")))
 
 -- by the global locale, with its version
-by_global : greet_by [] [] ≡ tells [] (line caller (places.Catalog 0) (Some 0) (said.Opened (record { owner = 0; row = 0; generation = 1 })))
+by_global : greet_by [] [] ≡ without_entry [] (line caller (places.Catalog 0) (Some 0) (said.Opened (record { owner = 0; row = 0; generation = 1 })))
 by_global = refl
 
 -- no catalog: no entry of either history
 abbrev other_by : Result Wish Why
 other_by = Ok (OpensCatalog (codes "other"))
 
-unopened : granted setting library books [] [] caller other_by ≡ tells [] (line caller places.None (Some 0) (said.Refused whys.NoCatalog))
+unopened : granted setting library books [] [] caller other_by ≡ without_entry [] (line caller places.None (Some 0) (said.Refused whys.NoCatalog))
 unopened = refl
 
 unopened_left : catalogs_left setting library books [] [] 0 other_by ≡ []
@@ -178,19 +178,19 @@ own_us = record { who = 0; op = table.Use (Of first_handle); reply = table.Was G
 abbrev greet_open : catalogs.History
 greet_open = record { who = 0; op = catalogs.Open 0; reply = catalogs.Opened (record { owner = 0; row = 0; generation = 1 }) } ∷ []
 
-by_own : greet_by own_us [] ≡ tells own_us (line caller (places.Catalog 0) None (said.Opened (record { owner = 0; row = 0; generation = 1 })))
+by_own : greet_by own_us [] ≡ without_entry own_us (line caller (places.Catalog 0) None (said.Opened (record { owner = 0; row = 0; generation = 1 })))
 by_own = refl
 
 by_own_left : catalogs_left setting library books own_us [] 0 (Ok (OpensCatalog (codes "greet"))) ≡ greet_open
 by_own_left = refl
 
-too_many : greet_by own_us greet_open ≡ tells own_us (line caller (places.Catalog 1) None (said.Refused (whys.Table refusals.TooMany)))
+too_many : greet_by own_us greet_open ≡ without_entry own_us (line caller (places.Catalog 1) None (said.Refused (whys.Table refusals.TooMany)))
 too_many = refl
 
 got : granted setting library books [] greet_open caller (Ok (GetsMessage (record { owner = 0; row = 0; generation = 1 }) 1 1 (codes "?")))
-    ≡ tells [] (line caller (places.Catalog 1) None (said.Text (codes "Hello")))
+    ≡ without_entry [] (line caller (places.Catalog 1) None (said.Text (codes "Hello")))
 got = refl
 
 never_made : granted setting library books [] greet_open caller (Ok (ClosesCatalog first_handle))
-    ≡ tells [] (line caller (places.Catalog 1) None (said.Refused (whys.Table refusals.NeverMade)))
+    ≡ without_entry [] (line caller (places.Catalog 1) None (said.Refused (whys.Table refusals.NeverMade)))
 never_made = refl

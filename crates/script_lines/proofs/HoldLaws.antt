@@ -11,7 +11,8 @@ use Rattle.mask_compose.specs.Parts.{Parts}
 use Rattle.handle_table.specs.declared.handle.Handle.{Handle}
 use Rattle.handle_table.specs.declared.handle.Named.{Named}
 use Rattle.handle_table.specs.declared.handle.Named.TheVariants.{Global, Of}
-use Rattle.handle_table.specs.Entry.{Op, New, Dup, Free, Use, Hold, Release, SetGlobal, Install, Post, Fetch, Pins, End, Reply, Held, Refusal, History, Setting, names, same_handle, is_accepted}
+use Rattle.handle_table.specs.declared.op.Refusal.{Refusal}
+use Rattle.handle_table.specs.Entry.{Op, New, Dup, Free, Use, Hold, Release, SetGlobal, Install, Post, Fetch, Pins, End, Reply, Held, History, Setting, names, same_handle, is_accepted}
 use Rattle.handle_table.specs.History.{holding, holding_after, object}
 use Rattle.handle_table.specs.Answer.{answer, IsLegal, unless, first_reason, reasons}
 use Rattle.handle_table.proofs.Numbering.{same_handles}

@@ -22,7 +22,7 @@ use Rattle.script_lines.specs.Holds.{object_held, open_holds, held_as}
 use Rattle.script_lines.specs.Turns.{Turn}
 use Rattle.script_lines.specs.Variables.{Bindings, bound, Bound, bindings_of}
 use Rattle.script_lines.specs.Wishes.{Wish, Calls, ReadsOf, Reads, AsksSelection, AsksName, OpensCatalog, GetsMessage, ClosesCatalog, wish_of}
-use Rattle.script_lines.specs.Lines.{Caller, line, told_line, placed_line, object_line}
+use Rattle.script_lines.specs.Lines.{Caller, line, plain_line, placed_line, object_line}
 use Rattle.catalog_table.specs.Entry as catalogs
 use Rattle.catalog_table.specs.declared.handle.CatalogHandle.{CatalogHandle}
 use Rattle.catalog_table.specs.declared.setting.CatalogSetting.{CatalogSetting}
@@ -36,17 +36,17 @@ use Rattle.script_lines.proofs.WishLemmas.{wish_same}
 -- ---- lines without a call
 
 pub refusal_leaves : (c : Setting) (library : Catalog) (books : Books) (later : History → History → Type 0) (at : History → Type 0) (H : History) (caller : Caller) (why : Why) (l : OutLine)
-    → at H → later H H → l ≡ told_line caller (said.Refused why) → LeavesLine c library books later at H caller (Err why) l
+    → at H → later H H → l ≡ plain_line caller (said.Refused why) → LeavesLine c library books later at H caller (Err why) l
 refusal_leaves c library books later at H caller why l here stays printed =
     (record { seen = H; first = H; second = H; asked = not_asked }, record { seen = refl; first = stays }, record { line = printed; now_at = here })
 
 pub selection_leaves : (c : Setting) (library : Catalog) (books : Books) (later : History → History → Type 0) (at : History → Type 0) (H : History) (caller : Caller) (number : ℕ) (selected : Named) (l : OutLine)
-    → caller.thread ≡ number → selected ≡ selection H number → at H → later H H → l ≡ told_line caller (said.Is selected) → LeavesLine c library books later at H caller (Ok AsksSelection) l
+    → caller.thread ≡ number → selected ≡ selection H number → at H → later H H → l ≡ plain_line caller (said.Is selected) → LeavesLine c library books later at H caller (Ok AsksSelection) l
 selection_leaves c library books later at H caller number selected l own is here stays printed = (
   record { seen = H; first = H; second = H; asked = not_asked },
   record { seen = refl; first = stays },
   record {
-    line = printed ∙ ap (λ (n : Named). told_line caller (said.Is n)) (is ∙ ap (λ (t : ℕ). selection H t) (sym own));
+    line = printed ∙ ap (λ (n : Named). plain_line caller (said.Is n)) (is ∙ ap (λ (t : ℕ). selection H t) (sym own));
     now_at = here;
   },
 )
@@ -61,10 +61,10 @@ own_leaves c library books later at H caller read number object l same is here s
     let m : Moments = record { seen = H; first = H; second = H; asked = not_asked } in
     (m, record { seen = refl; first = stays }, subst (λ (x : Option Parts). Left at (reads c library m caller read x) l) gives (record { line = printed; now_at = here }))
 
-pub global_leaves : (c : Setting) (library : Catalog) (books : Books) (later : History → History → Type 0) (at : History → Type 0) (H : History) (caller : Caller) (read : Read) (number version : ℕ) (object : Parts) (told : Said) (l : OutLine)
-    → caller.thread ≡ number → None ≡ own H number → Finds c later at H version object → told ≡ local library object read → l ≡ line caller places.None (Some version) told
+pub global_leaves : (c : Setting) (library : Catalog) (books : Books) (later : History → History → Type 0) (at : History → Type 0) (H : History) (caller : Caller) (read : Read) (number version : ℕ) (object : Parts) (reply : Said) (l : OutLine)
+    → caller.thread ≡ number → None ≡ own H number → Finds c later at H version object → reply ≡ local library object read → l ≡ line caller places.None (Some version) reply
     → LeavesLine c library books later at H caller (Ok (Reads read)) l
-global_leaves c library books later at H caller read number version object told l same is found tells printed =
+global_leaves c library books later at H caller read number version object reply l same is found reply_is printed =
     let gives : None ≡ own H caller.thread = is ∙ ap (λ (t : ℕ). own H t) (sym same) in
     let m : Moments = record { seen = H; first = found.before; second = found.before; asked = not_asked } in (
       m,
@@ -72,7 +72,7 @@ global_leaves c library books later at H caller read number version object told 
       subst (λ (x : Option Parts). Left at (reads c library m caller read x) l) gives (record {
         line =
             printed
-            ∙ ap (λ (s : Said). line caller places.None (Some version) s) tells
+            ∙ ap (λ (s : Said). line caller places.None (Some version) s) reply_is
             ∙ ap (λ (v : ℕ). line caller places.None (Some v) (local library object read)) found.version_is
             ∙ ap (λ (p : Parts). line caller places.None (Some (sets found.before)) (local library p read)) found.object_is;
         now_at = found.now_at;
@@ -140,11 +140,11 @@ unheld_leaves c library books later at H caller n read number l own is between =
 
 -- a Hold that gives an object, and a Release
 pub between_leaves : (c c' : Setting) (library : Catalog) (later : Setting → ℕ → History → History → Type 0) (at at' : History → Type 0) (H : History) (caller : Caller) (n : Named) (read : Read)
-    (number number' place release : ℕ) (r r' : table.Reply) (object : Parts) (told : Said) (l : OutLine)
-    → caller.thread ≡ number → number' ≡ number → c' ≡ c → Answers c (later c number) at number H (table.Hold n) place r → object_held r ≡ Some object → told ≡ local library object read
-    → ((G : History) → at G → Answers c' (later c' number') at' number' G (table.Release n) release r') → l ≡ line caller (places.Two place release) None told
+    (number number' place release : ℕ) (r r' : table.Reply) (object : Parts) (reply : Said) (l : OutLine)
+    → caller.thread ≡ number → number' ≡ number → c' ≡ c → Answers c (later c number) at number H (table.Hold n) place r → object_held r ≡ Some object → reply ≡ local library object read
+    → ((G : History) → at G → Answers c' (later c' number') at' number' G (table.Release n) release r') → l ≡ line caller (places.Two place release) None reply
     → LeavesReadBetween c library (later c number) at' H caller n read l
-between_leaves c c' library later at at' H caller n read number number' place release r r' object told l own kept same held is tells after printed =
+between_leaves c c' library later at at' H caller n read number number' place release r r' object reply l own kept same held is reply_is after printed =
     let a : Answers c (later c number) at caller.thread H (table.Hold n) place r = subst (λ (t : ℕ). Answers c (later c number) at t H (table.Hold n) place r) (sym own) held in
     let G : History = with_call c a.before caller.thread (table.Hold n) in
     let b : Answers c (later c number) at' caller.thread G (table.Release n) release r' =
@@ -159,9 +159,9 @@ between_leaves c c' library later at at' H caller n read number number' place re
       subst (λ (x : Option Parts). Left at' (reads_between c library m caller n read x) l) gives (record {
         line =
             printed
-            ∙ ap (λ (p : ℕ). line caller (places.Two p release) None told) a.place_is
-            ∙ ap (λ (p : ℕ). line caller (places.Two (length a.before) p) None told) b.place_is
-            ∙ ap (λ (s : Said). line caller (places.Two (length a.before) (length b.before)) None s) tells;
+            ∙ ap (λ (p : ℕ). line caller (places.Two p release) None reply) a.place_is
+            ∙ ap (λ (p : ℕ). line caller (places.Two (length a.before) p) None reply) b.place_is
+            ∙ ap (λ (s : Said). line caller (places.Two (length a.before) (length b.before)) None s) reply_is;
         now_at = b.now_at;
       }),
     )
@@ -261,42 +261,42 @@ global_opens c c' library books later catalogs_later at at' catalogs_at H M call
 
 -- a catgets
 pub message_leaves : (c : Setting) (library : Catalog) (books : Books) (later : History → History → Type 0) (catalogs_later : catalogs.History → catalogs.History → Type 0) (at : History → Type 0) (catalogs_at : catalogs.History → Type 0)
-    (H : History) (M : catalogs.History) (caller : Caller) (h : Handle) (meant : CatalogHandle) (set message : ℕ) (default : List ℕ) (number place : ℕ) (r : catalogs.Reply) (told : Said) (l : OutLine)
+    (H : History) (M : catalogs.History) (caller : Caller) (h : Handle) (meant : CatalogHandle) (set message : ℕ) (default : List ℕ) (number place : ℕ) (r : catalogs.Reply) (reply : Said) (l : OutLine)
     → caller.thread ≡ number → at H → later H H → meant ≡ handle_meant h → AnswersCatalog (catalog_setting c) catalogs_later catalogs_at number M (catalogs.Get meant) place r
-    → told ≡ message_shown books set message default r → l ≡ line caller (places.Catalog place) None told
+    → reply ≡ message_shown books set message default r → l ≡ line caller (places.Catalog place) None reply
     → Leaves c library books later catalogs_later at catalogs_at H M caller (Ok (GetsMessage h set message default)) l
-message_leaves c library books later catalogs_later at catalogs_at H M caller h meant set message default number place r told l same here stays means answered tells printed =
+message_leaves c library books later catalogs_later at catalogs_at H M caller h meant set message default number place r reply l same here stays means answered reply_is printed =
     let asked : Asked = record { place = place; reply = r } in (
       record { seen = H; first = H; second = H; asked = asked },
       record { seen = refl; first = stays },
-      record { line = printed ∙ ap (λ (s : Said). line caller (places.Catalog place) None s) tells; now_at = here },
+      record { line = printed ∙ ap (λ (s : Said). line caller (places.Catalog place) None s) reply_is; now_at = here },
       subst (λ (g : CatalogHandle). AnswersCatalog (catalog_setting c) catalogs_later catalogs_at caller.thread M (catalogs.Get g) place r) means
           (subst (λ (t : ℕ). AnswersCatalog (catalog_setting c) catalogs_later catalogs_at t M (catalogs.Get meant) place r) (sym same) answered),
     )
 
 -- a catclose
 pub close_leaves : (c : Setting) (library : Catalog) (books : Books) (later : History → History → Type 0) (catalogs_later : catalogs.History → catalogs.History → Type 0) (at : History → Type 0) (catalogs_at : catalogs.History → Type 0)
-    (H : History) (M : catalogs.History) (caller : Caller) (h : Handle) (meant : CatalogHandle) (number place : ℕ) (r : catalogs.Reply) (told : Said) (l : OutLine)
+    (H : History) (M : catalogs.History) (caller : Caller) (h : Handle) (meant : CatalogHandle) (number place : ℕ) (r : catalogs.Reply) (reply : Said) (l : OutLine)
     → caller.thread ≡ number → at H → later H H → meant ≡ handle_meant h → AnswersCatalog (catalog_setting c) catalogs_later catalogs_at number M (catalogs.Close meant) place r
-    → told ≡ handle_reply_shown r → l ≡ line caller (places.Catalog place) None told
+    → reply ≡ handle_reply_shown r → l ≡ line caller (places.Catalog place) None reply
     → Leaves c library books later catalogs_later at catalogs_at H M caller (Ok (ClosesCatalog h)) l
-close_leaves c library books later catalogs_later at catalogs_at H M caller h meant number place r told l same here stays means answered tells printed =
+close_leaves c library books later catalogs_later at catalogs_at H M caller h meant number place r reply l same here stays means answered reply_is printed =
     let asked : Asked = record { place = place; reply = r } in (
       record { seen = H; first = H; second = H; asked = asked },
       record { seen = refl; first = stays },
-      record { line = printed ∙ ap (λ (s : Said). line caller (places.Catalog place) None s) tells; now_at = here },
+      record { line = printed ∙ ap (λ (s : Said). line caller (places.Catalog place) None s) reply_is; now_at = here },
       subst (λ (g : CatalogHandle). AnswersCatalog (catalog_setting c) catalogs_later catalogs_at caller.thread M (catalogs.Close g) place r) means
           (subst (λ (t : ℕ). AnswersCatalog (catalog_setting c) catalogs_later catalogs_at t M (catalogs.Close meant) place r) (sym same) answered),
     )
 
 -- a catopen of a catalog
 pub book_asked : (c : CatalogSetting) (catalogs_later : catalogs.History → catalogs.History → Type 0) (catalogs_at : catalogs.History → Type 0)
-    (M : catalogs.History) (caller : Caller) (number place n : ℕ) (version : Option ℕ) (r : catalogs.Reply) (told : Said) (l : OutLine)
-    → caller.thread ≡ number → AnswersCatalog c catalogs_later catalogs_at number M (catalogs.Open n) place r → told ≡ handle_reply_shown r → l ≡ line caller (places.Catalog place) version told
+    (M : catalogs.History) (caller : Caller) (number place n : ℕ) (version : Option ℕ) (r : catalogs.Reply) (reply : Said) (l : OutLine)
+    → caller.thread ≡ number → AnswersCatalog c catalogs_later catalogs_at number M (catalogs.Open n) place r → reply ≡ handle_reply_shown r → l ≡ line caller (places.Catalog place) version reply
     → LeavesAsked c catalogs_later catalogs_at caller.thread M (Some (catalogs.Open n)) (λ asked. open_line caller version asked (Some n)) l
-book_asked c catalogs_later catalogs_at M caller number place n version r told l same answered tells printed = (
+book_asked c catalogs_later catalogs_at M caller number place n version r reply l same answered reply_is printed = (
   record { place = place; reply = r },
-  printed ∙ ap (λ (s : Said). line caller (places.Catalog place) version s) tells,
+  printed ∙ ap (λ (s : Said). line caller (places.Catalog place) version s) reply_is,
   subst (λ (t : ℕ). AnswersCatalog c catalogs_later catalogs_at t M (catalogs.Open n) place r) (sym same) answered,
 )
 

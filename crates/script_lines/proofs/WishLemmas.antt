@@ -2,14 +2,15 @@
 use Rattle.std.proofs.Common.{◌≡◌, ℕ, ◌<◌, ◌≤◌, List, length, Option, Some, None, Result, Ok, Err, refl, sym, ap, subst}
 use Rattle.std.specs.Prelude.{◌≢◌, IfOk, IfSome}
 use Rattle.lc_base.specs.declared.category.Category.{Category}
-use Rattle.mask_compose.specs.Offer.{Offered}
+use Rattle.lc_base.specs.Reading.{◌>>=◌}
+use Rattle.mask_compose.specs.Offer.{Offered, AreOnShelf}
 use Rattle.category_store.specs.Catalog.{Catalog}
 use Rattle.category_store.specs.Library.{numbers, opening, later}
 use Rattle.handle_table.specs.declared.handle.Handle.{Handle}
 use Rattle.handle_table.specs.declared.handle.Named.{Named}
 use Rattle.handle_table.specs.Entry as table
 use Rattle.handle_table.specs.Entry.{Setting}
-use Rattle.handle_table.specs.Table.{Fits, AreOnShelf as AreOnTheShelf}
+use Rattle.handle_table.specs.Table.{Fits}
 use Rattle.script_words.specs.declared.categories.Categories.{Categories}
 use Rattle.script_words.specs.declared.categories.Categories.TheVariants as categories
 use Rattle.script_commands.specs.declared.command.Command.{Command}
@@ -20,12 +21,12 @@ use Rattle.script_commands.specs.declared.command.Target.{Target}
 use Rattle.script_commands.specs.declared.command.Target.TheVariants as targets
 use Rattle.script_out.specs.declared.output.Why.{Why}
 use Rattle.script_commands.specs.InRange.{IsInRange}
-use Rattle.category_store.specs.Shelf.{AreOnShelf, IsNumbered, IsInstallable}
+use Rattle.category_store.specs.Shelf.{IsNumbered, IsInstallable}
 use Rattle.script_lines.specs.Board.{Fitting, TaskMay}
 use Rattle.script_lines.specs.Seen.{TaskFits}
 use Rattle.script_lines.specs.Turns.{Task, Runs, Releases, Ends}
 use Rattle.script_lines.specs.Variables.{Variable, Bindings, bound, locale_variable, catalog_variable}
-use Rattle.script_lines.specs.Wishes.{Asks, Wish, ReadsOf, GetsMessage, ClosesCatalog, ◌>>=◌, handle_or_unset, catalog_or_unset, catalog_named, named, base_named, mask_of, named_numbers, numbers_or_no_data, new_op, set_op, categories_mask, setlocale_op, install_of, install_op, op_on, called, wish, wish_of}
+use Rattle.script_lines.specs.Wishes.{Asks, Wish, ReadsOf, GetsMessage, ClosesCatalog, handle_or_unset, catalog_or_unset, catalog_named, named, base_named, mask_of, named_numbers, numbers_or_no_data, new_op, set_op, categories_mask, setlocale_op, install_of, install_op, op_on, called, wish, wish_of}
 
 -- ---- a wish depends on what variables stand for alone
 
@@ -95,16 +96,16 @@ on_may may op (Ok n) fits = fits n
 on_may may op (Err why) fits = tt
 
 -- numbers on the library's shelf are on the table's
-shelf_is : (c : Setting) (library : Catalog) (ns : List ℕ) → c.opening ≡ opening library → AreOnShelf library ns → AreOnTheShelf c ns
-shelf_is c library ns own on = subst (λ (offers : List Offered). AreOnTheShelf (record c { opening = offers }) ns) (sym own) on
+shelf_is : (c : Setting) (library : Catalog) (ns : List ℕ) → c.opening ≡ opening library → AreOnShelf (opening library) ns → AreOnShelf c.opening ns
+shelf_is c library ns own on = subst (λ (offers : List Offered). AreOnShelf offers ns) (sym own) on
 
-given_fit : (library : Catalog) (r : Result (List ℕ) Category) → IfOk r (AreOnShelf library) → IfOk (numbers_or_no_data r) (AreOnShelf library)
+given_fit : (library : Catalog) (r : Result (List ℕ) Category) → IfOk r (AreOnShelf (opening library)) → IfOk (numbers_or_no_data r) (AreOnShelf (opening library))
 given_fit library (Ok ns) on = on
 given_fit library (Err category) on = tt
 
-numbers_fit : (c : Setting) (library : Catalog) (locale : List ℕ) (mask : ℕ) → IsNumbered library → c.opening ≡ opening library → (ns : List ℕ) → named_numbers library locale mask ≡ Ok ns → AreOnTheShelf c ns
+numbers_fit : (c : Setting) (library : Catalog) (locale : List ℕ) (mask : ℕ) → IsNumbered library → c.opening ≡ opening library → (ns : List ℕ) → named_numbers library locale mask ≡ Ok ns → AreOnShelf c.opening ns
 numbers_fit c library locale mask numbered own ns e =
-    shelf_is c library ns own (subst (λ (r : Result (List ℕ) Why). IfOk r (AreOnShelf library)) e (given_fit library (numbers library locale mask) (numbered locale mask)))
+    shelf_is c library ns own (subst (λ (r : Result (List ℕ) Why). IfOk r (AreOnShelf (opening library))) e (given_fit library (numbers library locale mask) (numbered locale mask)))
 
 new_may : (c : Setting) (may : table.Op → Type 0) → Admits c may → (library : Catalog) (b : Bindings) (bits : ℕ) (locale : List ℕ) (base : Option Target) → IsNumbered library → c.opening ≡ opening library → IfOk (new_op library b bits locale base) may
 new_may c may admits library b bits locale base numbered own =

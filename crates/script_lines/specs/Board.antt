@@ -22,9 +22,9 @@ use Rattle.script_lines.specs.Holds.{object_held, open_holds, held_as}
 use Rattle.script_lines.specs.Turns.{Task, Turn}
 use Rattle.script_lines.specs.Variables.{Bindings, Bound, bindings_of}
 use Rattle.script_lines.specs.Wishes.{Wish, Calls, ReadsOf, Reads, AsksSelection, AsksName, OpensCatalog, GetsMessage, ClosesCatalog, wish_of}
-use Rattle.script_lines.specs.Lines.{Caller, told_line, object_line, held_line}
+use Rattle.script_lines.specs.Lines.{Caller, plain_line, object_line, held_line}
 use Rattle.script_lines.specs.Catalogs.{Books, Asked, not_asked, book_for, catalog_setting, object_used, catalog_op_by, open_line, message_line, close_line}
-use Rattle.script_lines.specs.Outcome.{Outcome, tells, with_call, calls, read_line, name_line}
+use Rattle.script_lines.specs.Outcome.{Outcome, without_entry, with_call, calls, read_line, name_line}
 
 -- ---- the calls that are answered
 
@@ -89,17 +89,17 @@ held_or_refused c library m at n read = reads_between c library m at n read (obj
 
 -- a read of what is named: of the object that the thread's open Hold of it gave, or of the one that a Hold gives
 abbrev pub reads_of : Setting → Catalog → Moments → Caller → Named → Read → Option Parts → Outcome
-reads_of c library m at n read (Some object) = tells m.seen (object_line library at read object)
+reads_of c library m at n read (Some object) = without_entry m.seen (object_line library at read object)
 reads_of c library m at n read None = held_or_refused c library m at n read
 
 -- a read of the thread's own object, or of the global locale with its version
 abbrev pub reads : Setting → Catalog → Moments → Caller → Read → Option Parts → Outcome
-reads c library m at read (Some object) = tells m.seen (object_line library at read object)
-reads c library m at read None = tells m.first (read_line c library m.first at read None)
+reads c library m at read (Some object) = without_entry m.seen (object_line library at read object)
+reads c library m at read None = without_entry m.first (read_line c library m.first at read None)
 
 -- the name of the global locale with its version
 abbrev pub asks_name : Setting → Catalog → Moments → Caller → Categories → Outcome
-asks_name c library m at categories = tells m.first (name_line c library m.first at categories)
+asks_name c library m at categories = without_entry m.first (name_line c library m.first at categories)
 
 -- what a wish asks of the catalogs: a catopen goes by the thread's own object, or by the global locale
 abbrev pub catalog_op : Setting → Catalog → Books → Moments → ℕ → Result Wish Why → Option catalogs.Op
@@ -107,20 +107,20 @@ catalog_op c library books m thread wish = catalog_op_by library books (object_u
 
 -- a catopen by the thread's own object, or by the global locale with its version
 abbrev pub opens : Setting → Catalog → Books → Moments → Caller → List ℕ → Option Parts → Outcome
-opens c library books m at name (Some object) = tells m.seen (open_line at None m.asked (book_for library books object name))
-opens c library books m at name None = tells m.first (open_line at (Some (sets m.first)) m.asked (book_for library books (global c m.first) name))
+opens c library books m at name (Some object) = without_entry m.seen (open_line at None m.asked (book_for library books object name))
+opens c library books m at name None = without_entry m.first (open_line at (Some (sets m.first)) m.asked (book_for library books (global c m.first) name))
 
 -- what a wish leaves: a thread's selection, its own object and its Holds are those that it had seen
 abbrev pub granted_at : Setting → Catalog → Books → Moments → Caller → Result Wish Why → Outcome
-granted_at c library books m at (Err why) = tells m.seen (told_line at (said.Refused why))
+granted_at c library books m at (Err why) = without_entry m.seen (plain_line at (said.Refused why))
 granted_at c library books m at (Ok (Calls categories op)) = calls c library m.first at categories op
 granted_at c library books m at (Ok (ReadsOf n read)) = reads_of c library m at n read (held_as (open_holds m.seen at.thread) n)
 granted_at c library books m at (Ok (Reads read)) = reads c library m at read (own m.seen at.thread)
-granted_at c library books m at (Ok AsksSelection) = tells m.seen (told_line at (said.Is (selection m.seen at.thread)))
+granted_at c library books m at (Ok AsksSelection) = without_entry m.seen (plain_line at (said.Is (selection m.seen at.thread)))
 granted_at c library books m at (Ok (AsksName categories)) = asks_name c library m at categories
 granted_at c library books m at (Ok (OpensCatalog name)) = opens c library books m at name (own m.seen at.thread)
-granted_at c library books m at (Ok (GetsMessage h set message default)) = tells m.seen (message_line books at set message default m.asked)
-granted_at c library books m at (Ok (ClosesCatalog h)) = tells m.seen (close_line at m.asked)
+granted_at c library books m at (Ok (GetsMessage h set message default)) = without_entry m.seen (message_line books at set message default m.asked)
+granted_at c library books m at (Ok (ClosesCatalog h)) = without_entry m.seen (close_line at m.asked)
 
 -- the moments of a line of a thread that had seen H: each history may have come of the one that the thread was at before
 pub record AreMoments (c : Setting) (later : History → History → Type 0) (thread : ℕ) (H : History) (m : Moments) : Type 0 where

@@ -2,8 +2,6 @@
 use Rattle.std.specs.Prelude.{ℕ, length, Option, Some, None}
 use Rattle.mask_compose.specs.Parts.{Parts}
 use Rattle.category_store.specs.Catalog.{Catalog}
-use Rattle.handle_table.specs.declared.op.Refusal.{Refusal}
-use Rattle.handle_table.specs.declared.op.Refusal.TheVariants as refusals
 use Rattle.handle_table.specs.Entry as table
 use Rattle.handle_table.specs.Entry.{History}
 use Rattle.script_words.specs.declared.categories.Categories.{Categories}
@@ -19,18 +17,7 @@ use Rattle.script_lines.specs.Reads.{local}
 
 -- ---- replies
 
--- the printed form of a refusal of the table
-abbrev pub refusal_shown : table.Refusal → Refusal
-refusal_shown (table.NoData category) = refusals.NoData category
-refusal_shown table.GlobalHandle = refusals.GlobalHandle
-refusal_shown table.NeverMade = refusals.NeverMade
-refusal_shown table.Stale = refusals.Stale
-refusal_shown table.TooMany = refusals.TooMany
-refusal_shown table.AlreadyHeld = refusals.AlreadyHeld
-refusal_shown table.NotHeld = refusals.NotHeld
-refusal_shown table.EmptyCell = refusals.EmptyCell
-
--- the printed form of a reply of the table; a change of the global locale tells the name of what the command chose
+-- the printed form of a reply of the table; a change of the global locale prints the name of what the command chose
 abbrev pub shown : Catalog → Categories → table.Reply → Said
 shown library categories (table.Made h) = said.Handle h
 shown library categories table.Freed = said.Freed
@@ -43,7 +30,7 @@ shown library categories table.Posted = said.Posted
 shown library categories (table.Got h) = said.Handle h
 shown library categories (table.Pinned count) = said.Pins count
 shown library categories table.Ended = said.Ended
-shown library categories (table.Refused refusal) = said.Refused (whys.Table (refusal_shown refusal))
+shown library categories (table.Refused refusal) = said.Refused (whys.Table refusal)
 
 -- the version that a reply prints: that of the global locale that it made
 abbrev pub version_made : table.Reply → Option ℕ
@@ -72,8 +59,8 @@ abbrev pub line : Caller → Places → Option ℕ → Said → OutLine
 line at place version reply = record { round = at.round; thread = at.thread; index = at.index; places = place; global = version; reply = reply }
 
 -- a line that makes no entry
-abbrev pub told_line : Caller → Said → OutLine
-told_line at reply = line at places.None None reply
+abbrev pub plain_line : Caller → Said → OutLine
+plain_line at reply = line at places.None None reply
 
 -- the line of an entry at a place
 abbrev pub placed_line : Catalog → ℕ → Caller → Categories → table.Reply → OutLine
@@ -85,13 +72,13 @@ entry_line library H at categories reply = placed_line library (length H) at cat
 
 -- the line of a read of an object
 abbrev pub object_line : Catalog → Caller → Read → Parts → OutLine
-object_line library at read object = told_line at (local library object read)
+object_line library at read object = plain_line at (local library object read)
 
 -- the line of a read of an object between a Hold and its Release, which have these places
 abbrev pub held_line : Catalog → ℕ → ℕ → Caller → Read → Parts → OutLine
 held_line library hold release at read object = line at (places.Two hold release) None (local library object read)
 
--- a line that tells of the global locale: its object as it was at a version, with that version
+-- a line that reads the global locale: its object as it was at a version, with that version
 abbrev pub global_read_line : Catalog → Caller → Read → ℕ → Parts → OutLine
 global_read_line library at read version object = line at places.None (Some version) (local library object read)
 

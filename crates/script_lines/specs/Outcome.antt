@@ -16,7 +16,7 @@ use Rattle.script_out.specs.declared.output.Why.{Why}
 use Rattle.script_out.specs.declared.output.Said.TheVariants as said
 use Rattle.script_lines.specs.Holds.{object_held, open_holds, held_as}
 use Rattle.script_lines.specs.Wishes.{Wish, Calls, ReadsOf, Reads, AsksSelection, AsksName, OpensCatalog, GetsMessage, ClosesCatalog}
-use Rattle.script_lines.specs.Lines.{Caller, told_line, entry_line, object_line, held_line, global_read_line, global_name_line}
+use Rattle.script_lines.specs.Lines.{Caller, plain_line, entry_line, object_line, held_line, global_read_line, global_name_line}
 use Rattle.script_lines.specs.Catalogs.{Books, Asked, book_for, catalog_setting, object_used, catalog_op_by, asked_after, catalogs_after, open_line, message_line, close_line}
 
 -- what a task leaves: the history of the table, and its line
@@ -25,8 +25,8 @@ pub record Outcome : Type 0 where
   pub line : OutLine
 
 -- a line without an entry
-abbrev pub tells : History → OutLine → Outcome
-tells H l = record { history = H; line = l }
+abbrev pub without_entry : History → OutLine → Outcome
+without_entry H l = record { history = H; line = l }
 
 -- the history with a call of a thread
 abbrev pub with_call : Setting → History → ℕ → table.Op → History
@@ -51,7 +51,7 @@ held_or_refused c library H at n read = reads_between c library H at n read (obj
 
 -- a read of what is named: of the object that the thread's open Hold of it gave, or of the one that a Hold gives
 abbrev pub reads_of : Setting → Catalog → History → Caller → Named → Read → Option Parts → Outcome
-reads_of c library H at n read (Some object) = tells H (object_line library at read object)
+reads_of c library H at n read (Some object) = without_entry H (object_line library at read object)
 reads_of c library H at n read None = held_or_refused c library H at n read
 
 -- a read of the thread's own object, or of the global locale with its version
@@ -80,15 +80,15 @@ opens_line c library books H at name asked None = open_line at (Some (sets H)) a
 
 -- what a wish leaves after a history, where the catalogs have answered this; a refusal without an entry is printed alone
 abbrev pub granted_as : Setting → Catalog → Books → History → Asked → Caller → Result Wish Why → Outcome
-granted_as c library books H asked at (Err why) = tells H (told_line at (said.Refused why))
+granted_as c library books H asked at (Err why) = without_entry H (plain_line at (said.Refused why))
 granted_as c library books H asked at (Ok (Calls categories op)) = calls c library H at categories op
 granted_as c library books H asked at (Ok (ReadsOf n read)) = reads_of c library H at n read (held_as (open_holds H at.thread) n)
-granted_as c library books H asked at (Ok (Reads read)) = tells H (read_line c library H at read (own H at.thread))
-granted_as c library books H asked at (Ok AsksSelection) = tells H (told_line at (said.Is (selection H at.thread)))
-granted_as c library books H asked at (Ok (AsksName categories)) = tells H (name_line c library H at categories)
-granted_as c library books H asked at (Ok (OpensCatalog name)) = tells H (opens_line c library books H at name asked (own H at.thread))
-granted_as c library books H asked at (Ok (GetsMessage h set message default)) = tells H (message_line books at set message default asked)
-granted_as c library books H asked at (Ok (ClosesCatalog h)) = tells H (close_line at asked)
+granted_as c library books H asked at (Ok (Reads read)) = without_entry H (read_line c library H at read (own H at.thread))
+granted_as c library books H asked at (Ok AsksSelection) = without_entry H (plain_line at (said.Is (selection H at.thread)))
+granted_as c library books H asked at (Ok (AsksName categories)) = without_entry H (name_line c library H at categories)
+granted_as c library books H asked at (Ok (OpensCatalog name)) = without_entry H (opens_line c library books H at name asked (own H at.thread))
+granted_as c library books H asked at (Ok (GetsMessage h set message default)) = without_entry H (message_line books at set message default asked)
+granted_as c library books H asked at (Ok (ClosesCatalog h)) = without_entry H (close_line at asked)
 
 -- what a wish leaves after a history of the table and one of the catalogs
 abbrev pub granted : Setting → Catalog → Books → History → catalogs.History → Caller → Result Wish Why → Outcome

@@ -9,7 +9,7 @@ use Rattle.script_commands.specs.declared.command.Placed.{Placed}
 use Rattle.script_lines.specs.declared.holds.OpenHold.{OpenHold}
 use Rattle.script_lines.specs.Holds.{open_holds}
 
--- what a line tells of: a command of the script, or a call that closes its thread
+-- what a line is printed for: a command of the script, or a call that closes its thread
 pub data Task : Type 0 where
   Runs : Command → Task
   Releases : Handle → Task

@@ -94,7 +94,7 @@ variable_bound (Runs command) = variable_of command
 variable_bound (Releases h) = None
 variable_bound Ends = None
 
--- the handle that a reply tells
+-- the handle that a reply has
 abbrev pub handle_said : Said → Option Handle
 handle_said (said.Handle h) = Some h
 handle_said said.Freed = None

@@ -2,6 +2,7 @@
 use Rattle.std.specs.Prelude.{ℕ, nat_lt, List, [], ◌∷◌, Option, Some, None, Result, Ok, Err, if◌then◌else◌}
 use Rattle.lc_base.specs.declared.category.Category.{Category}
 use Rattle.lc_base.specs.Mask.{category_bit}
+use Rattle.lc_base.specs.Reading.{◌>>=◌}
 use Rattle.mask_compose.specs.Offer.{Offered}
 use Rattle.category_store.specs.Catalog.{Catalog}
 use Rattle.category_store.specs.Library.{numbers, later}
@@ -28,11 +29,6 @@ use Rattle.script_lines.specs.Variables.{Bindings, bound, locale_variable, catal
 
 abbrev pub Asks : Type 0
 Asks = Result table.Op Why
-
-infixl 10 ◌>>=◌
-abbrev pub ◌>>=◌ : {A B : Type 0} → Result A Why → (A → Result B Why) → Result B Why
-(Ok x) >>= f = f x
-(Err why) >>= f = Err why
 
 -- what a command names: a variable that nothing bound is Unset
 abbrev pub handle_or_unset : Option Handle → Result Named Why
@@ -101,7 +97,7 @@ op_on op named = named >>= λ n. Ok (op n)
 
 -- ---- what a command asks for
 
--- a call, with the categories whose name an accepted setlocale tells; a read of what is named; a read of the thread's own
+-- a call, with the categories whose name an accepted setlocale prints; a read of what is named; a read of the thread's own
 -- object or else of the global locale; what is selected; the name of the global locale; a catalog to be opened by its name; the
 -- message of a set and a number in an open catalog, or else the default; a catalog to be closed
 pub data Wish : Type 0 where

@@ -19,7 +19,7 @@ use crate::board::{Board, Side};
 use crate::catalog_lines::{close_line, message_line, open_line};
 use crate::catalogs::Books;
 use crate::holds::object_held;
-use crate::lines::{Caller, handle_said, line, placed_line, told_line};
+use crate::lines::{Caller, handle_said, line, placed_line, plain_line};
 use crate::names::object_name;
 use crate::reads::local;
 use crate::thread::Thread;
@@ -68,7 +68,7 @@ pub fn turn_line<B: Board>(
     Ok(line)
 }
 
-/// Binds the variable of a task to the handle that the reply tells.
+/// Binds the variable of a task to the handle that the reply has.
 fn bind_said<S: Side>(
     alloc: Global,
     thread: &mut Thread<S>,
@@ -145,13 +145,13 @@ pub fn granted<B: Board>(
     ensures ready { OnOk result ((n : ℕ) → B.ready (n + 2) board.old side.old → B.ready n board.new side.new) }
 {
     match wish {
-        Err(why) => Ok(told_line(at, Said::Refused(why))),
+        Err(why) => Ok(plain_line(at, Said::Refused(why))),
         Ok(Wish::Call(categories, op)) => {
             call_line(alloc, library, board, side, at, categories, op)
         }
         Ok(Wish::ReadOf(named, read)) => read_of_line(alloc, library, board, side, at, named, read),
         Ok(Wish::Read(read)) => read_line(alloc, library, board, side, at, read),
-        Ok(Wish::Selection) => Ok(told_line(at, Said::Is(side.selected()))),
+        Ok(Wish::Selection) => Ok(plain_line(at, Said::Is(side.selected()))),
         Ok(Wish::Name(categories)) => name_line(alloc, library, board, side, at, categories),
         Ok(Wish::OpenCatalog(name)) => Ok(open_line(alloc, library, books, board, side, at, name)),
         Ok(Wish::GetMessage(handle, wanted)) => {
@@ -251,7 +251,7 @@ fn object_line(
     ensures { IfOk result (λ l. l ≡ object_line library.now (caller at) read.now object.now) }
 {
     let said = local(alloc, library, object, read)?;
-    Ok(told_line(at, said))
+    Ok(plain_line(at, said))
 }
 
 /// The line of a read: it reads the thread's own object, or the global locale with its version.

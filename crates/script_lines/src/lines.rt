@@ -4,7 +4,7 @@ ghost use Rattle.std.specs.Prelude.{◌≡◌, IfOk};
 ghost use Rattle.handle_table.specs.Seen.{reply_of};
 ghost use Rattle.script_lines.specs.Seen.{caller};
 ghost use Rattle.script_lines.specs.Variables.{handle_said};
-ghost use Rattle.script_lines.specs.Lines.{shown, version_made, line, told_line, placed_line};
+ghost use Rattle.script_lines.specs.Lines.{shown, version_made, line, plain_line, placed_line};
 
 use crate::names::object_name;
 use category_store::{Library, Share};
@@ -36,8 +36,8 @@ pub fn line(at: Caller, places: Places, global: Option<u32>, reply: Said) -> Out
 }
 
 /// A line that makes no entry.
-pub fn told_line(at: Caller, reply: Said) -> OutLine
-    ensures { result ≡ told_line (caller at) reply }
+pub fn plain_line(at: Caller, reply: Said) -> OutLine
+    ensures { result ≡ plain_line (caller at) reply }
 {
     line(at, Places::None, None, reply)
 }
@@ -103,7 +103,7 @@ fn version_made(reply: &Reply<Share>) -> Option<u32>
     }
 }
 
-/// The handle that a printed reply tells.
+/// The handle that a printed reply has.
 pub fn handle_said(reply: &Said) -> Option<Handle>
     ensures { result ≡ handle_said reply.now }
 {

@@ -40,7 +40,7 @@ impl<S: Side> Thread<S> {
         self.side.number()
     }
 
-    /// Counts one more line in a round, and tells whose it is.
+    /// Counts one more line in a round, and gives whose it is.
     pub fn next_caller(&mut self, round: u32) -> Caller
         requires { self.old.lines + 1 < 2 ^ 32 }
         ensures caller { caller result ≡ record { round = round; thread = S.number_of self.old.side; index = self.old.lines + 1 } }

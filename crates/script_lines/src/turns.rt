@@ -11,7 +11,7 @@ use script_commands::{Command, Placed};
 use script_lang::Bundle;
 use std::alloc::{AllocError, Global};
 
-/// What a line tells of.
+/// What a line is printed for.
 #[derive(Clone, Copy)]
 pub enum Task<'a> {
     /// A command of the script.

@@ -19,7 +19,7 @@ use script_words::Categories;
 /// What a command asks for.
 #[derive(Drop)]
 pub enum Wish<'a> {
-    /// A call of the table, with the categories whose name an accepted setlocale tells.
+    /// A call of the table, with the categories whose name an accepted setlocale prints.
     Call(Categories, Op<Share>),
     /// A read of what is named.
     ReadOf(Named, &'a Read),
@@ -105,7 +105,7 @@ fn wish_of_command<'a>(
     }
 }
 
-/// The wish of a call, with the categories whose name it tells.
+/// The wish of a call, with the categories whose name it prints.
 fn called<'a>(categories: Categories, op: Result<Op<Share>, Why>) -> Result<Wish<'a>, Why>
     ensures { wished result ≡ called categories (asked op) }
 {

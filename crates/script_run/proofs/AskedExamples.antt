@@ -46,7 +46,7 @@ nothing = tt
 
 abbrev asks : ℕ → ℕ → ℕ → Timed
 asks round thread place = record {
-  told = record { task = Ends; line = line (record { round = round; thread = thread; index = 1 }) (places.Catalog place) None said.Closed };
+  task_line = record { task = Ends; line = line (record { round = round; thread = thread; index = 1 }) (places.Catalog place) None said.Closed };
   moment = 0;
   op = Some (catalogs.Close h);
   asked = record { place = place; reply = catalogs.Closed };

@@ -34,10 +34,10 @@ use Rattle.script_lines.specs.Turns.{Task, Runs, Releases, Ends, Turn, first_num
 use Rattle.script_lines.specs.Variables.{Bindings, bindings_of}
 use Rattle.script_lines.specs.Wishes.{Wish, Calls, ReadsOf, Reads, AsksSelection, AsksName, OpensCatalog, GetsMessage, ClosesCatalog, wish_of}
 use Rattle.script_serial.specs.Plan.{PlanData, books_of}
-use Rattle.script_serial.specs.Prints.{Told, bound_by, places_in, catalog_places_in, all_catalog_places, before_round, from_round, caller_of, AreCatalogsPlaced}
+use Rattle.script_serial.specs.Prints.{TaskLine, bound_by, places_in, catalog_places_in, all_catalog_places, before_round, from_round, caller_of, AreCatalogsPlaced}
 use Rattle.script_serial.proofs.LineLists.{GoUp, increasing, bit_of, filter_none}
 use Rattle.script_serial.proofs.TurnLemmas.{flat_all}
-use Rattle.script_run.specs.Timed.{places_by, catalog_places_by, Timed, lines_in, tellings, placed_back, own_lines, asked_place, asked_in, asked_back, moments_in, IsRight, AreRight, in_rounds_before, in_rounds_to, StandsAsked, HasStanding, IsWithin, IsAskedInRound, AreAsked, IsWhole}
+use Rattle.script_run.specs.Timed.{places_by, catalog_places_by, Timed, lines_in, task_lines, placed_back, own_lines, asked_place, asked_in, asked_back, moments_in, IsRight, AreRight, in_rounds_before, in_rounds_to, StandsAsked, HasStanding, IsWithin, IsAskedInRound, AreAsked, IsWhole}
 use Rattle.script_run.proofs.Counted.{whole_length, once as stands_once, GoDown, down_up, all_reversed, places_down, kept_lines}
 use Rattle.script_run.proofs.Placed.{fewer_of, kept_with}
 
@@ -73,7 +73,7 @@ shadow_at None asked = places.None
 shadow_at (Some op) asked = places.One asked.place
 
 abbrev shadow_line : Timed → Timed
-shadow_line t = record t { told = record t.told { line = record t.told.line { places = shadow_at t.op t.asked } } }
+shadow_line t = record t { task_line = record t.task_line { line = record t.task_line.line { places = shadow_at t.op t.asked } } }
 
 back_of : (op : Option catalogs.Op) (asked : Asked) → reverse (asked_place op asked) ≡ asked_place op asked
 back_of None asked = refl
@@ -97,18 +97,18 @@ filter_map keep f (x ∷ xs) =
     ap (λ (ks : List _). cond (keep (f x)) (f x ∷ ks) ks) (filter_map keep f xs) ∙ map_if f x (filter (λ (y : _). keep (f y)) xs) (keep (f x))
 
 shadow_own : (thread : ℕ) (ts : List Timed) → own_lines thread (map shadow_line ts) ≡ map shadow_line (own_lines thread ts)
-shadow_own thread ts = filter_map (λ (t : Timed). t.told.line.thread == thread) shadow_line ts
+shadow_own thread ts = filter_map (λ (t : Timed). t.task_line.line.thread == thread) shadow_line ts
 
 abbrev pub HasAskedPlaces : ℕ → CatalogHistory → List Timed → Type 0
 HasAskedPlaces n V ts = (thread : ℕ) → thread < n → catalog_places_by thread V ≡ asked_back (own_lines thread ts)
 
-module _ (n : ℕ) (V : CatalogHistory) (ts : List Timed) (callers : catalog_answers.AreThreads n V) (are : HasAskedPlaces n V ts) (threads : All (λ (t : Timed). t.told.line.thread < n) ts) where
+module _ (n : ℕ) (V : CatalogHistory) (ts : List Timed) (callers : catalog_answers.AreThreads n V) (are : HasAskedPlaces n V ts) (threads : All (λ (t : Timed). t.task_line.line.thread < n) ts) where
   shadow_are : (thread : ℕ) → thread < n → places_by thread (shadow V) ≡ placed_back (own_lines thread (map shadow_line ts))
   shadow_are thread lt =
       shadow_places thread V ∙ are thread lt ∙ sym (shadow_back (own_lines thread ts)) ∙ ap placed_back (sym (shadow_own thread ts))
 
-  shadow_below : All (λ (t : Timed). t.told.line.thread < n) (map shadow_line ts)
-  shadow_below = All-map (λ (t : Timed). t.told.line.thread < n) shadow_line ts threads
+  shadow_below : All (λ (t : Timed). t.task_line.line.thread < n) (map shadow_line ts)
+  shadow_below = All-map (λ (t : Timed). t.task_line.line.thread < n) shadow_line ts threads
 
   -- as much was asked as there are entries
   pub asked_length : length (asked_back ts) ≡ length V
@@ -126,9 +126,9 @@ module _ (n : ℕ) (V : CatalogHistory) (ts : List Timed) (callers : catalog_ans
         | inl lt ↦ subst GoDown (shadow_places thread V ∙ are thread lt) (places_down thread (shadow V))
         | inr ge ↦
             let none : own_lines thread ts ≡ [] =
-            filter_none (λ (t : Timed). t.told.line.thread == thread) ts
-            (All-weaker (λ (t : Timed). t.told.line.thread < n) (λ (t : Timed). (t.told.line.thread == thread) ≡ false)
-            (λ t lt. ne_eqb t.told.line.thread thread (λ same. omega (arith, lt, ge, same))) ts threads)
+            filter_none (λ (t : Timed). t.task_line.line.thread == thread) ts
+            (All-weaker (λ (t : Timed). t.task_line.line.thread < n) (λ (t : Timed). (t.task_line.line.thread == thread) ≡ false)
+            (λ t lt. ne_eqb t.task_line.line.thread thread (λ same. omega (arith, lt, ge, same))) ts threads)
             in
             subst GoDown (sym (ap asked_back none)) tt
       ]
@@ -169,32 +169,32 @@ granted_shows c library books m at (Ok (GetsMessage h set message default)) = re
 granted_shows c library books m at (Ok (ClosesCatalog h)) = refl
 
 abbrev Shows : Timed → Type 0
-Shows t = catalog_places_in t.told.line.places ≡ asked_in t
+Shows t = catalog_places_in t.task_line.line.places ≡ asked_in t
 
-line_shows : (c : Setting) (plan : PlanData) (W : History) (before : List Told) (t : Timed) → IsRight c plan W before t → Shows t
+line_shows : (c : Setting) (plan : PlanData) (W : History) (before : List TaskLine) (t : Timed) → IsRight c plan W before t → Shows t
 line_shows c plan W before t r =
-    let w : Result Wish Why = wish_of plan.library (bindings_of t.told.line.thread (bound_by before)) t.told.task in
+    let w : Result Wish Why = wish_of plan.library (bindings_of t.task_line.line.thread (bound_by before)) t.task_line.task in
     ap (λ (l : OutLine). catalog_places_in l.places) r.line
-    ∙ granted_shows c plan.library (books_of plan) (moments_in W before t) (caller_of t.told.line) w
+    ∙ granted_shows c plan.library (books_of plan) (moments_in W before t) (caller_of t.task_line.line) w
     ∙ ap (λ (op : Option catalogs.Op). asked_place op t.asked) (sym r.op)
 
 all_show : (c : Setting) (plan : PlanData) (W : History) (ts : List Timed) → AreRight c plan W ts → All Shows ts
 all_show c plan W [] right = All-nil Shows
-all_show c plan W (t ∷ ts) right = All-cons Shows t ts (line_shows c plan W (tellings ts) t right.0) (all_show c plan W ts right.1)
+all_show c plan W (t ∷ ts) right = All-cons Shows t ts (line_shows c plan W (task_lines ts) t right.0) (all_show c plan W ts right.1)
 
 reversed_shown : (ts : List Timed) → All Shows ts → all_catalog_places (reverse (lines_in ts)) ≡ reverse (asked_back ts)
 reversed_shown [] all = refl
 reversed_shown (t ∷ ts) all =
-    let l : OutLine = t.told.line in
+    let l : OutLine = t.task_line.line in
     ap all_catalog_places (reverse-append (l ∷ []) (lines_in ts))
     ∙ flat_map-append (λ (k : OutLine). catalog_places_in k.places) (reverse (lines_in ts)) (l ∷ [])
     ∙ ap (λ (ps : List ℕ). ps ++ (catalog_places_in l.places ++ [])) (reversed_shown ts (All-tail Shows t ts all))
     ∙ ap (λ (ps : List ℕ). reverse (asked_back ts) ++ ps) (append-nil (catalog_places_in l.places) ∙ All-head Shows t ts all ∙ sym (back_of t.op t.asked))
     ∙ sym (reverse-append (asked_in t) (asked_back ts))
 
-kept_shown : (keep : OutLine → Bool) (ts : List Timed) → All Shows ts → all_catalog_places (filter keep (reverse (lines_in ts))) ≡ reverse (asked_back (filter (λ (t : Timed). keep t.told.line) ts))
+kept_shown : (keep : OutLine → Bool) (ts : List Timed) → All Shows ts → all_catalog_places (filter keep (reverse (lines_in ts))) ≡ reverse (asked_back (filter (λ (t : Timed). keep t.task_line.line) ts))
 kept_shown keep ts all =
-    ap all_catalog_places (kept_lines keep ts) ∙ reversed_shown (filter (λ (t : Timed). keep t.told.line) ts) (All-filter (λ (t : Timed). keep t.told.line) Shows ts all)
+    ap all_catalog_places (kept_lines keep ts) ∙ reversed_shown (filter (λ (t : Timed). keep t.task_line.line) ts) (All-filter (λ (t : Timed). keep t.task_line.line) Shows ts all)
 
 -- ---- the rounds
 
@@ -211,35 +211,35 @@ before_below : (ts : List Timed) (round : ℕ) → All (IsAskedInRound ts) ts �
 before_below ts round known =
     let Below : ℕ → Type 0 = λ (p : ℕ). p < asked_before round ts in
     all_asked Below (in_rounds_before round ts)
-    (kept_with (IsAskedInRound ts) (λ (t : Timed). All Below (asked_in t)) (λ (t : Timed). nat_lt t.told.line.round round) ts known
+    (kept_with (IsAskedInRound ts) (λ (t : Timed). All Below (asked_in t)) (λ (t : Timed). nat_lt t.task_line.line.round round) ts known
     (λ t earlier is.
-    let next : suc t.told.line.round ≤ round = leb-true (suc t.told.line.round) round earlier in
-    let fewer : length (asked_back (in_rounds_to t.told.line.round ts)) ≤ asked_before round ts =
-    fewer_of asked_in (λ (x : Timed). nat_le x.told.line.round t.told.line.round) (λ (x : Timed). nat_lt x.told.line.round round) ts
-    (λ x yes. let le : x.told.line.round ≤ t.told.line.round = leb-true x.told.line.round t.told.line.round yes in le-leb (suc x.told.line.round) round (omega (arith, le, next)))
+    let next : suc t.task_line.line.round ≤ round = leb-true (suc t.task_line.line.round) round earlier in
+    let fewer : length (asked_back (in_rounds_to t.task_line.line.round ts)) ≤ asked_before round ts =
+    fewer_of asked_in (λ (x : Timed). nat_le x.task_line.line.round t.task_line.line.round) (λ (x : Timed). nat_lt x.task_line.line.round round) ts
+    (λ x yes. let le : x.task_line.line.round ≤ t.task_line.line.round = leb-true x.task_line.line.round t.task_line.line.round yes in le-leb (suc x.task_line.line.round) round (omega (arith, le, next)))
     in
-    All-weaker (IsWithin (asked_before t.told.line.round ts) (length (asked_back (in_rounds_to t.told.line.round ts)))) Below
-    (λ p b. let below : p < length (asked_back (in_rounds_to t.told.line.round ts)) = b.until in omega (arith, below, fewer)) (asked_in t) is))
+    All-weaker (IsWithin (asked_before t.task_line.line.round ts) (length (asked_back (in_rounds_to t.task_line.line.round ts)))) Below
+    (λ p b. let below : p < length (asked_back (in_rounds_to t.task_line.line.round ts)) = b.until in omega (arith, below, fewer)) (asked_in t) is))
 
-from_above : (ts : List Timed) (round : ℕ) → All (IsAskedInRound ts) ts → All (λ (q : ℕ). asked_before round ts ≤ q) (asked_back (filter (λ (t : Timed). nat_le round t.told.line.round) ts))
+from_above : (ts : List Timed) (round : ℕ) → All (IsAskedInRound ts) ts → All (λ (q : ℕ). asked_before round ts ≤ q) (asked_back (filter (λ (t : Timed). nat_le round t.task_line.line.round) ts))
 from_above ts round known =
     let Above : ℕ → Type 0 = λ (q : ℕ). asked_before round ts ≤ q in
-    all_asked Above (filter (λ (t : Timed). nat_le round t.told.line.round) ts)
-    (kept_with (IsAskedInRound ts) (λ (t : Timed). All Above (asked_in t)) (λ (t : Timed). nat_le round t.told.line.round) ts known
+    all_asked Above (filter (λ (t : Timed). nat_le round t.task_line.line.round) ts)
+    (kept_with (IsAskedInRound ts) (λ (t : Timed). All Above (asked_in t)) (λ (t : Timed). nat_le round t.task_line.line.round) ts known
     (λ t later is.
-    let le : round ≤ t.told.line.round = leb-true round t.told.line.round later in
-    let fewer : asked_before round ts ≤ asked_before t.told.line.round ts =
-    fewer_of asked_in (λ (x : Timed). nat_lt x.told.line.round round) (λ (x : Timed). nat_lt x.told.line.round t.told.line.round) ts
-    (λ x yes. let next : suc x.told.line.round ≤ round = leb-true (suc x.told.line.round) round yes in le-leb (suc x.told.line.round) t.told.line.round (omega (arith, next, le)))
+    let le : round ≤ t.task_line.line.round = leb-true round t.task_line.line.round later in
+    let fewer : asked_before round ts ≤ asked_before t.task_line.line.round ts =
+    fewer_of asked_in (λ (x : Timed). nat_lt x.task_line.line.round round) (λ (x : Timed). nat_lt x.task_line.line.round t.task_line.line.round) ts
+    (λ x yes. let next : suc x.task_line.line.round ≤ round = leb-true (suc x.task_line.line.round) round yes in le-leb (suc x.task_line.line.round) t.task_line.line.round (omega (arith, next, le)))
     in
-    All-weaker (IsWithin (asked_before t.told.line.round ts) (length (asked_back (in_rounds_to t.told.line.round ts)))) Above
-    (λ q b. let since : asked_before t.told.line.round ts ≤ q = b.since in omega (arith, since, fewer)) (asked_in t) is))
+    All-weaker (IsWithin (asked_before t.task_line.line.round ts) (length (asked_back (in_rounds_to t.task_line.line.round ts)))) Above
+    (λ q b. let since : asked_before t.task_line.line.round ts ≤ q = b.since in omega (arith, since, fewer)) (asked_in t) is))
 
 rounds_apart : (ts : List Timed) (round : ℕ) → All Shows ts → All (IsAskedInRound ts) ts
     → All (λ (p : ℕ). All (λ (q : ℕ). p < q) (all_catalog_places (from_round round (reverse (lines_in ts))))) (all_catalog_places (before_round round (reverse (lines_in ts))))
 rounds_apart ts round shows known =
     let n : ℕ = asked_before round ts in
-    let later : List Timed = filter (λ (t : Timed). nat_le round t.told.line.round) ts in
+    let later : List Timed = filter (λ (t : Timed). nat_le round t.task_line.line.round) ts in
     let earlier : List Timed = in_rounds_before round ts in
     let above : All (λ (q : ℕ). n ≤ q) (all_catalog_places (from_round round (reverse (lines_in ts)))) =
     subst (All (λ (q : ℕ). n ≤ q)) (sym (kept_shown (λ (l : OutLine). nat_le round l.round) ts shows)) (all_reversed (λ (q : ℕ). n ≤ q) (asked_back later) (from_above ts round known))
@@ -253,9 +253,9 @@ rounds_apart ts round shows known =
 
 -- ---- the whole
 
-up_from : (keep : OutLine → Bool) (ts : List Timed) → All Shows ts → GoDown (asked_back (filter (λ (t : Timed). keep t.told.line) ts)) → IsStrictlyIncreasing (all_catalog_places (filter keep (reverse (lines_in ts))))
+up_from : (keep : OutLine → Bool) (ts : List Timed) → All Shows ts → GoDown (asked_back (filter (λ (t : Timed). keep t.task_line.line) ts)) → IsStrictlyIncreasing (all_catalog_places (filter keep (reverse (lines_in ts))))
 up_from keep ts shows down =
-    increasing (all_catalog_places (filter keep (reverse (lines_in ts)))) (subst GoUp (sym (kept_shown keep ts shows)) (down_up (asked_back (filter (λ (t : Timed). keep t.told.line) ts)) down))
+    increasing (all_catalog_places (filter keep (reverse (lines_in ts)))) (subst GoUp (sym (kept_shown keep ts shows)) (down_up (asked_back (filter (λ (t : Timed). keep t.task_line.line) ts)) down))
 
 asked_placed : (c : Setting) (plan : PlanData) (W : History) (V : CatalogHistory) (ts : List Timed) → IsWhole c plan W ts → AreAsked (catalog_setting c) V ts → AreCatalogsPlaced (catalog_setting c) V (reverse (lines_in ts))
 asked_placed c plan W V ts w a =
@@ -302,17 +302,17 @@ closer_asks c library books m thread b Ends is = refl
 abbrev AsksNothing : Timed → Type 0
 AsksNothing t = t.op ≡ None
 
-closers_ask : (c : Setting) (plan : PlanData) (W : History) (closing made : List Timed) → AreRight c plan W (closing ++ made) → All (λ (t : Timed). IsClosingTask t.told.task) closing → All AsksNothing closing
+closers_ask : (c : Setting) (plan : PlanData) (W : History) (closing made : List Timed) → AreRight c plan W (closing ++ made) → All (λ (t : Timed). IsClosingTask t.task_line.task) closing → All AsksNothing closing
 closers_ask c plan W [] made right all = All-nil AsksNothing
 closers_ask c plan W (t ∷ ts) made right all =
-    let Closer : Timed → Type 0 = λ (x : Timed). IsClosingTask x.told.task in
-    let before : List Told = tellings (ts ++ made) in
+    let Closer : Timed → Type 0 = λ (x : Timed). IsClosingTask x.task_line.task in
+    let before : List TaskLine = task_lines (ts ++ made) in
     All-cons AsksNothing t ts
-    (right.0.op ∙ closer_asks c plan.library (books_of plan) (moments_in W before t) t.told.line.thread (bindings_of t.told.line.thread (bound_by before)) t.told.task (All-head Closer t ts all))
+    (right.0.op ∙ closer_asks c plan.library (books_of plan) (moments_in W before t) t.task_line.line.thread (bindings_of t.task_line.line.thread (bound_by before)) t.task_line.task (All-head Closer t ts all))
     (closers_ask c plan W ts made right.1 (All-tail Closer t ts all))
 
 nothing_stands : (c : CatalogSetting) (V : CatalogHistory) (t : Timed) → AsksNothing t → HasStanding c V t
-nothing_stands c V t none = subst (λ (op : Option catalogs.Op). StandsAsked c V t.told.line.thread op t.asked) (sym none) tt
+nothing_stands c V t none = subst (λ (op : Option catalogs.Op). StandsAsked c V t.task_line.line.thread op t.asked) (sym none) tt
 
 nothing_in : (t : Timed) → AsksNothing t → asked_in t ≡ []
 nothing_in t none = ap (λ (op : Option catalogs.Op). asked_place op t.asked) none
@@ -322,7 +322,7 @@ nothing_back [] all = refl
 nothing_back (t ∷ ts) all =
     ap (λ (ps : List ℕ). ps ++ asked_back ts) (nothing_in t (All-head AsksNothing t ts all)) ∙ nothing_back ts (All-tail AsksNothing t ts all)
 
-pub all_standing : (c : Setting) (plan : PlanData) (W : History) (V : CatalogHistory) (closing made : List Timed) → AreRight c plan W (closing ++ made) → All (λ (t : Timed). IsClosingTask t.told.task) closing
+pub all_standing : (c : Setting) (plan : PlanData) (W : History) (V : CatalogHistory) (closing made : List Timed) → AreRight c plan W (closing ++ made) → All (λ (t : Timed). IsClosingTask t.task_line.task) closing
     → All (HasStanding (catalog_setting c) V) made → All (HasStanding (catalog_setting c) V) (closing ++ made)
 all_standing c plan W V closing made right closers standing =
     All-append (HasStanding (catalog_setting c) V) closing made
@@ -335,31 +335,31 @@ without_closing keep closing made none =
     ∙ ap (λ (ps : List ℕ). ps ++ asked_back (filter keep made)) (nothing_back (filter keep closing) (All-filter keep AsksNothing closing none))
 
 -- what the lines of the commands have asked is what all lines have
-asked_with : (c : Setting) (plan : PlanData) (W : History) (V : CatalogHistory) (closing made : List Timed) → AreRight c plan W (closing ++ made) → All (λ (t : Timed). IsClosingTask t.told.task) closing
+asked_with : (c : Setting) (plan : PlanData) (W : History) (V : CatalogHistory) (closing made : List Timed) → AreRight c plan W (closing ++ made) → All (λ (t : Timed). IsClosingTask t.task_line.task) closing
     → AreAsked (catalog_setting c) V made → AreAsked (catalog_setting c) V (closing ++ made)
 asked_with c plan W V closing made right closers a =
     let none : All AsksNothing closing = closers_ask c plan W closing made right closers in
     let all : List Timed = closing ++ made in
     let old : (t : Timed) → IsAskedInRound made t → IsAskedInRound all t = λ t is.
-    let r : ℕ = t.told.line.round in
-    let first : asked_back (in_rounds_before r all) ≡ asked_back (in_rounds_before r made) = without_closing (λ (x : Timed). nat_lt x.told.line.round r) closing made none in
-    let last : asked_back (in_rounds_to r all) ≡ asked_back (in_rounds_to r made) = without_closing (λ (x : Timed). nat_le x.told.line.round r) closing made none in
+    let r : ℕ = t.task_line.line.round in
+    let first : asked_back (in_rounds_before r all) ≡ asked_back (in_rounds_before r made) = without_closing (λ (x : Timed). nat_lt x.task_line.line.round r) closing made none in
+    let last : asked_back (in_rounds_to r all) ≡ asked_back (in_rounds_to r made) = without_closing (λ (x : Timed). nat_le x.task_line.line.round r) closing made none in
     subst (λ (ps : List ℕ). All (IsWithin (length ps) (length (asked_back (in_rounds_to r all)))) (asked_in t)) (sym first)
     (subst (λ (ps : List ℕ). All (IsWithin (length (asked_back (in_rounds_before r made))) (length ps)) (asked_in t)) (sym last) is)
     in
     let new : (t : Timed) → AsksNothing t → IsAskedInRound all t = λ t nothing.
-    let low : ℕ = length (asked_back (in_rounds_before t.told.line.round all)) in
-    let high : ℕ = length (asked_back (in_rounds_to t.told.line.round all)) in
+    let low : ℕ = length (asked_back (in_rounds_before t.task_line.line.round all)) in
+    let high : ℕ = length (asked_back (in_rounds_to t.task_line.line.round all)) in
     subst (All (IsWithin low high)) (sym (nothing_in t nothing)) (All-nil (IsWithin low high))
     in
     record {
       legal = a.legal;
       callers = a.callers;
       standing = all_standing c plan W V closing made right closers a.standing;
-      places = λ thread lt. a.places thread lt ∙ sym (without_closing (λ (t : Timed). t.told.line.thread == thread) closing made none);
+      places = λ thread lt. a.places thread lt ∙ sym (without_closing (λ (t : Timed). t.task_line.line.thread == thread) closing made none);
       rounds = All-append (IsAskedInRound all) closing made (All-weaker AsksNothing (IsAskedInRound all) new closing none) (All-weaker (IsAskedInRound made) (IsAskedInRound all) old made a.rounds);
     }
 
-pub catalogs_placed : (c : Setting) (plan : PlanData) (W : History) (V : CatalogHistory) (closing made : List Timed) → IsWhole c plan W (closing ++ made) → All (λ (t : Timed). IsClosingTask t.told.task) closing
+pub catalogs_placed : (c : Setting) (plan : PlanData) (W : History) (V : CatalogHistory) (closing made : List Timed) → IsWhole c plan W (closing ++ made) → All (λ (t : Timed). IsClosingTask t.task_line.task) closing
     → AreAsked (catalog_setting c) V made → AreCatalogsPlaced (catalog_setting c) V (reverse (lines_in (closing ++ made)))
 catalogs_placed c plan W V closing made w closers a = asked_placed c plan W V (closing ++ made) w (asked_with c plan W V closing made w.right closers a)

@@ -26,7 +26,7 @@ stands_grow c V' V thread (Some op) asked on is = record {
 }
 
 pub standing_grow : (c : CatalogSetting) (V' V : CatalogHistory) (ts : List Timed) → GoesOnFrom V' V → All (HasStanding c V) ts → All (HasStanding c V') ts
-standing_grow c V' V ts on all = All-weaker (HasStanding c V) (HasStanding c V') (λ t is. stands_grow c V' V t.told.line.thread t.op t.asked on is) ts all
+standing_grow c V' V ts on all = All-weaker (HasStanding c V) (HasStanding c V') (λ t is. stands_grow c V' V t.task_line.line.thread t.op t.asked on is) ts all
 
 -- what was asked stands within the history
 stands_within : (c : CatalogSetting) (V : CatalogHistory) (thread : ℕ) (op : Option catalogs.Op) (asked : Asked) → StandsAsked c V thread op asked → All (λ (p : ℕ). p < length V) (asked_place op asked)
@@ -46,37 +46,37 @@ pub record HasAskedMore (c : CatalogSetting) (V0 V : CatalogHistory) (made : Lis
   pub since : All (HasAskedSince (length V0)) more
   pub places : catalog_places_by i V ≡ asked_back (more ++ own_lines i made)
 
-module _ (round : ℕ) (added made : List Timed) (after : All (λ (t : Timed). t.told.line.round ≡ round) added) (before : All (λ (t : Timed). t.told.line.round < round) made) where
+module _ (round : ℕ) (added made : List Timed) (after : All (λ (t : Timed). t.task_line.line.round ≡ round) added) (before : All (λ (t : Timed). t.task_line.line.round < round) made) where
   -- an earlier line stays in its round
-  old_in : (t : Timed) → t.told.line.round < round → IsAskedInRound made t → IsAskedInRound (added ++ made) t
+  old_in : (t : Timed) → t.task_line.line.round < round → IsAskedInRound made t → IsAskedInRound (added ++ made) t
   old_in t lt is =
-      let r : ℕ = t.told.line.round in
+      let r : ℕ = t.task_line.line.round in
       let first : in_rounds_before r (added ++ made) ≡ in_rounds_before r made = earlier_before round added made after before r (omega (arith, lt)) in
       let last : in_rounds_to r (added ++ made) ≡ in_rounds_to r made = earlier_to round added made after before r lt in
       subst (λ (ts : List Timed). All (IsWithin (length (asked_back ts)) (length (asked_back (in_rounds_to r (added ++ made))))) (asked_in t)) (sym first)
       (subst (λ (ts : List Timed). All (IsWithin (length (asked_back (in_rounds_before r made))) (length (asked_back ts))) (asked_in t)) (sym last) is)
 
   -- a new line is in its own
-  new_in : (t : Timed) → t.told.line.round ≡ round → All (IsWithin (length (asked_back made)) (length (asked_back (added ++ made)))) (asked_in t) → IsAskedInRound (added ++ made) t
+  new_in : (t : Timed) → t.task_line.line.round ≡ round → All (IsWithin (length (asked_back made)) (length (asked_back (added ++ made)))) (asked_in t) → IsAskedInRound (added ++ made) t
   new_in t is within =
-      let first : in_rounds_before t.told.line.round (added ++ made) ≡ made =
+      let first : in_rounds_before t.task_line.line.round (added ++ made) ≡ made =
       ap (λ (r : ℕ). in_rounds_before r (added ++ made)) is ∙ earlier_before round added made after before round (omega arith) ∙ all_before round added made after before
       in
-      let last : in_rounds_to t.told.line.round (added ++ made) ≡ added ++ made = ap (λ (r : ℕ). in_rounds_to r (added ++ made)) is ∙ all_to round added made after before in
-      subst (λ (ts : List Timed). All (IsWithin (length (asked_back ts)) (length (asked_back (in_rounds_to t.told.line.round (added ++ made))))) (asked_in t)) (sym first)
+      let last : in_rounds_to t.task_line.line.round (added ++ made) ≡ added ++ made = ap (λ (r : ℕ). in_rounds_to r (added ++ made)) is ∙ all_to round added made after before in
+      subst (λ (ts : List Timed). All (IsWithin (length (asked_back ts)) (length (asked_back (in_rounds_to t.task_line.line.round (added ++ made))))) (asked_in t)) (sym first)
       (subst (λ (ts : List Timed). All (IsWithin (length (asked_back made)) (length (asked_back ts))) (asked_in t)) (sym last) within)
 
-  olds_in : (xs : List Timed) → All (λ (t : Timed). t.told.line.round < round) xs → All (IsAskedInRound made) xs → All (IsAskedInRound (added ++ made)) xs
+  olds_in : (xs : List Timed) → All (λ (t : Timed). t.task_line.line.round < round) xs → All (IsAskedInRound made) xs → All (IsAskedInRound (added ++ made)) xs
   olds_in [] lts all = All-nil (IsAskedInRound (added ++ made))
   olds_in (x ∷ xs) lts all =
-      All-cons (IsAskedInRound (added ++ made)) x xs (old_in x (All-head (λ (t : Timed). t.told.line.round < round) x xs lts) (All-head (IsAskedInRound made) x xs all))
-      (olds_in xs (All-tail (λ (t : Timed). t.told.line.round < round) x xs lts) (All-tail (IsAskedInRound made) x xs all))
+      All-cons (IsAskedInRound (added ++ made)) x xs (old_in x (All-head (λ (t : Timed). t.task_line.line.round < round) x xs lts) (All-head (IsAskedInRound made) x xs all))
+      (olds_in xs (All-tail (λ (t : Timed). t.task_line.line.round < round) x xs lts) (All-tail (IsAskedInRound made) x xs all))
 
-  news_in : (xs : List Timed) → All (λ (t : Timed). t.told.line.round ≡ round) xs → All (λ (t : Timed). All (IsWithin (length (asked_back made)) (length (asked_back (added ++ made)))) (asked_in t)) xs
+  news_in : (xs : List Timed) → All (λ (t : Timed). t.task_line.line.round ≡ round) xs → All (λ (t : Timed). All (IsWithin (length (asked_back made)) (length (asked_back (added ++ made)))) (asked_in t)) xs
       → All (IsAskedInRound (added ++ made)) xs
   news_in [] rounds within = All-nil (IsAskedInRound (added ++ made))
   news_in (x ∷ xs) rounds within =
-      let Round : Timed → Type 0 = λ (t : Timed). t.told.line.round ≡ round in
+      let Round : Timed → Type 0 = λ (t : Timed). t.task_line.line.round ≡ round in
       let Within : Timed → Type 0 = λ (t : Timed). All (IsWithin (length (asked_back made)) (length (asked_back (added ++ made)))) (asked_in t) in
       All-cons (IsAskedInRound (added ++ made)) x xs (new_in x (All-head Round x xs rounds) (All-head Within x xs within)) (news_in xs (All-tail Round x xs rounds) (All-tail Within x xs within))
 
@@ -95,14 +95,14 @@ within_all c V low high [] long since standing = All-nil (λ (t : Timed). All (I
 within_all c V low high (t ∷ ts) long since standing =
     All-cons (λ (x : Timed). All (IsWithin low high) (asked_in x)) t ts
     (both_bounds low high (asked_in t) (All-head (HasAskedSince low) t ts since)
-    (subst (λ (n : ℕ). All (λ (p : ℕ). p < n) (asked_in t)) long (stands_within c V t.told.line.thread t.op t.asked (All-head (HasStanding c V) t ts standing))))
+    (subst (λ (n : ℕ). All (λ (p : ℕ). p < n) (asked_in t)) long (stands_within c V t.task_line.line.thread t.op t.asked (All-head (HasStanding c V) t ts standing))))
     (within_all c V low high ts long (All-tail (HasAskedSince low) t ts since) (All-tail (HasStanding c V) t ts standing))
 
 -- what all threads have asked, with what they ask in one round more
-pub asked_stacked : (c : CatalogSetting) (V0 V : CatalogHistory) (made : List Timed) (more : ℕ → List Timed) (round : ℕ) → AreAsked c V0 made → All (λ (t : Timed). t.told.line.round < round) made
-    → All (λ (t : Timed). t.told.line.thread < c.threads) made → All (λ (t : Timed). t.told.line.thread < c.threads) (stacked more made c.threads)
+pub asked_stacked : (c : CatalogSetting) (V0 V : CatalogHistory) (made : List Timed) (more : ℕ → List Timed) (round : ℕ) → AreAsked c V0 made → All (λ (t : Timed). t.task_line.line.round < round) made
+    → All (λ (t : Timed). t.task_line.line.thread < c.threads) made → All (λ (t : Timed). t.task_line.line.thread < c.threads) (stacked more made c.threads)
     → catalog_answers.IsLegal c V → catalog_answers.AreThreads c.threads V → GoesOnFrom V V0 → EachOwn more c.threads
-    → ((i : ℕ) → i < c.threads → All (λ (t : Timed). t.told.line.round ≡ round) (more i)) → ((i : ℕ) → i < c.threads → HasAskedMore c V0 V made i (more i)) → AreAsked c V (stacked more made c.threads)
+    → ((i : ℕ) → i < c.threads → All (λ (t : Timed). t.task_line.line.round ≡ round) (more i)) → ((i : ℕ) → i < c.threads → HasAskedMore c V0 V made i (more i)) → AreAsked c V (stacked more made c.threads)
 asked_stacked c V0 V made more round was before threads₀ threads legal callers on own of_round each =
     let n : ℕ = c.threads in
     let all : List Timed = stacked more made n in
@@ -111,8 +111,8 @@ asked_stacked c V0 V made more round was before threads₀ threads legal callers
     let places : (i : ℕ) → i < n → catalog_places_by i V ≡ asked_back (own_lines i all) = λ i lt. (each i lt).places ∙ sym (ap asked_back (own_stacked more made n i own lt)) in
     let long : length V ≡ length (asked_back (added ++ made)) = sym (asked_length n V all callers places threads) ∙ ap (λ (ts : List Timed). length (asked_back ts)) split in
     let earlier : length V0 ≡ length (asked_back made) = sym (asked_length n V0 made was.callers was.places threads₀) in
-    let after : All (λ (t : Timed). t.told.line.round ≡ round) added =
-    all_stacked (λ (t : Timed). t.told.line.round ≡ round) more [] n of_round (All-nil (λ (t : Timed). t.told.line.round ≡ round))
+    let after : All (λ (t : Timed). t.task_line.line.round ≡ round) added =
+    all_stacked (λ (t : Timed). t.task_line.line.round ≡ round) more [] n of_round (All-nil (λ (t : Timed). t.task_line.line.round ≡ round))
     in
     let since : All (HasAskedSince (length (asked_back made))) added =
     subst (λ (k : ℕ). All (HasAskedSince k) added) earlier (all_stacked (HasAskedSince (length V0)) more [] n (λ i lt. (each i lt).since) (All-nil (HasAskedSince (length V0))))

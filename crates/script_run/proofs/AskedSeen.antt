@@ -93,7 +93,7 @@ same_calls_long gate old new was is number =
     ∙ ap (λ (V : CatalogHistory). length V) was.in_order.calls
 
 pub asks_next : (c : Setting) (gate : Gate CatalogSetting) (old new : Seated) (op : Option catalogs.Op) (asked : Asked) (made : List Timed) (t : Timed) → gate.terms.setting ≡ catalog_setting c
-    → IsAskingAt gate old old.reader.seen → HasAsked gate.terms old.reader made → new.number ≡ old.number → t.op ≡ op → t.asked ≡ asked → t.told.line.thread ≡ old.number
+    → IsAskingAt gate old old.reader.seen → HasAsked gate.terms old.reader made → new.number ≡ old.number → t.op ≡ op → t.asked ≡ asked → t.task_line.line.thread ≡ old.number
     → LeftCatalogs (catalog_setting c) (MayFollowAsked c old.number) (IsAskingAt gate new) old.number old.reader.seen op asked → AsksNext gate old new op asked made t
 asks_next c gate old new None asked made t agree at was number op_is asked_is thread left =
     let nothing : asked_in t ≡ [] = ap (λ (o : Option catalogs.Op). asked_place o t.asked) op_is in
@@ -104,7 +104,7 @@ asks_next c gate old new None asked made t agree at was number op_is asked_is th
       has = record {
         in_order = left.in_order;
         standing = All-cons (HasStanding gate.terms.setting new.reader.seen) t made
-            (subst (λ (o : Option catalogs.Op). StandsAsked gate.terms.setting new.reader.seen t.told.line.thread o t.asked) (sym op_is) tt)
+            (subst (λ (o : Option catalogs.Op). StandsAsked gate.terms.setting new.reader.seen t.task_line.line.thread o t.asked) (sym op_is) tt)
             (subst (λ (V : CatalogHistory). All (HasStanding gate.terms.setting V) made) (sym seen) was.standing);
         places = ap (λ (V : CatalogHistory). catalog_places_by new.reader.number V) seen ∙ ap (λ (n : ℕ). catalog_places_by n old.reader.seen) mine ∙ was.places ∙ ap (λ (ps : List ℕ). ps ++ asked_back made) (sym nothing);
       };
@@ -126,12 +126,12 @@ asks_next c gate old new (Some op) asked made t agree at was number op_is asked_
     let long : length S ≤ length first = as_long first S f.later in
     let place : asked.place ≡ length first = left.place_is in
     let stands : StandsAsked cs (e ∷ first) old.number (Some op) asked = record { before = first; behind = []; whole = refl; place = place; reply = left.reply_is } in
-    let stands_t : StandsAsked cs (e ∷ first) t.told.line.thread t.op t.asked =
+    let stands_t : StandsAsked cs (e ∷ first) t.task_line.line.thread t.op t.asked =
     subst (λ (n : ℕ). StandsAsked cs (e ∷ first) n t.op t.asked) (sym thread)
     (subst (λ (o : Option catalogs.Op). StandsAsked cs (e ∷ first) old.number o t.asked) (sym op_is)
     (subst (λ (a : Asked). StandsAsked cs (e ∷ first) old.number (Some op) a) (sym asked_is) stands))
     in
-    let Here : CatalogSetting → CatalogHistory → Type 0 = λ s V. StandsAsked s V t.told.line.thread t.op t.asked in
+    let Here : CatalogSetting → CatalogHistory → Type 0 = λ s V. StandsAsked s V t.task_line.line.thread t.op t.asked in
     let before_places : catalog_places_by old.number first ≡ asked_back made =
     same_asked_places old.number S first f.later f.others ∙ ap (λ (n : ℕ). catalog_places_by n S) (sym own) ∙ was.places
     in

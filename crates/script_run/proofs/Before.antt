@@ -7,6 +7,7 @@ use Rattle.std.proofs.lemmas.List.Elements.{All-cons, All-head, All-tail, All-we
 use Rattle.mask_compose.specs.Parts.{Parts}
 use Rattle.handle_table.specs.declared.handle.Named.{Named}
 use Rattle.handle_table.specs.declared.handle.Named.TheVariants.{Global, Of}
+use Rattle.handle_table.specs.declared.op.Refusal.TheVariants as refusals
 use Rattle.handle_table.specs.Entry as table
 use Rattle.handle_table.specs.Entry.{Entry, History, Setting, is_accepted}
 use Rattle.handle_table.specs.History.{sets, global, global_at, holding, holding_after}
@@ -145,7 +146,7 @@ none_between f t other a b (e ∷ W) le within out =
 release_other : (c : Setting) (t : ℕ) (n : Named) (e : Entry) (H : History) → (e.who == t) ≡ false → answer c (e ∷ H) t (table.Release n) ≡ answer c H t (table.Release n)
 release_other c t Global e H apart = refl
 release_other c t (Of h) e H apart =
-    ap (λ (b : Bool). unless (first_reason (None ∷ (if (if b && is_accepted e.reply then holding_after e.op h (holding H t h) else holding H t h) then None else Some table.NotHeld) ∷ [])) table.Released) apart
+    ap (λ (b : Bool). unless (first_reason (None ∷ (if (if b && is_accepted e.reply then holding_after e.op h (holding H t h) else holding H t h) then None else Some refusals.NotHeld) ∷ [])) table.Released) apart
 
 -- what a thread holds it may give back, however others have called meanwhile
 pub released_between : (c : Setting) (W : History) (t : ℕ) (n : Named) (object : Parts) (hold release : ℕ) → release ≤ length W → IsBetween t W hold release

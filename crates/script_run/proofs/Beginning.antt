@@ -66,7 +66,7 @@ first_worker gate plan mines all i w for first same same_reader lt =
       };
       made = record {
         in_order = order;
-        own = All-nil (λ (m : Timed). m.told.line.thread ≡ (mine_of w).number);
+        own = All-nil (λ (m : Timed). m.task_line.line.thread ≡ (mine_of w).number);
         right = tt;
         timed = tt;
         places = ap (λ (H : History). places_by (mine_of w).number H) seen;
@@ -91,7 +91,7 @@ between_first gate plan mines all ws for for_asked are are_readers long first =
       whole = record {
         legal = tt;
         callers = tt;
-        threads = All-nil (λ (t : Timed). t.told.line.thread < n);
+        threads = All-nil (λ (t : Timed). t.task_line.line.thread < n);
         right = tt;
         timed = λ thread. tt;
         places = λ thread lt. refl;
@@ -105,7 +105,7 @@ between_first gate plan mines all ws for for_asked are are_readers long first =
         places = λ thread lt. refl;
         rounds = All-nil (IsAskedInRound []);
       };
-      in_rounds = All-nil (λ (t : Timed). t.told.line.round ≤ 0);
+      in_rounds = All-nil (λ (t : Timed). t.task_line.line.round ≤ 0);
       turns = refl;
       lines_are = refl;
       count = count;

@@ -154,7 +154,7 @@ can_close gate plan seats w ws mine lines was sound for for_asked saw orders =
     let order : IsInOrder gate.locales.terms mine = orders ready.worker.made.in_order in
     let worker : IsWorker gate plan (thread_with w.thread mine) (own_lines k made) = worker_kept gate plan w.thread mine (reader_at w) (own_lines k made) ready.worker saw order (reading.saw_same (reader_at w)) ready.worker.asked.in_order in
     let made_long : length made ≡ length (turns_to plan.bundle plan.bundle.rounds) = lines_few plan plan.bundle.rounds made was.turns in
-    let own_few : length (own_lines k made) ≤ length made = filter_short (λ (t : Timed). t.told.line.thread == k) made in
+    let own_few : length (own_lines k made) ≤ length made = filter_short (λ (t : Timed). t.task_line.line.thread == k) made in
     let most : length (turns_to plan.bundle plan.bundle.rounds) ≤ length plan.bundle.commands = few_turns_to plan.bundle plan.bundle.rounds in
     let commands : length plan.bundle.commands ≤ 20000 = sound.accepted.few_commands in
     let holds : length w.thread.side.holds.items ≡ length (open_holds mine.seen w.thread.side.number) =
@@ -285,7 +285,7 @@ closing_next gate plan seats others all w ws mine lines closed lines' seat was n
           ∙ sym (
           ap (λ (j : ℕ). reverse (lines_in (stacked more made j))) all_long
           ∙ ap (λ (ts : List Timed). reverse (lines_in ts)) stack_made
-          ∙ ap (λ (ls : List OutLine). reverse ls) (map-append (λ (t : Timed). t.told.line) new (stacked old made k))
+          ∙ ap (λ (ls : List OutLine). reverse ls) (map-append (λ (t : Timed). t.task_line.line) new (stacked old made k))
           ∙ reverse-append (lines_in new) (lines_in (stacked old made k)));
     }
 
@@ -308,7 +308,7 @@ share_of gate plan round M H made i more seat closer part =
     ap (λ (j : ℕ). entries_by j H) (sym own) ∙ part.1 ∙ sym closer.has.in_order.calls ∙ ap (λ (j : ℕ). entries_by j seen) own
     in
     record {
-      own = all_left (IsOf i) more (own_lines i made) (All-weaker (λ (m : Timed). m.told.line.thread ≡ seat.number) (IsOf i) (λ m e. e ∙ own) (more ++ own_lines i made) closer.has.own);
+      own = all_left (IsOf i) more (own_lines i made) (All-weaker (λ (m : Timed). m.task_line.line.thread ≡ seat.number) (IsOf i) (λ m e. e ∙ own) (more ++ own_lines i made) closer.has.own);
       of_round = made_of (λ (t : Turn). t.round ≡ round) more (closing round i (open_holds M i)) closer.turns (closing_round round i (open_holds M i));
       right = are_right_grow gate.locales.terms.setting plan H seen (more ++ own_lines i made) part.0 closer.has.right;
       timed = closer.has.timed;
@@ -334,7 +334,7 @@ closed_prints gate plan seats lines table H was for agree stands same parts =
     let threads : n ≡ length plan.bundle.threads = for.threads in
     let legal : IsLegal c H = subst (λ (s : Setting). IsLegal s H) same stands.keeps.legal in
     let callers : AreThreads n H = subst (λ (s : Setting). AreThreads s.threads H) same stands.keeps.callers in
-    let before : All (IsBefore round) made = All-weaker (λ (t : Timed). t.told.line.round ≤ plan.bundle.rounds) (IsBefore round) (λ t le. omega (arith, le)) made was.in_rounds in
+    let before : All (IsBefore round) made = All-weaker (λ (t : Timed). t.task_line.line.round ≤ plan.bundle.rounds) (IsBefore round) (λ t le. omega (arith, le)) made was.in_rounds in
     let shares : (d : SeatData) (i : ℕ) → i < n → HasAdded c plan M H round made i (more i) = λ d i lt.
     let within : i < length seats = omega (arith, lt, all) in
     share_of gate plan round M H made i (more i) (slice_index_or seats i d) (was.closers.closers i d within) (parts i d within)

@@ -78,13 +78,13 @@ total_entries f n (e ∷ W) callers =
     omega (arith, before, one, all)
 
 abbrev IsBelow : ℕ → Timed → Type 0
-IsBelow n t = t.told.line.thread < n
+IsBelow n t = t.task_line.line.thread < n
 
 total_lines : (f : ℕ → ℕ) (n : ℕ) (ts : List Timed) → All (IsBelow n) ts → total (λ (t : ℕ). sum_by f (placed_back (own_lines t ts))) n ≡ sum_by f (placed_back ts)
 total_lines f n [] threads = total_none (λ (t : ℕ). sum_by f (placed_back (own_lines t []))) n (λ t. refl)
 total_lines f n (x ∷ ts) threads =
-    let who : ℕ = x.told.line.thread in
-    let ps : List ℕ = reverse (places_in x.told.line.places) in
+    let who : ℕ = x.task_line.line.thread in
+    let ps : List ℕ = reverse (places_in x.task_line.line.places) in
     let before : total (λ (t : ℕ). sum_by f (placed_back (own_lines t ts))) n ≡ sum_by f (placed_back ts) = total_lines f n ts (All-tail (IsBelow n) x ts threads) in
     let with_it : ℕ → Bool → ℕ = λ t b. sum_by f (placed_back (if b then x ∷ own_lines t ts else own_lines t ts)) in
     let ours : sum_by f (ps ++ placed_back (own_lines who ts)) ≡ sum_by f ps + sum_by f (placed_back (own_lines who ts)) = sum_by-append f ps (placed_back (own_lines who ts)) in
@@ -119,7 +119,7 @@ ones_length (p ∷ ps) =
 
 -- there are as many places as entries
 pub whole_length : (n : ℕ) (W : History) (ts : List Timed) → AreThreads n W → ((thread : ℕ) → thread < n → places_by thread W ≡ placed_back (own_lines thread ts))
-    → All (λ (t : Timed). t.told.line.thread < n) ts → length (placed_back ts) ≡ length W
+    → All (λ (t : Timed). t.task_line.line.thread < n) ts → length (placed_back ts) ≡ length W
 whole_length n W ts callers places threads =
     sym (ones_length (placed_back ts)) ∙ whole_sum ones n W ts callers places threads ∙ ones_length (places_all W) ∙ length_all W
 
@@ -150,7 +150,7 @@ once_all p (e ∷ W) lt =
 
 -- each place of an entry stands once among those of the lines
 pub once : (n : ℕ) (W : History) (ts : List Timed) → AreThreads n W → ((thread : ℕ) → thread < n → places_by thread W ≡ placed_back (own_lines thread ts))
-    → All (λ (t : Timed). t.told.line.thread < n) ts → (p : ℕ) → p < length W → count_by (λ (q : ℕ). q == p) (placed_back ts) ≡ 1
+    → All (λ (t : Timed). t.task_line.line.thread < n) ts → (p : ℕ) → p < length W → count_by (λ (q : ℕ). q == p) (placed_back ts) ≡ 1
 once n W ts callers places threads p lt = whole_sum (bit_of p) n W ts callers places threads ∙ once_all p W lt
 
 -- ---- numbers that go down
@@ -220,26 +220,26 @@ filter_reverse {X} keep (x ∷ xs) =
     ∙ ap (λ (ks : List X). ks ++ filter keep (x ∷ [])) (filter_reverse keep xs)
     ∙ last_if x (filter keep xs) (keep x)
 
-line_if : (t : Timed) (ls : List OutLine) (ks : List Timed) (b : Bool) → ls ≡ lines_in ks → cond b (t.told.line ∷ ls) ls ≡ lines_in (cond b (t ∷ ks) ks)
-line_if t ls ks true same = ap (λ (rest : List OutLine). t.told.line ∷ rest) same
+line_if : (t : Timed) (ls : List OutLine) (ks : List Timed) (b : Bool) → ls ≡ lines_in ks → cond b (t.task_line.line ∷ ls) ls ≡ lines_in (cond b (t ∷ ks) ks)
+line_if t ls ks true same = ap (λ (rest : List OutLine). t.task_line.line ∷ rest) same
 line_if t ls ks false same = same
 
-filter_lines : (keep : OutLine → Bool) (ts : List Timed) → filter keep (lines_in ts) ≡ lines_in (filter (λ (t : Timed). keep t.told.line) ts)
+filter_lines : (keep : OutLine → Bool) (ts : List Timed) → filter keep (lines_in ts) ≡ lines_in (filter (λ (t : Timed). keep t.task_line.line) ts)
 filter_lines keep [] = refl
-filter_lines keep (t ∷ ts) = line_if t (filter keep (lines_in ts)) (filter (λ (x : Timed). keep x.told.line) ts) (keep t.told.line) (filter_lines keep ts)
+filter_lines keep (t ∷ ts) = line_if t (filter keep (lines_in ts)) (filter (λ (x : Timed). keep x.task_line.line) ts) (keep t.task_line.line) (filter_lines keep ts)
 
-pub kept_lines : (keep : OutLine → Bool) (ts : List Timed) → filter keep (reverse (lines_in ts)) ≡ reverse (lines_in (filter (λ (t : Timed). keep t.told.line) ts))
+pub kept_lines : (keep : OutLine → Bool) (ts : List Timed) → filter keep (reverse (lines_in ts)) ≡ reverse (lines_in (filter (λ (t : Timed). keep t.task_line.line) ts))
 kept_lines keep ts = filter_reverse keep (lines_in ts) ∙ ap reverse (filter_lines keep ts)
 
 pub reversed_places : (ts : List Timed) → all_places (reverse (lines_in ts)) ≡ reverse (placed_back ts)
 reversed_places [] = refl
 reversed_places (t ∷ ts) =
-    let ps : List ℕ = places_in t.told.line.places in
-    ap all_places (reverse-append (t.told.line ∷ []) (lines_in ts))
-    ∙ flat_map-append (λ (l : OutLine). places_in l.places) (reverse (lines_in ts)) (t.told.line ∷ [])
+    let ps : List ℕ = places_in t.task_line.line.places in
+    ap all_places (reverse-append (t.task_line.line ∷ []) (lines_in ts))
+    ∙ flat_map-append (λ (l : OutLine). places_in l.places) (reverse (lines_in ts)) (t.task_line.line ∷ [])
     ∙ ap (λ (qs : List ℕ). qs ++ (ps ++ [])) (reversed_places ts)
     ∙ ap (λ (qs : List ℕ). reverse (placed_back ts) ++ qs) (append-nil ps ∙ sym (reverse-reverse ps))
     ∙ sym (reverse-append (reverse ps) (placed_back ts))
 
-pub kept_places : (keep : OutLine → Bool) (ts : List Timed) → all_places (filter keep (reverse (lines_in ts))) ≡ reverse (placed_back (filter (λ (t : Timed). keep t.told.line) ts))
-kept_places keep ts = ap all_places (kept_lines keep ts) ∙ reversed_places (filter (λ (t : Timed). keep t.told.line) ts)
+pub kept_places : (keep : OutLine → Bool) (ts : List Timed) → all_places (filter keep (reverse (lines_in ts))) ≡ reverse (placed_back (filter (λ (t : Timed). keep t.task_line.line) ts))
+kept_places keep ts = ap all_places (kept_lines keep ts) ∙ reversed_places (filter (λ (t : Timed). keep t.task_line.line) ts)

@@ -12,8 +12,8 @@ use Rattle.script_lines.specs.Outcome.{with_call}
 use Rattle.script_lines.specs.Variables.{bindings_of}
 use Rattle.script_lines.specs.Wishes.{wish_of}
 use Rattle.script_serial.specs.Plan.{PlanData, books_of}
-use Rattle.script_serial.specs.Prints.{Told, PlacedCall, bound_by, caller_of, places_in, behind_last, or_earlier, next_place, calls_of}
-use Rattle.script_run.specs.Timed.{oldest, Timed, end_of, tellings, second_moment, moments_in, IsEntryOf, IsRight, AreRight}
+use Rattle.script_serial.specs.Prints.{TaskLine, PlacedCall, bound_by, caller_of, places_in, behind_last, or_earlier, next_place, calls_of}
+use Rattle.script_run.specs.Timed.{oldest, Timed, end_of, task_lines, second_moment, moments_in, IsEntryOf, IsRight, AreRight}
 
 -- ---- what stands before a place
 
@@ -107,23 +107,23 @@ either_within true x y n here there = here
 either_within false x y n here there = there
 
 -- the next place of a thread is within the history that its lines are right for
-pub next_within : (c : Setting) (plan : PlanData) (W : History) (thread : ℕ) (ts : List Timed) → AreRight c plan W ts → next_place thread (tellings ts) ≤ length W
+pub next_within : (c : Setting) (plan : PlanData) (W : History) (thread : ℕ) (ts : List Timed) → AreRight c plan W ts → next_place thread (task_lines ts) ≤ length W
 next_within c plan W thread [] right = omega arith
 next_within c plan W thread (t ∷ ts) right =
-    let before : next_place thread (tellings ts) ≤ length W = next_within c plan W thread ts right.1 in
-    let ps : List ℕ = places_in t.told.line.places in
-    either_within (t.told.line.thread == thread) (or_earlier (behind_last ps) (next_place thread (tellings ts))) (next_place thread (tellings ts)) (length W)
-    (end_within ps t.moment (next_place thread (tellings ts)) (length W) right.0.within before)
+    let before : next_place thread (task_lines ts) ≤ length W = next_within c plan W thread ts right.1 in
+    let ps : List ℕ = places_in t.task_line.line.places in
+    either_within (t.task_line.line.thread == thread) (or_earlier (behind_last ps) (next_place thread (task_lines ts))) (next_place thread (task_lines ts)) (length W)
+    (end_within ps t.moment (next_place thread (task_lines ts)) (length W) right.0.within before)
     before
 
 abbrev moments_of : History → History → History → Asked → Moments
 moments_of seen first second asked = record { seen = seen; first = first; second = second; asked = asked }
 
-moments_grow : (more W : History) (before : List Told) (t : Timed) → next_place t.told.line.thread before ≤ length W → t.moment ≤ length W
-    → second_moment (places_in t.told.line.places) t.moment ≤ length W → moments_in (more ++ W) before t ≡ moments_in W before t
+moments_grow : (more W : History) (before : List TaskLine) (t : Timed) → next_place t.task_line.line.thread before ≤ length W → t.moment ≤ length W
+    → second_moment (places_in t.task_line.line.places) t.moment ≤ length W → moments_in (more ++ W) before t ≡ moments_in W before t
 moments_grow more W before t seen first second =
-    let next : ℕ = next_place t.told.line.thread before in
-    let last : ℕ = second_moment (places_in t.told.line.places) t.moment in
+    let next : ℕ = next_place t.task_line.line.thread before in
+    let last : ℕ = second_moment (places_in t.task_line.line.places) t.moment in
     ap (λ (H : History). moments_of H (oldest t.moment (more ++ W)) (oldest last (more ++ W)) t.asked) (oldest_grows next more W seen)
     ∙ ap (λ (H : History). moments_of (oldest next W) H (oldest last (more ++ W)) t.asked) (oldest_grows t.moment more W first)
     ∙ ap (λ (H : History). moments_of (oldest next W) (oldest t.moment W) H t.asked) (oldest_grows last more W second)
@@ -139,14 +139,14 @@ entry_grows c more W call is =
           ∙ ap (λ (H : History). with_call c H call.thread call.op) (sym (oldest_grows call.place more W (omega (arith, within))));
     }
 
-right_more : (c : Setting) (plan : PlanData) (more W : History) (before : List Told) (t : Timed) → next_place t.told.line.thread before ≤ length W → IsRight c plan W before t → IsRight c plan (more ++ W) before t
+right_more : (c : Setting) (plan : PlanData) (more W : History) (before : List TaskLine) (t : Timed) → next_place t.task_line.line.thread before ≤ length W → IsRight c plan W before t → IsRight c plan (more ++ W) before t
 right_more c plan more W before t seen r =
     let long : length (more ++ W) ≡ length more + length W = length-append more W in
     let within : end_of t ≤ length W = r.within in
     let since : t.moment ≤ end_of t = r.since in
-    let second : second_moment (places_in t.told.line.places) t.moment ≤ end_of t = second_within (places_in t.told.line.places) t.moment in
+    let second : second_moment (places_in t.task_line.line.places) t.moment ≤ end_of t = second_within (places_in t.task_line.line.places) t.moment in
     let first_le : t.moment ≤ length W = omega (arith, since, within) in
-    let second_le : second_moment (places_in t.told.line.places) t.moment ≤ length W = omega (arith, second, within) in
+    let second_le : second_moment (places_in t.task_line.line.places) t.moment ≤ length W = omega (arith, second, within) in
     let same : moments_in (more ++ W) before t ≡ moments_in W before t = moments_grow more W before t seen first_le second_le in
     record {
       within = omega (arith, within, long);
@@ -154,21 +154,21 @@ right_more c plan more W before t seen r =
       index = r.index;
       line =
           r.line
-          ∙ ap (λ (m : Moments). (granted_at c plan.library (books_of plan) m (caller_of t.told.line) (wish_of plan.library (bindings_of t.told.line.thread (bound_by before)) t.told.task)).line) (sym same);
-      entries = All-weaker (IsEntryOf c W) (IsEntryOf c (more ++ W)) (entry_grows c more W) (calls_of plan.library (bound_by before) t.told) r.entries;
+          ∙ ap (λ (m : Moments). (granted_at c plan.library (books_of plan) m (caller_of t.task_line.line) (wish_of plan.library (bindings_of t.task_line.line.thread (bound_by before)) t.task_line.task)).line) (sym same);
+      entries = All-weaker (IsEntryOf c W) (IsEntryOf c (more ++ W)) (entry_grows c more W) (calls_of plan.library (bound_by before) t.task_line) r.entries;
       op =
           r.op
-          ∙ ap (λ (m : Moments). catalog_op c plan.library (books_of plan) m t.told.line.thread (wish_of plan.library (bindings_of t.told.line.thread (bound_by before)) t.told.task)) (sym same);
+          ∙ ap (λ (m : Moments). catalog_op c plan.library (books_of plan) m t.task_line.line.thread (wish_of plan.library (bindings_of t.task_line.line.thread (bound_by before)) t.task_line.task)) (sym same);
     }
 
 -- a line that is right for a history is right for what goes on from it
-pub right_grows : (c : Setting) (plan : PlanData) (W' W : History) (before : List Told) (t : Timed) → GoesOnFrom W' W → next_place t.told.line.thread before ≤ length W → IsRight c plan W before t → IsRight c plan W' before t
+pub right_grows : (c : Setting) (plan : PlanData) (W' W : History) (before : List TaskLine) (t : Timed) → GoesOnFrom W' W → next_place t.task_line.line.thread before ≤ length W → IsRight c plan W before t → IsRight c plan W' before t
 right_grows c plan W' W before t on seen r =
     subst (λ (H : History). IsRight c plan H before t) (sym on.1) (right_more c plan on.0 W before t seen r)
 
 pub are_right_grow : (c : Setting) (plan : PlanData) (W' W : History) (ts : List Timed) → GoesOnFrom W' W → AreRight c plan W ts → AreRight c plan W' ts
 are_right_grow c plan W' W [] on right = tt
 are_right_grow c plan W' W (t ∷ ts) on right = (
-  right_grows c plan W' W (tellings ts) t on (next_within c plan W t.told.line.thread ts right.1) right.0,
+  right_grows c plan W' W (task_lines ts) t on (next_within c plan W t.task_line.line.thread ts right.1) right.0,
   are_right_grow c plan W' W ts on right.1,
 )

@@ -9,7 +9,9 @@ use Rattle.std.proofs.lemmas.List.Sums.{passes_at_first}
 use Rattle.handle_table.specs.declared.handle.Handle.{Handle}
 use Rattle.handle_table.specs.declared.handle.Named.{Named}
 use Rattle.handle_table.specs.declared.handle.Named.TheVariants.{Global, Of}
-use Rattle.handle_table.specs.Entry.{Op, New, Dup, Free, Use, Hold, Release, SetGlobal, Install, Post, Fetch, Pins, End, Reply, Held, Refusal, AlreadyHeld, History, Setting, names, same_handle, is_accepted}
+use Rattle.handle_table.specs.declared.op.Refusal.{Refusal}
+use Rattle.handle_table.specs.declared.op.Refusal.TheVariants.{AlreadyHeld}
+use Rattle.handle_table.specs.Entry.{Op, New, Dup, Free, Use, Hold, Release, SetGlobal, Install, Post, Fetch, Pins, End, Reply, Held, History, Setting, names, same_handle, is_accepted}
 use Rattle.handle_table.specs.History.{holding, object}
 use Rattle.handle_table.specs.Answer.{answer, IsLegal, unless, first_reason, never_made, stale}
 use Rattle.handle_table.proofs.Numbering.{same_handles, same_itself}

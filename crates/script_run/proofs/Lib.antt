@@ -12,6 +12,7 @@ pub mod Growth
 pub mod History
 pub mod HoldLists
 pub mod Keeping
+pub mod LineAnswered
 pub mod LineSteps
 pub mod MadeLines
 pub mod Meeting
@@ -25,7 +26,6 @@ pub mod Stacked
 pub mod Stacking
 pub mod Taking
 pub mod TimedExamples
-pub mod Told
 pub mod Versions
 pub mod Whole
 pub mod WorkLemmas

@@ -12,7 +12,9 @@ use Rattle.handle_table.specs.declared.handle.Handle.{Handle}
 use Rattle.handle_table.specs.declared.handle.Named.{Named}
 use Rattle.handle_table.specs.declared.handle.Named.TheVariants.{Global, Of}
 use Rattle.handle_table.specs.Entry as table
-use Rattle.handle_table.specs.Entry.{Op, New, Dup, Free, Use, Hold, Release, SetGlobal, Install, Post, Fetch, Pins, End, Reply, Released, NotHeld, Refusal, Entry, History, Setting, names, is_accepted}
+use Rattle.handle_table.specs.declared.op.Refusal.{Refusal}
+use Rattle.handle_table.specs.declared.op.Refusal.TheVariants.{NotHeld}
+use Rattle.handle_table.specs.Entry.{Op, New, Dup, Free, Use, Hold, Release, SetGlobal, Install, Post, Fetch, Pins, End, Reply, Released, Entry, History, Setting, names, is_accepted}
 use Rattle.handle_table.specs.History.{sets, global, selection, holding}
 use Rattle.handle_table.proofs.Numbering.{same_itself}
 use Rattle.handle_table.specs.Answer.{answer, own, IsLegal, first_reason, unless}
@@ -32,10 +34,10 @@ use Rattle.script_lines.specs.declared.holds.HoldChange.TheVariants as changes
 use Rattle.script_lines.specs.Holds.{object_held, with_hold, without, hold_change, changed, holds_after, open_holds, held_as, is_of}
 use Rattle.catalog_table.specs.Entry as catalogs
 use Rattle.script_lines.specs.Wishes.{Wish, Calls, ReadsOf, Reads, AsksSelection, AsksName, OpensCatalog, GetsMessage, ClosesCatalog, ops_of}
-use Rattle.script_lines.specs.Lines.{Caller, version_made, shown, line, told_line, entry_line, object_line, held_line}
+use Rattle.script_lines.specs.Lines.{Caller, version_made, shown, line, plain_line, entry_line, object_line, held_line}
 use Rattle.script_lines.specs.Names.{object_name}
 use Rattle.script_lines.specs.Reads.{local}
-use Rattle.script_lines.specs.Outcome.{Outcome, tells, with_call, calls, read_line, name_line}
+use Rattle.script_lines.specs.Outcome.{Outcome, without_entry, with_call, calls, read_line, name_line}
 use Rattle.script_lines.specs.Catalogs.{Books, Asked, object_used, book_for, open_line, handle_reply_shown, message_shown, handle_meant}
 use Rattle.script_lines.specs.Board.{Moments, reads_between, reads_of, reads, opens, catalog_op, granted_at, AreMomentsOf}
 use Rattle.script_serial.specs.Prints.{PlacedCall, call_of, caller_of, places_in, behind_last}
@@ -162,7 +164,7 @@ stays : (c : Setting) (library : Catalog) (books : Books) (at : Caller) (wish : 
     → ((seen : History) → entries_by at.thread seen ≡ entries_by at.thread S
     → line at places.None version reply ≡ (granted_at c library books (moments_by S seen (line at places.None version reply) (length S) asked) at wish).line)
     → ((seen : History) → entries_by at.thread seen ≡ entries_by at.thread S → op ≡ catalog_op c library books (moments_by S seen (line at places.None version reply) (length S) asked) at.thread wish)
-    → IsStep c library books at wish S (tells S (line at places.None version reply)) (length S) op asked
+    → IsStep c library books at wish S (without_entry S (line at places.None version reply)) (length S) op asked
 stays c library books at wish S version reply op asked same asks = record {
   later = ([], refl);
   since = omega arith;
@@ -181,7 +183,7 @@ stays_asked : (c : Setting) (library : Catalog) (books : Books) (at : Caller) (w
     → ((seen : History) → entries_by at.thread seen ≡ entries_by at.thread S
     → line at (places.Catalog place) version reply ≡ (granted_at c library books (moments_by S seen (line at (places.Catalog place) version reply) (length S) asked) at wish).line)
     → ((seen : History) → entries_by at.thread seen ≡ entries_by at.thread S → op ≡ catalog_op c library books (moments_by S seen (line at (places.Catalog place) version reply) (length S) asked) at.thread wish)
-    → IsStep c library books at wish S (tells S (line at (places.Catalog place) version reply)) (length S) op asked
+    → IsStep c library books at wish S (without_entry S (line at (places.Catalog place) version reply)) (length S) op asked
 stays_asked c library books at wish S place version reply op asked same asks = record {
   later = ([], refl);
   since = omega arith;
@@ -200,7 +202,7 @@ looks : (c : Setting) (library : Catalog) (books : Books) (at : Caller) (wish : 
     → ((seen : History) → entries_by at.thread seen ≡ entries_by at.thread S
     → line at places.None version reply ≡ (granted_at c library books (moments_by first seen (line at places.None version reply) (length first) asked) at wish).line)
     → ((seen : History) → entries_by at.thread seen ≡ entries_by at.thread S → op ≡ catalog_op c library books (moments_by first seen (line at places.None version reply) (length first) asked) at.thread wish)
-    → IsStep c library books at wish S (tells first (line at places.None version reply)) (length first) op asked
+    → IsStep c library books at wish S (without_entry first (line at places.None version reply)) (length first) op asked
 looks c library books at wish S first version reply op asked f same asks =
     let entries = ap (λ (H : History). length H) f.others in
     let holds = ap (λ (os : List OpenHold). length os) (follow_holds c at.thread first S f) in
@@ -222,7 +224,7 @@ looks_asked : (c : Setting) (library : Catalog) (books : Books) (at : Caller) (w
     → ((seen : History) → entries_by at.thread seen ≡ entries_by at.thread S
     → line at (places.Catalog place) version reply ≡ (granted_at c library books (moments_by first seen (line at (places.Catalog place) version reply) (length first) asked) at wish).line)
     → ((seen : History) → entries_by at.thread seen ≡ entries_by at.thread S → op ≡ catalog_op c library books (moments_by first seen (line at (places.Catalog place) version reply) (length first) asked) at.thread wish)
-    → IsStep c library books at wish S (tells first (line at (places.Catalog place) version reply)) (length first) op asked
+    → IsStep c library books at wish S (without_entry first (line at (places.Catalog place) version reply)) (length first) op asked
 looks_asked c library books at wish S first place version reply op asked f same asks =
     let entries = ap (λ (H : History). length H) f.others in
     let holds = ap (λ (os : List OpenHold). length os) (follow_holds c at.thread first S f) in
@@ -405,7 +407,7 @@ own_step c library books at m read None is f =
 
 -- a catopen: by the thread's own object, or by the global locale, of a catalog that there is or not
 open_own_step : (c : Setting) (library : Catalog) (books : Books) (at : Caller) (m : Moments) (name : List ℕ) (o : Parts) (n : Option ℕ) → own m.seen at.thread ≡ Some o → book_for library books o name ≡ n
-    → IsStep c library books at (Ok (OpensCatalog name)) m.seen (tells m.seen (open_line at None m.asked n)) (length m.seen) (option_map catalogs.Open n) m.asked
+    → IsStep c library books at (Ok (OpensCatalog name)) m.seen (without_entry m.seen (open_line at None m.asked n)) (length m.seen) (option_map catalogs.Open n) m.asked
 open_own_step c library books at m name o None is found =
     stays c library books at (Ok (OpensCatalog name)) m.seen None (said.Refused whys.NoCatalog) None m.asked
     (λ seen same.
@@ -425,7 +427,7 @@ open_own_step c library books at m name o (Some k) is found =
 
 open_global_step : (c : Setting) (library : Catalog) (books : Books) (at : Caller) (m : Moments) (name : List ℕ) (n : Option ℕ) → own m.seen at.thread ≡ None → MayFollow c at.thread m.first m.seen
     → book_for library books (global c m.first) name ≡ n
-    → IsStep c library books at (Ok (OpensCatalog name)) m.seen (tells m.first (open_line at (Some (sets m.first)) m.asked n)) (length m.first) (option_map catalogs.Open n) m.asked
+    → IsStep c library books at (Ok (OpensCatalog name)) m.seen (without_entry m.first (open_line at (Some (sets m.first)) m.asked n)) (length m.first) (option_map catalogs.Open n) m.asked
 open_global_step c library books at m name None is f found =
     let l : OutLine = open_line at (Some (sets m.first)) m.asked None in
     looks c library books at (Ok (OpensCatalog name)) m.seen m.first (Some (sets m.first)) (said.Refused whys.NoCatalog) None m.asked f
@@ -507,7 +509,7 @@ granted_step c library books at m (Ok (ReadsOf n read)) S of = held_step c libra
 granted_step c library books at m (Ok (Reads read)) S of = own_step c library books at m read (own m.seen at.thread) refl of.first
 granted_step c library books at m (Ok AsksSelection) S of =
     stays c library books at (Ok AsksSelection) m.seen None (said.Is (selection m.seen at.thread)) None m.asked
-    (λ seen same. ap (λ (n : Named). told_line at (said.Is n)) (sym (selection_says at.thread seen m.seen same)))
+    (λ seen same. ap (λ (n : Named). plain_line at (said.Is n)) (sym (selection_says at.thread seen m.seen same)))
     (λ seen same. refl)
 granted_step c library books at m (Ok (AsksName chosen)) S of =
     looks c library books at (Ok (AsksName chosen)) m.seen m.first (Some (sets m.first)) (said.Name (object_name library (global c m.first) chosen)) None m.asked of.first

@@ -25,9 +25,9 @@ use Rattle.script_lines.specs.Lines.{Caller}
 use Rattle.script_lines.specs.Variables.{bindings_of}
 use Rattle.script_lines.specs.Wishes.{Wish, Calls, ReadsOf, Reads, AsksSelection, AsksName, OpensCatalog, GetsMessage, ClosesCatalog, wish_of}
 use Rattle.script_serial.specs.Plan.{PlanData, books_of}
-use Rattle.script_serial.specs.Prints.{Told, bound_by, places_in, all_places, before_round, from_round, behind_last, caller_of, ArePlaced}
+use Rattle.script_serial.specs.Prints.{TaskLine, bound_by, places_in, all_places, before_round, from_round, behind_last, caller_of, ArePlaced}
 use Rattle.script_serial.proofs.LineLists.{GoUp, increasing, bit_of, filter_all, filter_none}
-use Rattle.script_run.specs.Timed.{oldest, Timed, end_of, last_end, AreTimed, lines_in, tellings, placed_back, own_lines, moments_in, IsRight, AreRight, in_rounds_before, in_rounds_to, IsInRound, IsWhole}
+use Rattle.script_run.specs.Timed.{oldest, Timed, end_of, last_end, AreTimed, lines_in, task_lines, placed_back, own_lines, moments_in, IsRight, AreRight, in_rounds_before, in_rounds_to, IsInRound, IsWhole}
 use Rattle.script_run.proofs.Growth.{oldest_length}
 use Rattle.script_run.proofs.Counted.{whole_length, once as stands_once, GoDown, down_left, down_right, down_join, down_up, all_reversed, places_down, kept_places, reversed_places}
 
@@ -69,15 +69,15 @@ granted_starts c library books m at (Ok (OpensCatalog name)) = opens_starts c li
 granted_starts c library books m at (Ok (GetsMessage h set message default)) = tt
 granted_starts c library books m at (Ok (ClosesCatalog h)) = tt
 
-pub line_starts : (c : Setting) (plan : PlanData) (W : History) (before : List Told) (t : Timed) → IsRight c plan W before t → StartsAt t.moment (places_in t.told.line.places)
+pub line_starts : (c : Setting) (plan : PlanData) (W : History) (before : List TaskLine) (t : Timed) → IsRight c plan W before t → StartsAt t.moment (places_in t.task_line.line.places)
 line_starts c plan W before t r =
     let m : Moments = moments_in W before t in
-    let at : Caller = caller_of t.told.line in
-    let w : Result Wish Why = wish_of plan.library (bindings_of t.told.line.thread (bound_by before)) t.told.task in
+    let at : Caller = caller_of t.task_line.line in
+    let w : Result Wish Why = wish_of plan.library (bindings_of t.task_line.line.thread (bound_by before)) t.task_line.task in
     let since : t.moment ≤ end_of t = r.since in
     let within : end_of t ≤ length W = r.within in
     let long : length (oldest t.moment W) ≡ t.moment = oldest_length t.moment W (omega (arith, since, within)) in
-    subst (λ (n : ℕ). StartsAt n (places_in t.told.line.places)) long
+    subst (λ (n : ℕ). StartsAt n (places_in t.task_line.line.places)) long
     (subst (λ (l : OutLine). StartsAt (length m.first) (places_in l.places)) (sym r.line) (granted_starts c plan.library (books_of plan) m at w))
 
 -- ---- the places of a line stand between its moment and its end
@@ -103,34 +103,34 @@ places_between (places.Two hold release) moment starts down =
 -- what is known of a line among right lines
 pub record Spans (t : Timed) : Type 0 where
   pub since : t.moment ≤ end_of t
-  pub between : AreBetween t.moment (end_of t) (reverse (places_in t.told.line.places))
-  pub down : GoDown (reverse (places_in t.told.line.places))
+  pub between : AreBetween t.moment (end_of t) (reverse (places_in t.task_line.line.places))
+  pub down : GoDown (reverse (places_in t.task_line.line.places))
 
 -- the places of each thread go down
 abbrev pub EachGoesDown : List Timed → Type 0
 EachGoesDown ts = (thread : ℕ) → GoDown (placed_back (own_lines thread ts))
 
 rest_down : (t : Timed) (ours : List Timed) (b : Bool) → GoDown (placed_back (if b then t ∷ ours else ours)) → GoDown (placed_back ours)
-rest_down t ours true down = down_right (reverse (places_in t.told.line.places)) (placed_back ours) down
+rest_down t ours true down = down_right (reverse (places_in t.task_line.line.places)) (placed_back ours) down
 rest_down t ours false down = down
 
 pub all_span : (c : Setting) (plan : PlanData) (W : History) (ts : List Timed) → AreRight c plan W ts → EachGoesDown ts → All Spans ts
 all_span c plan W [] right down = All-nil Spans
 all_span c plan W (t ∷ ts) right down =
-    let who : ℕ = t.told.line.thread in
+    let who : ℕ = t.task_line.line.thread in
     let ours : List Timed = own_lines who ts in
-    let ps : List ℕ = places_in t.told.line.places in
+    let ps : List ℕ = places_in t.task_line.line.places in
     let here : GoDown (reverse ps) = down_left (reverse ps) (placed_back ours) (subst (λ (b : Bool). GoDown (placed_back (if b then t ∷ ours else ours))) (eq-eqb who who refl) (down who)) in
     All-cons Spans t ts
-    (record { since = right.0.since; between = places_between t.told.line.places t.moment (line_starts c plan W (tellings ts) t right.0) here; down = here })
-    (all_span c plan W ts right.1 (λ thread. rest_down t (own_lines thread ts) (t.told.line.thread == thread) (down thread)))
+    (record { since = right.0.since; between = places_between t.task_line.line.places t.moment (line_starts c plan W (task_lines ts) t right.0) here; down = here })
+    (all_span c plan W ts right.1 (λ thread. rest_down t (own_lines thread ts) (t.task_line.line.thread == thread) (down thread)))
 
 -- the places of those that span, where each line has them in a range
-places_of_all : (P : ℕ → Type 0) (ts : List Timed) → All (λ (t : Timed). All P (reverse (places_in t.told.line.places))) ts → All P (placed_back ts)
+places_of_all : (P : ℕ → Type 0) (ts : List Timed) → All (λ (t : Timed). All P (reverse (places_in t.task_line.line.places))) ts → All P (placed_back ts)
 places_of_all P [] all = All-nil P
 places_of_all P (t ∷ ts) all =
-    let Each : Timed → Type 0 = λ (x : Timed). All P (reverse (places_in x.told.line.places)) in
-    All-append P (reverse (places_in t.told.line.places)) (placed_back ts) (All-head Each t ts all) (places_of_all P ts (All-tail Each t ts all))
+    let Each : Timed → Type 0 = λ (x : Timed). All P (reverse (places_in x.task_line.line.places)) in
+    All-append P (reverse (places_in t.task_line.line.places)) (placed_back ts) (All-head Each t ts all) (places_of_all P ts (All-tail Each t ts all))
 
 -- ---- lines whose moments do not go back
 
@@ -140,8 +140,8 @@ timed_below (t ∷ ts) timed span =
     let here : Spans t = All-head Spans t ts span in
     let since : t.moment ≤ end_of t = here.since in
     let earlier : last_end ts ≤ t.moment = timed.0 in
-    All-append (λ (p : ℕ). p < end_of t) (reverse (places_in t.told.line.places)) (placed_back ts)
-    (All-weaker (IsBetween t.moment (end_of t)) (λ (p : ℕ). p < end_of t) (λ p is. is.until) (reverse (places_in t.told.line.places)) here.between)
+    All-append (λ (p : ℕ). p < end_of t) (reverse (places_in t.task_line.line.places)) (placed_back ts)
+    (All-weaker (IsBetween t.moment (end_of t)) (λ (p : ℕ). p < end_of t) (λ p is. is.until) (reverse (places_in t.task_line.line.places)) here.between)
     (All-weaker (λ (p : ℕ). p < last_end ts) (λ (p : ℕ). p < end_of t) (λ p lt. omega (arith, lt, earlier, since)) (placed_back ts) (timed_below ts timed.1 (All-tail Spans t ts span)))
 
 pub timed_down : (ts : List Timed) → AreTimed ts → All Spans ts → GoDown (placed_back ts)
@@ -155,8 +155,8 @@ timed_down (t ∷ ts) timed span =
     let since : t.moment ≤ q = is.since in
     All-weaker (λ (p : ℕ). p < last_end ts) (λ (p : ℕ). p < q) (λ p lt. omega (arith, lt, earlier, since)) (placed_back ts) below
     in
-    down_join (reverse (places_in t.told.line.places)) (placed_back ts) here.down (timed_down ts timed.1 more)
-    (All-weaker (IsBetween t.moment (end_of t)) (λ (q : ℕ). All (λ (p : ℕ). p < q) (placed_back ts)) above (reverse (places_in t.told.line.places)) here.between)
+    down_join (reverse (places_in t.task_line.line.places)) (placed_back ts) here.down (timed_down ts timed.1 more)
+    (All-weaker (IsBetween t.moment (end_of t)) (λ (q : ℕ). All (λ (p : ℕ). p < q) (placed_back ts)) above (reverse (places_in t.task_line.line.places)) here.between)
 
 -- ---- the rounds
 
@@ -177,7 +177,7 @@ fewer_of g keep more [] implies = omega arith
 fewer_of g keep more (x ∷ xs) implies = fewer_if g x (filter keep xs) (filter more xs) (keep x) (more x) (implies x) (fewer_of g keep more xs implies)
 
 abbrev back_places : Timed → List ℕ
-back_places t = reverse (places_in t.told.line.places)
+back_places t = reverse (places_in t.task_line.line.places)
 
 -- what is known of a line in its round
 record InRound (ts : List Timed) (t : Timed) : Type 0 where
@@ -206,27 +206,27 @@ before_below : (ts : List Timed) (round : ℕ) → All (InRound ts) ts → All (
 before_below ts round known =
     let Below : ℕ → Type 0 = λ (p : ℕ). p < places_before round ts in
     places_of_all Below (in_rounds_before round ts)
-    (kept_with (InRound ts) (λ (t : Timed). All Below (back_places t)) (λ (t : Timed). nat_lt t.told.line.round round) ts known
+    (kept_with (InRound ts) (λ (t : Timed). All Below (back_places t)) (λ (t : Timed). nat_lt t.task_line.line.round round) ts known
     (λ t earlier is.
-    let until : end_of t ≤ length (placed_back (in_rounds_to t.told.line.round ts)) = is.round.until in
-    let next : suc t.told.line.round ≤ round = leb-true (suc t.told.line.round) round earlier in
-    let fewer : length (placed_back (in_rounds_to t.told.line.round ts)) ≤ places_before round ts =
-    fewer_of back_places (λ (x : Timed). nat_le x.told.line.round t.told.line.round) (λ (x : Timed). nat_lt x.told.line.round round) ts
-    (λ x yes. let le : x.told.line.round ≤ t.told.line.round = leb-true x.told.line.round t.told.line.round yes in le-leb (suc x.told.line.round) round (omega (arith, le, next)))
+    let until : end_of t ≤ length (placed_back (in_rounds_to t.task_line.line.round ts)) = is.round.until in
+    let next : suc t.task_line.line.round ≤ round = leb-true (suc t.task_line.line.round) round earlier in
+    let fewer : length (placed_back (in_rounds_to t.task_line.line.round ts)) ≤ places_before round ts =
+    fewer_of back_places (λ (x : Timed). nat_le x.task_line.line.round t.task_line.line.round) (λ (x : Timed). nat_lt x.task_line.line.round round) ts
+    (λ x yes. let le : x.task_line.line.round ≤ t.task_line.line.round = leb-true x.task_line.line.round t.task_line.line.round yes in le-leb (suc x.task_line.line.round) round (omega (arith, le, next)))
     in
     All-weaker (IsBetween t.moment (end_of t)) Below (λ p b. let below : p < end_of t = b.until in omega (arith, below, until, fewer)) (back_places t) is.spans.between))
 
-from_above : (ts : List Timed) (round : ℕ) → All (InRound ts) ts → All (λ (q : ℕ). places_before round ts ≤ q) (placed_back (filter (λ (t : Timed). nat_le round t.told.line.round) ts))
+from_above : (ts : List Timed) (round : ℕ) → All (InRound ts) ts → All (λ (q : ℕ). places_before round ts ≤ q) (placed_back (filter (λ (t : Timed). nat_le round t.task_line.line.round) ts))
 from_above ts round known =
     let Above : ℕ → Type 0 = λ (q : ℕ). places_before round ts ≤ q in
-    places_of_all Above (filter (λ (t : Timed). nat_le round t.told.line.round) ts)
-    (kept_with (InRound ts) (λ (t : Timed). All Above (back_places t)) (λ (t : Timed). nat_le round t.told.line.round) ts known
+    places_of_all Above (filter (λ (t : Timed). nat_le round t.task_line.line.round) ts)
+    (kept_with (InRound ts) (λ (t : Timed). All Above (back_places t)) (λ (t : Timed). nat_le round t.task_line.line.round) ts known
     (λ t later is.
-    let since : places_before t.told.line.round ts ≤ t.moment = is.round.since in
-    let le : round ≤ t.told.line.round = leb-true round t.told.line.round later in
-    let fewer : places_before round ts ≤ places_before t.told.line.round ts =
-    fewer_of back_places (λ (x : Timed). nat_lt x.told.line.round round) (λ (x : Timed). nat_lt x.told.line.round t.told.line.round) ts
-    (λ x yes. let next : suc x.told.line.round ≤ round = leb-true (suc x.told.line.round) round yes in le-leb (suc x.told.line.round) t.told.line.round (omega (arith, next, le)))
+    let since : places_before t.task_line.line.round ts ≤ t.moment = is.round.since in
+    let le : round ≤ t.task_line.line.round = leb-true round t.task_line.line.round later in
+    let fewer : places_before round ts ≤ places_before t.task_line.line.round ts =
+    fewer_of back_places (λ (x : Timed). nat_lt x.task_line.line.round round) (λ (x : Timed). nat_lt x.task_line.line.round t.task_line.line.round) ts
+    (λ x yes. let next : suc x.task_line.line.round ≤ round = leb-true (suc x.task_line.line.round) round yes in le-leb (suc x.task_line.line.round) t.task_line.line.round (omega (arith, next, le)))
     in
     All-weaker (IsBetween t.moment (end_of t)) Above (λ q b. let behind : t.moment ≤ q = b.since in omega (arith, since, fewer, behind)) (back_places t) is.spans.between))
 
@@ -234,7 +234,7 @@ rounds_apart : (ts : List Timed) (round : ℕ) → All (InRound ts) ts
     → All (λ (p : ℕ). All (λ (q : ℕ). p < q) (all_places (from_round round (reverse (lines_in ts))))) (all_places (before_round round (reverse (lines_in ts))))
 rounds_apart ts round known =
     let n : ℕ = places_before round ts in
-    let later : List Timed = filter (λ (t : Timed). nat_le round t.told.line.round) ts in
+    let later : List Timed = filter (λ (t : Timed). nat_le round t.task_line.line.round) ts in
     let earlier : List Timed = in_rounds_before round ts in
     let above : All (λ (q : ℕ). n ≤ q) (all_places (from_round round (reverse (lines_in ts)))) =
     subst (All (λ (q : ℕ). n ≤ q)) (sym (kept_places (λ (l : OutLine). nat_le round l.round) ts)) (all_reversed (λ (q : ℕ). n ≤ q) (placed_back later) (from_above ts round known))
@@ -254,26 +254,26 @@ each_goes_down c plan W ts whole thread =
       | inl lt ↦ subst GoDown (whole.places thread lt) (places_down thread W)
       | inr ge ↦
           let none : own_lines thread ts ≡ [] =
-          filter_none (λ (t : Timed). t.told.line.thread == thread) ts
-          (All-weaker (λ (t : Timed). t.told.line.thread < c.threads) (λ (t : Timed). (t.told.line.thread == thread) ≡ false)
-          (λ t lt. ne_eqb t.told.line.thread thread (λ same. omega (arith, lt, ge, same))) ts whole.threads)
+          filter_none (λ (t : Timed). t.task_line.line.thread == thread) ts
+          (All-weaker (λ (t : Timed). t.task_line.line.thread < c.threads) (λ (t : Timed). (t.task_line.line.thread == thread) ≡ false)
+          (λ t lt. ne_eqb t.task_line.line.thread thread (λ same. omega (arith, lt, ge, same))) ts whole.threads)
           in
           subst GoDown (sym (ap placed_back none)) tt
     ]
 
-up_from : (keep : OutLine → Bool) (ts : List Timed) → GoDown (placed_back (filter (λ (t : Timed). keep t.told.line) ts)) → IsStrictlyIncreasing (all_places (filter keep (reverse (lines_in ts))))
-up_from keep ts down = increasing (all_places (filter keep (reverse (lines_in ts)))) (subst GoUp (sym (kept_places keep ts)) (down_up (placed_back (filter (λ (t : Timed). keep t.told.line) ts)) down))
+up_from : (keep : OutLine → Bool) (ts : List Timed) → GoDown (placed_back (filter (λ (t : Timed). keep t.task_line.line) ts)) → IsStrictlyIncreasing (all_places (filter keep (reverse (lines_in ts))))
+up_from keep ts down = increasing (all_places (filter keep (reverse (lines_in ts)))) (subst GoUp (sym (kept_places keep ts)) (down_up (placed_back (filter (λ (t : Timed). keep t.task_line.line) ts)) down))
 
 -- the lines of the round after the last are the closing ones
-closing_kept : (closing made : List Timed) (last : ℕ) → All (λ (t : Timed). t.told.line.round ≤ last) made → All (λ (t : Timed). t.told.line.round ≡ last + 1) closing
-    → filter (λ (t : Timed). nat_le (last + 1) t.told.line.round) (closing ++ made) ≡ closing
+closing_kept : (closing made : List Timed) (last : ℕ) → All (λ (t : Timed). t.task_line.line.round ≤ last) made → All (λ (t : Timed). t.task_line.line.round ≡ last + 1) closing
+    → filter (λ (t : Timed). nat_le (last + 1) t.task_line.line.round) (closing ++ made) ≡ closing
 closing_kept closing made last before after =
-    let late : Timed → Bool = λ (t : Timed). nat_le (last + 1) t.told.line.round in
+    let late : Timed → Bool = λ (t : Timed). nat_le (last + 1) t.task_line.line.round in
     filter-append late closing made
     ∙ ap (λ (ks : List Timed). ks ++ filter late made)
-    (filter_all late closing (All-weaker (λ (t : Timed). t.told.line.round ≡ last + 1) (λ (t : Timed). late t ≡ true) (λ t is. le-leb (last + 1) t.told.line.round (omega (arith, is))) closing after))
+    (filter_all late closing (All-weaker (λ (t : Timed). t.task_line.line.round ≡ last + 1) (λ (t : Timed). late t ≡ true) (λ t is. le-leb (last + 1) t.task_line.line.round (omega (arith, is))) closing after))
     ∙ ap (λ (ks : List Timed). closing ++ ks)
-    (filter_none late made (All-weaker (λ (t : Timed). t.told.line.round ≤ last) (λ (t : Timed). late t ≡ false) (λ t le. lt-leb (last + 1) t.told.line.round (omega (arith, le))) made before))
+    (filter_none late made (All-weaker (λ (t : Timed). t.task_line.line.round ≤ last) (λ (t : Timed). late t ≡ false) (λ t le. lt-leb (last + 1) t.task_line.line.round (omega (arith, le))) made before))
     ∙ append-nil closing
 
 spans_left : (xs ys : List Timed) → All Spans (xs ++ ys) → All Spans xs
@@ -281,7 +281,7 @@ spans_left [] ys all = All-nil Spans
 spans_left (x ∷ xs) ys all = All-cons Spans x xs (All-head Spans x (xs ++ ys) all) (spans_left xs ys (All-tail Spans x (xs ++ ys) all))
 
 pub placed : (c : Setting) (plan : PlanData) (W : History) (closing made : List Timed) (last : ℕ) → IsWhole c plan W (closing ++ made)
-    → All (λ (t : Timed). t.told.line.round ≤ last) made → All (λ (t : Timed). t.told.line.round ≡ last + 1) closing → AreTimed closing
+    → All (λ (t : Timed). t.task_line.line.round ≤ last) made → All (λ (t : Timed). t.task_line.line.round ≡ last + 1) closing → AreTimed closing
     → ArePlaced last (reverse (lines_in (closing ++ made)))
 placed c plan W closing made last whole before after timed =
     let ts : List Timed = closing ++ made in
@@ -291,7 +291,7 @@ placed c plan W closing made last whole before after timed =
     let long : length (placed_back ts) ≡ length W = whole_length c.threads W ts whole.callers whole.places whole.threads in
     let same : all_places ls ≡ reverse (placed_back ts) = reversed_places ts in
     let longer : length (all_places ls) ≡ length W = ap length same ∙ length-reverse (placed_back ts) ∙ long in
-    let shut : filter (λ (t : Timed). nat_le (last + 1) t.told.line.round) ts ≡ closing = closing_kept closing made last before after in
+    let shut : filter (λ (t : Timed). nat_le (last + 1) t.task_line.line.round) ts ≡ closing = closing_kept closing made last before after in
     let one : (place : ℕ) → place < length (all_places ls) → count_by (λ (p : ℕ). p == place) (all_places ls) ≡ 1 = λ place lt.
     ap (count_by (λ (p : ℕ). p == place)) same ∙ sum_by-IsPermutation (bit_of place) (placed_back ts) (reverse (placed_back ts)) (IsPermutation-reverse (placed_back ts))
     ∙ stands_once c.threads W ts whole.callers whole.places whole.threads place (omega (arith, lt, longer))

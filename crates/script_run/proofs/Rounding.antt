@@ -212,7 +212,7 @@ left_by gate plan M W U V made round i turns ws worked given met d in_round read
         asked_later = asked_on;
         asked_on = reading.goes_on (reader_at done).seen U V asked_done (reading.goes_on (reader_at old).seen U (reader_at done).seen works.asked_later ready.asked_later);
         share = record {
-          own = all_left (IsOf i) works.more (own_lines i made) (All-weaker (λ (m : Timed). m.told.line.thread ≡ (mine_of done).number) (IsOf i) (λ m e. e ∙ own_number) (works.more ++ own_lines i made) works.worker.made.own);
+          own = all_left (IsOf i) works.more (own_lines i made) (All-weaker (λ (m : Timed). m.task_line.line.thread ≡ (mine_of done).number) (IsOf i) (λ m e. e ∙ own_number) (works.more ++ own_lines i made) works.worker.made.own);
           of_round = made_of (λ (t : Turn). t.round ≡ round) works.more (turns_of i turns) turns_are in_round;
           right = are_right_grow gate.locales.terms.setting plan W (mine_of done).seen (works.more ++ own_lines i made) from_done works.worker.made.right;
           timed = works.worker.made.timed;
@@ -308,7 +308,7 @@ next_at gate plan rounds lines lines' turns ws worked given met d was for for_as
     in
     let more : ℕ → List Timed = chosen.of in
     let some : 0 < n = let has = for.some in omega (arith, has, threads) in
-    let before : All (IsBefore round) made = All-weaker (λ (t : Timed). t.told.line.round ≤ rounds) (IsBefore round) (λ t le. omega (arith, le)) made was.in_rounds in
+    let before : All (IsBefore round) made = All-weaker (λ (t : Timed). t.task_line.line.round ≤ rounds) (IsBefore round) (λ t le. omega (arith, le)) made was.in_rounds in
     let own : EachOwn more n = λ j lt. (chosen.is j lt).share.own in
     let whole : IsWhole c plan W (stacked more made n) =
     whole_stacked c plan M W made more round was.whole before all.legal (subst (λ (k : ℕ). AreThreads k W) for.seats all.callers) (chosen.is 0 some).on (λ i lt. (chosen.is i lt).share)
@@ -318,8 +318,8 @@ next_at gate plan rounds lines lines' turns ws worked given met d was for for_as
     let asked_whole : AreAsked gate.catalogs.terms.setting V (stacked more made n) =
     subst (λ (k : ℕ). AreAsked gate.catalogs.terms.setting V (stacked more made k)) agree
     (asked_stacked gate.catalogs.terms.setting U V made more round was.asked_whole before
-    (subst (λ (k : ℕ). All (λ (t : Timed). t.told.line.thread < k) made) (sym agree) was.whole.threads)
-    (subst (λ (k : ℕ). All (λ (t : Timed). t.told.line.thread < k) (stacked more made k)) (sym agree) whole.threads)
+    (subst (λ (k : ℕ). All (λ (t : Timed). t.task_line.line.thread < k) made) (sym agree) was.whole.threads)
+    (subst (λ (k : ℕ). All (λ (t : Timed). t.task_line.line.thread < k) (stacked more made k)) (sym agree) whole.threads)
     all.asked_legal (subst (λ (k : ℕ). catalog_answers.AreThreads k V) (seats_asked ∙ sym agree) all.asked_callers) (chosen.is 0 some).asked_on
     (λ j lt. own j (omega (arith, lt, agree))) (λ j lt. (chosen.is j (omega (arith, lt, agree))).share.of_round) (λ j lt. (chosen.is j (omega (arith, lt, agree))).asked))
     in
@@ -329,9 +329,9 @@ next_at gate plan rounds lines lines' turns ws worked given met d was for for_as
       whole = whole;
       asked = V;
       asked_whole = asked_whole;
-      in_rounds = all_stacked (λ (t : Timed). t.told.line.round ≤ round) more made n
-          (λ j lt. All-weaker (IsIn round) (λ (t : Timed). t.told.line.round ≤ round) (λ t e. omega (arith, e)) (more j) (chosen.is j lt).share.of_round)
-          (All-weaker (IsBefore round) (λ (t : Timed). t.told.line.round ≤ round) (λ t lt. omega (arith, lt)) made before);
+      in_rounds = all_stacked (λ (t : Timed). t.task_line.line.round ≤ round) more made n
+          (λ j lt. All-weaker (IsIn round) (λ (t : Timed). t.task_line.line.round ≤ round) (λ t e. omega (arith, e)) (more j) (chosen.is j lt).share.of_round)
+          (All-weaker (IsBefore round) (λ (t : Timed). t.task_line.line.round ≤ round) (λ t lt. omega (arith, lt)) made before);
       turns = all_turns_made plan n rounds made more those
           (was.turns) (turns_by_thread (in_round round plan.bundle.commands) n)
           (ap (λ (k : ℕ). turns_of_threads k (in_round round plan.bundle.commands)) threads)
@@ -342,7 +342,7 @@ next_at gate plan rounds lines lines' turns ws worked given met d was for for_as
           flat_by_place (λ (w : Worker). w.lines.items) (λ (j : ℕ). reverse (lines_in (more j))) worked d 0
           (λ i lt. (chosen.is i (omega (arith, lt, worked_long, count))).lines_are ∙ ap (λ (k : ℕ). reverse (lines_in (more k))) (omega arith))
           ∙ ap (λ (k : ℕ). flat_map (λ (j : ℕ). reverse (lines_in (more j))) (range_with_len 0 k)) (worked_long ∙ count))
-          ∙ sym (stacked_back (λ (t : Timed). t.told.line) more made n);
+          ∙ sym (stacked_back (λ (t : Timed). t.task_line.line) more made n);
       count = met_long ∙ count;
       ready = λ i e lt.
           let below : i < n = omega (arith, lt, met_long, count) in

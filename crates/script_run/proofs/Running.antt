@@ -22,7 +22,7 @@ use Rattle.script_serial.specs.Prints.{Prints}
 use Rattle.script_serial.specs.Serial.{setting}
 use Rattle.script_serial.proofs.PlayLemmas.{no_lines}
 use Rattle.script_serial.proofs.SerialNewest.{printed_in_order}
-use Rattle.script_serial.proofs.ToldApart.{isolated, catalogs_isolated}
+use Rattle.script_serial.proofs.AnsweredApart.{isolated, catalogs_isolated}
 use Rattle.lc_base.specs.declared.block.Block.{Block}
 use Rattle.script_run.specs.Seated.{Gates}
 use Rattle.script_run.specs.Beside.{stock, stock_of}
@@ -82,12 +82,12 @@ pub run_prints : (plan : PlanData) (bundle : Bundle) (library : Catalog) (books 
     → quota ≡ 2 * length bundle.commands + 1 → AreClosing gate (plan_made bundle library books) seats [] lines
     → (H : History) × StandsFor table H × (table.setting ≡ gate.locales.terms.setting) × All (IsPart H) seats → Prints (setting plan rows generations) plan lines
 run_prints plan bundle library books gate count rows generations quota offers seats lines table same of shelves are asked_are many some shelf calls closing (H, stands, set, parts) =
-    let told : PlanData = plan_made bundle library books in
-    let for : IsFor told gate.locales.terms = terms_for told gate.locales.terms count rows generations quota offers are many some shelf calls in
+    let made : PlanData = plan_made bundle library books in
+    let for : IsFor made gate.locales.terms = terms_for made gate.locales.terms count rows generations quota offers are many some shelf calls in
     let agree = (asked_for gate.locales.terms gate.catalogs.terms count rows generations quota offers are asked_are).agree in
-    let is : gate.locales.terms.setting ≡ setting told rows generations = setting_is told gate.locales.terms count rows generations quota offers are many shelf in
+    let is : gate.locales.terms.setting ≡ setting made rows generations = setting_is made gate.locales.terms count rows generations quota offers are many shelf in
     subst (λ (p : PlanData). Prints (setting p rows generations) p lines) (plan_is plan bundle library books same of shelves)
-    (subst (λ (c : Setting). Prints c told lines) is (closed_prints gate told seats lines table H closing for (sym agree) stands set parts))
+    (subst (λ (c : Setting). Prints c made lines) is (closed_prints gate made seats lines table H closing for (sym agree) stands set parts))
 
 -- so is no line, where there is no thread
 pub none_prints : (plan : PlanData) (rows generations : ℕ) → plan.bundle.threads ≡ [] → Prints (setting plan rows generations) plan []

@@ -8,7 +8,8 @@ use Rattle.mask_compose.specs.Parts.{Parts}
 use Rattle.handle_table.specs.declared.handle.Handle.{Handle}
 use Rattle.handle_table.specs.declared.handle.Named.{Named}
 use Rattle.handle_table.specs.declared.handle.Named.TheVariants.{Of}
-use Rattle.handle_table.specs.Entry.{Op, Use, Hold, Release, SetGlobal, Reply, Was, Set, Held, Released, Refusal, Refused, Entry, History, Setting, is_accepted}
+use Rattle.handle_table.specs.declared.op.Refusal.{Refusal}
+use Rattle.handle_table.specs.Entry.{Op, Use, Hold, Release, SetGlobal, Reply, Was, Set, Held, Released, Refused, Entry, History, Setting, is_accepted}
 use Rattle.handle_table.specs.History.{sets, global, global_at, selection}
 use Rattle.handle_table.specs.Answer.{answer, own, IsLegal}
 use Rattle.thread_current.specs.Mine.{HeldData}
@@ -110,9 +111,9 @@ handed_more (o ∷ os) h x = ap (λ (hs : List HeldData). held_data o ∷ hs) (h
 pub answers_fault : (gate : Gate Setting) (old new : Seated) (op : Op) (place : ℕ) (refusal : Refusal) (at : ℕ) (reply : Reply) → HasCalls 1 gate old
     → Answered gate old.mine new.mine op place (Refused refusal) → IsInOrder gate.terms new.mine → new.number ≡ old.number → new.holds.items ≡ old.holds.items
     → (at ≡ place) × (reply ≡ Refused refusal) → AnswersSeated gate old new op at reply
-answers_fault gate old new op place refusal at reply may a is number same told =
-    subst (λ (r : Reply). AnswersSeated gate old new op at r) (sym told.1)
-    (subst (λ (p : ℕ). AnswersSeated gate old new op p (Refused refusal)) (sym told.0) (answers_refused gate old new op place refusal may a is number same))
+answers_fault gate old new op place refusal at reply may a is number same at_fault =
+    subst (λ (r : Reply). AnswersSeated gate old new op at r) (sym at_fault.1)
+    (subst (λ (p : ℕ). AnswersSeated gate old new op p (Refused refusal)) (sym at_fault.0) (answers_refused gate old new op place refusal may a is number same))
 
 -- a change of the global locale gives the object that it made
 pub answers_set : (gate : Gate Setting) (old new : Seated) (mask : ℕ) (numbers : List ℕ) (place version : ℕ) (object : Parts) → HasCalls 1 gate old
@@ -308,17 +309,17 @@ can_same g old new version object found same number n may = record {
   agree = may.agree;
 }
 
--- ---- what the thread tells of itself
+-- ---- what the thread knows of itself
 
-pub own_told : (s : Seated) (o : Option Parts) → o ≡ own_object s.mine → (H : History) → KnowsSeated s H → o ≡ own H s.number
-own_told s o is H knows = is ∙ ap (λ (G : History). own G s.mine.number) knows.seen ∙ ap (own H) knows.number
+pub own_known : (s : Seated) (o : Option Parts) → o ≡ own_object s.mine → (H : History) → KnowsSeated s H → o ≡ own H s.number
+own_known s o is H knows = is ∙ ap (λ (G : History). own G s.mine.number) knows.seen ∙ ap (own H) knows.number
 
-pub selected_told : (s : Seated) (n : Named) → n ≡ selected s.mine → (H : History) → KnowsSeated s H → n ≡ selection H s.number
-selected_told s n is H knows = is ∙ ap (λ (G : History). selection G s.mine.number) knows.seen ∙ ap (selection H) knows.number
+pub selected_known : (s : Seated) (n : Named) → n ≡ selected s.mine → (H : History) → KnowsSeated s H → n ≡ selection H s.number
+selected_known s n is H knows = is ∙ ap (λ (G : History). selection G s.mine.number) knows.seen ∙ ap (selection H) knows.number
 
-pub held_told : (s : Seated) (n : Named) (o : Option Parts) → o ≡ option_map (λ (h : HeldData). h.object) (find (is_held n) s.holds.items)
+pub held_known : (s : Seated) (n : Named) (o : Option Parts) → o ≡ option_map (λ (h : HeldData). h.object) (find (is_held n) s.holds.items)
     → (H : History) → KnowsSeated s H → o ≡ held_as (open_holds H s.number) n
-held_told s n o is H knows = is ∙ ap (λ (hs : List HeldData). option_map (λ (h : HeldData). h.object) (find (is_held n) hs)) knows.holds ∙ found_as n (open_holds H s.number)
+held_known s n o is H knows = is ∙ ap (λ (hs : List HeldData). option_map (λ (h : HeldData). h.object) (find (is_held n) hs)) knows.holds ∙ found_as n (open_holds H s.number)
 
 -- ---- what holds of both parts of a call that gave something
 

@@ -7,7 +7,8 @@ use Rattle.std.proofs.lemmas.List.Elements.{All-nil, All-cons, All-weaker}
 use Rattle.turn_gate.specs.declared.entry.Terms.{Terms}
 use Rattle.handle_table.specs.declared.handle.Handle.{Handle}
 use Rattle.handle_table.specs.declared.handle.Named.TheVariants.{Of}
-use Rattle.handle_table.specs.Entry.{Op, Release, Reply, Released, NotHeld, History, Setting}
+use Rattle.handle_table.specs.declared.op.Refusal.TheVariants.{NotHeld}
+use Rattle.handle_table.specs.Entry.{Op, Release, Reply, Released, History, Setting}
 use Rattle.handle_table.specs.History.{holding}
 use Rattle.handle_table.specs.Answer.{answer, first_reason, unless}
 use Rattle.handle_table.proofs.Numbering.{same_itself}
@@ -33,7 +34,7 @@ use Rattle.script_serial.specs.Plan.{PlanData, books_of}
 use Rattle.script_serial.specs.Prints.{bound_by}
 use Rattle.script_run.specs.declared.seated.Seated.{Seated}
 use Rattle.script_run.specs.Seated.{Gates, IsSeatedAt, IsAskingAt, MayFollow, MayFollowAsked, AreApart}
-use Rattle.script_run.specs.Timed.{Timed, tellings, lines_in, turn_made, turns_made, asked_in}
+use Rattle.script_run.specs.Timed.{Timed, task_lines, lines_in, turn_made, turns_made, asked_in}
 use Rattle.script_run.specs.Beside.{Stock, stock_of, HasMade, IsWorker, Adds, HasAskedSince, Works, WorksOn}
 use Rattle.script_run.proofs.AskedSeen.{AsksNext, asks_next}
 use Rattle.script_run.proofs.HoldLists.{holds_of, apart_holds, kept_all}
@@ -63,7 +64,7 @@ lines_made terms plan t S made thread has number seen is =
 -- one more line of a thread of the script
 pub record AddsRight (gate : Gates) (plan : PlanData) (asked : Turn) (old new : ScriptThread Seated) (made : List Timed) (lines lines' : List OutLine) : Type 0 where
   pub newest : Timed
-  pub added : lines' ≡ lines ++ newest.told.line ∷ []
+  pub added : lines' ≡ lines ++ newest.task_line.line ∷ []
   pub turn : turn_made newest ≡ asked
   pub since : length old.side.mine.seen ≤ newest.moment
   pub later : GoesOnFrom new.side.mine.seen old.side.mine.seen
@@ -79,18 +80,18 @@ record Stepped (gate : Gates) (plan : PlanData) (turn : Turn) (old new : ScriptT
   op : Option catalogs.Op
   asked : Asked
   now_at : IsSeatedAt gate.locales new.side done.history
-  step : IsStep gate.locales.terms.setting plan.library (books_of plan) (turn_caller old.lines turn) (wish_of plan.library (bindings_of turn.thread (bound_by (tellings made))) turn.task) old.side.mine.seen done moment op asked
+  step : IsStep gate.locales.terms.setting plan.library (books_of plan) (turn_caller old.lines turn) (wish_of plan.library (bindings_of turn.thread (bound_by (task_lines made))) turn.task) old.side.mine.seen done moment op asked
   left : LeftCatalogs (catalog_setting gate.locales.terms.setting) (MayFollowAsked gate.locales.terms.setting old.side.number) (IsAskingAt gate.catalogs new.side) old.side.number old.side.reader.seen op asked
 
 stepped : (gate : Gates) (plan : PlanData) (turn : Turn) (old new : ScriptThread Seated) (made : List Timed) (l : OutLine) → turn.thread ≡ old.side.number
     → LeavesTurn gate.locales.terms.setting plan.library (books_of plan) (MayFollow gate.locales.terms.setting old.side.number) (MayFollowAsked gate.locales.terms.setting old.side.number)
-    (IsSeatedAt gate.locales new.side) (IsAskingAt gate.catalogs new.side) old.side.mine.seen old.side.reader.seen (bound_by (tellings made)) old.lines turn l
+    (IsSeatedAt gate.locales new.side) (IsAskingAt gate.catalogs new.side) old.side.mine.seen old.side.reader.seen (bound_by (task_lines made)) old.lines turn l
     → Stepped gate plan turn old new made l
 stepped gate plan turn old new made l own leaves =
     let c : Setting = gate.locales.terms.setting in
     let at : Caller = turn_caller old.lines turn in
     let S : History = old.side.mine.seen in
-    let wish : Result Wish Why = wish_of plan.library (bindings_of turn.thread (bound_by (tellings made))) turn.task in
+    let wish : Result Wish Why = wish_of plan.library (bindings_of turn.thread (bound_by (task_lines made))) turn.task in
     let m : Moments = leaves.0 in
     let of : AreMomentsOf c (MayFollow c turn.thread) turn.thread S wish m = subst (λ (k : ℕ). AreMomentsOf c (MayFollow c k) turn.thread S wish m) (sym own) leaves.1 in
     let done : Outcome = granted_at c plan.library (books_of plan) m at wish in
@@ -137,7 +138,7 @@ step_right gate plan turn old new lines lines' made own worker a s =
     let asks : AsksNext gate.catalogs old.side new.side s.op s.asked made m =
     asks_next c gate.catalogs old.side new.side s.op s.asked made m worker.agree worker.asking worker.asked a.adds.number refl refl thread s.left
     in
-    let bounds = bound_by (tellings made) in
+    let bounds = bound_by (task_lines made) in
     let bound = a.adds.variables bounds worker.variables in
     record {
       newest = m;
@@ -165,7 +166,7 @@ pub line_right : (gate : Gates) (stock : Stock) (plan : PlanData) (turn : Turn) 
     → stock_of plan ≡ stock → turn.thread ≡ old.side.number → IsWorker gate plan old made → Adds gate stock turn old new lines lines' → AddsRight gate plan turn old new made lines lines'
 line_right gate stock plan turn old new lines lines' made same own worker adds =
     let a : Adds gate (stock_of plan) turn old new lines lines' = subst (λ (x : Stock). Adds gate x turn old new lines lines') (sym same) adds in
-    step_right gate plan turn old new lines lines' made own worker a (stepped gate plan turn old new made a.line own (a.adds.leaves (bound_by (tellings made)) worker.variables))
+    step_right gate plan turn old new lines lines' made own worker a (stepped gate plan turn old new made a.line own (a.adds.leaves (bound_by (task_lines made)) worker.variables))
 
 -- ---- several turns
 
@@ -193,8 +194,8 @@ works_more gate plan turns turn old mid new made lines lines' lines'' w r =
     let since = r.since in
     record {
       more = m ∷ w.more;
-      added = r.added ∙ ap (λ (ls : List OutLine). ls ++ m.told.line ∷ []) w.added ∙ append_assoc lines (reverse (lines_in w.more)) (m.told.line ∷ [])
-          ∙ ap (λ (ls : List OutLine). lines ++ ls) (sym (reverse-append (m.told.line ∷ []) (lines_in w.more)));
+      added = r.added ∙ ap (λ (ls : List OutLine). ls ++ m.task_line.line ∷ []) w.added ∙ append_assoc lines (reverse (lines_in w.more)) (m.task_line.line ∷ [])
+          ∙ ap (λ (ls : List OutLine). lines ++ ls) (sym (reverse-append (m.task_line.line ∷ []) (lines_in w.more)));
       turns = ap (λ (x : Turn). x ∷ turns_made w.more) r.turn ∙ ap (λ (ts : List Turn). turn ∷ ts) w.turns ∙ sym (reverse-append turns (turn ∷ []));
       since = All-cons (λ (x : Timed). length old.side.mine.seen ≤ x.moment) m w.more (omega arith) w.since;
       later = goes_further new.side.mine.seen mid.side.mine.seen old.side.mine.seen r.later w.later;

@@ -71,7 +71,7 @@ saw_entries terms t u before after saw =
 pub made_kept : (terms : Terms Setting) (plan : PlanData) (t u : Thread) (made : List Timed) → HasMade terms plan t made → SawMore t u → IsInOrder terms u → HasMade terms plan u made
 made_kept terms plan t u made was saw order = record {
   in_order = order;
-  own = All-weaker (λ (m : Timed). m.told.line.thread ≡ t.number) (λ (m : Timed). m.told.line.thread ≡ u.number) (λ m e. e ∙ sym saw.same.number) made was.own;
+  own = All-weaker (λ (m : Timed). m.task_line.line.thread ≡ t.number) (λ (m : Timed). m.task_line.line.thread ≡ u.number) (λ m e. e ∙ sym saw.same.number) made was.own;
   right = are_right_grow terms.setting plan u.seen t.seen made saw.later was.right;
   timed = was.timed;
   places =

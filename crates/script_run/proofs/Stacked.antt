@@ -21,20 +21,20 @@ use Rattle.script_run.proofs.Growth.{are_right_grow}
 -- ---- the lines of one thread among those of all
 
 abbrev pub AreOf : ℕ → List Timed → Type 0
-AreOf thread ts = All (λ (t : Timed). t.told.line.thread ≡ thread) ts
+AreOf thread ts = All (λ (t : Timed). t.task_line.line.thread ≡ thread) ts
 
 pub all_own : (i : ℕ) (ts : List Timed) → AreOf i ts → own_lines i ts ≡ ts
 all_own i ts own =
-    filter_all (λ (t : Timed). t.told.line.thread == i) ts
-    (All-weaker (λ (t : Timed). t.told.line.thread ≡ i) (λ (t : Timed). (t.told.line.thread == i) ≡ true) (λ t is. eq-eqb t.told.line.thread i is) ts own)
+    filter_all (λ (t : Timed). t.task_line.line.thread == i) ts
+    (All-weaker (λ (t : Timed). t.task_line.line.thread ≡ i) (λ (t : Timed). (t.task_line.line.thread == i) ≡ true) (λ t is. eq-eqb t.task_line.line.thread i is) ts own)
 
 pub none_own : (i k : ℕ) (ts : List Timed) → k ≢ i → AreOf k ts → own_lines i ts ≡ []
 none_own i k ts apart own =
-    filter_none (λ (t : Timed). t.told.line.thread == i) ts
-    (All-weaker (λ (t : Timed). t.told.line.thread ≡ k) (λ (t : Timed). (t.told.line.thread == i) ≡ false) (λ t is. ne_eqb t.told.line.thread i (λ same. apart (sym is ∙ same))) ts own)
+    filter_none (λ (t : Timed). t.task_line.line.thread == i) ts
+    (All-weaker (λ (t : Timed). t.task_line.line.thread ≡ k) (λ (t : Timed). (t.task_line.line.thread == i) ≡ false) (λ t is. ne_eqb t.task_line.line.thread i (λ same. apart (sym is ∙ same))) ts own)
 
 pub own_both : (i : ℕ) (xs ys : List Timed) → own_lines i (xs ++ ys) ≡ own_lines i xs ++ own_lines i ys
-own_both i xs ys = filter-append (λ (t : Timed). t.told.line.thread == i) xs ys
+own_both i xs ys = filter-append (λ (t : Timed). t.task_line.line.thread == i) xs ys
 
 -- the first n threads have lines of their own
 abbrev pub EachOwn : (ℕ → List Timed) → ℕ → Type 0
@@ -122,37 +122,37 @@ all_left : (P : Timed → Type 0) (xs ys : List Timed) → All P (xs ++ ys) → 
 all_left P [] ys all = All-nil P
 all_left P (x ∷ xs) ys all = All-cons P x xs (All-head P x (xs ++ ys) all) (all_left P xs ys (All-tail P x (xs ++ ys) all))
 
-module _ (round : ℕ) (added made : List Timed) (after : All (λ (t : Timed). t.told.line.round ≡ round) added) (before : All (λ (t : Timed). t.told.line.round < round) made) where
+module _ (round : ℕ) (added made : List Timed) (after : All (λ (t : Timed). t.task_line.line.round ≡ round) added) (before : All (λ (t : Timed). t.task_line.line.round < round) made) where
   pub earlier_before : (r : ℕ) → r ≤ round → in_rounds_before r (added ++ made) ≡ in_rounds_before r made
   earlier_before r le =
-      filter-append (λ (t : Timed). nat_lt t.told.line.round r) added made
+      filter-append (λ (t : Timed). nat_lt t.task_line.line.round r) added made
       ∙ ap (λ (ts : List Timed). ts ++ in_rounds_before r made)
-      (filter_none (λ (t : Timed). nat_lt t.told.line.round r) added
-      (All-weaker (λ (t : Timed). t.told.line.round ≡ round) (λ (t : Timed). nat_lt t.told.line.round r ≡ false) (λ t is. lt-leb (suc t.told.line.round) r (omega (arith, is, le))) added after))
+      (filter_none (λ (t : Timed). nat_lt t.task_line.line.round r) added
+      (All-weaker (λ (t : Timed). t.task_line.line.round ≡ round) (λ (t : Timed). nat_lt t.task_line.line.round r ≡ false) (λ t is. lt-leb (suc t.task_line.line.round) r (omega (arith, is, le))) added after))
 
   pub earlier_to : (r : ℕ) → r < round → in_rounds_to r (added ++ made) ≡ in_rounds_to r made
   earlier_to r lt =
-      filter-append (λ (t : Timed). nat_le t.told.line.round r) added made
+      filter-append (λ (t : Timed). nat_le t.task_line.line.round r) added made
       ∙ ap (λ (ts : List Timed). ts ++ in_rounds_to r made)
-      (filter_none (λ (t : Timed). nat_le t.told.line.round r) added
-      (All-weaker (λ (t : Timed). t.told.line.round ≡ round) (λ (t : Timed). nat_le t.told.line.round r ≡ false) (λ t is. lt-leb t.told.line.round r (omega (arith, is, lt))) added after))
+      (filter_none (λ (t : Timed). nat_le t.task_line.line.round r) added
+      (All-weaker (λ (t : Timed). t.task_line.line.round ≡ round) (λ (t : Timed). nat_le t.task_line.line.round r ≡ false) (λ t is. lt-leb t.task_line.line.round r (omega (arith, is, lt))) added after))
 
   pub all_before : in_rounds_before round made ≡ made
   all_before =
-      filter_all (λ (t : Timed). nat_lt t.told.line.round round) made
-      (All-weaker (λ (t : Timed). t.told.line.round < round) (λ (t : Timed). nat_lt t.told.line.round round ≡ true) (λ t lt. le-leb (suc t.told.line.round) round (omega (arith, lt))) made before)
+      filter_all (λ (t : Timed). nat_lt t.task_line.line.round round) made
+      (All-weaker (λ (t : Timed). t.task_line.line.round < round) (λ (t : Timed). nat_lt t.task_line.line.round round ≡ true) (λ t lt. le-leb (suc t.task_line.line.round) round (omega (arith, lt))) made before)
 
   pub all_to : in_rounds_to round (added ++ made) ≡ added ++ made
   all_to =
-      filter_all (λ (t : Timed). nat_le t.told.line.round round) (added ++ made)
-      (All-append (λ (t : Timed). nat_le t.told.line.round round ≡ true) added made
-      (All-weaker (λ (t : Timed). t.told.line.round ≡ round) (λ (t : Timed). nat_le t.told.line.round round ≡ true) (λ t is. le-leb t.told.line.round round (omega (arith, is))) added after)
-      (All-weaker (λ (t : Timed). t.told.line.round < round) (λ (t : Timed). nat_le t.told.line.round round ≡ true) (λ t lt. le-leb t.told.line.round round (omega (arith, lt))) made before))
+      filter_all (λ (t : Timed). nat_le t.task_line.line.round round) (added ++ made)
+      (All-append (λ (t : Timed). nat_le t.task_line.line.round round ≡ true) added made
+      (All-weaker (λ (t : Timed). t.task_line.line.round ≡ round) (λ (t : Timed). nat_le t.task_line.line.round round ≡ true) (λ t is. le-leb t.task_line.line.round round (omega (arith, is))) added after)
+      (All-weaker (λ (t : Timed). t.task_line.line.round < round) (λ (t : Timed). nat_le t.task_line.line.round round ≡ true) (λ t lt. le-leb t.task_line.line.round round (omega (arith, lt))) made before))
 
   -- an earlier line stays in its round
-  old_in_round : (t : Timed) → t.told.line.round < round → IsInRound made t → IsInRound (added ++ made) t
+  old_in_round : (t : Timed) → t.task_line.line.round < round → IsInRound made t → IsInRound (added ++ made) t
   old_in_round t lt is =
-      let r : ℕ = t.told.line.round in
+      let r : ℕ = t.task_line.line.round in
       let since : length (placed_back (in_rounds_before r made)) ≤ t.moment = is.since in
       let until : end_of t ≤ length (placed_back (in_rounds_to r made)) = is.until in
       let first : length (placed_back (in_rounds_before r (added ++ made))) ≡ length (placed_back (in_rounds_before r made)) = ap (λ (ts : List Timed). length (placed_back ts)) (earlier_before r (omega (arith, lt))) in
@@ -160,27 +160,27 @@ module _ (round : ℕ) (added made : List Timed) (after : All (λ (t : Timed). t
       record { since = omega (arith, since, first); until = omega (arith, until, last) }
 
   -- a new line is in its own
-  new_in_round : (t : Timed) → t.told.line.round ≡ round → length (placed_back made) ≤ t.moment → end_of t ≤ length (placed_back (added ++ made)) → IsInRound (added ++ made) t
+  new_in_round : (t : Timed) → t.task_line.line.round ≡ round → length (placed_back made) ≤ t.moment → end_of t ≤ length (placed_back (added ++ made)) → IsInRound (added ++ made) t
   new_in_round t is moment end =
-      let first : length (placed_back (in_rounds_before t.told.line.round (added ++ made))) ≡ length (placed_back made) =
+      let first : length (placed_back (in_rounds_before t.task_line.line.round (added ++ made))) ≡ length (placed_back made) =
       ap (λ (r : ℕ). length (placed_back (in_rounds_before r (added ++ made)))) is ∙ ap (λ (ts : List Timed). length (placed_back ts)) (earlier_before round (omega arith) ∙ all_before)
       in
-      let last : length (placed_back (in_rounds_to t.told.line.round (added ++ made))) ≡ length (placed_back (added ++ made)) =
+      let last : length (placed_back (in_rounds_to t.task_line.line.round (added ++ made))) ≡ length (placed_back (added ++ made)) =
       ap (λ (r : ℕ). length (placed_back (in_rounds_to r (added ++ made)))) is ∙ ap (λ (ts : List Timed). length (placed_back ts)) all_to
       in
       record { since = omega (arith, moment, first); until = omega (arith, end, last) }
 
-  olds_in_round : (xs : List Timed) → All (λ (t : Timed). t.told.line.round < round) xs → All (IsInRound made) xs → All (IsInRound (added ++ made)) xs
+  olds_in_round : (xs : List Timed) → All (λ (t : Timed). t.task_line.line.round < round) xs → All (IsInRound made) xs → All (IsInRound (added ++ made)) xs
   olds_in_round [] lts all = All-nil (IsInRound (added ++ made))
   olds_in_round (x ∷ xs) lts all =
-      All-cons (IsInRound (added ++ made)) x xs (old_in_round x (All-head (λ (t : Timed). t.told.line.round < round) x xs lts) (All-head (IsInRound made) x xs all))
-      (olds_in_round xs (All-tail (λ (t : Timed). t.told.line.round < round) x xs lts) (All-tail (IsInRound made) x xs all))
+      All-cons (IsInRound (added ++ made)) x xs (old_in_round x (All-head (λ (t : Timed). t.task_line.line.round < round) x xs lts) (All-head (IsInRound made) x xs all))
+      (olds_in_round xs (All-tail (λ (t : Timed). t.task_line.line.round < round) x xs lts) (All-tail (IsInRound made) x xs all))
 
-  news_in_round : (xs : List Timed) → All (λ (t : Timed). t.told.line.round ≡ round) xs → All (λ (t : Timed). length (placed_back made) ≤ t.moment) xs
+  news_in_round : (xs : List Timed) → All (λ (t : Timed). t.task_line.line.round ≡ round) xs → All (λ (t : Timed). length (placed_back made) ≤ t.moment) xs
       → All (λ (t : Timed). end_of t ≤ length (placed_back (added ++ made))) xs → All (IsInRound (added ++ made)) xs
   news_in_round [] rounds moments ends = All-nil (IsInRound (added ++ made))
   news_in_round (x ∷ xs) rounds moments ends =
-      let Round : Timed → Type 0 = λ (t : Timed). t.told.line.round ≡ round in
+      let Round : Timed → Type 0 = λ (t : Timed). t.task_line.line.round ≡ round in
       let Moment : Timed → Type 0 = λ (t : Timed). length (placed_back made) ≤ t.moment in
       let End : Timed → Type 0 = λ (t : Timed). end_of t ≤ length (placed_back (added ++ made)) in
       All-cons (IsInRound (added ++ made)) x xs (new_in_round x (All-head Round x xs rounds) (All-head Moment x xs moments) (All-head End x xs ends))
@@ -195,14 +195,14 @@ module _ (round : ℕ) (added made : List Timed) (after : All (λ (t : Timed). t
 -- the lines that a thread has added in a round, for a history that goes on from that of the earlier rounds
 pub record HasAdded (c : Setting) (plan : PlanData) (M W : History) (round : ℕ) (made : List Timed) (i : ℕ) (added : List Timed) : Type 0 where
   pub own : AreOf i added
-  pub of_round : All (λ (t : Timed). t.told.line.round ≡ round) added
+  pub of_round : All (λ (t : Timed). t.task_line.line.round ≡ round) added
   pub since : All (λ (t : Timed). length M ≤ t.moment) added
   pub right : AreRight c plan W (added ++ own_lines i made)
   pub timed : AreTimed (added ++ own_lines i made)
   pub places : places_by i W ≡ placed_back (added ++ own_lines i made)
 
 pub whole_stacked : (c : Setting) (plan : PlanData) (M W : History) (made : List Timed) (more : ℕ → List Timed) (round : ℕ) → IsWhole c plan M made
-    → All (λ (t : Timed). t.told.line.round < round) made → IsLegal c W → AreThreads c.threads W → GoesOnFrom W M
+    → All (λ (t : Timed). t.task_line.line.round < round) made → IsLegal c W → AreThreads c.threads W → GoesOnFrom W M
     → ((i : ℕ) → i < c.threads → HasAdded c plan M W round made i (more i)) → IsWhole c plan W (stacked more made c.threads)
 whole_stacked c plan M W made more round whole before legal callers on each =
     let n : ℕ = c.threads in
@@ -210,9 +210,9 @@ whole_stacked c plan M W made more round whole before legal callers on each =
     let all : List Timed = stacked more made n in
     let added : List Timed = stacked more [] n in
     let split : all ≡ added ++ made = stacked_onto more made n in
-    let threads : All (λ (t : Timed). t.told.line.thread < n) all =
-    all_stacked (λ (t : Timed). t.told.line.thread < n) more made n
-    (λ k lt. All-weaker (λ (t : Timed). t.told.line.thread ≡ k) (λ (t : Timed). t.told.line.thread < n) (λ t is. omega (arith, is, lt)) (more k) (own k lt)) whole.threads
+    let threads : All (λ (t : Timed). t.task_line.line.thread < n) all =
+    all_stacked (λ (t : Timed). t.task_line.line.thread < n) more made n
+    (λ k lt. All-weaker (λ (t : Timed). t.task_line.line.thread ≡ k) (λ (t : Timed). t.task_line.line.thread < n) (λ t is. omega (arith, is, lt)) (more k) (own k lt)) whole.threads
     in
     let right : AreRight c plan W all = right_stacked c plan W more made n own (λ k lt. (each k lt).right) (are_right_grow c plan W M made on whole.right) in
     let places : (i : ℕ) → i < n → places_by i W ≡ placed_back (own_lines i all) = λ i lt. (each i lt).places ∙ sym (ap placed_back (own_stacked more made n i own lt)) in
@@ -224,8 +224,8 @@ whole_stacked c plan M W made more round whole before legal callers on each =
     in
     let long : length (placed_back all) ≡ length W = whole_length n W all callers places threads in
     let earlier : length (placed_back made) ≡ length M = whole_length n M made whole.callers whole.places whole.threads in
-    let of_round : All (λ (t : Timed). t.told.line.round ≡ round) added =
-    all_stacked (λ (t : Timed). t.told.line.round ≡ round) more [] n (λ k lt. (each k lt).of_round) (All-nil (λ (t : Timed). t.told.line.round ≡ round))
+    let of_round : All (λ (t : Timed). t.task_line.line.round ≡ round) added =
+    all_stacked (λ (t : Timed). t.task_line.line.round ≡ round) more [] n (λ k lt. (each k lt).of_round) (All-nil (λ (t : Timed). t.task_line.line.round ≡ round))
     in
     let moments : All (λ (t : Timed). length (placed_back made) ≤ t.moment) added =
     all_stacked (λ (t : Timed). length (placed_back made) ≤ t.moment) more [] n

@@ -14,13 +14,13 @@ use Rattle.script_run.specs.Timed.{Timed, AreRight, end_of, stacked}
 
 -- the line is of the thread, and of the round, or of one before it
 abbrev pub IsOf : ℕ → Timed → Type 0
-IsOf thread t = t.told.line.thread ≡ thread
+IsOf thread t = t.task_line.line.thread ≡ thread
 
 abbrev pub IsIn : ℕ → Timed → Type 0
-IsIn round t = t.told.line.round ≡ round
+IsIn round t = t.task_line.line.round ≡ round
 
 abbrev pub IsBefore : ℕ → Timed → Type 0
-IsBefore round t = t.told.line.round < round
+IsBefore round t = t.task_line.line.round < round
 
 pub is_same : (a b : ℕ) → a ≡ b → (a == b) ≡ true
 is_same a b e = elim (eqb_tells a b) [ inl h ↦ h.0 | inr h ↦ absurd (h.1 e) ]

@@ -79,7 +79,7 @@ may_work gate plan rounds lines ws turns was sound for for_asked turns_is = λ i
     ap (λ (k : ℕ). turns_of k turns) ready.number ∙ ap (λ (ts : List Turn). turns_of i ts) turns_is ∙ turns_of_near ps (length plan.bundle.threads) i below
     in
     let made_long : length was.made ≡ length (turns_to plan.bundle rounds) = lines_few plan rounds was.made was.turns in
-    let own_few : length (own_lines i was.made) ≤ length was.made = filter_short (λ (t : Timed). t.told.line.thread == i) was.made in
+    let own_few : length (own_lines i was.made) ≤ length was.made = filter_short (λ (t : Timed). t.task_line.line.thread == i) was.made in
     let turns_few : length (turns_of w.thread.side.number turns) ≤ length turns = filter_short (λ (t : Turn). t.thread == w.thread.side.number) turns in
     let next : length (turns_to plan.bundle (rounds + 1)) ≡ length (turns_to plan.bundle rounds) + length turns =
     ap (λ (ts : List Turn). length ts) (turns_next plan.bundle rounds ∙ ap (λ (ts : List Turn). turns_to plan.bundle rounds ++ ts) (sym turns_is)) ∙ length-append (turns_to plan.bundle rounds) turns

@@ -52,7 +52,7 @@ of_nobody = refl
 -- ---- lines with their moments: A makes an object and posts it; B reads it by the handle, between A's calls; then both are closed
 
 abbrev timed : Task → ℕ → ℕ → ℕ → ℕ → Places → Said → Timed
-timed task moment round thread index at reply = record { told = record { task = task; line = line_of round thread index at None reply }; moment = moment; op = None; asked = not_asked }
+timed task moment round thread index at reply = record { task_line = record { task = task; line = line_of round thread index at None reply }; moment = moment; op = None; asked = not_asked }
 
 abbrev made : Timed
 made = timed (Runs (New (codes "x") 2 (codes "a") None)) 0 1 0 1 (places.One 0) (said.Handle (first_of 0))
@@ -70,8 +70,8 @@ abbrev other_ended : Timed
 other_ended = timed Ends 5 2 1 2 (places.One 5) said.Ended
 
 -- a line without a place
-abbrev told : ℕ → Timed
-told moment = timed Ends moment 1 0 1 places.None said.Ended
+abbrev unplaced : ℕ → Timed
+unplaced moment = timed Ends moment 1 0 1 places.None said.Ended
 
 abbrev all : List Timed
 all = other_ended ∷ ended ∷ read ∷ posted ∷ made ∷ []
@@ -82,7 +82,7 @@ end_of_a_call = refl
 end_of_a_read : end_of read ≡ 4
 end_of_a_read = refl
 
-end_of_no_call : end_of (told 7) ≡ 7
+end_of_no_call : end_of (unplaced 7) ≡ 7
 end_of_no_call = refl
 
 back : placed_back all ≡ 5 ∷ 4 ∷ 3 ∷ 1 ∷ 2 ∷ 0 ∷ []
@@ -100,10 +100,10 @@ goes_on_too : AreTimed (own_lines 1 all)
 goes_on_too = (omega arith, (omega arith, tt))
 
 -- what was read at the end of a call may be read there again, and not before it
-read_again : AreTimed (told 3 ∷ told 3 ∷ posted ∷ [])
+read_again : AreTimed (unplaced 3 ∷ unplaced 3 ∷ posted ∷ [])
 read_again = (omega arith, (omega arith, (omega arith, tt)))
 
-goes_back : AreTimed (told 2 ∷ posted ∷ []) → ⊥
+goes_back : AreTimed (unplaced 2 ∷ posted ∷ []) → ⊥
 goes_back timed = omega (arith, timed.0)
 
 -- ---- each line in its round
@@ -128,7 +128,7 @@ too_early : IsInRound all (record ended { moment = 3 }) → ⊥
 too_early is = omega (arith, is.since)
 
 -- a read of the global locale after the calls of its round
-too_late : IsInRound all (told 5) → ⊥
+too_late : IsInRound all (unplaced 5) → ⊥
 too_late is = omega (arith, is.until)
 
 -- ---- each line prints what its task asks for, by what stood before its places

@@ -371,13 +371,13 @@ closes gate stock plan round old mid seat made lines lines' lines'' same worker 
     let w = g.works plan made same worker in
     let m : Timed = made_line Ends (end_line round mid (length first)) (length first) None not_asked in
     let all = ended_lines gate plan round mid seat e.cached e.place (w.more ++ made) w.worker a e.in_order in
-    let line_is : end_line round mid e.place ≡ m.told.line = ap (end_line round mid) a.place_is in
+    let line_is : end_line round mid e.place ≡ m.task_line.line = ap (end_line round mid) a.place_is in
     let behind = longer first mid.side.mine.seen a.later in
     let since = longer mid.side.mine.seen old.side.mine.seen w.later in
     record {
       more = m ∷ w.more;
-      added = e.added ∙ ap (λ (x : OutLine). lines' ++ x ∷ []) line_is ∙ ap (λ (ls : List OutLine). ls ++ m.told.line ∷ []) w.added
-          ∙ append_assoc lines (reverse (lines_in w.more)) (m.told.line ∷ []) ∙ ap (λ (ls : List OutLine). lines ++ ls) (sym (reverse-append (m.told.line ∷ []) (lines_in w.more)));
+      added = e.added ∙ ap (λ (x : OutLine). lines' ++ x ∷ []) line_is ∙ ap (λ (ls : List OutLine). ls ++ m.task_line.line ∷ []) w.added
+          ∙ append_assoc lines (reverse (lines_in w.more)) (m.task_line.line ∷ []) ∙ ap (λ (ls : List OutLine). lines ++ ls) (sym (reverse-append (m.task_line.line ∷ []) (lines_in w.more)));
       turns = ap (λ (k : ℕ). closing_turn round k Ends ∷ turns_made w.more) g.number
           ∙ ap (λ (ts : List Turn). closing_turn round n Ends ∷ ts) w.turns
           ∙ sym (reverse-append (releases round n (open_holds old.side.mine.seen n)) (closing_turn round n Ends ∷ []));

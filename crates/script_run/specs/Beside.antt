@@ -28,14 +28,14 @@ use Rattle.catalog_seats.specs.Reader as readers
 use Rattle.catalog_seats.specs.Reader.{ReaderData}
 use Rattle.script_lines.specs.Catalogs.{Books, catalog_setting}
 use Rattle.script_run.specs.Seated.{Gates, IsSeatedAt, IsAskingAt, CanCall, MayCall, MayFollow, MayFollowAsked}
-use Rattle.script_run.specs.Timed.{Timed, AreTimed, AreRight, HasStanding, lines_in, tellings, turns_made, places_by, placed_back, catalog_places_by, asked_in, asked_back}
+use Rattle.script_run.specs.Timed.{Timed, AreTimed, AreRight, HasStanding, lines_in, task_lines, turns_made, places_by, placed_back, catalog_places_by, asked_in, asked_back}
 
 -- ---- what a thread has made
 
 -- what a thread has made, the newest line first: its lines are right for what it has seen, and its entries there are their calls
 pub record HasMade (terms : Terms Setting) (plan : PlanData) (t : Thread) (made : List Timed) : Type 0 where
   pub in_order : IsInOrder terms t
-  pub own : All (λ (m : Timed). m.told.line.thread ≡ t.number) made
+  pub own : All (λ (m : Timed). m.task_line.line.thread ≡ t.number) made
   pub right : AreRight terms.setting plan t.seen made
   pub timed : AreTimed made
   pub places : places_by t.number t.seen ≡ placed_back made
@@ -55,7 +55,7 @@ pub record IsWorker (gate : Gates) (plan : PlanData) (t : ScriptThread Seated) (
   pub made : HasMade gate.locales.terms plan t.side.mine ts
   pub asked : HasAsked gate.catalogs.terms t.side.reader ts
   pub few : length t.side.mine.calls + length (open_holds t.side.mine.seen t.side.number) ≤ 2 * length ts
-  pub variables : BindsAs t.side.number t.variables (bound_by (tellings ts))
+  pub variables : BindsAs t.side.number t.variables (bound_by (task_lines ts))
   pub lines : t.lines ≡ length ts
 
 -- ---- a turn

@@ -159,7 +159,7 @@ pub record AreBetween (gate : Gates) (plan : PlanData) (rounds : ℕ) (lines : L
   pub whole : IsWhole gate.locales.terms.setting plan met made
   pub asked : CatalogHistory
   pub asked_whole : AreAsked gate.catalogs.terms.setting asked made
-  pub in_rounds : All (λ (t : Timed). t.told.line.round ≤ rounds) made
+  pub in_rounds : All (λ (t : Timed). t.task_line.line.round ≤ rounds) made
   pub turns : turns_made made ≡ reverse (turns_to plan.bundle rounds)
   pub lines_are : lines ≡ reverse (lines_in made)
   pub count : length workers ≡ gate.locales.terms.setting.threads
@@ -200,7 +200,7 @@ pub record AreClosing (gate : Gates) (plan : PlanData) (seats : List SeatData) (
   pub whole : IsWhole gate.locales.terms.setting plan met made
   pub asked : CatalogHistory
   pub asked_whole : AreAsked gate.catalogs.terms.setting asked made
-  pub in_rounds : All (λ (t : Timed). t.told.line.round ≤ plan.bundle.rounds) made
+  pub in_rounds : All (λ (t : Timed). t.task_line.line.round ≤ plan.bundle.rounds) made
   pub turns : turns_made made ≡ reverse (command_turns plan.bundle)
   pub count : length seats + length workers ≡ gate.locales.terms.setting.threads
   pub ready : Each workers (λ i w. IsReady gate plan met asked made (length seats + i) w)

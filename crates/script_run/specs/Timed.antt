@@ -17,7 +17,7 @@ use Rattle.script_lines.specs.Outcome.{with_call}
 use Rattle.script_lines.specs.Board.{Moments, catalog_op, granted_at}
 use Rattle.script_lines.specs.Catalogs.{Asked}
 use Rattle.script_serial.specs.Plan.{PlanData, books_of}
-use Rattle.script_serial.specs.Prints.{Told, PlacedCall, bound_by, caller_of, places_in, behind_last, next_place, calls_of, IsAsked}
+use Rattle.script_serial.specs.Prints.{TaskLine, PlacedCall, bound_by, caller_of, places_in, behind_last, next_place, calls_of, IsAsked}
 
 -- ---- what stands before a place
 
@@ -41,14 +41,14 @@ catalog_places_by thread (e ∷ M) = if e.who == thread then length M ∷ catalo
 -- a line with its task, and how many entries stood when it was made: before its first call, or when it read the global locale; and
 -- what it asked of the catalogs, if anything, and what they have answered
 pub record Timed : Type 0 where
-  pub told : Told
+  pub task_line : TaskLine
   pub moment : ℕ
   pub op : Option catalogs.Op
   pub asked : Asked
 
 -- how many entries stood behind the line's last call, or at its moment
 abbrev pub end_of : Timed → ℕ
-end_of t = unwrap_or (behind_last (places_in t.told.line.places)) t.moment
+end_of t = unwrap_or (behind_last (places_in t.task_line.line.places)) t.moment
 
 -- the same of the newest line
 abbrev pub last_end : List Timed → ℕ
@@ -60,22 +60,22 @@ abbrev pub AreTimed : List Timed → Type 0
 AreTimed [] = Unit {0}
 AreTimed (t ∷ ts) = (last_end ts ≤ t.moment) × AreTimed ts
 
--- the lines, what they tell, and the turns that made them
+-- the lines, the lines with their tasks, and the turns that made them
 abbrev pub lines_in : List Timed → List OutLine
-lines_in ts = map (λ (t : Timed). t.told.line) ts
+lines_in ts = map (λ (t : Timed). t.task_line.line) ts
 
-abbrev pub tellings : List Timed → List Told
-tellings ts = map (λ (t : Timed). t.told) ts
+abbrev pub task_lines : List Timed → List TaskLine
+task_lines ts = map (λ (t : Timed). t.task_line) ts
 
 abbrev pub turn_made : Timed → Turn
-turn_made t = record { round = t.told.line.round; thread = t.told.line.thread; task = t.told.task }
+turn_made t = record { round = t.task_line.line.round; thread = t.task_line.line.thread; task = t.task_line.task }
 
 abbrev pub turns_made : List Timed → List Turn
 turns_made ts = map turn_made ts
 
 -- the places of lines, the newest first
 abbrev pub placed_back : List Timed → List ℕ
-placed_back ts = flat_map (λ (t : Timed). reverse (places_in t.told.line.places)) ts
+placed_back ts = flat_map (λ (t : Timed). reverse (places_in t.task_line.line.places)) ts
 
 -- the place in the history of the catalogs of what was asked, and those of lines, the newest first
 abbrev pub asked_place : Option catalogs.Op → Asked → List ℕ
@@ -95,7 +95,7 @@ stacked more made (suc n) = more n ++ stacked more made n
 
 -- the lines of a thread
 abbrev pub own_lines : ℕ → List Timed → List Timed
-own_lines thread ts = filter (λ (t : Timed). t.told.line.thread == thread) ts
+own_lines thread ts = filter (λ (t : Timed). t.task_line.line.thread == thread) ts
 
 -- ---- what a line is judged by
 
@@ -107,11 +107,11 @@ second_moment (hold ∷ release ∷ more) moment = release
 
 -- the histories that a line goes by: what stood behind the thread's last call, at the line's moment, and before its Release; and
 -- what the catalogs have answered
-abbrev pub moments_in : History → List Told → Timed → Moments
+abbrev pub moments_in : History → List TaskLine → Timed → Moments
 moments_in W before t = record {
-  seen = oldest (next_place t.told.line.thread before) W;
+  seen = oldest (next_place t.task_line.line.thread before) W;
   first = oldest t.moment W;
-  second = oldest (second_moment (places_in t.told.line.places) t.moment) W;
+  second = oldest (second_moment (places_in t.task_line.line.places) t.moment) W;
   asked = t.asked;
 }
 
@@ -122,40 +122,40 @@ pub record IsEntryOf (c : Setting) (W : History) (call : PlacedCall) : Type 0 wh
 
 -- A line, behind earlier lines of which the newest stands first: it prints what its task asks for at its moment, its number is
 -- the next one of its thread, and its calls are entries of the history; and it asked of the catalogs what its task asks of them
-pub record IsRight (c : Setting) (plan : PlanData) (W : History) (before : List Told) (t : Timed) : Type 0 where
+pub record IsRight (c : Setting) (plan : PlanData) (W : History) (before : List TaskLine) (t : Timed) : Type 0 where
   pub within : end_of t ≤ length W
   pub since : t.moment ≤ end_of t
-  pub index : t.told.line.index ≡ length (filter (λ (d : Told). d.line.thread == t.told.line.thread) before) + 1
-  pub line : t.told.line
-      ≡ (granted_at c plan.library (books_of plan) (moments_in W before t) (caller_of t.told.line) (wish_of plan.library (bindings_of t.told.line.thread (bound_by before)) t.told.task)).line
-  pub entries : All (IsEntryOf c W) (calls_of plan.library (bound_by before) t.told)
+  pub index : t.task_line.line.index ≡ length (filter (λ (d : TaskLine). d.line.thread == t.task_line.line.thread) before) + 1
+  pub line : t.task_line.line
+      ≡ (granted_at c plan.library (books_of plan) (moments_in W before t) (caller_of t.task_line.line) (wish_of plan.library (bindings_of t.task_line.line.thread (bound_by before)) t.task_line.task)).line
+  pub entries : All (IsEntryOf c W) (calls_of plan.library (bound_by before) t.task_line)
   pub op : t.op
-      ≡ catalog_op c plan.library (books_of plan) (moments_in W before t) t.told.line.thread (wish_of plan.library (bindings_of t.told.line.thread (bound_by before)) t.told.task)
+      ≡ catalog_op c plan.library (books_of plan) (moments_in W before t) t.task_line.line.thread (wish_of plan.library (bindings_of t.task_line.line.thread (bound_by before)) t.task_line.task)
 
 -- lines of which each is right behind those before it
 abbrev pub AreRight : Setting → PlanData → History → List Timed → Type 0
 AreRight c plan W [] = Unit {0}
-AreRight c plan W (t ∷ ts) = IsRight c plan W (tellings ts) t × AreRight c plan W ts
+AreRight c plan W (t ∷ ts) = IsRight c plan W (task_lines ts) t × AreRight c plan W ts
 
 -- ---- all lines
 
 -- the lines of the rounds before one, and of a round and those before it
 abbrev pub in_rounds_before : ℕ → List Timed → List Timed
-in_rounds_before round ts = filter (λ (t : Timed). nat_lt t.told.line.round round) ts
+in_rounds_before round ts = filter (λ (t : Timed). nat_lt t.task_line.line.round round) ts
 
 abbrev pub in_rounds_to : ℕ → List Timed → List Timed
-in_rounds_to round ts = filter (λ (t : Timed). nat_le t.told.line.round round) ts
+in_rounds_to round ts = filter (λ (t : Timed). nat_le t.task_line.line.round round) ts
 
 -- a line was made while its round ran: behind the calls of earlier rounds, and before those of later ones
 pub record IsInRound (ts : List Timed) (t : Timed) : Type 0 where
-  pub since : length (placed_back (in_rounds_before t.told.line.round ts)) ≤ t.moment
-  pub until : end_of t ≤ length (placed_back (in_rounds_to t.told.line.round ts))
+  pub since : length (placed_back (in_rounds_before t.task_line.line.round ts)) ≤ t.moment
+  pub until : end_of t ≤ length (placed_back (in_rounds_to t.task_line.line.round ts))
 
 -- the lines of all threads, the newest first, are right for the history, and its entries are their calls
 pub record IsWhole (c : Setting) (plan : PlanData) (W : History) (ts : List Timed) : Type 0 where
   pub legal : IsLegal c W
   pub callers : AreThreads c.threads W
-  pub threads : All (λ (t : Timed). t.told.line.thread < c.threads) ts
+  pub threads : All (λ (t : Timed). t.task_line.line.thread < c.threads) ts
   pub right : AreRight c plan W ts
   pub timed : (thread : ℕ) → AreTimed (own_lines thread ts)
   pub places : (thread : ℕ) → thread < c.threads → places_by thread W ≡ placed_back (own_lines thread ts)
@@ -169,7 +169,7 @@ StandsAsked c V thread None asked = Unit {0}
 StandsAsked c V thread (Some op) asked = IsAsked c V thread op asked
 
 abbrev pub HasStanding : CatalogSetting → CatalogHistory → Timed → Type 0
-HasStanding c V t = StandsAsked c V t.told.line.thread t.op t.asked
+HasStanding c V t = StandsAsked c V t.task_line.line.thread t.op t.asked
 
 -- a place is from one number on, and below another
 pub record IsWithin (low high p : ℕ) : Type 0 where
@@ -178,7 +178,7 @@ pub record IsWithin (low high p : ℕ) : Type 0 where
 
 -- a line has asked while its round ran: behind what was asked in earlier rounds, and before what was asked in later ones
 abbrev pub IsAskedInRound : List Timed → Timed → Type 0
-IsAskedInRound ts t = All (IsWithin (length (asked_back (in_rounds_before t.told.line.round ts))) (length (asked_back (in_rounds_to t.told.line.round ts)))) (asked_in t)
+IsAskedInRound ts t = All (IsWithin (length (asked_back (in_rounds_before t.task_line.line.round ts))) (length (asked_back (in_rounds_to t.task_line.line.round ts)))) (asked_in t)
 
 -- what the lines of all threads have asked are the entries of this history of the catalogs
 pub record AreAsked (c : CatalogSetting) (V : CatalogHistory) (ts : List Timed) : Type 0 where

@@ -3,7 +3,7 @@
 ghost use Rattle.std.specs.Prelude.{◌≡◌, [], find, position, IfOk, OnOk, MatchOption};
 ghost use Rattle.std.specs.Option.{option_copied};
 ghost use Rattle.handle_table.specs.Entry as table;
-ghost use Rattle.handle_table.specs.Seen.{op_of, reply_of, refusal_of};
+ghost use Rattle.handle_table.specs.Seen.{op_of, reply_of};
 ghost use Rattle.handle_table.specs.Table.{Fits};
 ghost use Rattle.thread_current.specs.Thread.{own_object};
 ghost use Rattle.script_run.specs.Seated.{HasCalls, MayCall, IsPlain, IsChange, AnswersSeated, is_held, IsFirst, IsTaken, IsUnheld};
@@ -346,7 +346,7 @@ fn taken_up(mine: &Mine<Share>) -> Option<Object<Share>>
 
 // The place and the reply of a refused call.
 fn refused(fault: Fault) -> (u64, Reply<Share>)
-    ensures { (result.0 ≡ fault.place) × (reply_of result.1 ≡ table.Refused (refusal_of fault.refusal)) }
+    ensures { (result.0 ≡ fault.place) × (reply_of result.1 ≡ table.Refused fault.refusal) }
 {
     (fault.place, Reply::Refused(fault.refusal))
 }

@@ -19,8 +19,8 @@ use Rattle.script_out.specs.declared.output.Why.{Why}
 use Rattle.script_lines.specs.Holds.{object_held, open_holds, held_as}
 use Rattle.script_lines.specs.Wishes.{Wish, Calls, ReadsOf, Reads, AsksSelection, AsksName, OpensCatalog, GetsMessage, ClosesCatalog}
 use Rattle.script_lines.specs.Catalogs.{Books, Asked, book_for, catalog_setting, handle_meant, object_used, catalog_op_by, asked_after, catalogs_after, open_line, message_line, close_line}
-use Rattle.script_lines.specs.Lines.{Caller, told_line, object_line, held_line}
-use Rattle.script_lines.specs.Outcome.{tells, with_call, calls, reads_between, reads_of, read_line, name_line, opens_line, catalog_op_of, granted, catalogs_left}
+use Rattle.script_lines.specs.Lines.{Caller, plain_line, object_line, held_line}
+use Rattle.script_lines.specs.Outcome.{without_entry, with_call, calls, reads_between, reads_of, read_line, name_line, opens_line, catalog_op_of, granted, catalogs_left}
 use Rattle.script_lines.specs.Board.{Moments, reads_between as reads_between_at, reads_of as reads_of_at, reads as reads_at, opens, catalog_op, AnswersCatalog, AreMomentsOf, Left, LeftCatalogs, Leaves}
 
 -- what a read between leaves, by the moments of its two calls
@@ -35,15 +35,15 @@ between_alone c library at H caller n read m (Some object) l first second left =
 held_alone : (c : Setting) (library : Catalog) (at : History → Type 0) (H : History) (caller : Caller) (n : Named) (read : Read) (m : Moments) (held : Option Parts) (l : OutLine)
     → m.seen ≡ H → m.first ≡ H → (held ≡ None → m.second ≡ with_call c m.first caller.thread (table.Hold n))
     → Left at (reads_of_at c library m caller n read held) l → Left at (reads_of c library H caller n read held) l
-held_alone c library at H caller n read m (Some object) l seen first second left = subst (λ (G : History). Left at (tells G (object_line library caller read object)) l) seen left
+held_alone c library at H caller n read m (Some object) l seen first second left = subst (λ (G : History). Left at (without_entry G (object_line library caller read object)) l) seen left
 held_alone c library at H caller n read m None l seen first second left =
     subst (λ (G : History). Left at (reads_between c library H caller n read (object_held (answer c G caller.thread (table.Hold n)))) l) first
     (between_alone c library at H caller n read m (object_held (answer c m.first caller.thread (table.Hold n))) l first (second refl) left)
 
 read_alone : (c : Setting) (library : Catalog) (at : History → Type 0) (H : History) (caller : Caller) (read : Read) (m : Moments) (object : Option Parts) (l : OutLine)
-    → m.seen ≡ H → m.first ≡ H → Left at (reads_at c library m caller read object) l → Left at (tells H (read_line c library H caller read object)) l
-read_alone c library at H caller read m (Some object) l seen first left = subst (λ (G : History). Left at (tells G (object_line library caller read object)) l) seen left
-read_alone c library at H caller read m None l seen first left = subst (λ (G : History). Left at (tells G (read_line c library G caller read None)) l) first left
+    → m.seen ≡ H → m.first ≡ H → Left at (reads_at c library m caller read object) l → Left at (without_entry H (read_line c library H caller read object)) l
+read_alone c library at H caller read m (Some object) l seen first left = subst (λ (G : History). Left at (without_entry G (object_line library caller read object)) l) seen left
+read_alone c library at H caller read m None l seen first left = subst (λ (G : History). Left at (without_entry G (read_line c library G caller read None)) l) first left
 
 -- ---- the catalogs, which nobody else asks meanwhile
 
@@ -90,18 +90,18 @@ opens_alone : (c : Setting) (library : Catalog) (books : Books) (at : History �
     → m.seen ≡ H → m.first ≡ H
     → let op = option_map catalog.Open (book_for library books (object_used object (global c H)) name) in
     LeftCatalogs (catalog_setting c) IsSame catalogs_at caller.thread M op m.asked → Left at (opens c library books m caller name object) l
-    → Left at (tells H (opens_line c library books H caller name (asked_after (catalog_setting c) M caller.thread op) object)) l
+    → Left at (without_entry H (opens_line c library books H caller name (asked_after (catalog_setting c) M caller.thread op) object)) l
 opens_alone c library books at catalogs_at H M caller name m (Some object) l seen first asked left =
-    subst (λ (k : OutLine). Left at (tells H k) l) (open_alone (catalog_setting c) catalogs_at caller.thread M caller None (book_for library books object name) m.asked asked)
-    (subst (λ (G : History). Left at (tells G (open_line caller None m.asked (book_for library books object name))) l) seen left)
+    subst (λ (k : OutLine). Left at (without_entry H k) l) (open_alone (catalog_setting c) catalogs_at caller.thread M caller None (book_for library books object name) m.asked asked)
+    (subst (λ (G : History). Left at (without_entry G (open_line caller None m.asked (book_for library books object name))) l) seen left)
 opens_alone c library books at catalogs_at H M caller name m None l seen first asked left =
-    subst (λ (k : OutLine). Left at (tells H k) l) (open_alone (catalog_setting c) catalogs_at caller.thread M caller (Some (sets H)) (book_for library books (global c H) name) m.asked asked)
-    (subst (λ (G : History). Left at (tells G (open_line caller (Some (sets G)) m.asked (book_for library books (global c G) name))) l) first left)
+    subst (λ (k : OutLine). Left at (without_entry H k) l) (open_alone (catalog_setting c) catalogs_at caller.thread M caller (Some (sets H)) (book_for library books (global c H) name) m.asked asked)
+    (subst (λ (G : History). Left at (without_entry G (open_line caller (Some (sets G)) m.asked (book_for library books (global c G) name))) l) first left)
 
 -- the line, and the history of the table then
 pub alone : (c : Setting) (library : Catalog) (books : Books) (at : History → Type 0) (catalogs_at : CatalogHistory → Type 0) (H : History) (M : CatalogHistory) (caller : Caller) (w : Result Wish Why) (l : OutLine)
     → Leaves c library books (λ (G K : History). G ≡ K) (λ (N K : CatalogHistory). N ≡ K) at catalogs_at H M caller w l → Left at (granted c library books H M caller w) l
-alone c library books at catalogs_at H M caller (Err why) l leaves = subst (λ (G : History). Left at (tells G (told_line caller (said.Refused why))) l) leaves.1.seen leaves.2
+alone c library books at catalogs_at H M caller (Err why) l leaves = subst (λ (G : History). Left at (without_entry G (plain_line caller (said.Refused why))) l) leaves.1.seen leaves.2
 alone c library books at catalogs_at H M caller (Ok (Calls categories op)) l leaves = subst (λ (G : History). Left at (calls c library G caller categories op) l) (leaves.1.first ∙ leaves.1.seen) leaves.2
 alone c library books at catalogs_at H M caller (Ok (ReadsOf n read)) l leaves =
     let m : Moments = leaves.0 in
@@ -109,10 +109,10 @@ alone c library books at catalogs_at H M caller (Ok (ReadsOf n read)) l leaves =
     (held_alone c library at H caller n read m (held_as (open_holds m.seen caller.thread) n) l leaves.1.moments.seen (leaves.1.moments.first ∙ leaves.1.moments.seen) leaves.1.second leaves.2)
 alone c library books at catalogs_at H M caller (Ok (Reads read)) l leaves =
     let m : Moments = leaves.0 in
-    subst (λ (G : History). Left at (tells H (read_line c library H caller read (own G caller.thread))) l) leaves.1.seen
+    subst (λ (G : History). Left at (without_entry H (read_line c library H caller read (own G caller.thread))) l) leaves.1.seen
     (read_alone c library at H caller read m (own m.seen caller.thread) l leaves.1.seen (leaves.1.first ∙ leaves.1.seen) leaves.2)
-alone c library books at catalogs_at H M caller (Ok AsksSelection) l leaves = subst (λ (G : History). Left at (tells G (told_line caller (said.Is (selection G caller.thread)))) l) leaves.1.seen leaves.2
-alone c library books at catalogs_at H M caller (Ok (AsksName categories)) l leaves = subst (λ (G : History). Left at (tells G (name_line c library G caller categories)) l) (leaves.1.first ∙ leaves.1.seen) leaves.2
+alone c library books at catalogs_at H M caller (Ok AsksSelection) l leaves = subst (λ (G : History). Left at (without_entry G (plain_line caller (said.Is (selection G caller.thread)))) l) leaves.1.seen leaves.2
+alone c library books at catalogs_at H M caller (Ok (AsksName categories)) l leaves = subst (λ (G : History). Left at (without_entry G (name_line c library G caller categories)) l) (leaves.1.first ∙ leaves.1.seen) leaves.2
 alone c library books at catalogs_at H M caller (Ok (OpensCatalog name)) l leaves =
     let m : Moments = leaves.0 in
     let op : Option Parts → Option catalog.Op = λ (o : Option Parts). option_map catalog.Open (book_for library books (object_used o (global c H)) name) in
@@ -125,13 +125,13 @@ alone c library books at catalogs_at H M caller (Ok (OpensCatalog name)) l leave
 alone c library books at catalogs_at H M caller (Ok (GetsMessage h set message default)) l leaves =
     let m : Moments = leaves.0 in
     let op : catalog.Op = catalog.Get (handle_meant h) in
-    subst (λ (a : Asked). Left at (tells H (message_line books caller set message default a)) l) (asked_is (catalog_setting c) catalogs_at caller.thread M op m.asked leaves.3)
-    (subst (λ (G : History). Left at (tells G (message_line books caller set message default m.asked)) l) leaves.1.seen leaves.2)
+    subst (λ (a : Asked). Left at (without_entry H (message_line books caller set message default a)) l) (asked_is (catalog_setting c) catalogs_at caller.thread M op m.asked leaves.3)
+    (subst (λ (G : History). Left at (without_entry G (message_line books caller set message default m.asked)) l) leaves.1.seen leaves.2)
 alone c library books at catalogs_at H M caller (Ok (ClosesCatalog h)) l leaves =
     let m : Moments = leaves.0 in
     let op : catalog.Op = catalog.Close (handle_meant h) in
-    subst (λ (a : Asked). Left at (tells H (close_line caller a)) l) (asked_is (catalog_setting c) catalogs_at caller.thread M op m.asked leaves.3)
-    (subst (λ (G : History). Left at (tells G (close_line caller m.asked)) l) leaves.1.seen leaves.2)
+    subst (λ (a : Asked). Left at (without_entry H (close_line caller a)) l) (asked_is (catalog_setting c) catalogs_at caller.thread M op m.asked leaves.3)
+    (subst (λ (G : History). Left at (without_entry G (close_line caller m.asked)) l) leaves.1.seen leaves.2)
 
 -- and the history of the catalogs
 pub alone_catalogs : (c : Setting) (library : Catalog) (books : Books) (at : History → Type 0) (catalogs_at : CatalogHistory → Type 0) (H : History) (M : CatalogHistory) (caller : Caller) (w : Result Wish Why) (l : OutLine)

@@ -9,6 +9,7 @@ use Rattle.compiled_categories.specs.Locale.{Locale, posix_locale}
 use Rattle.category_store.specs.Catalog.{Catalog}
 use Rattle.handle_table.specs.declared.handle.Handle.{Handle}
 use Rattle.handle_table.specs.declared.handle.Named.TheVariants as named
+use Rattle.handle_table.specs.declared.op.Refusal.{Refusal}
 use Rattle.handle_table.specs.declared.op.Refusal.TheVariants as refusals
 use Rattle.handle_table.specs.Entry as table
 use Rattle.lc_base.specs.declared.item.Item.TheVariants.{Radixchar, Thousep}
@@ -96,7 +97,7 @@ ended index place = line_of 2 0 index (places.One place) None said.Ended
 abbrev pub first_of : ℕ → Handle
 first_of thread = record { owner = thread; row = 0; generation = 1 }
 
-abbrev refused : ℕ → Places → table.Refusal → OutLine
+abbrev refused : ℕ → Places → Refusal → OutLine
 refused index at refusal = line index at None (shown library All (table.Refused refusal))
 
 abbrev x : Target
@@ -142,7 +143,7 @@ no_command = refl
 
 -- a category that the locale lacks makes an entry; the native locale has its name; nothing is selected
 native_and_no_data : lines (Setlocale All (codes "a") ∷ Setlocale (One categories.Numeric) [] ∷ LocaleName All ∷ Read (Info Radixchar) ∷ Selected ∷ [])
-    ≡ refused 1 (places.One 0) (table.NoData categories.Ctype)
+    ≡ refused 1 (places.One 0) (refusals.NoData categories.Ctype)
     ∷ line 2 (places.One 1) (Some 1) (said.Name (codes "a"))
     ∷ line 3 places.None (Some 1) (said.Name numeric_a)
     ∷ line 4 places.None (Some 1) (said.Text (codes ","))
@@ -162,7 +163,7 @@ copied_numeric = refl
 -- set; POSIX answers as C
 mixed_names : lines (Setlocale All numeric_a ∷ Setlocale (One categories.Numeric) (codes "nowhere") ∷ Setlocale (One categories.Numeric) (codes "LC_CTYPE=x;LC_NUMERIC=POSIX;LC_MONETARY=x;LC_TIME=x;LC_MESSAGES=x") ∷ LocaleName All ∷ [])
     ≡ line 1 (places.One 0) (Some 1) (said.Name numeric_a)
-    ∷ refused 2 places.None (table.NoData categories.Numeric)
+    ∷ refused 2 places.None (refusals.NoData categories.Numeric)
     ∷ line 3 (places.One 1) (Some 2) (said.Name (codes "C"))
     ∷ line 4 places.None (Some 2) (said.Name (codes "C"))
     ∷ ended 5 2 ∷ []
@@ -174,7 +175,7 @@ freed_while_selected : lines (New (codes "x") 2 (codes "a") None ∷ Use x ∷ R
     ∷ line 2 (places.One 1) None (said.Was named.Global)
     ∷ line 3 places.None None (said.Text (codes ","))
     ∷ line 4 (places.One 2) None said.Freed
-    ∷ refused 5 (places.One 3) table.Stale
+    ∷ refused 5 (places.One 3) refusals.Stale
     ∷ line 6 places.None None (said.Text (codes ","))
     ∷ line 7 places.None None (said.Is (named.Of (record { owner = 0; row = 0; generation = 1 })))
     ∷ line 8 places.None (Some 0) (said.Name (codes "C"))
@@ -187,19 +188,19 @@ freed_while_selected = refl
 refused_without_an_entry : lines (Free x ∷ New (codes "x") 32 (codes "nowhere") None ∷ New (codes "x") 31 (codes "nowhere") None ∷ Use x ∷ Free targets.Global ∷ Use (targets.Handle (record { owner = 0; row = 5; generation = 1 })) ∷ [])
     ≡ line 1 places.None None (said.Refused whys.Unset)
     ∷ line 2 places.None None (said.Refused whys.BadMask)
-    ∷ refused 3 places.None (table.NoData categories.Ctype)
+    ∷ refused 3 places.None (refusals.NoData categories.Ctype)
     ∷ line 4 places.None None (said.Refused whys.Unset)
-    ∷ refused 5 (places.One 0) table.GlobalHandle
-    ∷ refused 6 (places.One 1) table.NeverMade
+    ∷ refused 5 (places.One 0) refusals.GlobalHandle
+    ∷ refused 6 (places.One 1) refusals.NeverMade
     ∷ ended 7 2 ∷ []
 refused_without_an_entry = refl
 
 -- one row with one generation
 few_rows : serial_lines 1 1 (plan (codes "A" ∷ []) 1 (placed 1 0 (New (codes "x") 0 (codes "C") None ∷ New (codes "y") 0 (codes "C") None ∷ Free x ∷ New (codes "z") 0 (codes "C") None ∷ [])))
     ≡ line 1 (places.One 0) None (said.Handle (record { owner = 0; row = 0; generation = 1 }))
-    ∷ refused 2 (places.One 1) table.TooMany
+    ∷ refused 2 (places.One 1) refusals.TooMany
     ∷ line 3 (places.One 2) None said.Freed
-    ∷ refused 4 (places.One 3) table.TooMany
+    ∷ refused 4 (places.One 3) refusals.TooMany
     ∷ ended 5 4 ∷ []
 few_rows = refl
 
@@ -213,19 +214,19 @@ held_and_freed : lines (New (codes "x") 2 (codes "a") None ∷ ReadOf x (Info Ra
     ∷ line 3 (places.One 3) None said.Held
     ∷ line 4 (places.One 4) None said.Freed
     ∷ line 5 places.None None (said.Text (codes ","))
-    ∷ refused 6 (places.One 5) table.Stale
+    ∷ refused 6 (places.One 5) refusals.Stale
     ∷ line 7 (places.One 6) None said.Released
-    ∷ refused 8 (places.One 7) table.Stale
+    ∷ refused 8 (places.One 7) refusals.Stale
     ∷ ended 9 8 ∷ []
 held_and_freed = refl
 
--- GLOBAL is no object to read, a variable that nothing bound makes no entry, and no version is told
+-- GLOBAL is no object to read, a variable that nothing bound makes no entry, and no version is printed
 reads_of_no_object : lines (ReadOf targets.Global (Info Radixchar) ∷ ReadOf x (Info Radixchar) ∷ ReadOf (targets.Handle (record { owner = 0; row = 3; generation = 1 })) (Info Radixchar) ∷ Hold targets.Global ∷ Release (targets.Handle (record { owner = 0; row = 3; generation = 1 })) ∷ [])
-    ≡ refused 1 (places.One 0) table.GlobalHandle
+    ≡ refused 1 (places.One 0) refusals.GlobalHandle
     ∷ line 2 places.None None (said.Refused whys.Unset)
-    ∷ refused 3 (places.One 1) table.NeverMade
-    ∷ refused 4 (places.One 2) table.GlobalHandle
-    ∷ refused 5 (places.One 3) table.NotHeld
+    ∷ refused 3 (places.One 1) refusals.NeverMade
+    ∷ refused 4 (places.One 2) refusals.GlobalHandle
+    ∷ refused 5 (places.One 3) refusals.NotHeld
     ∷ ended 6 4 ∷ []
 reads_of_no_object = refl
 
@@ -238,9 +239,9 @@ base_keeps_handle : lines (New (codes "x") 2 (codes "a") None ∷ Hold x ∷ New
     ∷ line 4 places.None None (said.Text (codes ","))
     ∷ line 5 (places.One 3) None said.Released
     ∷ line 6 (places.Two 4 5) None (said.Text (codes "."))
-    ∷ refused 7 (places.One 6) (table.NoData categories.Time)
+    ∷ refused 7 (places.One 6) (refusals.NoData categories.Time)
     ∷ line 8 (places.One 7) None said.Freed
-    ∷ refused 9 (places.One 8) table.Stale
+    ∷ refused 9 (places.One 8) refusals.Stale
     ∷ line 10 places.None None (said.Refused whys.Unset)
     ∷ ended 11 9 ∷ []
 base_keeps_handle = refl
@@ -248,13 +249,13 @@ base_keeps_handle = refl
 -- an unset base goes before a wrong mask, and a wrong mask before a locale that no block names
 unset_base_first : lines (New (codes "y") 32 (codes "nowhere") (Some x) ∷ New (codes "y") 2 (codes "a") (Some targets.Global) ∷ [])
     ≡ line 1 places.None None (said.Refused whys.Unset)
-    ∷ refused 2 (places.One 0) table.GlobalHandle
+    ∷ refused 2 (places.One 0) refusals.GlobalHandle
     ∷ ended 3 1 ∷ []
 unset_base_first = refl
 
 -- a copy of the global locale stays as it was
 copy_of_global : lines (Setlocale All [] ∷ Setlocale (One categories.Numeric) (codes "a") ∷ Dup (codes "x") targets.Global ∷ Setlocale (One categories.Numeric) (codes "C") ∷ Use x ∷ Read (Info Radixchar) ∷ [])
-    ≡ refused 1 (places.One 0) (table.NoData categories.Ctype)
+    ≡ refused 1 (places.One 0) (refusals.NoData categories.Ctype)
     ∷ line 2 (places.One 1) (Some 1) (said.Name (codes "a"))
     ∷ line 3 (places.One 2) None (said.Handle (first_of 0))
     ∷ line 4 (places.One 3) (Some 2) (said.Name (codes "C"))
@@ -295,7 +296,7 @@ shared_by_a_cell : two_threads 2 (placed 1 0 (New (codes "x") 2 (codes "a") None
     ∷ line_of 1 0 2 (places.One 1) None (said.Handle (record { owner = 0; row = 1; generation = 1 }))
     ∷ line_of 1 0 3 (places.One 2) None said.Posted
     ∷ line_of 1 0 4 (places.One 3) None said.Held
-    ∷ line_of 2 1 1 (places.One 4) None (shown library All (table.Refused table.EmptyCell))
+    ∷ line_of 2 1 1 (places.One 4) None (shown library All (table.Refused refusals.EmptyCell))
     ∷ line_of 2 1 2 (places.One 5) None (said.Handle (first_of 0))
     ∷ line_of 2 1 3 (places.One 6) None said.Held
     ∷ line_of 2 1 4 (places.One 7) None said.Held
@@ -329,7 +330,7 @@ opened_and_closed : lines (CatOpen (codes "c") (codes "m") ∷ CatGets opened 1 
     ∷ line 3 (places.Catalog 2) None (said.Text (codes "Second"))
     ∷ line 4 (places.Catalog 3) None (said.Text (codes "?"))
     ∷ line 5 (places.Catalog 4) None said.Closed
-    ∷ refused 6 (places.Catalog 5) table.Stale
+    ∷ refused 6 (places.Catalog 5) refusals.Stale
     ∷ ended 7 0 ∷ []
 opened_and_closed = refl
 
@@ -339,11 +340,11 @@ not_opened : lines (CatOpen (codes "c") (codes "nowhere") ∷ New (codes "c") 2 
     ≡ line 1 places.None (Some 0) (said.Refused whys.NoCatalog)
     ∷ line 2 (places.One 0) None (said.Handle (first_of 0))
     ∷ line 3 places.None None (said.Refused whys.Unset)
-    ∷ refused 4 (places.Catalog 0) table.NeverMade
+    ∷ refused 4 (places.Catalog 0) refusals.NeverMade
     ∷ ended 5 1 ∷ []
 not_opened = refl
 
--- by the thread's own object no version is told, and its LC_MESSAGES is what counts
+-- by the thread's own object no version is printed, and its LC_MESSAGES is what counts
 opened_by_own_object : lines (New (codes "x") 2 (codes "a") None ∷ Use x ∷ CatOpen (codes "c") (codes "m") ∷ CatGets opened 1 1 (codes "?") ∷ [])
     ≡ line 1 (places.One 0) None (said.Handle (first_of 0))
     ∷ line 2 (places.One 1) None (said.Was named.Global)

@@ -27,7 +27,7 @@ holds_of_part : (threads : List ℕ) (t : ℕ) → has_thread threads t ≡ true
 holds_of_part threads t within [] = refl
 holds_of_part threads t within (e ∷ H) = holds_with threads t within e H (is_in_part threads e) refl (holds_of_part threads t within H)
 
--- all that a thread is told
+-- all that a history says to a thread
 pub part_says_the_same : (c : Setting) (threads : List ℕ) (t : ℕ) → has_thread threads t ≡ true → (H : History) → IsLegal c H → IsClosed threads H → SaysTheSameTo c t H (part_of threads H)
 part_says_the_same c threads t within H legal closed =
     let says : SaysOfThreads c threads (part_of threads H) H = says_part c threads H legal closed in

@@ -89,7 +89,7 @@ of_the_part = refl
 of_both_alone : replies_of (history alone) ≡ replies
 of_both_alone = refl
 
--- ---- where B frees what A made, A's part alone is no legal history, and A's line does not tell what it says
+-- ---- where B frees what A made, A's part alone is no legal history, and A's line does not print what it says
 
 abbrev freed : PlanData
 freed = plan (codes "A" ∷ codes "B" ∷ []) 2 (placed 1 0 of_a ++ placed 1 1 (Free (targets.Handle (first_of 0)) ∷ []) ++ placed 2 0 (Use (targets.Variable (codes "x")) ∷ []))

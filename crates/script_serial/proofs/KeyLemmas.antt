@@ -9,7 +9,8 @@ use Rattle.lc_base.specs.declared.block.Block.{Block}
 use Rattle.lc_base.specs.declared.block.Later.{Later}
 use Rattle.lc_base.specs.Reading.{Reads, ◌>>=◌}
 use Rattle.lc_base.proofs.ReadingLemmas.{value_of}
-use Rattle.charmap_reader.specs.Portable.{Name, first_named}
+use Rattle.byte_words.specs.Tables.{first_named}
+use Rattle.charmap_reader.specs.Portable.{Name}
 use Rattle.charmap_reader.specs.CodedSet.{CodedSet}
 use Rattle.locale_reader.specs.Source.{source}
 use Rattle.locale_sources.specs.Named.{with_named}

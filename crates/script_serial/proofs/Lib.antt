@@ -1,4 +1,5 @@
 pub mod Alone
+pub mod AnsweredApart
 pub mod CatalogLines
 pub mod Examples
 pub mod Fronts
@@ -12,13 +13,12 @@ pub mod PlayLemmas
 pub mod PrintsExamples
 pub mod ReleaseLaws
 pub mod RunLemmas
+pub mod SerialAnswered
 pub mod SerialCalls
 pub mod SerialCatalogs
 pub mod SerialLines
 pub mod SerialNewest
 pub mod SerialPrints
 pub mod SerialSeen
-pub mod SerialTold
-pub mod ToldApart
 pub mod TurnLemmas
 pub mod VersionExamples

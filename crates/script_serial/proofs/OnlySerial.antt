@@ -26,17 +26,17 @@ use Rattle.script_out.specs.declared.output.Why.{Why}
 use Rattle.script_serial.specs.Plan.{PlanData, books_of}
 use Rattle.script_lines.specs.Holds.{object_held, open_holds, held_as}
 use Rattle.script_lines.specs.Turns.{Turn, command_turns, closing_turns}
-use Rattle.script_lines.specs.Lines.{Caller, told_line, placed_line, held_line, global_read_line, global_name_line}
+use Rattle.script_lines.specs.Lines.{Caller, plain_line, placed_line, held_line, global_read_line, global_name_line}
 use Rattle.script_lines.specs.Variables.{Bound, bindings_of}
 use Rattle.script_lines.specs.Wishes.{Wish, Calls, ReadsOf, Reads, AsksSelection, AsksName, wish_of, OpensCatalog, GetsMessage, ClosesCatalog}
 use Rattle.script_lines.specs.Outcome.{Outcome, reads_between, reads_of, read_line, granted, opens_line, catalogs_left}
 use Rattle.script_serial.specs.Serial.{Run, next_caller, outcome, with_outcome, played, begun, commands_played, serial_lines, setting, TurnOutcome}
-use Rattle.script_serial.specs.Prints.{Told, told, bound_by, places_in, all_places, PlacedCall, calls_after, with_placed, history_below, Around, around, past, next_place, seen, global_of, IsReadBetween, IsHoldRefused, IsReadOf, IsRead, IsGranted, AreTold, caller_of, caller_after, callers_after, command_calls, all_turns, AreNewest, PrintsInOrder, catalog_places_in, all_catalog_places, IsCatalogCall, IsOpenOf, IsOpen}
+use Rattle.script_serial.specs.Prints.{TaskLine, with_tasks, bound_by, places_in, all_places, PlacedCall, calls_after, with_placed, history_below, Around, around, past, next_place, seen, global_of, IsReadBetween, IsHoldRefused, IsReadOf, IsRead, IsGranted, AreAnswered, caller_of, caller_after, callers_after, command_calls, all_turns, AreNewest, PrintsInOrder, catalog_places_in, all_catalog_places, IsCatalogCall, IsOpenOf, IsOpen}
 use Rattle.script_serial.proofs.LineLists.{GoUp, is_this, bit_of, count_more}
 use Rattle.script_serial.proofs.SerialLines.{granted_caller, next_is, first_places, IsCounted, one_turn, granted_places, added, added_append}
-use Rattle.script_serial.proofs.SerialCalls.{call_at, calls_from, calls_length, is_at, find_newest, legal_before, same_entry, GoesOnFrom, goes_nowhere, one_entry, goes_on, past_is, granted_legal, granted_gains, wish_in, wished_calls, told_of, line_thread, bound_next, calls_here, calls_played, told_first}
+use Rattle.script_serial.proofs.SerialCalls.{call_at, calls_from, calls_length, is_at, find_newest, legal_before, same_entry, GoesOnFrom, goes_nowhere, one_entry, goes_on, past_is, granted_legal, granted_gains, wish_in, wished_calls, task_line_of, line_thread, bound_next, calls_here, calls_played, with_tasks_first}
 use Rattle.script_serial.proofs.SerialSeen.{own_past, next_of, own_seen, selection_seen, holds_seen, own_back, granted_next, global_on}
-use Rattle.script_serial.proofs.SerialTold.{places_so_far}
+use Rattle.script_serial.proofs.SerialAnswered.{places_so_far}
 use Rattle.script_serial.proofs.SerialPrints.{serial_is}
 use Rattle.script_lines.specs.Catalogs.{Books, Asked, book_for, catalog_setting, handle_meant, object_used, asked_after, catalogs_after, open_line, message_line, close_line}
 use Rattle.script_serial.proofs.CatalogLines.{GoOnFrom}
@@ -280,9 +280,9 @@ open_same x H M at l version None k is = record { line = is; catalogs = k.catalo
 open_same x H M at l version (Some n) k r = call_same x H M at l (catalog.Open n) (λ (a : Asked). open_line at version a (Some n)) (λ a. refl) k r
 
 -- a line of a catopen prints its version, and no place of the table
-open_tells : (x : Around) (at : Caller) (l : OutLine) (version n : Option ℕ) → IsOpenOf x at l version n → (places_in l.places ≡ []) × (l.global ≡ version)
-open_tells x at l version None is = (ap (λ (m : OutLine). places_in m.places) is, ap (λ (m : OutLine). m.global) is)
-open_tells x at l version (Some n) r = (ap (λ (m : OutLine). places_in m.places) r.is, ap (λ (m : OutLine). m.global) r.is)
+open_printed : (x : Around) (at : Caller) (l : OutLine) (version n : Option ℕ) → IsOpenOf x at l version n → (places_in l.places ≡ []) × (l.global ≡ version)
+open_printed x at l version None is = (ap (λ (m : OutLine). places_in m.places) is, ap (λ (m : OutLine). m.global) is)
+open_printed x at l version (Some n) r = (ap (λ (m : OutLine). places_in m.places) r.is, ap (λ (m : OutLine). m.global) r.is)
 
 opens_same : (x : Around) (H : History) (M : CatalogHistory) (at : Caller) (l : OutLine) (name : List ℕ) (object : Option Parts) → Comes x H M at l → IsOpen x at l name object
     → let op = option_map catalog.Open (book_for x.plan.library (books_of x.plan) (object_used object (global x.setting H)) name) in
@@ -290,8 +290,8 @@ opens_same : (x : Around) (H : History) (M : CatalogHistory) (at : Caller) (l : 
 opens_same x H M at l name (Some object) k is = open_same x H M at l None (book_for x.plan.library (books_of x.plan) object name) k is
 opens_same x H M at l name None k r =
     let n : Parts → Option ℕ = λ (o : Parts). book_for x.plan.library (books_of x.plan) o name in
-    let tells : (places_in l.places ≡ []) × (l.global ≡ Some r.version) = open_tells x at l (Some r.version) (n (global_of x r.version)) r.opens in
-    let version : r.version ≡ sets H = k.newest r.version tells.0 tells.1 in
+    let printed : (places_in l.places ≡ []) × (l.global ≡ Some r.version) = open_printed x at l (Some r.version) (n (global_of x r.version)) r.opens in
+    let version : r.version ≡ sets H = k.newest r.version printed.0 printed.1 in
     open_same x H M at l (Some (sets H)) (n (global x.setting H)) k
     (subst (λ (o : Parts). IsOpenOf x at l (Some (sets H)) (n o)) (global_is k)
     (subst (λ (v : ℕ). IsOpenOf x at l (Some v) (n (global_of x v))) version r.opens))
@@ -321,7 +321,7 @@ granted_same x H M at l (Ok (Reads read)) k is =
     record { line = read_same x H M at l read (own H t) k (subst (IsRead x at l read) same is); catalogs = k.catalogs }
 granted_same x H M at l (Ok AsksSelection) k is =
     let t : ℕ = at.thread in
-    record { line = is ∙ ap (λ (s : Named). told_line at (said.Is s)) (ap (λ (G : History). selection G t) k.seen ∙ selection_seen H t); catalogs = k.catalogs }
+    record { line = is ∙ ap (λ (s : Named). plain_line at (said.Is s)) (ap (λ (G : History). selection G t) k.seen ∙ selection_seen H t); catalogs = k.catalogs }
 granted_same x H M at l (Ok (AsksName categories)) k r =
     let version : r.version ≡ sets H = k.newest r.version (ap (λ (m : OutLine). places_in m.places) r.is) (ap (λ (m : OutLine). m.global) r.is) in
     record {
@@ -342,9 +342,9 @@ granted_same x H M at l (Ok (ClosesCatalog h)) k r = call_same x H M at l (catal
 -- ---- all lines
 
 -- the lines that are left, behind those of a run
-pub record AreLeft (c : Setting) (plan : PlanData) (all : List OutLine) (V : CatalogHistory) (calls : List PlacedCall) (run : Run) (before : List Told) (turns : List Turn) (lines : List OutLine) : Type 0 where
+pub record AreLeft (c : Setting) (plan : PlanData) (all : List OutLine) (V : CatalogHistory) (calls : List PlacedCall) (run : Run) (before : List TaskLine) (turns : List Turn) (lines : List OutLine) : Type 0 where
   pub legal : IsLegal c run.history
-  pub calls_are : calls ≡ calls_from run.history ++ calls_after plan.library before (told turns lines)
+  pub calls_are : calls ≡ calls_from run.history ++ calls_after plan.library before (with_tasks turns lines)
   pub bounds : bound_by before ≡ run.bindings
   pub next : (t : ℕ) → next_place t before ≡ length (own_past run.history t)
   pub counted : IsCounted run
@@ -352,28 +352,28 @@ pub record AreLeft (c : Setting) (plan : PlanData) (all : List OutLine) (V : Cat
   pub placed : Left (length run.history) (all_places lines)
   pub catalogs : GoOnFrom run.catalogs V
   pub catalogs_placed : Left (length run.catalogs) (all_catalog_places lines)
-  pub are_told : AreTold c plan all V calls before (told turns lines)
+  pub are_answered : AreAnswered c plan all V calls before (with_tasks turns lines)
   pub newest : AreNewest c calls run.lines lines
 
-none_left : (c : Setting) (plan : PlanData) (all : List OutLine) (V : CatalogHistory) (calls : List PlacedCall) (run : Run) (before : List Told) (lines : List OutLine) → AreLeft c plan all V calls run before [] lines → lines ≡ []
+none_left : (c : Setting) (plan : PlanData) (all : List OutLine) (V : CatalogHistory) (calls : List PlacedCall) (run : Run) (before : List TaskLine) (lines : List OutLine) → AreLeft c plan all V calls run before [] lines → lines ≡ []
 none_left c plan all V calls run before [] w = refl
 none_left c plan all V calls run before (l ∷ lines) w = no_caller w.callers
   where
     no_caller : caller_of l ∷ map caller_of lines ≡ [] → l ∷ lines ≡ []
     no_caller is = absurd (cc is)
 
-line_whose : (c : Setting) (plan : PlanData) (all : List OutLine) (V : CatalogHistory) (calls : List PlacedCall) (run : Run) (before : List Told) (turn : Turn) (turns : List Turn) (l : OutLine) (lines : List OutLine) → AreLeft c plan all V calls run before (turn ∷ turns) (l ∷ lines)
+line_whose : (c : Setting) (plan : PlanData) (all : List OutLine) (V : CatalogHistory) (calls : List PlacedCall) (run : Run) (before : List TaskLine) (turn : Turn) (turns : List Turn) (l : OutLine) (lines : List OutLine) → AreLeft c plan all V calls run before (turn ∷ turns) (l ∷ lines)
     → caller_of l ≡ next_caller run turn
 line_whose c plan all V calls run before turn turns l lines w = ap (λ (cs : List Caller). get_or cs 0 (caller_of l)) w.callers ∙ sym (next_is run turn)
 
-line_is : (c : Setting) (plan : PlanData) (all : List OutLine) (V : CatalogHistory) (calls : List PlacedCall) (run : Run) (before : List Told) (turn : Turn) (turns : List Turn) (l : OutLine) (lines : List OutLine) → AreLeft c plan all V calls run before (turn ∷ turns) (l ∷ lines)
-    → let done = outcome c plan.library (books_of plan) run turn in IsNext (around c plan all V calls before (told turns lines)) done.line done.catalogs l
+line_is : (c : Setting) (plan : PlanData) (all : List OutLine) (V : CatalogHistory) (calls : List PlacedCall) (run : Run) (before : List TaskLine) (turn : Turn) (turns : List Turn) (l : OutLine) (lines : List OutLine) → AreLeft c plan all V calls run before (turn ∷ turns) (l ∷ lines)
+    → let done = outcome c plan.library (books_of plan) run turn in IsNext (around c plan all V calls before (with_tasks turns lines)) done.line done.catalogs l
 line_is c plan all V calls run before turn turns l lines w =
     let H : History = run.history in
     let M : CatalogHistory = run.catalogs in
     let at : Caller = next_caller run turn in
-    let x : Around = around c plan all V calls before (told turns lines) in
-    let later : List PlacedCall = calls_after plan.library before (told (turn ∷ turns) (l ∷ lines)) in
+    let x : Around = around c plan all V calls before (with_tasks turns lines) in
+    let later : List PlacedCall = calls_after plan.library before (with_tasks (turn ∷ turns) (l ∷ lines)) in
     let back : (G : History) → GoesOnFrom G H → past x (length G) ≡ G = λ G on. ap (λ (cs : List PlacedCall). history_below c cs (length G)) w.calls_are ∙ past_back c H G later w.legal on in
     let here : past x (length H) ≡ H = back H (goes_nowhere H) in
     let long : length H ≤ length calls =
@@ -404,12 +404,12 @@ line_is c plan all V calls run before turn turns l lines w =
     in
     granted_same x H M at l (wish_in plan.library run turn) comes
     (subst (IsGranted x at l) wished
-    (subst (λ (a : Caller). IsGranted x a l (wish_of plan.library (bindings_of l.thread (bound_by before)) turn.task)) whose w.are_told.0))
+    (subst (λ (a : Caller). IsGranted x a l (wish_of plan.library (bindings_of l.thread (bound_by before)) turn.task)) whose w.are_answered.0))
 
 -- the lines that are left after one more turn, where its line is the one that it leaves
-one_left : (c : Setting) (plan : PlanData) (all : List OutLine) (V : CatalogHistory) (calls : List PlacedCall) (run : Run) (before : List Told) (turn : Turn) (turns : List Turn) (lines : List OutLine)
+one_left : (c : Setting) (plan : PlanData) (all : List OutLine) (V : CatalogHistory) (calls : List PlacedCall) (run : Run) (before : List TaskLine) (turn : Turn) (turns : List Turn) (lines : List OutLine)
     → let done = outcome c plan.library (books_of plan) run turn in
-    AreLeft c plan all V calls run before (turn ∷ turns) (done.line ∷ lines) → GoOnFrom done.catalogs V → AreLeft c plan all V calls (with_outcome run turn done) (told_of turn done.line ∷ before) turns lines
+    AreLeft c plan all V calls run before (turn ∷ turns) (done.line ∷ lines) → GoOnFrom done.catalogs V → AreLeft c plan all V calls (with_outcome run turn done) (task_line_of turn done.line ∷ before) turns lines
 one_left c plan all V calls run before turn turns lines w on =
     let done : TurnOutcome = outcome c plan.library (books_of plan) run turn in
     let l : OutLine = done.line in
@@ -417,8 +417,8 @@ one_left c plan all V calls run before turn turns lines w on =
     let M : CatalogHistory = run.catalogs in
     let at : Caller = next_caller run turn in
     let wished : Result Wish Why = wish_in plan.library run turn in
-    let d : Told = told_of turn l in
-    let after : List PlacedCall = calls_after plan.library (d ∷ before) (told turns lines) in
+    let d : TaskLine = task_line_of turn l in
+    let after : List PlacedCall = calls_after plan.library (d ∷ before) (with_tasks turns lines) in
     let gained : length done.history ≡ length H + length (places_in l.places) =
     let is : length (first_places (length H) ++ places_in l.places) ≡ length (first_places (length done.history)) = ap length (granted_places c plan.library (books_of plan) H M at wished) in
     let sum = length-append (first_places (length H)) (places_in l.places) in
@@ -455,18 +455,18 @@ one_left c plan all V calls run before turn turns lines w on =
       placed = left_of (places_in l.places) (all_places lines) (length H) w.placed.many (length done.history) gained w.placed.is;
       catalogs = on;
       catalogs_placed = left_of (catalog_places_in l.places) (all_catalog_places lines) (length M) w.catalogs_placed.many (length done.catalogs) entered w.catalogs_placed.is;
-      are_told = w.are_told.1;
+      are_answered = w.are_answered.1;
       newest = w.newest.1;
     }
 
 -- what is left after turns
 pub record Rest (c : Setting) (plan : PlanData) (all : List OutLine) (V : CatalogHistory) (calls : List PlacedCall) (run : Run) (turns more : List Turn) (lines : List OutLine) : Type 0 where
-  pub before : List Told
+  pub before : List TaskLine
   pub others : List OutLine
   pub is : lines ≡ added c plan.library (books_of plan) run turns ++ others
   pub left : AreLeft c plan all V calls (played c plan.library (books_of plan) run turns) before more others
 
-rest_of : (c : Setting) (plan : PlanData) (all : List OutLine) (V : CatalogHistory) (calls : List PlacedCall) (run : Run) (before : List Told) (turns more : List Turn) (lines : List OutLine) → AreLeft c plan all V calls run before (turns ++ more) lines
+rest_of : (c : Setting) (plan : PlanData) (all : List OutLine) (V : CatalogHistory) (calls : List PlacedCall) (run : Run) (before : List TaskLine) (turns more : List Turn) (lines : List OutLine) → AreLeft c plan all V calls run before (turns ++ more) lines
     → Rest c plan all V calls run turns more lines
 rest_of c plan all V calls run before [] more lines w = record { before = before; others = lines; is = refl; left = w }
 rest_of c plan all V calls run before (turn ∷ turns) more [] w = no_turn w.callers
@@ -479,7 +479,7 @@ rest_of c plan all V calls run before (turn ∷ turns) more (l ∷ lines) w =
     let same : l ≡ done.line = is_next.line in
     let w' : AreLeft c plan all V calls run before (turn ∷ (turns ++ more)) (done.line ∷ lines) = subst (λ (m : OutLine). AreLeft c plan all V calls run before (turn ∷ (turns ++ more)) (m ∷ lines)) same w in
     let rest : Rest c plan all V calls (with_outcome run turn done) turns more lines =
-    rest_of c plan all V calls (with_outcome run turn done) (told_of turn done.line ∷ before) turns more lines (one_left c plan all V calls run before turn (turns ++ more) lines w' is_next.catalogs)
+    rest_of c plan all V calls (with_outcome run turn done) (task_line_of turn done.line ∷ before) turns more lines (one_left c plan all V calls run before turn (turns ++ more) lines w' is_next.catalogs)
     in
     record {
       before = rest.before;
@@ -507,7 +507,7 @@ only_serial rows generations plan lines w =
     let commands : List Turn = command_turns plan.bundle in
     let own : History = history_below c (command_calls plan lines) (length (command_calls plan lines)) in
     let turns : List Turn = all_turns c plan lines in
-    let calls : List PlacedCall = calls_after library [] (told turns lines) in
+    let calls : List PlacedCall = calls_after library [] (with_tasks turns lines) in
     let up : GoUp (all_places lines) = pairs_up (all_places lines) (AllPairs-from_increasing (all_places lines) w.in_order) in
     let catalogs_up : GoUp (all_catalog_places lines) = pairs_up (all_catalog_places lines) (AllPairs-from_increasing (all_catalog_places lines) w.catalogs_in_order) in
     let begin : AreLeft c plan lines V calls begun [] (commands ++ closing_turns plan.bundle own) lines = record {
@@ -523,15 +523,15 @@ only_serial rows generations plan lines w =
         many = length (all_catalog_places lines);
         is = range_is 0 (all_catalog_places lines) catalogs_up (λ k d lt. omega arith) (λ p low high. w.prints.catalogs_placed.once p (omega (arith, high)));
       };
-      are_told = w.prints.told;
+      are_answered = w.prints.answered;
       newest = w.newest;
     }
     in
     let first = rest_of c plan lines V calls begun [] commands (closing_turns plan.bundle own) lines begin in
     let commanded : History = (commands_played c plan).history in
     let own_calls : command_calls plan lines ≡ calls_from commanded =
-    ap (λ (ls : List OutLine). calls_after library [] (told commands ls)) first.is
-    ∙ ap (calls_after library []) (told_first c library books begun commands first.others)
+    ap (λ (ls : List OutLine). calls_after library [] (with_tasks commands ls)) first.is
+    ∙ ap (calls_after library []) (with_tasks_first c library books begun commands first.others)
     ∙ calls_played c library books begun [] commands refl
     in
     let same : own ≡ commanded =

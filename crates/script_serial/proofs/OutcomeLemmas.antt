@@ -17,7 +17,7 @@ use Rattle.script_lines.specs.Holds.{object_held, holds_after, open_holds, held_
 use Rattle.script_lines.specs.Lines.{Caller}
 use Rattle.script_lines.specs.Outcome.{with_call, reads_between, reads_of, read_line, granted, asked_of}
 use Rattle.script_serial.specs.Serial.{lines_of_thread}
-use Rattle.script_serial.specs.Kept.{KeptData, Knows}
+use Rattle.script_serial.specs.Alone.{AloneSideData, Knows}
 use Rattle.script_lines.specs.Wishes.{Wish, Calls, ReadsOf, Reads, AsksSelection, AsksName, OpensCatalog, GetsMessage, ClosesCatalog}
 use Rattle.script_lines.specs.Catalogs.{Books}
 use Rattle.script_serial.proofs.CatalogLines.{opens_caller}
@@ -66,7 +66,7 @@ no_line_more t lines l other = let n : ℕ = lines_of_thread t lines in counted 
 -- ---- what another thread knows
 
 -- a call of another thread changes nothing that a thread knows
-pub knows_call : (c : Setting) (H : History) (t : KeptData) (who : ℕ) (op : table.Op) → who ≢ t.number → Knows t H → Knows t (with_call c H who op)
+pub knows_call : (c : Setting) (H : History) (t : AloneSideData) (who : ℕ) (op : table.Op) → who ≢ t.number → Knows t H → Knows t (with_call c H who op)
 knows_call c H t who op other k =
     let r = answer c H who op in
     let apart : (who == t.number) ≡ false = ne_eqb who t.number other in
@@ -77,15 +77,15 @@ knows_call c H t who op other k =
       holds = k.holds ∙ sym (ap (λ (b : Bool). cond b (holds_after (open_holds H t.number) op r) (open_holds H t.number)) apart);
     }
 
-knows_between : (c : Setting) (library : Catalog) (H : History) (t : KeptData) (at : Caller) (n : Named) (read : Read) (object : Option Parts) → at.thread ≢ t.number → Knows t H → Knows t (reads_between c library H at n read object).history
+knows_between : (c : Setting) (library : Catalog) (H : History) (t : AloneSideData) (at : Caller) (n : Named) (read : Read) (object : Option Parts) → at.thread ≢ t.number → Knows t H → Knows t (reads_between c library H at n read object).history
 knows_between c library H t at n read None other k = knows_call c H t at.thread (table.Hold n) other k
 knows_between c library H t at n read (Some object) other k = knows_call c (with_call c H at.thread (table.Hold n)) t at.thread (table.Release n) other (knows_call c H t at.thread (table.Hold n) other k)
 
-knows_of : (c : Setting) (library : Catalog) (H : History) (t : KeptData) (at : Caller) (n : Named) (read : Read) (held : Option Parts) → at.thread ≢ t.number → Knows t H → Knows t (reads_of c library H at n read held).history
+knows_of : (c : Setting) (library : Catalog) (H : History) (t : AloneSideData) (at : Caller) (n : Named) (read : Read) (held : Option Parts) → at.thread ≢ t.number → Knows t H → Knows t (reads_of c library H at n read held).history
 knows_of c library H t at n read (Some object) other k = k
 knows_of c library H t at n read None other k = knows_between c library H t at n read (object_held (answer c H at.thread (table.Hold n))) other k
 
-pub knows_granted : (c : Setting) (library : Catalog) (books : Books) (H : History) (M : CatalogHistory) (t : KeptData) (at : Caller) (w : Result Wish Why) → at.thread ≢ t.number → Knows t H → Knows t (granted c library books H M at w).history
+pub knows_granted : (c : Setting) (library : Catalog) (books : Books) (H : History) (M : CatalogHistory) (t : AloneSideData) (at : Caller) (w : Result Wish Why) → at.thread ≢ t.number → Knows t H → Knows t (granted c library books H M at w).history
 knows_granted c library books H M t at (Err why) other k = k
 knows_granted c library books H M t at (Ok (Calls categories op)) other k = knows_call c H t at.thread op other k
 knows_granted c library books H M t at (Ok (ReadsOf n read)) other k = knows_of c library H t at n read (held_as (open_holds H at.thread) n) other k

@@ -17,9 +17,9 @@ use Rattle.script_out.specs.declared.output.Places.{Places}
 use Rattle.script_out.specs.declared.output.Why.{Why}
 use Rattle.script_serial.specs.Plan.{PlanData, books_of}
 use Rattle.script_lines.specs.Holds.{open_holds, held_as}
-use Rattle.script_serial.specs.Isolation.{all_told, all_calls}
+use Rattle.script_serial.specs.Isolation.{all_task_lines, all_calls}
 use Rattle.script_lines.specs.Lines.{Caller}
-use Rattle.script_serial.specs.Prints.{Told, told, bound_by, places_in, all_places, PlacedCall, calls_of, calls_after, with_placed, history_below, Around, around, seen, lines_of, IsReadOf, IsRead, IsGranted, IsTold, AreTold, caller_of, caller_after, callers_after, all_turns, Prints, IsOpenOf, IsOpen, global_of}
+use Rattle.script_serial.specs.Prints.{TaskLine, with_tasks, bound_by, places_in, all_places, PlacedCall, calls_of, calls_after, with_placed, history_below, Around, around, seen, lines_of, IsReadOf, IsRead, IsGranted, IsAnswered, AreAnswered, caller_of, caller_after, callers_after, all_turns, Prints, IsOpenOf, IsOpen, global_of}
 use Rattle.script_lines.specs.Turns.{Turn}
 use Rattle.script_lines.specs.Variables.{bindings_of}
 use Rattle.script_lines.specs.Wishes.{Wish, Calls, ReadsOf, Reads, AsksSelection, AsksName, wish_of, OpensCatalog, GetsMessage, ClosesCatalog}
@@ -33,63 +33,63 @@ use Rattle.catalog_table.specs.Entry.{History as CatalogHistory}
 abbrev pub place_of : PlacedCall → ℕ
 place_of call = call.place
 
-abbrev Kept : ℕ → Result Wish Why → Places → Type 0
-Kept thread w at = map place_of (wished_calls thread (places_in at) w) ≡ places_in at
+abbrev KeepsPlaces : ℕ → Result Wish Why → Places → Type 0
+KeepsPlaces thread w at = map place_of (wished_calls thread (places_in at) w) ≡ places_in at
 
-of_kept : (x : Around) (at : Caller) (l : OutLine) (n : Named) (read : Read) (held : Option Parts) → IsReadOf x at l n read held → Kept at.thread (Ok (ReadsOf n read)) l.places
-of_kept x at l n read (Some object) is = subst (Kept at.thread (Ok (ReadsOf n read))) (sym (ap (λ (k : OutLine). k.places) is)) refl
-of_kept x at l n read None (inl r) = subst (Kept at.thread (Ok (ReadsOf n read))) (sym (ap (λ (k : OutLine). k.places) r.is)) refl
-of_kept x at l n read None (inr r) = subst (Kept at.thread (Ok (ReadsOf n read))) (sym (ap (λ (k : OutLine). k.places) r.is)) refl
+of_kept : (x : Around) (at : Caller) (l : OutLine) (n : Named) (read : Read) (held : Option Parts) → IsReadOf x at l n read held → KeepsPlaces at.thread (Ok (ReadsOf n read)) l.places
+of_kept x at l n read (Some object) is = subst (KeepsPlaces at.thread (Ok (ReadsOf n read))) (sym (ap (λ (k : OutLine). k.places) is)) refl
+of_kept x at l n read None (inl r) = subst (KeepsPlaces at.thread (Ok (ReadsOf n read))) (sym (ap (λ (k : OutLine). k.places) r.is)) refl
+of_kept x at l n read None (inr r) = subst (KeepsPlaces at.thread (Ok (ReadsOf n read))) (sym (ap (λ (k : OutLine). k.places) r.is)) refl
 
-read_kept : (x : Around) (at : Caller) (l : OutLine) (read : Read) (object : Option Parts) → IsRead x at l read object → Kept at.thread (Ok (Reads read)) l.places
-read_kept x at l read (Some object) is = subst (Kept at.thread (Ok (Reads read))) (sym (ap (λ (k : OutLine). k.places) is)) refl
-read_kept x at l read None r = subst (Kept at.thread (Ok (Reads read))) (sym (ap (λ (k : OutLine). k.places) r.is)) refl
+read_kept : (x : Around) (at : Caller) (l : OutLine) (read : Read) (object : Option Parts) → IsRead x at l read object → KeepsPlaces at.thread (Ok (Reads read)) l.places
+read_kept x at l read (Some object) is = subst (KeepsPlaces at.thread (Ok (Reads read))) (sym (ap (λ (k : OutLine). k.places) is)) refl
+read_kept x at l read None r = subst (KeepsPlaces at.thread (Ok (Reads read))) (sym (ap (λ (k : OutLine). k.places) r.is)) refl
 
-open_kept : (x : Around) (at : Caller) (l : OutLine) (name : List ℕ) (version n : Option ℕ) → IsOpenOf x at l version n → Kept at.thread (Ok (OpensCatalog name)) l.places
-open_kept x at l name version None is = subst (Kept at.thread (Ok (OpensCatalog name))) (sym (ap (λ (k : OutLine). k.places) is)) refl
-open_kept x at l name version (Some n) r = subst (Kept at.thread (Ok (OpensCatalog name))) (sym (ap (λ (k : OutLine). k.places) r.is)) refl
+open_kept : (x : Around) (at : Caller) (l : OutLine) (name : List ℕ) (version n : Option ℕ) → IsOpenOf x at l version n → KeepsPlaces at.thread (Ok (OpensCatalog name)) l.places
+open_kept x at l name version None is = subst (KeepsPlaces at.thread (Ok (OpensCatalog name))) (sym (ap (λ (k : OutLine). k.places) is)) refl
+open_kept x at l name version (Some n) r = subst (KeepsPlaces at.thread (Ok (OpensCatalog name))) (sym (ap (λ (k : OutLine). k.places) r.is)) refl
 
-opens_kept : (x : Around) (at : Caller) (l : OutLine) (name : List ℕ) (object : Option Parts) → IsOpen x at l name object → Kept at.thread (Ok (OpensCatalog name)) l.places
+opens_kept : (x : Around) (at : Caller) (l : OutLine) (name : List ℕ) (object : Option Parts) → IsOpen x at l name object → KeepsPlaces at.thread (Ok (OpensCatalog name)) l.places
 opens_kept x at l name (Some object) is = open_kept x at l name None (book_for x.plan.library (books_of x.plan) object name) is
 opens_kept x at l name None r = open_kept x at l name (Some r.version) (book_for x.plan.library (books_of x.plan) (global_of x r.version) name) r.opens
 
-granted_kept : (x : Around) (at : Caller) (l : OutLine) (w : Result Wish Why) → IsGranted x at l w → Kept at.thread w l.places
-granted_kept x at l (Err why) is = subst (Kept at.thread (Err why)) (sym (ap (λ (k : OutLine). k.places) is)) refl
-granted_kept x at l (Ok (Calls categories op)) r = subst (Kept at.thread (Ok (Calls categories op))) (sym (ap (λ (k : OutLine). k.places) r.is)) refl
+granted_kept : (x : Around) (at : Caller) (l : OutLine) (w : Result Wish Why) → IsGranted x at l w → KeepsPlaces at.thread w l.places
+granted_kept x at l (Err why) is = subst (KeepsPlaces at.thread (Err why)) (sym (ap (λ (k : OutLine). k.places) is)) refl
+granted_kept x at l (Ok (Calls categories op)) r = subst (KeepsPlaces at.thread (Ok (Calls categories op))) (sym (ap (λ (k : OutLine). k.places) r.is)) refl
 granted_kept x at l (Ok (ReadsOf n read)) is = of_kept x at l n read (held_as (open_holds (seen x at.thread) at.thread) n) is
 granted_kept x at l (Ok (Reads read)) is = read_kept x at l read (own (seen x at.thread) at.thread) is
-granted_kept x at l (Ok AsksSelection) is = subst (Kept at.thread (Ok AsksSelection)) (sym (ap (λ (k : OutLine). k.places) is)) refl
-granted_kept x at l (Ok (AsksName categories)) r = subst (Kept at.thread (Ok (AsksName categories))) (sym (ap (λ (k : OutLine). k.places) r.is)) refl
+granted_kept x at l (Ok AsksSelection) is = subst (KeepsPlaces at.thread (Ok AsksSelection)) (sym (ap (λ (k : OutLine). k.places) is)) refl
+granted_kept x at l (Ok (AsksName categories)) r = subst (KeepsPlaces at.thread (Ok (AsksName categories))) (sym (ap (λ (k : OutLine). k.places) r.is)) refl
 granted_kept x at l (Ok (OpensCatalog name)) is = opens_kept x at l name (own (seen x at.thread) at.thread) is
-granted_kept x at l (Ok (GetsMessage h set message default)) r = subst (Kept at.thread (Ok (GetsMessage h set message default))) (sym (ap (λ (k : OutLine). k.places) r.is)) refl
-granted_kept x at l (Ok (ClosesCatalog h)) r = subst (Kept at.thread (Ok (ClosesCatalog h))) (sym (ap (λ (k : OutLine). k.places) r.is)) refl
+granted_kept x at l (Ok (GetsMessage h set message default)) r = subst (KeepsPlaces at.thread (Ok (GetsMessage h set message default))) (sym (ap (λ (k : OutLine). k.places) r.is)) refl
+granted_kept x at l (Ok (ClosesCatalog h)) r = subst (KeepsPlaces at.thread (Ok (ClosesCatalog h))) (sym (ap (λ (k : OutLine). k.places) r.is)) refl
 
-told_kept : (x : Around) (d : Told) → IsTold x d → map place_of (calls_of x.plan.library (bound_by x.before) d) ≡ places_in d.line.places
-told_kept x d is = granted_kept x (caller_of d.line) d.line (wish_of x.plan.library (bindings_of d.line.thread (bound_by x.before)) d.task) is
+task_line_kept : (x : Around) (d : TaskLine) → IsAnswered x d → map place_of (calls_of x.plan.library (bound_by x.before) d) ≡ places_in d.line.places
+task_line_kept x d is = granted_kept x (caller_of d.line) d.line (wish_of x.plan.library (bindings_of d.line.thread (bound_by x.before)) d.task) is
 
-all_kept : (c : Setting) (plan : PlanData) (lines : List OutLine) (M : CatalogHistory) (calls : List PlacedCall) (before after : List Told) → AreTold c plan lines M calls before after
+all_kept : (c : Setting) (plan : PlanData) (lines : List OutLine) (M : CatalogHistory) (calls : List PlacedCall) (before after : List TaskLine) → AreAnswered c plan lines M calls before after
     → map place_of (calls_after plan.library before after) ≡ all_places (lines_of after)
-all_kept c plan lines M calls before [] told = refl
-all_kept c plan lines M calls before (d ∷ after) told =
+all_kept c plan lines M calls before [] answered = refl
+all_kept c plan lines M calls before (d ∷ after) answered =
     let here : List PlacedCall = calls_of plan.library (bound_by before) d in
     let rest : List PlacedCall = calls_after plan.library (d ∷ before) after in
     map-append place_of here rest
-    ∙ ap (λ (ps : List ℕ). ps ++ map place_of rest) (told_kept (around c plan lines M calls before after) d told.0)
-    ∙ ap (λ (ps : List ℕ). places_in d.line.places ++ ps) (all_kept c plan lines M calls (d ∷ before) after told.1)
+    ∙ ap (λ (ps : List ℕ). ps ++ map place_of rest) (task_line_kept (around c plan lines M calls before after) d answered.0)
+    ∙ ap (λ (ps : List ℕ). places_in d.line.places ++ ps) (all_kept c plan lines M calls (d ∷ before) after answered.1)
 
-no_line : (l : OutLine) (lines : List OutLine) → caller_of l ∷ map caller_of lines ≡ [] → lines_of (told [] (l ∷ lines)) ≡ l ∷ lines
+no_line : (l : OutLine) (lines : List OutLine) → caller_of l ∷ map caller_of lines ≡ [] → lines_of (with_tasks [] (l ∷ lines)) ≡ l ∷ lines
 no_line l lines is = absurd (cc is)
 
-lines_told : (before : List Caller) (turns : List Turn) (lines : List OutLine) → map caller_of lines ≡ callers_after before turns → lines_of (told turns lines) ≡ lines
-lines_told before [] [] is = refl
-lines_told before [] (l ∷ lines) is = no_line l lines is
-lines_told before (turn ∷ turns) [] is = refl
-lines_told before (turn ∷ turns) (l ∷ lines) is = ap (λ (ls : List OutLine). l ∷ ls) (lines_told (before ++ caller_after before turn ∷ []) turns lines (ap (drop 1) is))
+lines_with_tasks : (before : List Caller) (turns : List Turn) (lines : List OutLine) → map caller_of lines ≡ callers_after before turns → lines_of (with_tasks turns lines) ≡ lines
+lines_with_tasks before [] [] is = refl
+lines_with_tasks before [] (l ∷ lines) is = no_line l lines is
+lines_with_tasks before (turn ∷ turns) [] is = refl
+lines_with_tasks before (turn ∷ turns) (l ∷ lines) is = ap (λ (ls : List OutLine). l ∷ ls) (lines_with_tasks (before ++ caller_after before turn ∷ []) turns lines (ap (drop 1) is))
 
 pub places_of_calls : (c : Setting) (plan : PlanData) (lines : List OutLine) → Prints c plan lines → map place_of (all_calls c plan lines) ≡ all_places lines
 places_of_calls c plan lines w =
-    all_kept c plan lines w.catalogs (all_calls c plan lines) [] (all_told c plan lines) w.told
-    ∙ ap all_places (lines_told [] (all_turns c plan lines) lines w.callers)
+    all_kept c plan lines w.catalogs (all_calls c plan lines) [] (all_task_lines c plan lines) w.answered
+    ∙ ap all_places (lines_with_tasks [] (all_turns c plan lines) lines w.callers)
 
 -- ---- numbers of which each below their length is there once are all below it
 

@@ -9,7 +9,7 @@ use Rattle.script_lines.specs.Catalogs.{Books}
 use Rattle.category_store.specs.Catalog.{Catalog}
 use Rattle.category_store.specs.Library.{opening}
 use Rattle.handle_table.specs.Entry.{History, Setting}
-use Rattle.script_serial.specs.Kept.{AloneData}
+use Rattle.script_serial.specs.Alone.{AloneData}
 use Rattle.script_lang.specs.declared.bundle.Bundle.{Bundle}
 use Rattle.script_out.specs.declared.output.OutLine.{OutLine}
 use Rattle.script_lines.specs.declared.turns.Turn.{Turn as LentTurn}
@@ -17,7 +17,7 @@ use Rattle.script_lines.specs.Holds.{open_holds}
 use Rattle.script_serial.specs.Plan.{PlanData, IsSound, books_of}
 use Rattle.script_lines.specs.Seen.{turn_seen, TurnFits}
 use Rattle.script_serial.specs.Serial.{Run, setting, played, begun, commands_played, closed, serial_lines}
-use Rattle.script_serial.specs.Session.{ThreadData, AreAt, answered, GoesOn, AreNumbered, CanPlay}
+use Rattle.script_serial.specs.Session.{ThreadData, AreAt, ops_answered, GoesOn, AreNumbered, CanPlay}
 use Rattle.script_lines.specs.Turns.{Turn, first_numbers, command_turns, closing, closing_turns}
 use Rattle.script_serial.proofs.TurnLemmas.{AreFrom, few_turns, turns_fit, no_turns, few_closing, closing_is, closings_fit}
 
@@ -56,7 +56,7 @@ pub record AreDone (plan : PlanData) (c : Setting) (board : AloneData) (threads 
   pub long : length threads ≡ length plan.bundle.threads
   pub numbered : AreNumbered printed threads
   pub printed_few : printed ≤ 20480000
-  pub steps_few : answered board ≤ 40960000
+  pub steps_few : ops_answered board ≤ 40960000
 
 pub are_done : (plan : PlanData) (start board : AloneData) (before threads : List ThreadData) (turns : List LentTurn) (printed : ℕ) → IsSound plan → AreAt start before begun
     → start.table.setting.opening ≡ opening plan.library → start.table.setting.threads ≡ length plan.bundle.threads → length threads ≡ length plan.bundle.threads
@@ -67,7 +67,7 @@ are_done plan start board before threads turns printed sound at shelf many long 
     let commands : length turns ≤ 20480000 = few_commands plan turns sound same in
     let none : start.table.count ≡ 0 = at.stands.steps in
     let not_asked : start.asked ≡ 0 = at.catalogs.asked in
-    let made : answered board ≤ answered start + 2 * length turns = on.steps in
+    let made : ops_answered board ≤ ops_answered start + 2 * length turns = on.steps in
     record {
       sound = sound;
       there =
@@ -99,7 +99,7 @@ pub few_closings : (plan : PlanData) (c : Setting) (board : AloneData) (threads 
 few_closings plan c board threads printed turns done same =
     let H : History = (commands_played c plan).history in
     let entries : board.table.count ≡ length H = done.there.stands.steps in
-    let made : answered board ≤ 40960000 = done.steps_few in
+    let made : ops_answered board ≤ 40960000 = done.steps_few in
     let few : length (closing_turns plan.bundle H) ≤ 655360016 = few_closing plan.bundle H done.sound.accepted (omega arith) in
     let all : length (map turn_seen turns) ≡ length (closing_turns plan.bundle H) = ap (λ (ts : List Turn). length ts) (same ∙ closings_are plan c board threads printed done) in
     let long : length (map turn_seen turns) ≡ length turns = length-map turns turn_seen in
@@ -109,7 +109,7 @@ pub can_play_closings : (plan : PlanData) (c : Setting) (board : AloneData) (thr
     → map turn_seen turns ≡ closings_of plan threads → CanPlay plan.library board threads (length turns)
 can_play_closings plan c board threads printed turns done same =
     let few : length turns ≤ 655360016 = few_closings plan c board threads printed turns done same in
-    let made : answered board ≤ 40960000 = done.steps_few in
+    let made : ops_answered board ≤ 40960000 = done.steps_few in
     record {
       opening = ap (λ (s : Setting). s.opening) done.same ∙ done.shelf;
       threads = ap (λ (s : Setting). s.threads) done.same ∙ done.many ∙ sym done.long;
@@ -162,12 +162,12 @@ books_are bundle library books same = ap (λ (blocks : List Block). record { blo
 abbrev made_setting : ℕ → ℕ → ℕ → List Offered → Setting
 made_setting threads rows generations offers = record { threads = threads; rows = rows; generations = generations; opening = offers }
 
--- the lines that are told are those of the plan
-pub serial_told : (plan : PlanData) (rows generations count : ℕ) (bundle : Bundle) (library : Catalog) (books : List (List Message)) (c : Setting) (lines : List OutLine)
+-- the lines that are printed are those of the plan
+pub serial_lines_are : (plan : PlanData) (rows generations count : ℕ) (bundle : Bundle) (library : Catalog) (books : List (List Message)) (c : Setting) (lines : List OutLine)
     → c ≡ record { threads = count; rows = rows; generations = generations; opening = opening library } → count ≡ length bundle.threads → bundle ≡ plan.bundle → library ≡ plan.library → books ≡ plan.books
     → lines ≡ (closed c (record { bundle = bundle; library = library; books = books }) (commands_played c (record { bundle = bundle; library = library; books = books }))).lines → lines ≡ serial_lines rows generations plan
-serial_told plan rows generations count bundle library books c lines own many same of read is =
-    let told : PlanData = made_plan bundle library books in
-    let whole : told ≡ plan = plan_is plan bundle library books same of read in
-    let set : c ≡ setting told rows generations = own ∙ ap (λ (n : ℕ). made_setting n rows generations (opening library)) many in
-    is ∙ ap (λ (s : Setting). (closed s told (commands_played s told)).lines) set ∙ ap (λ (p : PlanData). serial_lines rows generations p) whole
+serial_lines_are plan rows generations count bundle library books c lines own many same of read is =
+    let made : PlanData = made_plan bundle library books in
+    let whole : made ≡ plan = plan_is plan bundle library books same of read in
+    let set : c ≡ setting made rows generations = own ∙ ap (λ (n : ℕ). made_setting n rows generations (opening library)) many in
+    is ∙ ap (λ (s : Setting). (closed s made (commands_played s made)).lines) set ∙ ap (λ (p : PlanData). serial_lines rows generations p) whole

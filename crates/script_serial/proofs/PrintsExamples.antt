@@ -13,7 +13,7 @@ use Rattle.script_out.specs.declared.output.Places.TheVariants as places
 use Rattle.script_out.specs.declared.output.Said.TheVariants as said
 use Rattle.script_serial.specs.Plan.{PlanData}
 use Rattle.script_serial.specs.Serial.{setting}
-use Rattle.script_serial.specs.Prints.{PlacedCall, told, all_places, calls_after, history_below, caller_of, callers_after, all_turns, AreTold}
+use Rattle.script_serial.specs.Prints.{PlacedCall, with_tasks, all_places, calls_after, history_below, caller_of, callers_after, all_turns, AreAnswered}
 use Rattle.script_serial.proofs.Examples.{plan, placed, line_of, first_of}
 
 -- ---- A makes an object and posts it; B reads it by the handle; then both are closed. B's calls may come between A's
@@ -39,7 +39,7 @@ abbrev call : ℕ → ℕ → table.Op → PlacedCall
 call place thread op = record { place = place; thread = thread; op = op }
 
 -- a read of a handle is a Hold and a Release
-calls_of_lines : calls_after shared.library [] (told (all_turns c shared between) between)
+calls_of_lines : calls_after shared.library [] (with_tasks (all_turns c shared between) between)
     ≡ call 0 0 (table.New 2 (0 ∷ 1 ∷ 0 ∷ 0 ∷ 0 ∷ []) None)
     ∷ call 2 0 (table.Post 0 (named.Of (first_of 0)))
     ∷ call 1 1 (table.Hold (named.Of (first_of 0)))
@@ -49,15 +49,15 @@ calls_of_lines : calls_after shared.library [] (told (all_turns c shared between
 calls_of_lines = refl
 
 -- the history is in order of place
-whose_calls : map (λ (e : table.Entry). e.who) (history_below c (calls_after shared.library [] (told (all_turns c shared between) between)) 6) ≡ 1 ∷ 0 ∷ 1 ∷ 0 ∷ 1 ∷ 0 ∷ []
+whose_calls : map (λ (e : table.Entry). e.who) (history_below c (calls_after shared.library [] (with_tasks (all_turns c shared between) between)) 6) ≡ 1 ∷ 0 ∷ 1 ∷ 0 ∷ 1 ∷ 0 ∷ []
 whose_calls = refl
 
 callers_between : map caller_of between ≡ callers_after [] (all_turns c shared between)
 callers_between = refl
 
 -- each line prints what its task asks for
-told_between : let ds = told (all_turns c shared between) between in AreTold c shared between [] (calls_after shared.library [] ds) [] ds
-told_between = (
+answered_between : let ds = with_tasks (all_turns c shared between) between in AreAnswered c shared between [] (calls_after shared.library [] ds) [] ds
+answered_between = (
   record { place = 0; is = refl },
   (
     record { place = 2; is = refl },

@@ -7,7 +7,9 @@ use Rattle.category_store.specs.Catalog.{Catalog}
 use Rattle.handle_table.specs.declared.handle.Handle.{Handle}
 use Rattle.handle_table.specs.declared.handle.Named.{Named}
 use Rattle.handle_table.specs.declared.handle.Named.TheVariants.{Global, Of}
-use Rattle.handle_table.specs.Entry.{Hold, Release, Refusal, NotHeld, Reply, Made, Freed, Was, Held, Released, Set, Installed, Posted, Got, Pinned, Ended, Refused, History, Setting, same_handle, is_accepted}
+use Rattle.handle_table.specs.declared.op.Refusal.{Refusal}
+use Rattle.handle_table.specs.declared.op.Refusal.TheVariants.{NotHeld}
+use Rattle.handle_table.specs.Entry.{Hold, Release, Reply, Made, Freed, Was, Held, Released, Set, Installed, Posted, Got, Pinned, Ended, Refused, History, Setting, same_handle, is_accepted}
 use Rattle.handle_table.specs.History.{object, holding}
 use Rattle.handle_table.specs.Answer.{reasons, first_reason, unless, answer}
 use Rattle.script_commands.specs.declared.command.Read.{Read}

@@ -23,8 +23,8 @@ use Rattle.script_lines.specs.Outcome.{granted}
 use Rattle.script_serial.specs.Serial.{Run, TurnOutcome, lines_of_thread, next_caller, outcome, with_outcome, played}
 use Rattle.script_lines.specs.Thread.{BindsAs}
 use Rattle.script_lines.specs.Board.{Left, LeavesTurn, turn_caller}
-use Rattle.script_serial.specs.Kept.{KeptData, Knows, AloneData}
-use Rattle.script_serial.specs.Session.{ThreadData, Follows, IsAt, CatalogsAreAt, answered, IsWith, AreAt, IsReady, GoesOn, IsNumberedThread, AreNumbered, CanPlay}
+use Rattle.script_serial.specs.Alone.{AloneSideData, Knows, AloneData}
+use Rattle.script_serial.specs.Session.{ThreadData, Follows, IsAt, CatalogsAreAt, ops_answered, IsWith, AreAt, IsReady, GoesOn, IsNumberedThread, AreNumbered, CanPlay}
 use Rattle.script_serial.proofs.Alone.{alone, alone_catalogs}
 use Rattle.script_serial.proofs.OutcomeLemmas.{granted_thread, one_more_line, no_line_more, knows_granted}
 
@@ -156,20 +156,20 @@ turned c library books run old new t u turn l own number lines leaves binds is =
     let left : Left (IsAt new.table u.side) (granted c library books H M caller w) l = alone c library books (IsAt new.table u.side) (CatalogsAreAt new) H M caller w l all in
     let catalogs : CatalogsAreAt new done.catalogs = alone_catalogs c library books (IsAt new.table u.side) (CatalogsAreAt new) H M caller w l all in
     let made : Left (IsAt new.table u.side) (granted c library books H M (next_caller run turn) w) l = subst (λ (a : Caller). Left (IsAt new.table u.side) (granted c library books H M a w) l) (caller_is t run turn is.follows own) left in
-    let told : BindsAs t.side.number u.variables (bindings_after t.side.number run.bindings turn.task done.line.reply) =
+    let bound_by_task : BindsAs t.side.number u.variables (bindings_after t.side.number run.bindings turn.task done.line.reply) =
     subst (λ (x : OutLine). BindsAs t.side.number u.variables (bindings_after t.side.number run.bindings turn.task x.reply)) made.line (binds run.bindings is.follows.variables)
     in
     let named : BindsAs u.side.number u.variables (bindings_after t.side.number run.bindings turn.task done.line.reply) =
-    subst (λ (n : ℕ). BindsAs n u.variables (bindings_after t.side.number run.bindings turn.task done.line.reply)) (sym number) told
+    subst (λ (n : ℕ). BindsAs n u.variables (bindings_after t.side.number run.bindings turn.task done.line.reply)) (sym number) bound_by_task
     in
     record { line = made.line; there = record { stands = made.now_at.stands; catalogs = catalogs; follows = follows_own c library books run t u turn own number is.follows made.now_at.knows named lines } }
 
 -- a turn takes two steps at most
-pub two_steps : (old new : AloneData) (t u : KeptData) → new.table.setting ≡ old.table.setting → IsReady 2 old t → ((n : ℕ) → IsReady (n + 2) old t → IsReady n new u) → GoesOn 2 old new
+pub two_steps : (old new : AloneData) (t u : AloneSideData) → new.table.setting ≡ old.table.setting → IsReady 2 old t → ((n : ℕ) → IsReady (n + 2) old t → IsReady n new u) → GoesOn 2 old new
 two_steps old new t u same ready leaves =
-    let few : answered old + 2 ≤ 2147483647 = ready.steps in
-    let rest : ℕ = 2147483647 - (answered old + 2) in
-    let after : answered new + rest ≤ 2147483647 = (leaves rest (record { number = ready.number; steps = omega arith })).steps in
+    let few : ops_answered old + 2 ≤ 2147483647 = ready.steps in
+    let rest : ℕ = 2147483647 - (ops_answered old + 2) in
+    let after : ops_answered new + rest ≤ 2147483647 = (leaves rest (record { number = ready.number; steps = omega arith })).steps in
     record { setting = same; steps = omega arith }
 
 -- ---- what a turn needs
@@ -202,8 +202,8 @@ can_take library start board before threads count lines i turn d can on same num
     let number : t.side.number ≡ turn.thread = own.number in
     let most : t.lines ≤ lines + i = own.lines in
     let many : board.table.setting.threads ≡ length before = ap (λ (s : Setting). s.threads) on.setting ∙ can.threads in
-    let made : answered board ≤ answered start + 2 * i = on.steps in
-    let room : answered start + 2 * count ≤ 2147483647 = can.steps in
+    let made : ops_answered board ≤ ops_answered start + 2 * i = on.steps in
+    let room : ops_answered start + 2 * count ≤ 2147483647 = can.steps in
     record {
       ready = record { number = omega arith; steps = omega arith };
       shelf = ap (λ (s : Setting). s.opening) on.setting ∙ can.opening;
@@ -238,8 +238,8 @@ numbered_on threads d u k lines lines' l pushed lt numbered number more =
 
 pub goes_on : (start board board' : AloneData) (i : ℕ) → GoesOn (2 * i) start board → GoesOn 2 board board' → GoesOn (2 * (i + 1)) start board'
 goes_on start board board' i before after =
-    let made : answered board ≤ answered start + 2 * i = before.steps in
-    let more : answered board' ≤ answered board + 2 = after.steps in
+    let made : ops_answered board ≤ ops_answered start + 2 * i = before.steps in
+    let more : ops_answered board' ≤ ops_answered board + 2 = after.steps in
     record { setting = after.setting ∙ before.setting; steps = omega arith }
 
 -- the script after one more turn, where the thread at its place has left this

@@ -20,7 +20,7 @@ use Rattle.script_lines.specs.Variables.{Bound, bindings_of, bindings_after}
 use Rattle.script_lines.specs.Wishes.{Wish, Calls, ReadsOf, Reads, AsksSelection, AsksName, wish_of, ops_of, OpensCatalog, GetsMessage, ClosesCatalog}
 use Rattle.script_lines.specs.Outcome.{Outcome, with_call, reads_between, reads_of, read_line, granted, asked_of}
 use Rattle.script_serial.specs.Serial.{Run, next_caller, outcome, with_outcome, played, TurnOutcome}
-use Rattle.script_serial.specs.Prints.{Told, told, bound_by, places_in, PlacedCall, call_of, calls_of, calls_after, with_placed, history_below}
+use Rattle.script_serial.specs.Prints.{TaskLine, with_tasks, bound_by, places_in, PlacedCall, call_of, calls_of, calls_after, with_placed, history_below}
 use Rattle.script_serial.proofs.SerialLines.{granted_caller, added}
 use Rattle.script_lines.specs.Catalogs.{Books}
 use Rattle.script_serial.proofs.CatalogLines.{opens_places}
@@ -208,8 +208,8 @@ granted_gains c library books H M at (Ok (ClosesCatalog h)) = no_gain H
 
 -- ---- the lines with their tasks
 
-abbrev pub told_of : Turn → OutLine → Told
-told_of turn l = record { task = turn.task; line = l }
+abbrev pub task_line_of : Turn → OutLine → TaskLine
+task_line_of turn l = record { task = turn.task; line = l }
 
 pub line_thread : (c : Setting) (library : Catalog) (books : Books) (run : Run) (turn : Turn) → (outcome c library books run turn).line.thread ≡ turn.thread
 line_thread c library books run turn = ap (λ (at : Caller). at.thread) (granted_caller c library books run.history run.catalogs (next_caller run turn) (wish_in library run turn))
@@ -218,15 +218,15 @@ pub line_round : (c : Setting) (library : Catalog) (books : Books) (run : Run) (
 line_round c library books run turn = ap (λ (at : Caller). at.round) (granted_caller c library books run.history run.catalogs (next_caller run turn) (wish_in library run turn))
 
 -- what variables stand for after one more line
-pub bound_next : (c : Setting) (library : Catalog) (books : Books) (run : Run) (before : List Told) (turn : Turn) → bound_by before ≡ run.bindings
-    → bound_by (told_of turn (outcome c library books run turn).line ∷ before) ≡ (with_outcome run turn (outcome c library books run turn)).bindings
+pub bound_next : (c : Setting) (library : Catalog) (books : Books) (run : Run) (before : List TaskLine) (turn : Turn) → bound_by before ≡ run.bindings
+    → bound_by (task_line_of turn (outcome c library books run turn).line ∷ before) ≡ (with_outcome run turn (outcome c library books run turn)).bindings
 bound_next c library books run before turn bounds =
     let l : OutLine = (outcome c library books run turn).line in
     ap (λ (thread : ℕ). bindings_after thread (bound_by before) turn.task l.reply) (line_thread c library books run turn)
     ∙ ap (λ (bs : List Bound). bindings_after turn.thread bs turn.task l.reply) bounds
 
-pub calls_here : (c : Setting) (library : Catalog) (books : Books) (run : Run) (before : List Told) (turn : Turn) → bound_by before ≡ run.bindings
-    → calls_of library (bound_by before) (told_of turn (outcome c library books run turn).line)
+pub calls_here : (c : Setting) (library : Catalog) (books : Books) (run : Run) (before : List TaskLine) (turn : Turn) → bound_by before ≡ run.bindings
+    → calls_of library (bound_by before) (task_line_of turn (outcome c library books run turn).line)
     ≡ wished_calls turn.thread (places_in (outcome c library books run turn).line.places) (wish_in library run turn)
 calls_here c library books run before turn bounds =
     let at : List ℕ = places_in (outcome c library books run turn).line.places in
@@ -234,22 +234,22 @@ calls_here c library books run before turn bounds =
     ∙ ap (λ (bs : List Bound). wished_calls turn.thread at (wish_of library (bindings_of turn.thread bs) turn.task)) bounds
 
 -- the calls of the lines of turns are those of the history
-pub calls_played : (c : Setting) (library : Catalog) (books : Books) (run : Run) (before : List Told) (turns : List Turn) → bound_by before ≡ run.bindings
-    → calls_from run.history ++ calls_after library before (told turns (added c library books run turns)) ≡ calls_from (played c library books run turns).history
+pub calls_played : (c : Setting) (library : Catalog) (books : Books) (run : Run) (before : List TaskLine) (turns : List Turn) → bound_by before ≡ run.bindings
+    → calls_from run.history ++ calls_after library before (with_tasks turns (added c library books run turns)) ≡ calls_from (played c library books run turns).history
 calls_played c library books run before [] bounds = append-nil (calls_from run.history)
 calls_played c library books run before (turn ∷ turns) bounds =
     let done : TurnOutcome = outcome c library books run turn in
-    let d : Told = told_of turn done.line in
+    let d : TaskLine = task_line_of turn done.line in
     let next : Run = with_outcome run turn done in
-    let after : List PlacedCall = calls_after library (d ∷ before) (told turns (added c library books next turns)) in
+    let after : List PlacedCall = calls_after library (d ∷ before) (with_tasks turns (added c library books next turns)) in
     ap (λ (here : List PlacedCall). calls_from run.history ++ (here ++ after)) (calls_here c library books run before turn bounds)
     ∙ sym (append_assoc (calls_from run.history) (wished_calls turn.thread (places_in done.line.places) (wish_in library run turn)) after)
     ∙ ap (λ (calls : List PlacedCall). calls ++ after) (sym (granted_gains c library books run.history run.catalogs (next_caller run turn) (wish_in library run turn)))
     ∙ calls_played c library books next (d ∷ before) turns (bound_next c library books run before turn bounds)
 
--- the tasks of turns tell of their lines alone
-pub told_first : (c : Setting) (library : Catalog) (books : Books) (run : Run) (turns : List Turn) (more : List OutLine) → told turns (added c library books run turns ++ more) ≡ told turns (added c library books run turns)
-told_first c library books run [] more = refl
-told_first c library books run (turn ∷ turns) more =
+-- the tasks of turns go with their lines alone
+pub with_tasks_first : (c : Setting) (library : Catalog) (books : Books) (run : Run) (turns : List Turn) (more : List OutLine) → with_tasks turns (added c library books run turns ++ more) ≡ with_tasks turns (added c library books run turns)
+with_tasks_first c library books run [] more = refl
+with_tasks_first c library books run (turn ∷ turns) more =
     let done : TurnOutcome = outcome c library books run turn in
-    ap (λ (ds : List Told). told_of turn done.line ∷ ds) (told_first c library books (with_outcome run turn done) turns more)
+    ap (λ (ds : List TaskLine). task_line_of turn done.line ∷ ds) (with_tasks_first c library books (with_outcome run turn done) turns more)

@@ -1,4 +1,4 @@
--- Each version that a line of `serial` tells without having made it is that of the calls before the line.
+-- Each version that a line of `serial` prints without having made it is that of the calls before the line.
 use Rattle.std.proofs.Common.{◌≡◌, ℕ, List, [], ◌∷◌, length, Option, Some, None, Result, Ok, Err, refl, sym, ap, subst, ◌∙◌}
 use Rattle.std.proofs.lemmas.Option.{same_Some}
 use Rattle.mask_compose.specs.Parts.{Parts}
@@ -19,18 +19,18 @@ use Rattle.script_lines.specs.Turns.{Turn}
 use Rattle.script_lines.specs.Wishes.{Wish, Calls, ReadsOf, Reads, AsksSelection, AsksName, OpensCatalog, GetsMessage, ClosesCatalog}
 use Rattle.script_lines.specs.Outcome.{Outcome, reads_between, reads_of, read_line, granted, opens_line, asked_of}
 use Rattle.script_serial.specs.Serial.{Run, next_caller, outcome, with_outcome, played, begun, serial_lines, setting, TurnOutcome}
-use Rattle.script_serial.specs.Prints.{places_in, told, PlacedCall, calls_after, history_below, all_turns, AreNewest, PrintsInOrder}
+use Rattle.script_serial.specs.Prints.{places_in, with_tasks, PlacedCall, calls_after, history_below, all_turns, AreNewest, PrintsInOrder}
 use Rattle.script_serial.proofs.SerialLines.{IsCounted, one_turn, added}
 use Rattle.script_serial.proofs.SerialCalls.{calls_from, GoesOnFrom, past_is, played_on, played_legal, wish_in, calls_played}
-use Rattle.script_serial.proofs.SerialTold.{places_so_far}
+use Rattle.script_serial.proofs.SerialAnswered.{places_so_far}
 use Rattle.script_serial.proofs.SerialPrints.{turns, lines, whole, serial_is, turns_are, serial_prints, serial_in_order, serial_catalogs_in_order}
 use Rattle.script_lines.specs.Catalogs.{Books, Asked, book_for}
 use Rattle.script_serial.proofs.CatalogLines.{open_version}
 use Rattle.catalog_table.specs.Entry.{History as CatalogHistory}
 
--- a line without a place tells the version of the history
-abbrev TellsNewest : History → OutLine → Type 0
-TellsNewest H l = (version : ℕ) → places_in l.places ≡ [] → l.global ≡ Some version → version ≡ sets H
+-- a line without a place prints the version of the history
+abbrev PrintsNewest : History → OutLine → Type 0
+PrintsNewest H l = (version : ℕ) → places_in l.places ≡ [] → l.global ≡ Some version → version ≡ sets H
 
 no_version : (version : ℕ) (m : ℕ) → None ≡ Some version → version ≡ m
 no_version version m is = absurd (cc is)
@@ -41,23 +41,23 @@ one_place place version m is = absurd (cc is)
 this_version : (version m : ℕ) → Some m ≡ Some version → version ≡ m
 this_version version m is = sym (same_Some m version is)
 
-between_newest : (c : Setting) (library : Catalog) (H : History) (at : Caller) (n : Named) (read : Read) (object : Option Parts) → TellsNewest H (reads_between c library H at n read object).line
+between_newest : (c : Setting) (library : Catalog) (H : History) (at : Caller) (n : Named) (read : Read) (object : Option Parts) → PrintsNewest H (reads_between c library H at n read object).line
 between_newest c library H at n read None version none is = one_place (length H) version (sets H) none
 between_newest c library H at n read (Some object) version none is = no_version version (sets H) is
 
-of_newest : (c : Setting) (library : Catalog) (H : History) (at : Caller) (n : Named) (read : Read) (held : Option Parts) → TellsNewest H (reads_of c library H at n read held).line
+of_newest : (c : Setting) (library : Catalog) (H : History) (at : Caller) (n : Named) (read : Read) (held : Option Parts) → PrintsNewest H (reads_of c library H at n read held).line
 of_newest c library H at n read (Some object) version none is = no_version version (sets H) is
 of_newest c library H at n read None version none is = between_newest c library H at n read (object_held (answer c H at.thread (table.Hold n))) version none is
 
-read_newest : (c : Setting) (library : Catalog) (H : History) (at : Caller) (read : Read) (object : Option Parts) → TellsNewest H (read_line c library H at read object)
+read_newest : (c : Setting) (library : Catalog) (H : History) (at : Caller) (read : Read) (object : Option Parts) → PrintsNewest H (read_line c library H at read object)
 read_newest c library H at read (Some object) version none is = no_version version (sets H) is
 read_newest c library H at read None version none is = this_version version (sets H) is
 
-opens_newest : (c : Setting) (library : Catalog) (books : Books) (H : History) (at : Caller) (name : List ℕ) (asked : Asked) (object : Option Parts) → TellsNewest H (opens_line c library books H at name asked object)
+opens_newest : (c : Setting) (library : Catalog) (books : Books) (H : History) (at : Caller) (name : List ℕ) (asked : Asked) (object : Option Parts) → PrintsNewest H (opens_line c library books H at name asked object)
 opens_newest c library books H at name asked (Some object) version none is = no_version version (sets H) (sym (open_version at None asked (book_for library books object name)) ∙ is)
 opens_newest c library books H at name asked None version none is = this_version version (sets H) (sym (open_version at (Some (sets H)) asked (book_for library books (global c H) name)) ∙ is)
 
-granted_newest : (c : Setting) (library : Catalog) (books : Books) (H : History) (M : CatalogHistory) (at : Caller) (w : Result Wish Why) → TellsNewest H (granted c library books H M at w).line
+granted_newest : (c : Setting) (library : Catalog) (books : Books) (H : History) (M : CatalogHistory) (at : Caller) (w : Result Wish Why) → PrintsNewest H (granted c library books H M at w).line
 granted_newest c library books H M at (Err why) version none is = no_version version (sets H) is
 granted_newest c library books H M at (Ok (Calls categories op)) version none is = one_place (length H) version (sets H) none
 granted_newest c library books H M at (Ok (ReadsOf n read)) version none is = of_newest c library H at n read (held_as (open_holds H at.thread) n) version none is
@@ -90,15 +90,15 @@ serial_prints_in_order rows generations plan =
     let all : List OutLine = lines rows generations plan in
     let ts : List Turn = turns rows generations plan in
     let F : History = whole rows generations plan in
-    let calls : calls_after plan.library [] (told ts all) ≡ calls_from F = calls_played c plan.library (books_of plan) begun [] ts refl in
+    let calls : calls_after plan.library [] (with_tasks ts all) ≡ calls_from F = calls_played c plan.library (books_of plan) begun [] ts refl in
     let newest : AreNewest c (calls_from F) [] all = are_newest c plan.library (books_of plan) F begun ts (played_legal c plan.library (books_of plan) begun ts tt) refl refl in
     record {
       prints = serial_prints rows generations plan;
       in_order = serial_in_order rows generations plan;
       catalogs_in_order = serial_catalogs_in_order rows generations plan;
       newest =
-          subst (λ (ls : List OutLine). AreNewest c (calls_after plan.library [] (told (all_turns c plan ls) ls)) [] ls) (sym (serial_is rows generations plan))
-          (subst (λ (us : List Turn). AreNewest c (calls_after plan.library [] (told us all)) [] all) (sym (turns_are rows generations plan))
+          subst (λ (ls : List OutLine). AreNewest c (calls_after plan.library [] (with_tasks (all_turns c plan ls) ls)) [] ls) (sym (serial_is rows generations plan))
+          (subst (λ (us : List Turn). AreNewest c (calls_after plan.library [] (with_tasks us all)) [] all) (sym (turns_are rows generations plan))
           (subst (λ (cs : List PlacedCall). AreNewest c cs [] all) (sym calls) newest));
     }
 

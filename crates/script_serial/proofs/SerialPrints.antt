@@ -15,11 +15,11 @@ use Rattle.script_serial.specs.Plan.{PlanData, books_of}
 use Rattle.script_lines.specs.Holds.{open_holds}
 use Rattle.script_lines.specs.Turns.{Turn, first_numbers, in_round, in_thread, turn_of, thread_turns, round_turns, command_turns, closing_turn, releases, closing, closing_turns, Releases, Ends}
 use Rattle.script_serial.specs.Serial.{Run, outcome, with_outcome, played, begun, commands_played, serial_lines, setting}
-use Rattle.script_serial.specs.Prints.{Told, told, places_in, all_places, of_thread, before_round, from_round, PlacedCall, calls_after, history_below, caller_of, callers_after, command_calls, all_turns, AreTold, ArePlaced, Prints, AreInOrder, catalog_places_in, all_catalog_places, AreCatalogsPlaced, AreCatalogsInOrder}
+use Rattle.script_serial.specs.Prints.{TaskLine, with_tasks, places_in, all_places, of_thread, before_round, from_round, PlacedCall, calls_after, history_below, caller_of, callers_after, command_calls, all_turns, AreAnswered, ArePlaced, Prints, AreInOrder, catalog_places_in, all_catalog_places, AreCatalogsPlaced, AreCatalogsInOrder}
 use Rattle.script_serial.proofs.LineLists.{filter_true, filter_none, all_kept, GoUp, AreBelow, increasing, range_up, up_right, up_below, up_kept, count_once}
 use Rattle.script_serial.proofs.SerialLines.{first_places, all_turns_counted, callers_played, played_append, added, played_lines, added_append}
-use Rattle.script_serial.proofs.SerialCalls.{calls_from, calls_length, goes_nowhere, past_is, played_legal, calls_played, told_first, line_round}
-use Rattle.script_serial.proofs.SerialTold.{AreByRound, added_rounds, IsOnItsWay, are_told}
+use Rattle.script_serial.proofs.SerialCalls.{calls_from, calls_length, goes_nowhere, past_is, played_legal, calls_played, with_tasks_first, line_round}
+use Rattle.script_serial.proofs.SerialAnswered.{AreByRound, added_rounds, IsOnItsWay, are_answered}
 use Rattle.script_serial.proofs.TurnLemmas.{flat_all}
 use Rattle.script_lines.specs.Catalogs.{Books, catalog_setting}
 use Rattle.script_serial.proofs.SerialCatalogs.{played_catalogs_legal, played_catalogs_threads, all_turns_entered}
@@ -248,8 +248,8 @@ module _ (rows generations : ℕ) (plan : PlanData) where
       let rest : List OutLine = added c plan.library (books_of plan) (commands_played c plan) (closing_turns plan.bundle commanded) in
       let split : lines ≡ first ++ rest = added_append c plan.library (books_of plan) begun commands (closing_turns plan.bundle commanded) in
       let calls : command_calls plan lines ≡ calls_from commanded =
-      ap (λ (ls : List OutLine). calls_after plan.library [] (told commands ls)) split
-      ∙ ap (calls_after plan.library []) (told_first c plan.library (books_of plan) begun commands rest)
+      ap (λ (ls : List OutLine). calls_after plan.library [] (with_tasks commands ls)) split
+      ∙ ap (calls_after plan.library []) (with_tasks_first c plan.library (books_of plan) begun commands rest)
       ∙ calls_played c plan.library (books_of plan) begun [] commands refl
       in
       let legal = played_legal c plan.library (books_of plan) begun commands tt in
@@ -287,11 +287,11 @@ module _ (rows generations : ℕ) (plan : PlanData) where
     printed_before = All-nil (λ (v : ℕ). v ≤ 0);
   }
 
-  told_are : let ds = told turns lines in AreTold c plan lines catalogs (calls_after plan.library [] ds) [] ds
-  told_are =
-      let ds : List Told = told turns lines in
+  all_answered : let ds = with_tasks turns lines in AreAnswered c plan lines catalogs (calls_after plan.library [] ds) [] ds
+  all_answered =
+      let ds : List TaskLine = with_tasks turns lines in
       let calls : calls_after plan.library [] ds ≡ calls_from whole = calls_played c plan.library (books_of plan) begun [] turns refl in
-      subst (λ (cs : List PlacedCall). AreTold c plan lines catalogs cs [] ds) (sym calls) (are_told c plan lines whole catalogs begun [] turns begins)
+      subst (λ (cs : List PlacedCall). AreAnswered c plan lines catalogs cs [] ds) (sym calls) (are_answered c plan lines whole catalogs begun [] turns begins)
 
   prints : Prints c plan lines
   prints = record {
@@ -300,7 +300,7 @@ module _ (rows generations : ℕ) (plan : PlanData) where
     catalogs_placed = are_catalogs_placed (catalog_setting c) catalogs lines (lines_by_round c plan.library (books_of plan) begun turns (turns_by_round plan.bundle commanded)) catalog_places_are
         (played_catalogs_legal c plan.library (books_of plan) begun turns tt) (played_catalogs_threads (length plan.bundle.threads) c plan.library (books_of plan) begun turns (turns_of_threads plan.bundle commanded) tt);
     placed = are_placed plan.bundle.rounds (length whole) lines (lines_by_round c plan.library (books_of plan) begun turns (turns_by_round plan.bundle commanded)) places_are;
-    told = subst (λ (ts : List Turn). let ds = told ts lines in AreTold c plan lines catalogs (calls_after plan.library [] ds) [] ds) (sym turns_are) told_are;
+    answered = subst (λ (ts : List Turn). let ds = with_tasks ts lines in AreAnswered c plan lines catalogs (calls_after plan.library [] ds) [] ds) (sym turns_are) all_answered;
   }
 
   -- serial prints what a script may print

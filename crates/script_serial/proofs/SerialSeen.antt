@@ -8,6 +8,8 @@ use Rattle.category_store.specs.Catalog.{Catalog}
 use Rattle.handle_table.specs.declared.handle.Handle.{Handle}
 use Rattle.handle_table.specs.declared.handle.Named.{Named}
 use Rattle.handle_table.specs.declared.handle.Named.TheVariants.{Global, Of}
+use Rattle.handle_table.specs.declared.op.Refusal.{Refusal}
+use Rattle.handle_table.specs.declared.op.Refusal.TheVariants as refusals
 use Rattle.handle_table.specs.Entry as table
 use Rattle.handle_table.specs.Entry.{Entry, History, Setting, is_accepted, same_handle}
 use Rattle.handle_table.specs.History as histories
@@ -169,7 +171,7 @@ none_up n = All-nil (λ (v : ℕ). v ≤ n)
 pub some_up : (n v : ℕ) → v ≤ n → UpTo n (Some v)
 some_up n v le = All-cons (λ (k : ℕ). k ≤ n) v [] le (All-nil (λ (k : ℕ). k ≤ n))
 
-no_version : (n : ℕ) (r : Option table.Refusal) (reply : table.Reply) → version_made reply ≡ None → UpTo n (version_made (unless r reply))
+no_version : (n : ℕ) (r : Option Refusal) (reply : table.Reply) → version_made reply ≡ None → UpTo n (version_made (unless r reply))
 no_version n None reply none = subst (UpTo n) (sym none) (none_up n)
 no_version n (Some refusal) reply none = none_up n
 
@@ -185,7 +187,7 @@ no_version_got : (cell : Option Handle) → version_made (got cell) ≡ None
 no_version_got None = refl
 no_version_got (Some h) = refl
 
-new_version : (r : Option table.Refusal) (H : History) (mask : ℕ) (numbers : List ℕ) (object : Parts)
+new_version : (r : Option Refusal) (H : History) (mask : ℕ) (numbers : List ℕ) (object : Parts)
     → UpTo (if is_accepted (unless r (table.Set (sets H + 1) object)) then suc (sets H) else sets H) (version_made (unless r (table.Set (sets H + 1) object)))
 new_version None H mask numbers object = some_up (suc (sets H)) (sets H + 1) (omega arith)
 new_version (Some refusal) H mask numbers object = none_up (sets H)
@@ -264,4 +266,4 @@ released_after c H t (Of h) object p =
     holding_of_caller e H t h refl (held_is_accepted (answer c H t (table.Hold (Of h))) object p)
     ∙ ap (λ (b : Bool). b || holding H t h) (same_itself h)
     in
-    ap (λ (b : Bool). unless (first_reason (None ∷ (if b then None else Some table.NotHeld) ∷ [])) table.Released) holds
+    ap (λ (b : Bool). unless (first_reason (None ∷ (if b then None else Some refusals.NotHeld) ∷ [])) table.Released) holds

@@ -7,6 +7,7 @@ use Rattle.lc_base.specs.declared.category.Category.TheVariants as categories
 use Rattle.lc_base.specs.declared.item.Item.TheVariants.{Radixchar}
 use Rattle.catalog_table.specs.declared.setting.CatalogSetting.{CatalogSetting}
 use Rattle.catalog_table.specs.Entry.{History as CatalogHistory}
+use Rattle.handle_table.specs.declared.op.Refusal.TheVariants as refusals
 use Rattle.handle_table.specs.Entry as table
 use Rattle.handle_table.specs.Entry.{Setting}
 use Rattle.mask_compose.specs.Parts.{Parts}
@@ -30,7 +31,7 @@ use Rattle.script_lines.specs.Holds.{object_held}
 use Rattle.script_lines.specs.Lines.{Caller, shown}
 use Rattle.script_lines.specs.Reads.{local}
 use Rattle.script_serial.specs.Serial.{setting}
-use Rattle.script_serial.specs.Prints.{told, calls_after, all_turns, caller_of, callers_after, Around, past, global_of, AreTold, IsGlobalRead, IsReadBetween, IsHoldRefused, AreCatalogsPlaced, ArePlaced}
+use Rattle.script_serial.specs.Prints.{with_tasks, calls_after, all_turns, caller_of, callers_after, Around, past, global_of, AreAnswered, IsGlobalRead, IsReadBetween, IsHoldRefused, AreCatalogsPlaced, ArePlaced}
 use Rattle.script_serial.proofs.Examples.{library, plan, placed, line_of, first_of}
 use Rattle.script_serial.proofs.PrintsExamples.{shared}
 
@@ -56,9 +57,9 @@ set_line place = line_of 1 0 1 (places.One place) (Some 1) (said.Name (codes "a"
 abbrev end_line : ℕ → ℕ → ℕ → ℕ → OutLine
 end_line round thread index place = line_of round thread index (places.One place) None said.Ended
 
--- each line tells what its task asks for
-abbrev AllTell : PlanData → List OutLine → Type 0
-AllTell p lines = let ds = told (all_turns (c p) p lines) lines in AreTold (c p) p lines [] (calls_after p.library [] ds) [] ds
+-- each line prints what its task asks for
+abbrev AllAnswered : PlanData → List OutLine → Type 0
+AllAnswered p lines = let ds = with_tasks (all_turns (c p) p lines) lines in AreAnswered (c p) p lines [] (calls_after p.library [] ds) [] ds
 
 abbrev first_byte : Said → ℕ
 first_byte (said.Text text) = get_or text 0 0
@@ -72,7 +73,7 @@ other_text same = let byte : 44 ≡ 46 = ap first_byte same in omega (arith, byt
 abbrev looks : PlanData
 looks = two 1 (set_numeric ∷ read_radix ∷ []) (read_radix ∷ read_radix ∷ [])
 
--- the lines, where the three reads tell these versions and texts
+-- the lines, where the three reads print these versions and texts
 abbrev look_lines : ℕ × List ℕ → ℕ × List ℕ → ℕ × List ℕ → List OutLine
 look_lines a b d =
     set_line 0
@@ -91,7 +92,7 @@ new = (1, codes ",")
 whose_looks : map caller_of (look_lines new old new) ≡ callers_after [] (all_turns (c looks) looks (look_lines new old new))
 whose_looks = refl
 
--- what a read of the global locale tells, where its line prints this version
+-- what a read of the global locale says, where its line prints this version
 version_is : {x : Around} {at : Caller} {l : OutLine} {read : Reading} (r : IsGlobalRead x at l read) (v : ℕ) → l.global ≡ Some v → v ≡ r.version
 version_is r v is = same_Some v r.version (sym is ∙ ap (λ (l : OutLine). l.global) r.is)
 
@@ -99,15 +100,15 @@ text_is : {x : Around} {at : Caller} {l : OutLine} {read : Reading} (r : IsGloba
 text_is {x} {at} {l} {read} r v is = ap (λ (k : OutLine). k.reply) r.is ∙ ap (λ (k : ℕ). local x.plan.library (global_of x k) read) (sym (version_is r v is))
 
 -- B may see the old version first and then the new one
-seen_in_between : AllTell looks (look_lines new old new)
+seen_in_between : AllAnswered looks (look_lines new old new)
 seen_in_between = (
   record { place = 0; is = refl },
   (
-    record { version = 1; bounds = record { seen = at_1; rounds = at_0; next = at_1; round = at_1; told = All-cons (λ (v : ℕ). v ≤ 1) 1 [] at_1 (All-nil (λ (v : ℕ). v ≤ 1)); told_earlier = All-nil (λ (v : ℕ). v ≤ 1) }; is = refl },
+    record { version = 1; bounds = record { seen = at_1; rounds = at_0; next = at_1; round = at_1; printed = All-cons (λ (v : ℕ). v ≤ 1) 1 [] at_1 (All-nil (λ (v : ℕ). v ≤ 1)); printed_earlier = All-nil (λ (v : ℕ). v ≤ 1) }; is = refl },
     (
-      record { version = 0; bounds = record { seen = at_00; rounds = at_00; next = at_0; round = at_0; told = All-nil (λ (v : ℕ). v ≤ 0); told_earlier = All-nil (λ (v : ℕ). v ≤ 0) }; is = refl },
+      record { version = 0; bounds = record { seen = at_00; rounds = at_00; next = at_0; round = at_0; printed = All-nil (λ (v : ℕ). v ≤ 0); printed_earlier = All-nil (λ (v : ℕ). v ≤ 0) }; is = refl },
       (
-        record { version = 1; bounds = record { seen = at_0; rounds = at_0; next = at_1; round = at_1; told = All-cons (λ (v : ℕ). v ≤ 1) 0 [] at_0 (All-nil (λ (v : ℕ). v ≤ 1)); told_earlier = All-nil (λ (v : ℕ). v ≤ 1) }; is = refl },
+        record { version = 1; bounds = record { seen = at_0; rounds = at_0; next = at_1; round = at_1; printed = All-cons (λ (v : ℕ). v ≤ 1) 0 [] at_0 (All-nil (λ (v : ℕ). v ≤ 1)); printed_earlier = All-nil (λ (v : ℕ). v ≤ 1) }; is = refl },
         (
           record { place = 1; is = refl },
           (
@@ -130,28 +131,28 @@ seen_in_between = (
     at_1 = omega arith
 
 -- a thread does not see what was before its own call
-before_its_own : AllTell looks (look_lines old old new) → ⊥
+before_its_own : AllAnswered looks (look_lines old old new) → ⊥
 before_its_own t =
     let same = version_is t.1.0 0 refl in
     let low : 1 ≤ t.1.0.version = t.1.0.bounds.seen in
     omega (arith, same, low)
 
 -- nor what nothing made in its round
-not_yet_made : AllTell looks (look_lines new old (2, codes ",")) → ⊥
+not_yet_made : AllAnswered looks (look_lines new old (2, codes ",")) → ⊥
 not_yet_made t =
     let same = version_is t.1.1.1.0 2 refl in
     let high : t.1.1.1.0.version ≤ 1 = t.1.1.1.0.bounds.round in
     omega (arith, same, high)
 
--- nor goes it back behind what it told
-goes_back : AllTell looks (look_lines new new old) → ⊥
+-- nor goes it back behind what it printed
+goes_back : AllAnswered looks (look_lines new new old) → ⊥
 goes_back t =
     let same = version_is t.1.1.1.0 0 refl in
-    let low : 1 ≤ t.1.1.1.0.version = All-head (λ (v : ℕ). v ≤ t.1.1.1.0.version) 1 [] t.1.1.1.0.bounds.told in
+    let low : 1 ≤ t.1.1.1.0.version = All-head (λ (v : ℕ). v ≤ t.1.1.1.0.version) 1 [] t.1.1.1.0.bounds.printed in
     omega (arith, same, low)
 
 -- the text is that of the version
-text_of_another : AllTell looks (look_lines new (0, codes ",") new) → ⊥
+text_of_another : AllAnswered looks (look_lines new (0, codes ",") new) → ⊥
 text_of_another t = other_text (text_is t.1.1.0 0 refl)
 
 -- ---- B reads the global locale, and then makes a call before A sets it
@@ -163,15 +164,15 @@ abbrev first_lines : ℕ × List ℕ → List OutLine
 first_lines a =
     set_line 1
     ∷ read_line 1 1 1 a.0 a.1
-    ∷ line_of 1 1 2 (places.One 0) None (shown library AllCategories (table.Refused table.GlobalHandle))
+    ∷ line_of 1 1 2 (places.One 0) None (shown library AllCategories (table.Refused refusals.GlobalHandle))
     ∷ end_line 2 0 2 2
     ∷ end_line 2 1 3 3 ∷ []
 
-before_the_call : AllTell reads_first (first_lines old)
+before_the_call : AllAnswered reads_first (first_lines old)
 before_the_call = (
   record { place = 1; is = refl },
   (
-    record { version = 0; bounds = record { seen = at_0; rounds = at_0; next = at_0; round = at_1; told = All-nil (λ (v : ℕ). v ≤ 0); told_earlier = All-nil (λ (v : ℕ). v ≤ 0) }; is = refl },
+    record { version = 0; bounds = record { seen = at_0; rounds = at_0; next = at_0; round = at_1; printed = All-nil (λ (v : ℕ). v ≤ 0); printed_earlier = All-nil (λ (v : ℕ). v ≤ 0) }; is = refl },
     (
       record { place = 0; is = refl },
       (
@@ -192,7 +193,7 @@ before_the_call = (
     at_1 = omega arith
 
 -- what A sets only after the call is not seen before it
-after_its_next_call : AllTell reads_first (first_lines new) → ⊥
+after_its_next_call : AllAnswered reads_first (first_lines new) → ⊥
 after_its_next_call t =
     let same = version_is t.1.0 1 refl in
     let high : t.1.0.version ≤ 0 = t.1.0.bounds.next in
@@ -207,7 +208,7 @@ abbrev round_lines : ℕ × List ℕ → List OutLine
 round_lines a = set_line 0 ∷ read_line 2 1 1 a.0 a.1 ∷ end_line 3 0 2 1 ∷ end_line 3 1 2 2 ∷ []
 
 -- a round sees what the rounds before it did
-before_its_round : AllTell next_round (round_lines old) → ⊥
+before_its_round : AllAnswered next_round (round_lines old) → ⊥
 before_its_round t =
     let same = version_is t.1.0 0 refl in
     let low : 1 ≤ t.1.0.version = t.1.0.bounds.rounds in
@@ -220,22 +221,22 @@ refused_new = plan (codes "A" ∷ []) 1 (placed 1 0 (New (codes "x") 8 (codes "a
 
 abbrev refused_lines : Places → Said → List OutLine
 refused_lines at reply =
-    line_of 1 0 1 (places.One 0) None (shown library AllCategories (table.Refused (table.NoData categories.Time)))
+    line_of 1 0 1 (places.One 0) None (shown library AllCategories (table.Refused (refusals.NoData categories.Time)))
     ∷ line_of 1 0 2 at None reply
     ∷ end_line 2 0 3 1 ∷ []
 
-unset_after_refusal : AllTell refused_new (refused_lines places.None (said.Refused whys.Unset))
+unset_after_refusal : AllAnswered refused_new (refused_lines places.None (said.Refused whys.Unset))
 unset_after_refusal = (record { place = 0; is = refl }, (refl, (record { place = 1; is = refl }, tt)))
 
 -- a command that was refused binds nothing
-bound_by_a_refusal : AllTell refused_new (refused_lines (places.One 1) (said.Was named.Global)) → ⊥
+bound_by_a_refusal : AllAnswered refused_new (refused_lines (places.One 1) (said.Was named.Global)) → ⊥
 bound_by_a_refusal t = absurd (cc (ap (λ (l : OutLine). l.reply) t.1.0))
 
 abbrev own_object : PlanData
 own_object = plan (codes "A" ∷ []) 1 (placed 1 0 (New (codes "x") 2 (codes "a") None ∷ Use (targets.Variable (codes "x")) ∷ read_radix ∷ []))
 
--- a read of an own object tells no version
-version_of_an_own_object : AllTell own_object (
+-- a read of an own object prints no version
+version_of_an_own_object : AllAnswered own_object (
     line_of 1 0 1 (places.One 0) None (said.Handle (first_of 0))
     ∷ line_of 1 0 2 (places.One 1) None (said.Was named.Global)
     ∷ read_line 1 0 3 0 (codes ",")
@@ -274,7 +275,7 @@ abbrev numeric_a : Parts
 numeric_a = record { ctype = 0; numeric = 1; monetary = 0; time = 0; messages = 0 }
 
 -- its Hold is accepted, so it has a Release, too
-one_place_of_two : AllTell shared one_place → ⊥
+one_place_of_two : AllAnswered shared one_place → ⊥
 one_place_of_two t = ⊎_elim (two_for_one 2 (line_of 1 1 1 (places.One 2) None (said.Text (codes ","))) refl) (hold_is_accepted 2 numeric_a refl refl) t.1.1.0
 
 -- ---- places

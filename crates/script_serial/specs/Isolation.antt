@@ -11,14 +11,14 @@ use Rattle.script_out.specs.declared.output.OutLine.{OutLine}
 use Rattle.script_serial.specs.Plan.{PlanData}
 use Rattle.script_lines.specs.Holds.{open_holds}
 use Rattle.script_lines.specs.Catalogs.{catalog_setting}
-use Rattle.script_serial.specs.Prints.{Told, told, PlacedCall, calls_after, history_below, all_turns, Around, around, IsTold, Prints}
+use Rattle.script_serial.specs.Prints.{TaskLine, with_tasks, PlacedCall, calls_after, history_below, all_turns, Around, around, IsAnswered, Prints}
 
 -- the lines with their tasks, and all their calls
-abbrev pub all_told : Setting → PlanData → List OutLine → List Told
-all_told c plan lines = told (all_turns c plan lines) lines
+abbrev pub all_task_lines : Setting → PlanData → List OutLine → List TaskLine
+all_task_lines c plan lines = with_tasks (all_turns c plan lines) lines
 
 abbrev pub all_calls : Setting → PlanData → List OutLine → List PlacedCall
-all_calls c plan lines = calls_after plan.library [] (all_told c plan lines)
+all_calls c plan lines = calls_after plan.library [] (all_task_lines c plan lines)
 
 -- the history of the calls whose places are below a number, and that of all calls
 abbrev pub front : Setting → PlanData → List OutLine → ℕ → History
@@ -40,20 +40,20 @@ pub record SaysTheSameTo (c : Setting) (t : ℕ) (G H : History) : Type 0 where
 abbrev pub apart : List ℕ → Around → Around
 apart threads x = record x { history = λ (place : ℕ). part_of threads (x.history place); whole = part_of threads x.whole }
 
--- each line of the threads tells what its task asks for, judged by the parts alone
-abbrev pub AreToldApart : List ℕ → Setting → PlanData → List OutLine → CatalogHistory → List PlacedCall → List Told → List Told → Type 0
-AreToldApart threads c plan lines catalogs calls before [] = Unit {0}
-AreToldApart threads c plan lines catalogs calls before (d ∷ after) =
-    (has_thread threads d.line.thread ≡ true → IsTold (apart threads (around c plan lines catalogs calls before after)) d)
-    × AreToldApart threads c plan lines catalogs calls (d ∷ before) after
+-- each line of the threads prints what its task asks for, judged by the parts alone
+abbrev pub AreAnsweredApart : List ℕ → Setting → PlanData → List OutLine → CatalogHistory → List PlacedCall → List TaskLine → List TaskLine → Type 0
+AreAnsweredApart threads c plan lines catalogs calls before [] = Unit {0}
+AreAnsweredApart threads c plan lines catalogs calls before (d ∷ after) =
+    (has_thread threads d.line.thread ≡ true → IsAnswered (apart threads (around c plan lines catalogs calls before after)) d)
+    × AreAnsweredApart threads c plan lines catalogs calls (d ∷ before) after
 
 -- the threads read what they would read without the others: their part of the history is legal, each front of it says the
--- same to them as its part, and each of their lines tells what the parts alone say. Places alone count the calls of others
+-- same to them as its part, and each of their lines prints what the parts alone say. Places alone count the calls of others
 pub record AreApart (c : Setting) (plan : PlanData) (lines : List OutLine) (threads : List ℕ) : Type 0 where
   pub legal : IsLegal c (part_of threads (whole c plan lines))
   pub fronts : (n : ℕ) → n ≤ length (all_calls c plan lines) → (t : ℕ) → has_thread threads t ≡ true
       → SaysTheSameTo c t (front c plan lines n) (part_of threads (front c plan lines n))
-  pub told : (printed : Prints c plan lines) → AreToldApart threads c plan lines printed.catalogs (all_calls c plan lines) [] (all_told c plan lines)
+  pub answered : (printed : Prints c plan lines) → AreAnsweredApart threads c plan lines printed.catalogs (all_calls c plan lines) [] (all_task_lines c plan lines)
 
 -- so do all threads that share handles among themselves alone
 abbrev pub IsIsolated : Setting → PlanData → List OutLine → Type 0

@@ -3,5 +3,5 @@ pub mod Serial
 pub mod Prints
 pub mod Isolation
 pub mod Laws
-pub mod Kept
+pub mod Alone
 pub mod Session

@@ -29,25 +29,25 @@ use Rattle.script_lines.specs.Holds.{object_held, open_holds, held_as}
 use Rattle.script_lines.specs.Turns.{Task, Turn, command_turns, closing_turns}
 use Rattle.script_lines.specs.Variables.{Bound, bindings_of, bindings_after}
 use Rattle.script_lines.specs.Wishes.{Wish, Calls, ReadsOf, Reads, AsksSelection, AsksName, OpensCatalog, GetsMessage, ClosesCatalog, wish_of, ops_of}
-use Rattle.script_lines.specs.Lines.{Caller, told_line, placed_line, object_line, held_line, global_read_line, global_name_line}
+use Rattle.script_lines.specs.Lines.{Caller, plain_line, placed_line, object_line, held_line, global_read_line, global_name_line}
 use Rattle.script_lines.specs.Catalogs.{Asked, not_asked, book_for, catalog_setting, handle_meant, open_line, message_line, close_line}
 use Rattle.script_lines.specs.Outcome.{with_call}
 
 -- ---- lines with their tasks
 
--- a line, and what it tells of
-pub record Told : Type 0 where
+-- a line, and the task that it is printed for
+pub record TaskLine : Type 0 where
   pub task : Task
   pub line : OutLine
 
 -- the lines with the tasks of turns, in their order
-abbrev pub told : List Turn → List OutLine → List Told
-told [] lines = []
-told (turn ∷ turns) [] = []
-told (turn ∷ turns) (l ∷ lines) = record { task = turn.task; line = l } ∷ told turns lines
+abbrev pub with_tasks : List Turn → List OutLine → List TaskLine
+with_tasks [] lines = []
+with_tasks (turn ∷ turns) [] = []
+with_tasks (turn ∷ turns) (l ∷ lines) = record { task = turn.task; line = l } ∷ with_tasks turns lines
 
 -- what variables stand for after lines, of which the newest stands first
-abbrev pub bound_by : List Told → List Bound
+abbrev pub bound_by : List TaskLine → List Bound
 bound_by [] = []
 bound_by (d ∷ before) = bindings_after d.line.thread (bound_by before) d.task d.line.reply
 
@@ -97,11 +97,11 @@ abbrev pub call_of : ℕ → ℕ × table.Op → PlacedCall
 call_of thread placed = record { place = placed.0; thread = thread; op = placed.1 }
 
 -- the calls of a line, each at its place: the op of its command, a Hold and then a Release, or a closing call
-abbrev pub calls_of : Catalog → List Bound → Told → List PlacedCall
+abbrev pub calls_of : Catalog → List Bound → TaskLine → List PlacedCall
 calls_of library bounds d = map (call_of d.line.thread) (zip (places_in d.line.places) (ops_of (wish_of library (bindings_of d.line.thread bounds) d.task)))
 
 -- the calls of lines, after other lines of which the newest stands first
-abbrev pub calls_after : Catalog → List Told → List Told → List PlacedCall
+abbrev pub calls_after : Catalog → List TaskLine → List TaskLine → List PlacedCall
 calls_after library before [] = []
 calls_after library before (d ∷ after) = calls_of library (bound_by before) d ++ calls_after library (d ∷ before) after
 
@@ -126,8 +126,8 @@ pub record Around : Type 0 where
   pub history : ℕ → History
   pub whole : History
   pub catalogs : CatalogHistory
-  pub before : List Told
-  pub after : List Told
+  pub before : List TaskLine
+  pub after : List TaskLine
 
 -- the history before a place
 abbrev pub past : Around → ℕ → History
@@ -142,7 +142,7 @@ behind_last (place ∷ release ∷ more) = Some (release + 1)
 abbrev pub or_earlier : Option ℕ → ℕ → ℕ
 or_earlier found earlier = unwrap_or found earlier
 
-abbrev pub next_place : ℕ → List Told → ℕ
+abbrev pub next_place : ℕ → List TaskLine → ℕ
 next_place thread [] = 0
 next_place thread (d ∷ before) =
     if d.line.thread == thread then or_earlier (behind_last (places_in d.line.places)) (next_place thread before) else next_place thread before
@@ -151,9 +151,9 @@ next_place thread (d ∷ before) =
 abbrev pub seen : Around → ℕ → History
 seen x thread = past x (next_place thread x.before)
 
--- the lines of tellings
-abbrev pub lines_of : List Told → List OutLine
-lines_of ds = map (λ (d : Told). d.line) ds
+-- the lines alone, without their tasks
+abbrev pub lines_of : List TaskLine → List OutLine
+lines_of ds = map (λ (d : TaskLine). d.line) ds
 
 -- the first place of a thread behind the line
 abbrev pub first_of : List ℕ → Option ℕ
@@ -172,15 +172,15 @@ abbrev pub IsUpToPlace : Around → ℕ → Option ℕ → Type 0
 IsUpToPlace x version None = Unit {0}
 IsUpToPlace x version (Some place) = version ≤ sets (past x place)
 
--- a version that a line may tell without having made it: it is not before what the thread or an earlier round has seen or told,
+-- a version that a line may print without having made it: it is not before what the thread or an earlier round has seen or printed,
 -- and not after the thread's next call, nor after this round
 pub record IsVersion (x : Around) (at : Caller) (version : ℕ) : Type 0 where
   pub seen : sets (seen x at.thread) ≤ version
   pub rounds : sets (past x (length (all_places (before_round at.round x.lines)))) ≤ version
   pub next : IsUpToPlace x version (place_behind x at.thread)
   pub round : version ≤ sets (past x (length (all_places (up_to_round at.round x.lines))))
-  pub told : All (λ (v : ℕ). v ≤ version) (versions (of_thread at.thread (lines_of x.before)))
-  pub told_earlier : All (λ (v : ℕ). v ≤ version) (versions (before_round at.round x.lines))
+  pub printed : All (λ (v : ℕ). v ≤ version) (versions (of_thread at.thread (lines_of x.before)))
+  pub printed_earlier : All (λ (v : ℕ). v ≤ version) (versions (before_round at.round x.lines))
 
 -- the global object of a version, in the history of all calls
 abbrev pub global_of : Around → ℕ → Parts
@@ -267,11 +267,11 @@ IsOpen x at l name None = IsGlobalOpen x at l name
 
 -- the line of a wish; a refusal without an entry is printed alone
 abbrev pub IsGranted : Around → Caller → OutLine → Result Wish Why → Type 0
-IsGranted x at l (Err why) = l ≡ told_line at (said.Refused why)
+IsGranted x at l (Err why) = l ≡ plain_line at (said.Refused why)
 IsGranted x at l (Ok (Calls categories op)) = IsCall x at l categories op
 IsGranted x at l (Ok (ReadsOf n read)) = IsReadOf x at l n read (held_as (open_holds (seen x at.thread) at.thread) n)
 IsGranted x at l (Ok (Reads read)) = IsRead x at l read (own (seen x at.thread) at.thread)
-IsGranted x at l (Ok AsksSelection) = l ≡ told_line at (said.Is (selection (seen x at.thread) at.thread))
+IsGranted x at l (Ok AsksSelection) = l ≡ plain_line at (said.Is (selection (seen x at.thread) at.thread))
 IsGranted x at l (Ok (AsksName categories)) = IsGlobalName x at l categories
 IsGranted x at l (Ok (OpensCatalog name)) = IsOpen x at l name (own (seen x at.thread) at.thread)
 IsGranted x at l (Ok (GetsMessage h set message default)) = IsCatalogCall x at l (catalog.Get (handle_meant h)) (λ asked. message_line (books_of x.plan) at set message default asked)
@@ -282,11 +282,11 @@ abbrev pub caller_of : OutLine → Caller
 caller_of l = record { round = l.round; thread = l.thread; index = l.index }
 
 -- a line prints what its task asks for
-abbrev pub IsTold : Around → Told → Type 0
-IsTold x d = IsGranted x (caller_of d.line) d.line (wish_of x.plan.library (bindings_of d.line.thread (bound_by x.before)) d.task)
+abbrev pub IsAnswered : Around → TaskLine → Type 0
+IsAnswered x d = IsGranted x (caller_of d.line) d.line (wish_of x.plan.library (bindings_of d.line.thread (bound_by x.before)) d.task)
 
 -- what a line is judged by among lines with these calls
-abbrev pub around : Setting → PlanData → List OutLine → CatalogHistory → List PlacedCall → List Told → List Told → Around
+abbrev pub around : Setting → PlanData → List OutLine → CatalogHistory → List PlacedCall → List TaskLine → List TaskLine → Around
 around c plan lines catalogs calls before after = record {
   setting = c;
   plan = plan;
@@ -299,9 +299,9 @@ around c plan lines catalogs calls before after = record {
 }
 
 -- each line does, by what stands before it and behind it
-abbrev pub AreTold : Setting → PlanData → List OutLine → CatalogHistory → List PlacedCall → List Told → List Told → Type 0
-AreTold c plan lines catalogs calls before [] = Unit {0}
-AreTold c plan lines catalogs calls before (d ∷ after) = IsTold (around c plan lines catalogs calls before after) d × AreTold c plan lines catalogs calls (d ∷ before) after
+abbrev pub AreAnswered : Setting → PlanData → List OutLine → CatalogHistory → List PlacedCall → List TaskLine → List TaskLine → Type 0
+AreAnswered c plan lines catalogs calls before [] = Unit {0}
+AreAnswered c plan lines catalogs calls before (d ∷ after) = IsAnswered (around c plan lines catalogs calls before after) d × AreAnswered c plan lines catalogs calls (d ∷ before) after
 
 -- ---- the whole
 
@@ -318,7 +318,7 @@ callers_after before (turn ∷ turns) = caller_after before turn ∷ callers_aft
 
 -- the calls of the lines of the commands, which stand before the closing lines
 abbrev pub command_calls : PlanData → List OutLine → List PlacedCall
-command_calls plan lines = calls_after plan.library [] (told (command_turns plan.bundle) lines)
+command_calls plan lines = calls_after plan.library [] (with_tasks (command_turns plan.bundle) lines)
 
 -- the turns of the commands, and those that close what is open after them
 abbrev pub all_turns : Setting → PlanData → List OutLine → List Turn
@@ -350,7 +350,7 @@ pub record Prints (c : Setting) (plan : PlanData) (lines : List OutLine) : Type 
   pub callers : map caller_of lines ≡ callers_after [] (all_turns c plan lines)
   pub placed : ArePlaced plan.bundle.rounds lines
   pub catalogs_placed : AreCatalogsPlaced (catalog_setting c) catalogs lines
-  pub told : let ds = told (all_turns c plan lines) lines in AreTold c plan lines catalogs (calls_after plan.library [] ds) [] ds
+  pub answered : let ds = with_tasks (all_turns c plan lines) lines in AreAnswered c plan lines catalogs (calls_after plan.library [] ds) [] ds
 
 -- ---- lines of which each is printed before the next call is made
 
@@ -361,7 +361,7 @@ AreInOrder lines = IsStrictlyIncreasing (all_places lines)
 abbrev pub AreCatalogsInOrder : List OutLine → Type 0
 AreCatalogsInOrder lines = IsStrictlyIncreasing (all_catalog_places lines)
 
--- a version that a line tells without having made it is that of the calls of the lines before it
+-- a version that a line prints without having made it is that of the calls of the lines before it
 abbrev pub IsNewest : Setting → List PlacedCall → List OutLine → OutLine → Type 0
 IsNewest c calls before l = (version : ℕ) → places_in l.places ≡ [] → l.global ≡ Some version → version ≡ sets (history_below c calls (length (all_places before)))
 
@@ -374,4 +374,4 @@ pub record PrintsInOrder (c : Setting) (plan : PlanData) (lines : List OutLine) 
   pub prints : Prints c plan lines
   pub in_order : AreInOrder lines
   pub catalogs_in_order : AreCatalogsInOrder lines
-  pub newest : AreNewest c (calls_after plan.library [] (told (all_turns c plan lines) lines)) [] lines
+  pub newest : AreNewest c (calls_after plan.library [] (with_tasks (all_turns c plan lines) lines)) [] lines

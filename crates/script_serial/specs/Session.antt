@@ -7,16 +7,16 @@ use Rattle.handle_table.specs.Table.{TableData, StandsFor, steps}
 use Rattle.catalog_table.specs.Entry.{History as CatalogHistory}
 use Rattle.catalog_table.specs.Table.{StandsFor as CatalogsStandFor}
 use Rattle.script_lines.specs.declared.thread.Thread.{Thread}
-use Rattle.script_serial.specs.Kept.{KeptData, Knows, AloneData}
+use Rattle.script_serial.specs.Alone.{AloneSideData, Knows, AloneData}
 use Rattle.script_lines.specs.Thread.{BindsAs}
 use Rattle.script_serial.specs.Serial.{Run, lines_of_thread}
 
 -- a thread of the script at a table that its runner has alone
 abbrev pub ThreadData : Type 0
-ThreadData = Thread KeptData
+ThreadData = Thread AloneSideData
 
 -- the table and a thread are at this history
-pub record IsAt (table : TableData) (k : KeptData) (H : History) : Type 0 where
+pub record IsAt (table : TableData) (k : AloneSideData) (H : History) : Type 0 where
   pub stands : StandsFor table H
   pub knows : Knows k H
 
@@ -44,18 +44,18 @@ pub record AreAt (alone : AloneData) (threads : List ThreadData) (run : Run) : T
   pub follow : All (λ (t : ThreadData). Follows t run) threads
 
 -- how many ops the table and the catalogs have answered
-abbrev pub answered : AloneData → ℕ
-answered alone = steps alone.table + alone.asked
+abbrev pub ops_answered : AloneData → ℕ
+ops_answered alone = steps alone.table + alone.asked
 
 -- a thread is one of the table's, and so many ops more can be answered
-pub record IsReady (n : ℕ) (alone : AloneData) (k : KeptData) : Type 0 where
+pub record IsReady (n : ℕ) (alone : AloneData) (k : AloneSideData) : Type 0 where
   pub number : k.number < alone.table.setting.threads
-  pub steps : answered alone + n ≤ 2147483647
+  pub steps : ops_answered alone + n ≤ 2147483647
 
 -- the table has its setting, and so many ops more were answered at most
 pub record GoesOn (n : ℕ) (old new : AloneData) : Type 0 where
   pub setting : new.table.setting ≡ old.table.setting
-  pub steps : answered new ≤ answered old + n
+  pub steps : ops_answered new ≤ ops_answered old + n
 
 -- thread i stands at place i, and has no more than so many lines
 pub record IsNumberedThread (most i : ℕ) (t : ThreadData) : Type 0 where
@@ -63,10 +63,10 @@ pub record IsNumberedThread (most i : ℕ) (t : ThreadData) : Type 0 where
   pub lines : t.lines ≤ most
 
 abbrev pub AreNumbered : ℕ → List ThreadData → Type 0
-AreNumbered lines threads = (i : ℕ) (d : Thread KeptData) → i < length threads → IsNumberedThread lines i (slice_index_or threads i d)
+AreNumbered lines threads = (i : ℕ) (d : Thread AloneSideData) → i < length threads → IsNumberedThread lines i (slice_index_or threads i d)
 
 -- the table is of these threads and of the library's names, and so many turns can be answered
 pub record CanPlay (library : Catalog) (alone : AloneData) (ts : List ThreadData) (turns : ℕ) : Type 0 where
   pub opening : alone.table.setting.opening ≡ opening library
   pub threads : alone.table.setting.threads ≡ length ts
-  pub steps : answered alone + 2 * turns ≤ 2147483647
+  pub steps : ops_answered alone + 2 * turns ≤ 2147483647

@@ -5,7 +5,7 @@ ghost use Rattle.script_lines.specs.Seen.{turn_seen};
 ghost use Rattle.script_lines.specs.Turns.{releases, closing};
 ghost use Rattle.script_serial.specs.Session.{ThreadData};
 
-use crate::kept::Kept;
+use crate::alone::AloneSide;
 use script_lines::board::Side;
 use script_lines::holds::OpenHold;
 use script_lines::thread::Thread;
@@ -16,7 +16,7 @@ use std::alloc::{AllocError, Global};
 pub fn closing_turns(
     alloc: Global,
     round: u32,
-    threads: &[Thread<Kept>],
+    threads: &[Thread<AloneSide>],
 ) -> Result<Vec<Turn<'static>>, AllocError>
     ensures { IfOk result (λ turns. map turn_seen turns.items ≡ flat_map (λ (t : ThreadData). closing round t.side.number t.side.holds) threads.now) }
 {
@@ -31,7 +31,7 @@ pub fn closing_turns(
 fn push_closing(
     turns: &mut Vec<Turn<'static>>,
     round: u32,
-    thread: &Thread<Kept>,
+    thread: &Thread<AloneSide>,
 ) -> Result<(), AllocError>
     ensures { OnOk result (map turn_seen turns.new.items ≡ map turn_seen turns.old.items ++ closing round thread.now.side.number thread.now.side.holds) }
 {

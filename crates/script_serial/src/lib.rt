@@ -1,8 +1,8 @@
 //! The plan of a bundle, and its script run on one thread.
 #![tactic(auto)]
 
+mod alone;
 mod closing;
-mod kept;
 pub mod laws;
 mod plan;
 mod script;

@@ -4,7 +4,8 @@ ghost use Rattle.std.specs.Prelude.{◌≡◌, ◌<◌, ◌^◌, length, All, If
 ghost use Rattle.category_store.specs.Library.{catalog};
 ghost use Rattle.category_store.specs.Shelf.{IsNumbered, IsInstallable};
 ghost use Rattle.lc_base.specs.Reading.{Gives};
-ghost use Rattle.script_lang.specs.Accepted.{IsAccepted, IsSized};
+ghost use Rattle.lc_base.specs.Blocks.{IsSized};
+ghost use Rattle.script_lang.specs.Accepted.{IsAccepted};
 ghost use Rattle.script_serial.specs.Plan.{IsSound, books_of, books_read, plan_of, counts, counts_of};
 
 use category_store::Library;

@@ -11,8 +11,8 @@ ghost use Rattle.script_serial.specs.Prints.{PrintsInOrder};
 ghost use Rattle.script_serial.specs.Serial.{Run, played, begun, closed, commands_played, serial_lines, setting};
 ghost use Rattle.script_serial.specs.Session.{Follows, AreAt, CatalogsAreAt, AreNumbered, GoesOn, CanPlay};
 
+use crate::alone::{Alone, AloneSide};
 use crate::closing::closing_turns;
-use crate::kept::{Alone, Kept};
 use crate::plan::Plan;
 use catalog_table::Catalogs;
 use category_store::Library;
@@ -89,14 +89,14 @@ fn new_alone(
 }
 
 /// Threads before their first command, by their numbers.
-fn new_threads(alloc: Global, count: u32) -> Result<Vec<Thread<Kept>>, AllocError>
+fn new_threads(alloc: Global, count: u32) -> Result<Vec<Thread<AloneSide>>, AllocError>
     ensures length { IfOk result (λ threads. length threads.items ≡ count) }
     ensures numbered { IfOk result (λ threads. AreNumbered 0 threads.items) }
     ensures follow { IfOk result (λ threads. All (λ t. Follows t begun) threads.items) }
 {
     let mut threads = Vec::new(alloc);
     for number in 0..count {
-        threads.push(Thread::new(alloc, Kept::new(alloc, number)))?;
+        threads.push(Thread::new(alloc, AloneSide::new(alloc, number)))?;
     }
     Ok(threads)
 }
@@ -108,7 +108,7 @@ fn all_lines(
     bundle: &Bundle,
     books: &Books<'_>,
     alone: &mut Alone,
-    threads: &mut [Thread<Kept>],
+    threads: &mut [Thread<AloneSide>],
 ) -> Result<Vec<OutLine>, AllocError>
     requires sound { IsSound (record { bundle = bundle.now; library = library.now; books = books.now.books }) }
     requires blocks { books.now.blocks ≡ bundle.now.catalogs }
@@ -149,7 +149,7 @@ fn play(
     library: &Library,
     books: &Books<'_>,
     alone: &mut Alone,
-    threads: &mut [Thread<Kept>],
+    threads: &mut [Thread<AloneSide>],
     turns: &[Turn<'_>],
     lines: &mut Vec<OutLine>,
 ) -> Result<(), AllocError>

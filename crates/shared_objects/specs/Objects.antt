@@ -7,7 +7,7 @@ use Rattle.lc_base.specs.Categories.{categories}
 use Rattle.lc_base.specs.Mask.{includes}
 use Rattle.lc_base.specs.Reading.{Reads, ◌>>=◌}
 use Rattle.mask_compose.specs.Parts.{Parts, part_of, composed}
-use Rattle.mask_compose.specs.Offer.{Offered}
+use Rattle.mask_compose.specs.Offer.{Offered, no_offer}
 use Rattle.ctype_classes.specs.CtypeValues.{CtypeValues}
 use Rattle.numeric_cat.specs.NumericValues.{NumericValues}
 use Rattle.monetary_cat.specs.MonetaryValues.{MonetaryValues}
@@ -15,7 +15,7 @@ use Rattle.time_cat.specs.TimeValues.{TimeValues}
 use Rattle.messages_cat.specs.MessagesValues.{MessagesValues}
 use Rattle.compiled_categories.specs.Locale.{Locale}
 use Rattle.category_store.specs.Catalog.{Catalog}
-use Rattle.category_store.specs.Library.{catalog, locale_at, numbers, posix_object, no_offer, opening}
+use Rattle.category_store.specs.Library.{catalog, locale_at, numbers, posix_object, opening}
 use Rattle.script_lang.specs.declared.bundle.Bundle.{Bundle}
 use Rattle.script_lang.specs.Accepted.{bundle_of}
 use Rattle.shared_objects.specs.declared.fault.NewFault.{NewFault}

@@ -6,7 +6,8 @@ use Rattle.std.proofs.lemmas.List.Elements.{All-from_recursion, recursion_from_A
 use Rattle.lc_base.specs.declared.block.Block.{Block}
 use Rattle.lc_base.specs.declared.block.Later.{Later}
 use Rattle.source_blocks.specs.declared.blocks.Placed.{Placed as LentPlaced}
-use Rattle.source_blocks.specs.Blocks.{Placed, IsSized, locale_block, later_block, is_before, among, merged, by_place}
+use Rattle.lc_base.specs.Blocks.{IsSized}
+use Rattle.source_blocks.specs.Blocks.{Placed, locale_block, later_block, is_before, among, merged, by_place}
 use Rattle.source_blocks.specs.Seen.{placed}
 
 abbrev sized : Placed → Type 0

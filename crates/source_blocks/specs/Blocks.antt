@@ -1,5 +1,5 @@
 -- The blocks of a bundle that have a locale's source, in the order of their places (our own).
-use Rattle.std.specs.Prelude.{ℕ, ◌<◌, ◌^◌, Bool, nat_lt, List, [], ◌∷◌, length, map, Option, Some, None, if◌then◌else◌}
+use Rattle.std.specs.Prelude.{ℕ, Bool, nat_lt, List, [], ◌∷◌, map, Option, Some, None, if◌then◌else◌}
 use Rattle.lc_base.specs.declared.block.Block.{Block}
 use Rattle.lc_base.specs.declared.block.Later.{Later}
 
@@ -38,8 +38,3 @@ first_block [] [] = None
 first_block [] (y ∷ ys) = Some (later_block y, [], ys)
 first_block (x ∷ xs) [] = Some (locale_block x, xs, [])
 first_block (x ∷ xs) (y ∷ ys) = if is_before (later_block y) (locale_block x) then Some (later_block y, x ∷ xs, ys) else Some (locale_block x, xs, y ∷ ys)
-
--- a block whose text and first line have the sizes that readers of texts take
-pub record IsSized (block : Block) : Type 0 where
-  pub text : length block.text < 2 ^ 31
-  pub line : block.first_line < 2 ^ 31

@@ -2,13 +2,13 @@
 
 ghost use Rattle.std.specs.Prelude.{◌≡◌, All, IfOk};
 ghost use Rattle.lc_base.specs.Reading.{Gives};
-ghost use Rattle.source_blocks.specs.Blocks.{IsSized};
+ghost use Rattle.lc_base.specs.Blocks.{IsSized};
 ghost use Rattle.locale_sources.specs.Named.{pairs_of};
 ghost use Rattle.source_blocks.specs.Sources.{charsets, charset_named};
 
 use charmap_reader::{Charset, read_charmap};
 use lc_base::{Block, List, TextFault};
-use locale_sources::{Named, add_named, get_named};
+use locale_sources::{ByName, add_named, get_named};
 use std::alloc::{AllocError, Global};
 use std::marker::Model;
 
@@ -17,7 +17,7 @@ use std::marker::Model;
 pub struct Charsets {
     unicode: Charset,
     portable: Charset,
-    listed: Named<Charset>,
+    listed: ByName<Charset>,
 }
 
 impl Model for Charsets {
@@ -42,7 +42,7 @@ impl Charsets {
         Ok(Charsets::of(alloc, listed)?)
     }
 
-    fn of(alloc: Global, listed: Named<Charset>) -> Result<Charsets, AllocError>
+    fn of(alloc: Global, listed: ByName<Charset>) -> Result<Charsets, AllocError>
         ensures { IfOk result (λ c. c ≡ pairs_of listed) }
     {
         Ok(Charsets {
@@ -69,11 +69,11 @@ impl Charsets {
     }
 }
 
-fn read_charmaps(alloc: Global, charmaps: &[Block]) -> Result<Named<Charset>, TextFault>
+fn read_charmaps(alloc: Global, charmaps: &[Block]) -> Result<ByName<Charset>, TextFault>
     requires { All IsSized charmaps.now }
     ensures { Gives (λ c. pairs_of c) result (charsets charmaps.now) }
 {
-    let mut listed = Named::new(alloc);
+    let mut listed = ByName::new(alloc);
     for block in charmaps {
         let name = block.name.as_bytes();
         let charset = read_charmap(alloc, name, block.text.as_bytes(), block.first_line)?;

@@ -3,7 +3,8 @@
 ghost use Rattle.std.specs.Prelude.{◌≡◌, ◌+◌, length, map, All, IfOk};
 ghost use Rattle.lc_base.specs.Reading.{Gives};
 ghost use Rattle.locale_sources.specs.Seen.{source};
-ghost use Rattle.source_blocks.specs.Blocks.{IsSized, by_place};
+ghost use Rattle.lc_base.specs.Blocks.{IsSized};
+ghost use Rattle.source_blocks.specs.Blocks.{by_place};
 ghost use Rattle.source_blocks.specs.Sources.{source_of, sources_of};
 ghost use Rattle.source_blocks.specs.Seen.{placed};
 

@@ -6,9 +6,11 @@ use Rattle.lc_base.specs.declared.place.Place.{Place}
 use Rattle.keyword_lists.specs.declared.source.Value.{Value}
 use Rattle.keyword_lists.specs.declared.source.Value.TheVariants.{Text}
 use Rattle.keyword_lists.specs.declared.source.Entry.{Entry}
+use Rattle.byte_words.specs.Cuts.{cut_at}
+use Rattle.byte_words.specs.Numbers.{few_digits}
 use Rattle.time_cat.specs.Conversions.{conversion}
 use Rattle.time_cat.specs.Formats.{pieces}
-use Rattle.time_cat.specs.Eras.{split, few_digits, year_of, date, end_number, segment}
+use Rattle.time_cat.specs.Eras.{year_of, date, end_of, segment}
 use Rattle.time_cat.specs.Times.{TmValues}
 use Rattle.time_cat.specs.TimeValues.{TimeValues}
 use Rattle.time_cat.specs.Values.{values_of, posix_values}
@@ -98,9 +100,9 @@ abbrev in_era : ℕ → ℕ → ℕ → Answer
 in_era year mon mday = answer japanese (day year mon mday 0 0) (codes "%EY") 4096
 
 era_years : in_era 2019 5 1 ∷ in_era 2019 4 30 ∷ in_era 1989 1 7 ∷ in_era 2021 2 3 ∷ in_era 7 1 1 ∷ [] ≡ Ok (codes "Reiwa 1") ∷ Ok (codes "Heisei 31") ∷ Ok (codes "1989") ∷ Ok (codes "Reiwa 3") ∷ Ok (codes "-2") ∷ []
-unfolding values_of expanded pieces conversion digits split few_digits year_of date end_number segment
+unfolding values_of expanded pieces conversion digits cut_at few_digits year_of date end_of segment
 era_years = refl
 
 steps_of_eras : cost japanese (day 2021 2 3 0 0) (codes "%EY") 4096 ∷ cost japanese (day 1989 1 7 0 0) (codes "%EY") 4096 ∷ [] ≡ 4 ∷ 2 ∷ []
-unfolding values_of expanded reads pieces conversion digits split few_digits year_of date end_number segment
+unfolding values_of expanded reads pieces conversion digits cut_at few_digits year_of date end_of segment
 steps_of_eras = refl

@@ -98,7 +98,7 @@ fn put_short(
     let outcome = match short {
         Short::Byte(byte) => put_byte(out, max, byte),
         Short::Plain { found, .. } => match found.shows {
-            Shows::Name(named) => put(out, max, name(t, tm, named)),
+            Shows::Name(list) => put(out, max, name(t, tm, list)),
             Shows::Number(quantity, layout) => put_number(out, max, layout, number(quantity, tm)),
             _ => return None,
         },

@@ -12,7 +12,7 @@ ghost use Rattle.strftime_fields.specs.Appending.{Appends};
 use crate::digits::{last_digit, put_bare, put_number, put_signed, two};
 use crate::output::{Stop, put, put_byte};
 use crate::weeks::{behind_monday, iso_week, monday_week, sunday_week};
-use time_cat::{EraHit, Layout, Named, Quantity, Shows, Time, Tm};
+use time_cat::{EraHit, Layout, NameList, Quantity, Shows, Time, Tm};
 
 /// A number of a time.
 #[inline(always)]
@@ -40,25 +40,18 @@ pub fn number(quantity: Quantity, tm: &Tm) -> u32
     }
 }
 
-/// The alternative digit at a number.
-fn alternative(t: &Time, n: u32) -> Option<&[u8]>
-    ensures { option_copied result ≡ alternative t.now.alt_digits n }
-{
-    if n < 256 { t.alt_digit(n as u8) } else { None }
-}
-
 /// A name of the locale.
 #[inline(always)]
-pub fn name<'a>(t: &'a Time, tm: &Tm, named: Named) -> &'a [u8]
-    ensures { result.now ≡ name_text t.now tm.now named }
+pub fn name<'a>(t: &'a Time, tm: &Tm, list: NameList) -> &'a [u8]
+    ensures { result.now ≡ name_text t.now tm.now list }
 {
-    match named {
-        Named::ShortWeekday => t.abday(tm.wday() as u8),
-        Named::Weekday => t.day(tm.wday() as u8),
-        Named::ShortMonth => t.abmon((tm.mon() - 1) as u8),
-        Named::Month => t.mon((tm.mon() - 1) as u8),
-        Named::HalfDay if tm.hour() < 12 => t.am_pm(0),
-        Named::HalfDay => t.am_pm(1),
+    match list {
+        NameList::ShortWeekday => t.abday(tm.wday() as u8),
+        NameList::Weekday => t.day(tm.wday() as u8),
+        NameList::ShortMonth => t.abmon((tm.mon() - 1) as u8),
+        NameList::Month => t.mon((tm.mon() - 1) as u8),
+        NameList::HalfDay if tm.hour() < 12 => t.am_pm(0),
+        NameList::HalfDay => t.am_pm(1),
     }
 }
 
@@ -286,7 +279,7 @@ fn put_alternative(
     requires { length out.old.items ≤ max }
     ensures { Appends max out.old.items (or_text (alternative t.now.alt_digits n) (laid_out layout n)) out.new.items result }
 {
-    match alternative(t, n) {
+    match t.alt_digit(n) {
         None => put_number(out, max, layout, n),
         Some(digit) => put(out, max, digit),
     }
@@ -299,7 +292,7 @@ pub fn put_plain(out: &mut Vec<u8>, max: usize, t: &Time, tm: &Tm, shows: Shows)
     ensures { Appends max out.old.items (plain_text t.now tm.now shows) out.new.items result }
 {
     match shows {
-        Shows::Name(named) => put(out, max, name(t, tm, named)),
+        Shows::Name(list) => put(out, max, name(t, tm, list)),
         Shows::Number(quantity, layout) => put_number(out, max, layout, number(quantity, tm)),
         Shows::Alternative(quantity, layout) => {
             put_alternative(out, max, t, layout, number(quantity, tm))

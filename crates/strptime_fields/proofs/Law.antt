@@ -12,7 +12,7 @@ use Rattle.time_cat.specs.Shown.{two, three, spaced, piece_text, expanded}
 use Rattle.strptime_fields.specs.declared.item.Kind.TheVariants as kinds
 use Rattle.strptime_fields.specs.declared.item.Digits.TheVariants.{One, Two, Three, Four}
 use Rattle.strptime_fields.specs.declared.item.Item.TheVariants.{White, Sign}
-use Rattle.strptime_fields.specs.declared.kept.Kept.{Kept}
+use Rattle.strptime_fields.specs.declared.last_read.LastRead.{LastRead}
 use Rattle.strptime_fields.specs.Items.{is_white, item}
 use Rattle.strptime_fields.specs.Keeping.{nothing, keep, keep_year_day, keep_year, parsed, year_of, hour_of, yday_of}
 use Rattle.strptime_fields.specs.Reading.{behind_white}
@@ -27,7 +27,7 @@ abbrev or_kept : Bool → ℕ → Option ℕ → Option ℕ
 or_kept b n kept = cond b (Some n) kept
 
 -- what is kept behind the numbers of pieces
-abbrev told : TmValues → List Piece → Kept → Kept
+abbrev told : TmValues → List Piece → LastRead → LastRead
 told t ps k = record k {
   year = or_kept (holds 89 ps) t.year k.year;
   mon = or_kept (holds 109 ps) t.mon k.mon;
@@ -103,16 +103,16 @@ abbrev pieces_of : TimeValues → List Piece → List Piece
 pieces_of v ps = flat_map (followed_piece v (followed 4 v)) ps
 
 -- what one piece of a plain format reads
-abbrev Reads : TimeValues → TmValues → Piece → (Kept → Kept) → Type 0
+abbrev Reads : TimeValues → TmValues → Piece → (LastRead → LastRead) → Type 0
 Reads v t p keeps =
-    (rest left : List ℕ) (k : Kept) → starts_digit rest ≡ false → behind_white left ≡ behind_white (piece_text v t (expanded 4 v t) p ++ rest) → onward v (Ok (left, k)) p ≡ Ok (rest, keeps k)
+    (rest left : List ℕ) (k : LastRead) → starts_digit rest ≡ false → behind_white left ≡ behind_white (piece_text v t (expanded 4 v t) p ++ rest) → onward v (Ok (left, k)) p ≡ Ok (rest, keeps k)
 
 -- a number that is said
 pub record IsSaid (v : TimeValues) (t : TmValues) (letter rank : ℕ) : Type 0 where
-  pub keeps : Kept → Kept
+  pub keeps : LastRead → LastRead
   pub reads : Reads v t (Converted 0 letter rank) keeps
   pub alone : followed_piece v (followed 4 v) (Converted 0 letter rank) ≡ Converted 0 letter rank ∷ []
-  pub tells : (ps : List Piece) (k : Kept) → told t (Converted 0 letter rank ∷ ps) k ≡ told t ps (keeps k)
+  pub tells : (ps : List Piece) (k : LastRead) → told t (Converted 0 letter rank ∷ ps) k ≡ told t ps (keeps k)
 
 same_kept : (b : Bool) (n : ℕ) → or_kept b n (Some n) ≡ Some n
 same_kept true n = refl
@@ -257,9 +257,9 @@ no_digit v t (Wrong at ∷ ps) plain = absurd cc
 
 -- what is read of pieces from here on
 abbrev GoesOn : TimeValues → TmValues → List Piece → Type 0
-GoesOn v t ps = (left : List ℕ) (k : Kept) → IsReady left (text_of v t ps) → run v (Ok (left, k)) (pieces_of v ps) ≡ Ok ([], told t ps k)
+GoesOn v t ps = (left : List ℕ) (k : LastRead) → IsReady left (text_of v t ps) → run v (Ok (left, k)) (pieces_of v ps) ≡ Ok ([], told t ps k)
 
-byte_by : (v : TimeValues) (t : TmValues) (c : ℕ) (ps : List Piece) (left : List ℕ) (k : Kept) (b : Bool) → is_white c ≡ b → GoesOn v t ps → IsReady left (c ∷ text_of v t ps)
+byte_by : (v : TimeValues) (t : TmValues) (c : ℕ) (ps : List Piece) (left : List ℕ) (k : LastRead) (b : Bool) → is_white c ≡ b → GoesOn v t ps → IsReady left (c ∷ text_of v t ps)
     → run v (read_onward v (Ok (left, k)) (cond b White (Sign c))) (pieces_of v ps) ≡ Ok ([], told t ps k)
 byte_by v t c ps left k true is on ready =
     on (behind_white left) k (inr (ready_white left (c ∷ text_of v t ps) ready ∙ rw is refl))
@@ -285,7 +285,7 @@ on_number v t letter rank ps known plain on left k ready =
     let read = known.reads (text_of v t ps) left k (no_digit v t ps plain) (ready_white left (text_of v t (p ∷ ps)) ready) in
     let alone = ap (λ (qs : List Piece). run v (Ok (left, k)) (qs ++ pieces_of v ps)) known.alone in
     let first = ap (λ (progress : Progress). run v progress (pieces_of v ps)) read in
-    alone ∙ (first ∙ (on (text_of v t ps) (known.keeps k) (inl refl) ∙ ap (λ (kept : Kept). Ok ([], kept)) (sym (known.tells ps k))))
+    alone ∙ (first ∙ (on (text_of v t ps) (known.keeps k) (inl refl) ∙ ap (λ (last : LastRead). Ok ([], last)) (sym (known.tells ps k))))
 
 -- the two cases of a conversion of a plain format
 abbrev IsPlainConversion : ℕ → ℕ → List Piece → Type 0

@@ -1,10 +1,10 @@
 -- The best of the names is the longest, and the first of its length.
-use Rattle.std.proofs.Common.{◌≡◌, ℕ, zero, suc, ◌+◌, ◌<◌, ◌≤◌, inl, inr, ◌⊎◌, Bool, true, false, cond, ltb, List, [], ◌∷◌, length, Option, Some, None, refl, sym, ap, ◌∙◌, subst, arith}
+use Rattle.std.proofs.Common.{◌≡◌, ℕ, zero, suc, ◌+◌, ◌<◌, ◌≤◌, inl, inr, ◌⊎◌, Bool, true, false, cond, ltb, List, length, Option, Some, None, refl, sym, ap, ◌∙◌, subst, arith}
 use Rattle.std.proofs.lemmas.Bool.{ltb-true, ltb-false}
 use Rattle.time_cat.specs.TimeValues.{TimeValues}
 use Rattle.strptime_fields.specs.declared.item.Names.{Names}
 use Rattle.strptime_fields.specs.Reading.{Value, behind, left_by, better, or_name, first_value, short_name, full_name, name_count, longest_of, longest}
-use Rattle.strptime_fields.specs.Longest.{Stands, IsLongest, IsFound, AreLongest}
+use Rattle.strptime_fields.specs.Longest.{Stands, IsFound, AreLongest}
 
 -- what is left behind the names that were tried, each with its index
 abbrev Tried : Type 1

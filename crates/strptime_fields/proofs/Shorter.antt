@@ -9,7 +9,7 @@ use Rattle.strptime_fields.specs.declared.item.Digits.{Digits}
 use Rattle.strptime_fields.specs.declared.item.Names.{Names}
 use Rattle.strptime_fields.specs.declared.item.Item.{Item}
 use Rattle.strptime_fields.specs.declared.item.Item.TheVariants.{White, Sign, Number, YearDay, Year, Name, Format}
-use Rattle.strptime_fields.specs.declared.kept.Kept.{Kept}
+use Rattle.strptime_fields.specs.declared.last_read.LastRead.{LastRead}
 use Rattle.strptime_fields.specs.Items.{is_white, most_digits, item_of}
 use Rattle.strptime_fields.specs.Keeping.{keep, keep_year_day, keep_year}
 use Rattle.strptime_fields.specs.Reading.{Value, behind_white, leading_digits, within, number, behind, left_by, better, or_name, first_value, short_name, full_name, name_count, longest_of, longest, Read, kept_as, kind_of, sign, read}
@@ -90,7 +90,7 @@ abbrev FitsRead : ℕ → Option Read → Type 0
 FitsRead n None = Unit {0}
 FitsRead n (Some r) = length r.0 ≤ n
 
-kept_fits : (n : ℕ) (keeps : ℕ → Kept → Kept) (k : Kept) (o : Option Value) → FitsValue n o → FitsRead n (kept_as keeps k o)
+kept_fits : (n : ℕ) (keeps : ℕ → LastRead → LastRead) (k : LastRead) (o : Option Value) → FitsValue n o → FitsRead n (kept_as keeps k o)
 kept_fits n keeps k None is = tt
 kept_fits n keeps k (Some found) is = is
 
@@ -98,11 +98,11 @@ byte_fits : (n : ℕ) (b : Bool) (r : Read) → length r.0 ≤ n → FitsRead n 
 byte_fits n true r is = is
 byte_fits n false r is = tt
 
-sign_fits : (c : ℕ) (text : List ℕ) (k : Kept) → FitsRead (length text) (sign c text k)
+sign_fits : (c : ℕ) (text : List ℕ) (k : LastRead) → FitsRead (length text) (sign c text k)
 sign_fits c [] k = tt
 sign_fits c (d ∷ ds) k = byte_fits (length (d ∷ ds)) (eqb d c) (ds, k) (omega arith)
 
-read_fits : (v : TimeValues) (i : Item) (text : List ℕ) (k : Kept) → FitsRead (length text) (read v i text k)
+read_fits : (v : TimeValues) (i : Item) (text : List ℕ) (k : LastRead) → FitsRead (length text) (read v i text k)
 read_fits v White text k = shorter_white text
 read_fits v (Sign c) text k = sign_fits c text k
 read_fits v (Number kind digits low high) text k = kept_fits (length text) (keep kind) k _ (number_fits digits low high text)

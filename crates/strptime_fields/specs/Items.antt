@@ -14,11 +14,11 @@ use Rattle.strptime_fields.specs.declared.item.Item.{Item}
 use Rattle.strptime_fields.specs.declared.item.Item.TheVariants.{White, Sign, Number, YearDay, Year, Name, Format}
 
 -- a conversion: its letter and what it reads
-abbrev pub Row : Type 0
-Row = ℕ × Item
+abbrev pub ScannedRow : Type 0
+ScannedRow = ℕ × Item
 
 -- the conversions, with the most digits of each number and its bounds
-abbrev pub items : List Row
+abbrev pub items : List ScannedRow
 items =
     (97, Name names.Weekdays) ∷  -- %a
     (65, Name names.Weekdays) ∷  -- %A
@@ -52,12 +52,12 @@ items =
     (37, Sign 37) ∷ []  -- %%
 
 -- the first row of a letter
-abbrev pub first_row : List Row → ℕ → Option Row
-first_row rows letter = find (λ (r : Row). r.0 == letter) rows
+abbrev pub first_row : List ScannedRow → ℕ → Option ScannedRow
+first_row rows letter = find (λ (r : ScannedRow). r.0 == letter) rows
 
 -- the item of a letter behind a modifier, of which none is read
 unfoldable pub item : ℕ → ℕ → Option Item
-item modifier letter = if modifier == 0 then option_map (λ (r : Row). r.1) (first_row items letter) else None
+item modifier letter = if modifier == 0 then option_map (λ (r : ScannedRow). r.1) (first_row items letter) else None
 
 -- white space: the byte 32, and those from 9 to 13
 abbrev pub is_white : ℕ → Bool

@@ -2,11 +2,11 @@
 use Rattle.std.specs.Prelude.{ℕ, ℤ, pos, ◌+◌, ◌-◌, ◌*◌, ◌%◌, ◌==◌, nat_lt, Bool, false, Option, Some, None, option_map, if◌then◌else◌}
 use Rattle.strptime_fields.specs.declared.item.Kind.{Kind}
 use Rattle.strptime_fields.specs.declared.item.Kind.TheVariants.{Day, Month, Weekday, Hour, HalfDayHour, Minute, Second, Century, YearOfCentury, HalfDay, Week}
-use Rattle.strptime_fields.specs.declared.kept.Kept.{Kept}
+use Rattle.strptime_fields.specs.declared.last_read.LastRead.{LastRead}
 use Rattle.strptime_fields.specs.declared.parsed.Parsed.{Parsed}
 
 -- nothing was read yet
-abbrev pub nothing : Kept
+abbrev pub nothing : LastRead
 nothing = record {
   year = None;
   century = None;
@@ -23,7 +23,7 @@ nothing = record {
 }
 
 -- a value of a kind in the place of an earlier one; a week is not kept
-abbrev pub keep : Kind → ℕ → Kept → Kept
+abbrev pub keep : Kind → ℕ → LastRead → LastRead
 keep Day n k = record k { mday = Some n }
 keep Month n k = record k { mon = Some n }
 keep Weekday n k = record k { wday = Some n }
@@ -36,10 +36,10 @@ keep YearOfCentury n k = record k { year_of_century = Some n }
 keep HalfDay n k = record k { half_day = Some n }
 keep Week n k = k
 
-abbrev pub keep_year_day : ℕ → Kept → Kept
+abbrev pub keep_year_day : ℕ → LastRead → LastRead
 keep_year_day n k = record k { year_day = Some n }
 
-abbrev pub keep_year : ℕ → Kept → Kept
+abbrev pub keep_year : ℕ → LastRead → LastRead
 keep_year n k = record k { year = Some n }
 
 abbrev pub or_zero : Option ℕ → ℕ
@@ -67,18 +67,18 @@ hour_by (Some hour) half_day_hour half_day = Some hour
 hour_by None None half_day = None
 hour_by None (Some hour) half_day = Some (if is_afternoon half_day then hour % 12 + 12 else hour % 12)
 
-abbrev pub year_of : Kept → Option ℤ
+abbrev pub year_of : LastRead → Option ℤ
 year_of k = option_map pos (year_by k.year k.century k.year_of_century)
 
-abbrev pub hour_of : Kept → Option ℕ
+abbrev pub hour_of : LastRead → Option ℕ
 hour_of k = hour_by k.hour k.half_day_hour k.half_day
 
 -- days of the year are read from 1 and counted from 0
-abbrev pub yday_of : Kept → Option ℕ
+abbrev pub yday_of : LastRead → Option ℕ
 yday_of k = option_map (λ (day : ℕ). day - 1) k.year_day
 
 -- the fields
-abbrev pub parsed : Kept → Parsed
+abbrev pub parsed : LastRead → Parsed
 parsed k = record {
   year = year_of k;
   mon = k.mon;

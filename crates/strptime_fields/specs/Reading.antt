@@ -12,7 +12,7 @@ use Rattle.strptime_fields.specs.declared.item.Names.{Names}
 use Rattle.strptime_fields.specs.declared.item.Names.TheVariants.{Weekdays, Months, HalfDays}
 use Rattle.strptime_fields.specs.declared.item.Item.{Item}
 use Rattle.strptime_fields.specs.declared.item.Item.TheVariants.{White, Sign, Number, YearDay, Year, Name, Format}
-use Rattle.strptime_fields.specs.declared.kept.Kept.{Kept}
+use Rattle.strptime_fields.specs.declared.last_read.LastRead.{LastRead}
 use Rattle.strptime_fields.specs.Items.{is_white, most_digits}
 use Rattle.strptime_fields.specs.Keeping.{keep, keep_year_day, keep_year}
 
@@ -98,10 +98,10 @@ longest v names text = longest_of v names text (name_count names)
 
 -- what is left of a text, and what was kept
 abbrev pub Read : Type 0
-Read = List ℕ × Kept
+Read = List ℕ × LastRead
 
 -- a value that was read is kept
-abbrev pub kept_as : (ℕ → Kept → Kept) → Kept → Option Value → Option Read
+abbrev pub kept_as : (ℕ → LastRead → LastRead) → LastRead → Option Value → Option Read
 kept_as keeps k None = None
 kept_as keeps k (Some found) = Some (found.1, keeps found.0 k)
 
@@ -111,12 +111,12 @@ kind_of Months = kinds.Month
 kind_of HalfDays = kinds.HalfDay
 
 -- a byte at the front
-abbrev pub sign : ℕ → List ℕ → Kept → Option Read
+abbrev pub sign : ℕ → List ℕ → LastRead → Option Read
 sign c [] k = None
 sign c (d ∷ ds) k = if d == c then Some (ds, k) else None
 
 -- what an item reads; a format reads by its own items
-abbrev pub read : TimeValues → Item → List ℕ → Kept → Option Read
+abbrev pub read : TimeValues → Item → List ℕ → LastRead → Option Read
 read v White text k = Some (behind_white text, k)
 read v (Sign c) text k = sign c text k
 read v (Number kind digits low high) text k = kept_as (keep kind) k (number digits low high text)

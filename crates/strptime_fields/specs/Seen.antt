@@ -5,5 +5,5 @@ use Rattle.strptime_fields.specs.declared.progress.Progress.TheVariants.{On, Mis
 use Rattle.strptime_fields.specs.Scans.{Progress}
 
 abbrev pub seen : InCode → Progress
-seen (On left kept) = Ok (left.now, kept)
+seen (On left last) = Ok (left.now, last)
 seen (Missed left) = Err left.now

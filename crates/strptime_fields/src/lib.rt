@@ -4,7 +4,7 @@
 mod fault;
 mod follow;
 mod item;
-mod kept;
+mod last_read;
 mod names;
 mod number;
 mod parsed;

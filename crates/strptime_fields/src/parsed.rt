@@ -3,7 +3,7 @@
 ghost use Rattle.std.specs.Prelude.{◌≡◌, ◌+◌, ◌*◌, pos};
 ghost use Rattle.strptime_fields.specs.Keeping.{near_year, or_zero, year_of, hour_of, yday_of};
 
-use crate::kept::Kept;
+use crate::last_read::LastRead;
 
 /// The fields that a text has, each where an item of the format says it (XBD time.h, struct tm).
 #[derive(Clone, Copy, Debug, PartialEq, Eq)]
@@ -49,13 +49,13 @@ fn century_year(century: u8, year_of_century: Option<u8>) -> i32
 }
 
 /// The year.
-fn year_of(kept: &Kept) -> Option<i32>
-    ensures { result ≡ year_of kept.now }
+fn year_of(last: &LastRead) -> Option<i32>
+    ensures { result ≡ year_of last.now }
 {
-    match (kept.year, kept.century) {
+    match (last.year, last.century) {
         (Some(year), _) => Some(i32::from(year)),
-        (None, Some(century)) => Some(century_year(century, kept.year_of_century)),
-        (None, None) => match kept.year_of_century {
+        (None, Some(century)) => Some(century_year(century, last.year_of_century)),
+        (None, None) => match last.year_of_century {
             None => None,
             Some(year) => Some(near_year(year)),
         },
@@ -63,28 +63,28 @@ fn year_of(kept: &Kept) -> Option<i32>
 }
 
 /// The hour.
-fn hour_of(kept: &Kept) -> Option<u8>
-    ensures { result ≡ hour_of kept.now }
+fn hour_of(last: &LastRead) -> Option<u8>
+    ensures { result ≡ hour_of last.now }
 {
-    match (kept.hour, kept.half_day_hour) {
+    match (last.hour, last.half_day_hour) {
         (Some(hour), _) => Some(hour),
-        (None, Some(hour)) if kept.half_day == Some(1) => Some(hour % 12 + 12),
+        (None, Some(hour)) if last.half_day == Some(1) => Some(hour % 12 + 12),
         (None, Some(hour)) => Some(hour % 12),
         (None, None) => None,
     }
 }
 
 /// The day of the year, from 0.
-fn yday_of(kept: &Kept) -> Option<u16>
-    ensures { result ≡ yday_of kept.now }
+fn yday_of(last: &LastRead) -> Option<u16>
+    ensures { result ≡ yday_of last.now }
 {
-    match kept.year_day {
+    match last.year_day {
         None => None,
         Some(day) => Some(day.saturating_sub(1)),
     }
 }
 
-impl Kept {
+impl LastRead {
     ghost use Rattle.std.specs.Prelude.{◌≡◌};
     ghost use Rattle.strptime_fields.specs.Keeping.{parsed};
 

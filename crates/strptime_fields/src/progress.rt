@@ -7,7 +7,7 @@ ghost use Rattle.strptime_fields.specs.Scans.{read_onward};
 ghost use Rattle.strptime_fields.specs.Seen.{seen};
 
 use crate::item::{Digits, Item, Kind, Names};
-use crate::kept::Kept;
+use crate::last_read::LastRead;
 use crate::names::longest;
 use crate::number::{behind_white, number};
 use time_cat::Time;
@@ -16,17 +16,17 @@ use time_cat::Time;
 #[derive(Clone, Copy)]
 pub enum Progress<'a> {
     /// Up to these bytes, with what was kept.
-    On(&'a [u8], Kept),
+    On(&'a [u8], LastRead),
     /// Up to an item that these bytes do not meet.
     Missed(&'a [u8]),
 }
 
 /// What a byte reads.
-fn sign(byte: u8, left: &[u8], kept: Kept) -> Option<(&[u8], Kept)>
-    ensures { option_map (λ r. (r.0.now, r.1)) result ≡ sign byte left.now kept }
+fn sign(byte: u8, left: &[u8], last: LastRead) -> Option<(&[u8], LastRead)>
+    ensures { option_map (λ r. (r.0.now, r.1)) result ≡ sign byte left.now last }
 {
     match left {
-        [first, rest @ ..] if *first == byte => Some((rest, kept)),
+        [first, rest @ ..] if *first == byte => Some((rest, last)),
         _ => None,
     }
 }
@@ -38,33 +38,45 @@ fn small_number(
     low: u8,
     high: u8,
     left: &[u8],
-    kept: Kept,
-) -> Option<(&[u8], Kept)>
-    ensures { option_map (λ r. (r.0.now, r.1)) result ≡ kept_as (keep kind) kept (number_in digits low high left.now) }
+    last: LastRead,
+) -> Option<(&[u8], LastRead)>
+    ensures { option_map (λ r. (r.0.now, r.1)) result ≡ kept_as (keep kind) last (number_in digits low high left.now) }
 {
     match number(digits, u16::from(low), u16::from(high), left) {
         None => None,
-        Some((value, rest)) => Some((rest, kept.with(kind, value as u8))),
+        Some((value, rest)) => Some((rest, last.with(kind, value as u8))),
     }
 }
 
 /// What a day of the year reads.
-fn year_day(digits: Digits, low: u16, high: u16, left: &[u8], kept: Kept) -> Option<(&[u8], Kept)>
-    ensures { option_map (λ r. (r.0.now, r.1)) result ≡ kept_as keep_year_day kept (number_in digits low high left.now) }
+fn year_day(
+    digits: Digits,
+    low: u16,
+    high: u16,
+    left: &[u8],
+    last: LastRead,
+) -> Option<(&[u8], LastRead)>
+    ensures { option_map (λ r. (r.0.now, r.1)) result ≡ kept_as keep_year_day last (number_in digits low high left.now) }
 {
     match number(digits, low, high, left) {
         None => None,
-        Some((day, rest)) => Some((rest, kept.with_year_day(day))),
+        Some((day, rest)) => Some((rest, last.with_year_day(day))),
     }
 }
 
 /// What a year reads.
-fn year(digits: Digits, low: u16, high: u16, left: &[u8], kept: Kept) -> Option<(&[u8], Kept)>
-    ensures { option_map (λ r. (r.0.now, r.1)) result ≡ kept_as keep_year kept (number_in digits low high left.now) }
+fn year(
+    digits: Digits,
+    low: u16,
+    high: u16,
+    left: &[u8],
+    last: LastRead,
+) -> Option<(&[u8], LastRead)>
+    ensures { option_map (λ r. (r.0.now, r.1)) result ≡ kept_as keep_year last (number_in digits low high left.now) }
 {
     match number(digits, low, high, left) {
         None => None,
-        Some((year, rest)) => Some((rest, kept.with_year(year))),
+        Some((year, rest)) => Some((rest, last.with_year(year))),
     }
 }
 
@@ -80,27 +92,27 @@ fn kind_of(names: Names) -> Kind
 }
 
 /// What names read.
-fn name<'a>(t: &Time, names: Names, left: &'a [u8], kept: Kept) -> Option<(&'a [u8], Kept)>
-    ensures { option_map (λ r. (r.0.now, r.1)) result ≡ kept_as (keep (kind_of names)) kept (longest_in t.now names left.now) }
+fn name<'a>(t: &Time, names: Names, left: &'a [u8], last: LastRead) -> Option<(&'a [u8], LastRead)>
+    ensures { option_map (λ r. (r.0.now, r.1)) result ≡ kept_as (keep (kind_of names)) last (longest_in t.now names left.now) }
 {
     match longest(t, names, left) {
         None => None,
-        Some((value, rest)) => Some((rest, kept.with(kind_of(names), value))),
+        Some((value, rest)) => Some((rest, last.with(kind_of(names), value))),
     }
 }
 
 /// What an item reads.
-fn read<'a>(t: &Time, item: Item, left: &'a [u8], kept: Kept) -> Option<(&'a [u8], Kept)>
-    ensures { option_map (λ r. (r.0.now, r.1)) result ≡ read t.now item left.now kept }
+fn read<'a>(t: &Time, item: Item, left: &'a [u8], last: LastRead) -> Option<(&'a [u8], LastRead)>
+    ensures { option_map (λ r. (r.0.now, r.1)) result ≡ read t.now item left.now last }
 {
     match item {
-        Item::White => Some((behind_white(left), kept)),
-        Item::Sign(byte) => sign(byte, left, kept),
-        Item::Number(kind, digits, low, high) => small_number(kind, digits, low, high, left, kept),
-        Item::YearDay(digits, low, high) => year_day(digits, low, high, left, kept),
-        Item::Year(digits, low, high) => year(digits, low, high, left, kept),
-        Item::Name(names) => name(t, names, left, kept),
-        Item::Format(_) => Some((left, kept)),
+        Item::White => Some((behind_white(left), last)),
+        Item::Sign(byte) => sign(byte, left, last),
+        Item::Number(kind, digits, low, high) => small_number(kind, digits, low, high, left, last),
+        Item::YearDay(digits, low, high) => year_day(digits, low, high, left, last),
+        Item::Year(digits, low, high) => year(digits, low, high, left, last),
+        Item::Name(names) => name(t, names, left, last),
+        Item::Format(_) => Some((left, last)),
     }
 }
 
@@ -110,9 +122,9 @@ pub fn read_item<'a>(t: &Time, item: Item, progress: Progress<'a>) -> Progress<'
 {
     match progress {
         Progress::Missed(left) => Progress::Missed(left),
-        Progress::On(left, kept) => match read(t, item, left, kept) {
+        Progress::On(left, last) => match read(t, item, left, last) {
             None => Progress::Missed(left),
-            Some((rest, kept)) => Progress::On(rest, kept),
+            Some((rest, last)) => Progress::On(rest, last),
         },
     }
 }

@@ -8,7 +8,7 @@ ghost use Rattle.strptime_fields.specs.Seen.{seen};
 use crate::fault::ScanFault;
 use crate::follow::follow_conversion;
 use crate::item::byte_item;
-use crate::kept::Kept;
+use crate::last_read::LastRead;
 use crate::parsed::Parsed;
 use crate::progress::{Progress, read_item};
 use std::marker::Brand;
@@ -25,7 +25,7 @@ fn ended(text: &[u8], progress: Progress) -> Result<(Parsed, usize), ScanFault>
     ensures { result ≡ ended text.now (seen progress.entry) }
 {
     match progress {
-        Progress::On(left, kept) => Ok((kept.parsed(), text.len() - left.len())),
+        Progress::On(left, last) => Ok((last.parsed(), text.len() - left.len())),
         Progress::Missed(left) => Err(ScanFault::Mismatch {
             at: text.len() - left.len(),
         }),
@@ -49,7 +49,7 @@ pub fn strptime_counted<L: Ledger>(
     ensures bound { cost t.now format.now ≤ 69905 * conversions_of format.now }
 {
     t.rules_hold();
-    let mut progress = Progress::On(text, Kept::nothing());
+    let mut progress = Progress::On(text, LastRead::nothing());
     let mut at = 0;
     'reading: loop {
         match step_at(format, at, steps) {

@@ -1,5 +1,5 @@
 -- What a turn and a look say of a thread.
-use Rattle.std.proofs.Common.{◌≡◌, ℕ, zero, suc, ◌+◌, ◌<◌, ◌≤◌, ◌⊎◌, inl, inr, Bool, true, false, ◌==◌, ◌&&◌, List, [], ◌∷◌, ◌++◌, length, map, Option, Some, None, refl, ap, sym, ◌∙◌, subst, arith, eq-eqb, ne_eqb, append_assoc}
+use Rattle.std.proofs.Common.{◌≡◌, ℕ, zero, suc, ◌+◌, ◌<◌, ◌≤◌, Bool, true, false, ◌==◌, ◌&&◌, List, [], ◌∷◌, ◌++◌, length, map, Option, Some, None, refl, ap, sym, ◌∙◌, subst, arith, eq-eqb, ne_eqb, append_assoc}
 use Rattle.std.specs.List.{All, range_with_len}
 use Rattle.std.proofs.lemmas.Simd.{map-map}
 use Rattle.std.proofs.lemmas.List.Elements.{All-cons}
@@ -9,7 +9,6 @@ use Rattle.std.specs.Prelude.{if◌then◌else◌}
 use Rattle.std.proofs.Math.Logic.{◌↔◌}
 use Rattle.std.proofs.lemmas.Bool.{lt-leb}
 use Rattle.mask_compose.specs.Parts.{Parts, composed}
-use Rattle.turn_gate.specs.declared.entry.Entry as calls
 use Rattle.turn_gate.specs.declared.entry.Terms.{Terms}
 use Rattle.turn_gate.specs.History as turns
 use Rattle.turn_gate.specs.Callers.{Gate, Caller, IsSameCaller, InOrder, first_caller}
@@ -20,14 +19,15 @@ use Rattle.handle_table.specs.declared.handle.Named.TheVariants.{Global, Of}
 use Rattle.handle_table.specs.Shelf.{from_shelf}
 use Rattle.handle_table.specs.declared.op.Op.{Op as OpOf}
 use Rattle.handle_table.specs.declared.op.Reply.{Reply as ReplyOf}
-use Rattle.handle_table.specs.Entry.{Op, New, Dup, Free, Use, Hold, Release, SetGlobal, Install, Post, Fetch, Pins, End, Refusal, Reply, Was, Set, Refused, Entry, History, Setting, is_accepted}
+use Rattle.handle_table.specs.declared.op.Refusal.{Refusal}
+use Rattle.handle_table.specs.Entry.{Op, New, Dup, Free, Use, Hold, Release, SetGlobal, Install, Post, Fetch, Pins, End, Reply, Was, Set, Refused, Entry, History, Setting, is_accepted}
 use Rattle.handle_table.specs.Seen.{op_of, reply_of}
 use Rattle.handle_table.specs.History.{sets, global, global_at, selection_after, selection, holding_after, holding}
 use Rattle.handle_table.specs.Kept.{AreThreads}
 use Rattle.handle_table.specs.Answer.{answer, own_after, own, target_object, first_reason, reasons, unless, IsLegal}
 use Rattle.handle_table.proofs.Changes.{own_stays}
 use Rattle.thread_current.specs.Seen.{entry_of, entries_of}
-use Rattle.thread_current.specs.Thread.{Thread, thread_of, IsThreadOf, first_thread, IsPart, selected, own_object, holds, GoesOnFrom, entries_by, without_newest, before, IsSameThread, Answered, SawMore, KeepsSelection, KeepsHolds, Keeps, After, IsInOrder, takes_up}
+use Rattle.thread_current.specs.Thread.{Thread, thread_of, IsThreadOf, first_thread, IsPart, selected, own_object, GoesOnFrom, entries_by, without_newest, before, IsSameThread, Answered, SawMore, KeepsSelection, KeepsHolds, Keeps, After, IsInOrder, takes_up}
 use Rattle.thread_current.specs.Mine.{IsMine, IsUnused}
 use Rattle.thread_current.proofs.Longer.{length_entries, entries_append, sets_rise, version_object}
 

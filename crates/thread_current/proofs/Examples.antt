@@ -1,5 +1,5 @@
 -- The definitions on small histories.
-use Rattle.std.proofs.Common.{◌≡◌, ℕ, ◌+◌, Bool, true, false, List, [], ◌∷◌, ◌++◌, length, Option, Some, None, Result, Ok, Err, refl, ap, arith, length-append}
+use Rattle.std.proofs.Common.{◌≡◌, ℕ, ◌+◌, true, false, List, [], ◌∷◌, ◌++◌, length, Some, None, Result, Ok, Err, refl, ap, arith, length-append}
 use Rattle.std.proofs.lemmas.Bool.{eqb-false}
 use Rattle.atomic_table.specs.Seated.{TableId}
 use Rattle.mask_compose.specs.Parts.{Parts}
@@ -40,7 +40,7 @@ abbrev calls : turns.History (Op ℕ) (Reply ℕ)
 calls = turns.entry 1 (ops.Free Global) (replies.Refused refusals.GlobalHandle) ∷ turns.entry 0 (ops.SetGlobal 31 numbers) (replies.Set 1 (all_of 7)) ∷ []
 
 -- the same calls in the same order
-entries : entries_of calls ≡ record { who = 1; op = data_of.Free Global; reply = data_of.Refused data_of.GlobalHandle }
+entries : entries_of calls ≡ record { who = 1; op = data_of.Free Global; reply = data_of.Refused refusals.GlobalHandle }
     ∷ record { who = 0; op = data_of.SetGlobal 31 numbers; reply = data_of.Set 1 (all_of 7) } ∷ []
 entries = refl
 
@@ -112,7 +112,7 @@ not_by_another is = let no : false ≡ true = is.1 in cc no
 abbrev refused : Result ℕ Fault
 refused = Err (record { place = 3; refusal = refusals.Stale })
 
-why_refused : refusal_in refused ≡ Some data_of.Stale
+why_refused : refusal_in refused ≡ Some refusals.Stale
 why_refused = refl
 
 not_refused : refusal_in {X = ℕ} (Ok 3) ≡ None
@@ -154,8 +154,8 @@ module _ (table : TableId) where
   not_this_place : Answered gate (thread 1 [] []) (thread 1 (used ∷ making) (used ∷ [])) (data_of.Use (Of object)) 0 (data_of.Was Global (Some (all_of 7))) → ⊥
   not_this_place made = eqb-false 0 1 refl made.place_is
 
-  not_this_reply : Answered gate (thread 1 [] []) (thread 1 (used ∷ making) (used ∷ [])) (data_of.Use (Of object)) 1 (data_of.Refused data_of.Stale) → ⊥
-  not_this_reply made = let no : data_of.Refused data_of.Stale ≡ data_of.Was Global (Some (all_of 7)) = made.reply_is in cc no
+  not_this_reply : Answered gate (thread 1 [] []) (thread 1 (used ∷ making) (used ∷ [])) (data_of.Use (Of object)) 1 (data_of.Refused refusals.Stale) → ⊥
+  not_this_reply made = let no : data_of.Refused refusals.Stale ≡ data_of.Was Global (Some (all_of 7)) = made.reply_is in cc no
 
   saw_more : SawMore (thread 1 [] []) (thread 1 making [])
   saw_more = record { same = record { table = refl; terms = refl; number = refl }; later = (making, refl); calls = refl }

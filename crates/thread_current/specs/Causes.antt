@@ -1,17 +1,16 @@
 -- When a call of a thread is refused, over the history before the call. Each reason comes after the earlier ones of its call.
 use Rattle.std.specs.Prelude.{◌≡◌, ℕ, Option, Some, None, Result, Ok, Err, true, false}
-use Rattle.lc_base.specs.declared.category.Category.{Category}
 use Rattle.handle_table.specs.declared.handle.Named.{Named}
 use Rattle.handle_table.specs.declared.handle.Named.TheVariants.{Global, Of}
-use Rattle.handle_table.specs.Entry.{Refusal, History}
+use Rattle.handle_table.specs.declared.op.Refusal.{Refusal}
+use Rattle.handle_table.specs.Entry.{History}
 use Rattle.handle_table.specs.History.{made, live, holding}
-use Rattle.handle_table.specs.Seen.{refusal_of}
 use Rattle.thread_current.specs.declared.shared.Fault.{Fault}
 
 -- the reason of a refused call
 abbrev pub refusal_in : {X : Type 0} → Result X Fault → Option Refusal
 refusal_in (Ok x) = None
-refusal_in (Err fault) = Some (refusal_of fault.refusal)
+refusal_in (Err fault) = Some fault.refusal
 
 -- no entry made the handle that is named
 abbrev pub IsNeverMade : History → Named → Type 0

@@ -1,5 +1,5 @@
 -- What a thread at the shared table is seen as, and what its calls say of it.
-use Rattle.std.specs.Prelude.{◌≡◌, ℕ, ◌<◌, ◌==◌, if◌then◌else◌, List, [], ◌∷◌, ◌++◌, length, Option, Some, Bool, true, false}
+use Rattle.std.specs.Prelude.{◌≡◌, ℕ, ◌<◌, ◌==◌, if◌then◌else◌, [], ◌∷◌, ◌++◌, length, Option, Some, Bool, true, false}
 use Rattle.atomic_table.specs.Seated.{TableId}
 use Rattle.mask_compose.specs.Parts.{Parts}
 use Rattle.turn_gate.specs.declared.entry.Terms.{Terms}
@@ -8,7 +8,7 @@ use Rattle.handle_table.specs.declared.op.Op as ops
 use Rattle.handle_table.specs.declared.op.Reply as replies
 use Rattle.handle_table.specs.declared.handle.Handle.{Handle}
 use Rattle.handle_table.specs.declared.handle.Named.{Named}
-use Rattle.handle_table.specs.Entry.{Op, Use, End, Reply, Entry, History, Setting, is_accepted}
+use Rattle.handle_table.specs.Entry.{Op, Use, End, Reply, History, Setting, is_accepted}
 use Rattle.handle_table.specs.History.{selection_after, selection, holding_after, holding}
 use Rattle.handle_table.specs.Kept.{AreThreads}
 use Rattle.handle_table.specs.Answer.{answer, own_after, own, IsLegal}

@@ -3,17 +3,19 @@ ghost use Rattle.std.specs.Prelude.{◌≡◌, ◌≢◌, ◌↔◌, ℕ, ◌*�
 ghost use Rattle.std.specs.List.{All, range_with_len};
 ghost use Rattle.std.specs.Option.{IsNone, IsSomeAnd};
 ghost use Rattle.lc_base.specs.declared.category.Category.{Category};
+ghost use Rattle.mask_compose.specs.Offer.{AreOnShelf};
 ghost use Rattle.turn_gate.specs.Callers.{IsSeatOf, IsSameCaller};
 ghost use Rattle.turn_gate.specs.Ends.{SomeCaller};
 ghost use Rattle.handle_table.specs.declared.handle.Handle.{Handle};
 ghost use Rattle.handle_table.specs.declared.handle.Named.TheVariants as targets;
+ghost use Rattle.handle_table.specs.declared.op.Refusal.TheVariants as refusals;
 ghost use Rattle.handle_table.specs.Entry as data_of;
 ghost use Rattle.handle_table.specs.Entry.{same_handle};
 ghost use Rattle.handle_table.specs.Shelf.{lacking};
 ghost use Rattle.handle_table.specs.History.{sets, global_at, holding, free_row, posted};
 ghost use Rattle.handle_table.specs.Answer.{target_object};
-ghost use Rattle.handle_table.specs.Table.{IsOpening, AreOnShelf, Fits, StandsFor};
-ghost use Rattle.handle_table.specs.Seen.{op_of, reply_of, refusal_of};
+ghost use Rattle.handle_table.specs.Table.{IsOpening, Fits, StandsFor};
+ghost use Rattle.handle_table.specs.Seen.{op_of, reply_of};
 ghost use Rattle.thread_current.specs.Seen.{entries_of};
 ghost use Rattle.thread_current.specs.Thread.{IsThreadOf, IsInOrder, IsPart, After, takes_up, Answered, SawMore, Keeps, KeepsSelection, KeepsHolds, GoesOnFrom, before, selected, own_object, holds, first_thread, thread_of};
 ghost use Rattle.thread_current.specs.Mine.{IsUnused};
@@ -148,16 +150,16 @@ impl<P: Part> Shared<P> {
     ) -> Result<(u64, Handle), Fault>
         requires thread { IsThreadOf self.now mine.old }
         requires quota { length mine.old.calls < self.now.terms.quota }
-        requires names { AreOnShelf self.now.terms.setting names }
+        requires names { AreOnShelf self.now.terms.setting.opening names }
         ensures made { IfOk result (λ r. Answered self.now mine.old mine.new (data_of.New mask names base) r.0 (data_of.Made r.1)) }
-        ensures fault { IfErr result (λ f. Answered self.now mine.old mine.new (data_of.New mask names base) f.place (data_of.Refused (refusal_of f.refusal))) }
+        ensures fault { IfErr result (λ f. Answered self.now mine.old mine.new (data_of.New mask names base) f.place (data_of.Refused f.refusal)) }
         ensures in_order { IsInOrder self.now.terms mine.new }
         ensures keeps { Keeps mine.old mine.new }
-        ensures no_data { (k : Category) → (refusal_in result ≡ Some (data_of.NoData k)) ↔ (lacking self.now.terms.setting (before mine.new) mask names ≡ Some k) }
-        ensures global_handle { (refusal_in result ≡ Some data_of.GlobalHandle) ↔ ((lacking self.now.terms.setting (before mine.new) mask names ≡ None) × (base ≡ Some targets.Global)) }
-        ensures never_made { (refusal_in result ≡ Some data_of.NeverMade) ↔ ((lacking self.now.terms.setting (before mine.new) mask names ≡ None) × IsSomeAnd base (IsNeverMade (before mine.new))) }
-        ensures stale { (refusal_in result ≡ Some data_of.Stale) ↔ ((lacking self.now.terms.setting (before mine.new) mask names ≡ None) × IsSomeAnd base (IsStale (before mine.new))) }
-        ensures too_many { (refusal_in result ≡ Some data_of.TooMany) ↔ ((lacking self.now.terms.setting (before mine.new) mask names ≡ None) × (base ≡ None) × (free_row self.now.terms.setting (before mine.new) mine.old.number ≡ None)) }
+        ensures no_data { (k : Category) → (refusal_in result ≡ Some (refusals.NoData k)) ↔ (lacking self.now.terms.setting (before mine.new) mask names ≡ Some k) }
+        ensures global_handle { (refusal_in result ≡ Some refusals.GlobalHandle) ↔ ((lacking self.now.terms.setting (before mine.new) mask names ≡ None) × (base ≡ Some targets.Global)) }
+        ensures never_made { (refusal_in result ≡ Some refusals.NeverMade) ↔ ((lacking self.now.terms.setting (before mine.new) mask names ≡ None) × IsSomeAnd base (IsNeverMade (before mine.new))) }
+        ensures stale { (refusal_in result ≡ Some refusals.Stale) ↔ ((lacking self.now.terms.setting (before mine.new) mask names ≡ None) × IsSomeAnd base (IsStale (before mine.new))) }
+        ensures too_many { (refusal_in result ≡ Some refusals.TooMany) ↔ ((lacking self.now.terms.setting (before mine.new) mask names ≡ None) × (base ≡ None) × (free_row self.now.terms.setting (before mine.new) mine.old.number ≡ None)) }
     {
         let (place, reply) = self.enter(rt, mine, Op::New { mask, names, base });
         match reply {
@@ -177,12 +179,12 @@ impl<P: Part> Shared<P> {
         requires thread { IsThreadOf self.now mine.old }
         requires quota { length mine.old.calls < self.now.terms.quota }
         ensures made { IfOk result (λ r. Answered self.now mine.old mine.new (data_of.Dup from) r.0 (data_of.Made r.1)) }
-        ensures fault { IfErr result (λ f. Answered self.now mine.old mine.new (data_of.Dup from) f.place (data_of.Refused (refusal_of f.refusal))) }
+        ensures fault { IfErr result (λ f. Answered self.now mine.old mine.new (data_of.Dup from) f.place (data_of.Refused f.refusal)) }
         ensures in_order { IsInOrder self.now.terms mine.new }
         ensures keeps { Keeps mine.old mine.new }
-        ensures never_made { (refusal_in result ≡ Some data_of.NeverMade) ↔ IsNeverMade (before mine.new) from }
-        ensures stale { (refusal_in result ≡ Some data_of.Stale) ↔ IsStale (before mine.new) from }
-        ensures too_many { (refusal_in result ≡ Some data_of.TooMany) ↔ (IsThere (before mine.new) from × (free_row self.now.terms.setting (before mine.new) mine.old.number ≡ None)) }
+        ensures never_made { (refusal_in result ≡ Some refusals.NeverMade) ↔ IsNeverMade (before mine.new) from }
+        ensures stale { (refusal_in result ≡ Some refusals.Stale) ↔ IsStale (before mine.new) from }
+        ensures too_many { (refusal_in result ≡ Some refusals.TooMany) ↔ (IsThere (before mine.new) from × (free_row self.now.terms.setting (before mine.new) mine.old.number ≡ None)) }
     {
         match self.enter(rt, mine, Op::Dup { from }) {
             (place, Reply::Made(handle)) => Ok((place, handle)),
@@ -196,12 +198,12 @@ impl<P: Part> Shared<P> {
         requires thread { IsThreadOf self.now mine.old }
         requires quota { length mine.old.calls < self.now.terms.quota }
         ensures made { IfOk result (λ r. Answered self.now mine.old mine.new (data_of.Free h) r (data_of.Freed)) }
-        ensures fault { IfErr result (λ f. Answered self.now mine.old mine.new (data_of.Free h) f.place (data_of.Refused (refusal_of f.refusal))) }
+        ensures fault { IfErr result (λ f. Answered self.now mine.old mine.new (data_of.Free h) f.place (data_of.Refused f.refusal)) }
         ensures in_order { IsInOrder self.now.terms mine.new }
         ensures keeps { Keeps mine.old mine.new }
-        ensures global_handle { (refusal_in result ≡ Some data_of.GlobalHandle) ↔ (h ≡ targets.Global) }
-        ensures never_made { (refusal_in result ≡ Some data_of.NeverMade) ↔ IsNeverMade (before mine.new) h }
-        ensures stale { (refusal_in result ≡ Some data_of.Stale) ↔ IsStale (before mine.new) h }
+        ensures global_handle { (refusal_in result ≡ Some refusals.GlobalHandle) ↔ (h ≡ targets.Global) }
+        ensures never_made { (refusal_in result ≡ Some refusals.NeverMade) ↔ IsNeverMade (before mine.new) h }
+        ensures stale { (refusal_in result ≡ Some refusals.Stale) ↔ IsStale (before mine.new) h }
     {
         match self.enter(rt, mine, Op::Free { h }) {
             (place, Reply::Freed) => Ok(place),
@@ -221,7 +223,7 @@ impl<P: Part> Shared<P> {
         requires thread { IsThreadOf self.now mine.old }
         requires quota { length mine.old.calls < self.now.terms.quota }
         ensures made { IfOk result (λ r. Answered self.now mine.old mine.new (data_of.Use to) r.0 (data_of.Was r.1 (target_object self.now.terms.setting (before mine.new) to))) }
-        ensures fault { IfErr result (λ f. Answered self.now mine.old mine.new (data_of.Use to) f.place (data_of.Refused (refusal_of f.refusal))) }
+        ensures fault { IfErr result (λ f. Answered self.now mine.old mine.new (data_of.Use to) f.place (data_of.Refused f.refusal)) }
         ensures in_order { IsInOrder self.now.terms mine.new }
         ensures former { IfOk result (λ r. r.1 ≡ selected mine.old) }
         ensures selected { IfOk result (λ r. selected mine.new ≡ to) }
@@ -229,8 +231,8 @@ impl<P: Part> Shared<P> {
         ensures keeps { IfErr result (λ f. KeepsSelection mine.old mine.new) }
         ensures holds { KeepsHolds mine.old mine.new }
         ensures cached { mine.new.cached ≡ mine.old.cached }
-        ensures never_made { (refusal_in result ≡ Some data_of.NeverMade) ↔ IsNeverMade (before mine.new) to }
-        ensures stale { (refusal_in result ≡ Some data_of.Stale) ↔ IsStale (before mine.new) to }
+        ensures never_made { (refusal_in result ≡ Some refusals.NeverMade) ↔ IsNeverMade (before mine.new) to }
+        ensures stale { (refusal_in result ≡ Some refusals.Stale) ↔ IsStale (before mine.new) to }
     {
         let (place, reply) = self.turns.turn(rt, &mut mine.seat, Op::Use { to });
         match reply {
@@ -255,16 +257,16 @@ impl<P: Part> Shared<P> {
     ) -> Result<(u64, u32), Fault>
         requires thread { IsThreadOf self.now mine.old }
         requires quota { length mine.old.calls < self.now.terms.quota }
-        requires names { AreOnShelf self.now.terms.setting names }
+        requires names { AreOnShelf self.now.terms.setting.opening names }
         ensures made { IfOk result (λ r. Answered self.now mine.old mine.new (data_of.SetGlobal mask names) r.0
             (data_of.Set r.1 (global_at self.now.terms.setting mine.new.seen r.1))) }
-        ensures fault { IfErr result (λ f. Answered self.now mine.old mine.new (data_of.SetGlobal mask names) f.place (data_of.Refused (refusal_of f.refusal))) }
+        ensures fault { IfErr result (λ f. Answered self.now mine.old mine.new (data_of.SetGlobal mask names) f.place (data_of.Refused f.refusal)) }
         ensures in_order { IsInOrder self.now.terms mine.new }
         ensures version { IfOk result (λ r. r.1 ≡ sets mine.new.seen) }
         ensures selection { KeepsSelection mine.old mine.new }
         ensures holds { KeepsHolds mine.old mine.new }
         ensures cached { MatchResult result (λ r. mine.new.cached ≡ r.1) (λ f. mine.new.cached ≡ mine.old.cached) }
-        ensures no_data { (k : Category) → (refusal_in result ≡ Some (data_of.NoData k)) ↔ (lacking self.now.terms.setting (before mine.new) mask names ≡ Some k) }
+        ensures no_data { (k : Category) → (refusal_in result ≡ Some (refusals.NoData k)) ↔ (lacking self.now.terms.setting (before mine.new) mask names ≡ Some k) }
     {
         let (place, reply) = self.enter(rt, mine, Op::SetGlobal { mask, names });
         match reply {
@@ -310,17 +312,17 @@ impl<P: Part> Shared<P> {
         requires thread { IsThreadOf self.now mine.old }
         requires quota { length mine.old.calls < self.now.terms.quota }
         ensures made { IfOk result (λ r. Answered self.now mine.old mine.new (data_of.Hold h) r.0 (data_of.Held r.1.object)) }
-        ensures fault { IfErr result (λ f. Answered self.now mine.old mine.new (data_of.Hold h) f.place (data_of.Refused (refusal_of f.refusal))) }
+        ensures fault { IfErr result (λ f. Answered self.now mine.old mine.new (data_of.Hold h) f.place (data_of.Refused f.refusal)) }
         ensures in_order { IsInOrder self.now.terms mine.new }
         ensures handle { IfOk result (λ r. h ≡ targets.Of r.1.handle) }
         ensures selection { KeepsSelection mine.old mine.new }
         ensures holds { MatchResult result (λ r. (g : Handle) → holds mine.new g ≡ (same_handle r.1.handle g || holds mine.old g))
             (λ f. KeepsHolds mine.old mine.new) }
         ensures cached { mine.new.cached ≡ mine.old.cached }
-        ensures global_handle { (refusal_in result ≡ Some data_of.GlobalHandle) ↔ (h ≡ targets.Global) }
-        ensures never_made { (refusal_in result ≡ Some data_of.NeverMade) ↔ IsNeverMade (before mine.new) h }
-        ensures stale { (refusal_in result ≡ Some data_of.Stale) ↔ IsStale (before mine.new) h }
-        ensures already_held { (refusal_in result ≡ Some data_of.AlreadyHeld) ↔ IsHeldAlready (before mine.new) mine.old.number h }
+        ensures global_handle { (refusal_in result ≡ Some refusals.GlobalHandle) ↔ (h ≡ targets.Global) }
+        ensures never_made { (refusal_in result ≡ Some refusals.NeverMade) ↔ IsNeverMade (before mine.new) h }
+        ensures stale { (refusal_in result ≡ Some refusals.Stale) ↔ IsStale (before mine.new) h }
+        ensures already_held { (refusal_in result ≡ Some refusals.AlreadyHeld) ↔ IsHeldAlready (before mine.new) mine.old.number h }
     {
         match (h, self.enter(rt, mine, Op::Hold { h })) {
             (Named::Of(handle), (place, Reply::Held(object))) => Ok((
@@ -353,11 +355,11 @@ impl<P: Part> Shared<P> {
         requires thread { IsThreadOf self.now mine.old }
         requires quota { length mine.old.calls < self.now.terms.quota }
         requires unheld { (g : Handle) → h ≡ targets.Of g → holds mine.old g ≡ false }
-        ensures fault { Answered self.now mine.old mine.new (data_of.Release h) result.0 (data_of.Refused (refusal_of result.1)) }
+        ensures fault { Answered self.now mine.old mine.new (data_of.Release h) result.0 (data_of.Refused result.1) }
         ensures in_order { IsInOrder self.now.terms mine.new }
         ensures keeps { Keeps mine.old mine.new }
-        ensures global_handle { (refusal_of result.1 ≡ data_of.GlobalHandle) ↔ (h ≡ targets.Global) }
-        ensures not_held { (refusal_of result.1 ≡ data_of.NotHeld) ↔ (h ≢ targets.Global) }
+        ensures global_handle { (result.1 ≡ refusals.GlobalHandle) ↔ (h ≡ targets.Global) }
+        ensures not_held { (result.1 ≡ refusals.NotHeld) ↔ (h ≢ targets.Global) }
     {
         let (place, reply) = self.enter(rt, mine, Op::Release { h });
         match reply {
@@ -378,12 +380,12 @@ impl<P: Part> Shared<P> {
         requires quota { length mine.old.calls < self.now.terms.quota }
         requires cell { cell < CELLS }
         ensures made { IfOk result (λ r. Answered self.now mine.old mine.new (data_of.Post cell h) r (data_of.Posted)) }
-        ensures fault { IfErr result (λ f. Answered self.now mine.old mine.new (data_of.Post cell h) f.place (data_of.Refused (refusal_of f.refusal))) }
+        ensures fault { IfErr result (λ f. Answered self.now mine.old mine.new (data_of.Post cell h) f.place (data_of.Refused f.refusal)) }
         ensures in_order { IsInOrder self.now.terms mine.new }
         ensures keeps { Keeps mine.old mine.new }
-        ensures global_handle { (refusal_in result ≡ Some data_of.GlobalHandle) ↔ (h ≡ targets.Global) }
-        ensures never_made { (refusal_in result ≡ Some data_of.NeverMade) ↔ IsNeverMade (before mine.new) h }
-        ensures stale { (refusal_in result ≡ Some data_of.Stale) ↔ IsStale (before mine.new) h }
+        ensures global_handle { (refusal_in result ≡ Some refusals.GlobalHandle) ↔ (h ≡ targets.Global) }
+        ensures never_made { (refusal_in result ≡ Some refusals.NeverMade) ↔ IsNeverMade (before mine.new) h }
+        ensures stale { (refusal_in result ≡ Some refusals.Stale) ↔ IsStale (before mine.new) h }
     {
         match self.enter(rt, mine, Op::Post { cell, h }) {
             (place, Reply::Posted) => Ok(place),
@@ -405,10 +407,10 @@ impl<P: Part> Shared<P> {
         requires owner { owner < self.now.terms.setting.threads }
         requires cell { cell < CELLS }
         ensures made { IfOk result (λ r. Answered self.now mine.old mine.new (data_of.Fetch owner cell) r.0 (data_of.Got r.1)) }
-        ensures fault { IfErr result (λ f. Answered self.now mine.old mine.new (data_of.Fetch owner cell) f.place (data_of.Refused (refusal_of f.refusal))) }
+        ensures fault { IfErr result (λ f. Answered self.now mine.old mine.new (data_of.Fetch owner cell) f.place (data_of.Refused f.refusal)) }
         ensures in_order { IsInOrder self.now.terms mine.new }
         ensures keeps { Keeps mine.old mine.new }
-        ensures empty_cell { (refusal_in result ≡ Some data_of.EmptyCell) ↔ (posted (before mine.new) owner cell ≡ None) }
+        ensures empty_cell { (refusal_in result ≡ Some refusals.EmptyCell) ↔ (posted (before mine.new) owner cell ≡ None) }
     {
         match self.enter(rt, mine, Op::Fetch { owner, cell }) {
             (place, Reply::Got(handle)) => Ok((place, handle)),
@@ -422,11 +424,11 @@ impl<P: Part> Shared<P> {
         requires thread { IsThreadOf self.now mine.old }
         requires quota { length mine.old.calls < self.now.terms.quota }
         ensures made { IfOk result (λ r. Answered self.now mine.old mine.new (data_of.Pins h) r.0 (data_of.Pinned r.1)) }
-        ensures fault { IfErr result (λ f. Answered self.now mine.old mine.new (data_of.Pins h) f.place (data_of.Refused (refusal_of f.refusal))) }
+        ensures fault { IfErr result (λ f. Answered self.now mine.old mine.new (data_of.Pins h) f.place (data_of.Refused f.refusal)) }
         ensures in_order { IsInOrder self.now.terms mine.new }
         ensures keeps { Keeps mine.old mine.new }
-        ensures global_handle { (refusal_in result ≡ Some data_of.GlobalHandle) ↔ (h ≡ targets.Global) }
-        ensures never_made { (refusal_in result ≡ Some data_of.NeverMade) ↔ IsNeverMade (before mine.new) h }
+        ensures global_handle { (refusal_in result ≡ Some refusals.GlobalHandle) ↔ (h ≡ targets.Global) }
+        ensures never_made { (refusal_in result ≡ Some refusals.NeverMade) ↔ IsNeverMade (before mine.new) h }
     {
         match self.enter(rt, mine, Op::Pins { h }) {
             (place, Reply::Pins(count)) => Ok((place, count)),

@@ -1,5 +1,5 @@
 -- Steps, eras, keyword lists and their values, times, weeks and texts, by their definitions.
-use Rattle.std.proofs.Common.{◌≡◌, ℕ, ◌+◌, List, [], ◌∷◌, ◌++◌, Option, Some, None, Ok, Err, refl}
+use Rattle.std.proofs.Common.{◌≡◌, ℕ, ◌+◌, true, false, List, [], ◌∷◌, ◌++◌, Option, Some, None, Ok, Err, refl}
 use Rattle.std.specs.Prelude.{codes, pos, negsuc}
 use Rattle.lc_base.specs.declared.place.Place.{Place}
 use Rattle.lc_base.specs.declared.reason.Reason.TheVariants.{WrongCount, BadEra, BadFormat, FormatRank, OverLimit}
@@ -7,12 +7,16 @@ use Rattle.lc_base.specs.declared.reason.Limit.TheVariants.{Conversions}
 use Rattle.keyword_lists.specs.declared.source.Value.{Value}
 use Rattle.keyword_lists.specs.declared.source.Value.TheVariants.{Text}
 use Rattle.keyword_lists.specs.declared.source.Entry.{Entry}
+use Rattle.byte_words.specs.Cuts.{cut_at}
+use Rattle.byte_words.specs.Numbers.{few_digits}
 use Rattle.time_cat.specs.Conversions.{conversion}
 use Rattle.time_cat.specs.declared.conversion.TimeText.TheVariants.{HalfDayClock, EraDate}
 use Rattle.time_cat.specs.declared.step.Step.TheVariants.{End, Byte, Conv, Bad}
 use Rattle.time_cat.specs.declared.tm.TmField.TheVariants.{Year, Mon, Offset}
 use Rattle.time_cat.specs.Formats.{Literal, Converted, pieces, bad_place, step, counted}
-use Rattle.time_cat.specs.Eras.{Hit, split, few_digits, year_of, date, end_number, segment, era}
+use Rattle.time_cat.specs.declared.segment.Date.{Date}
+use Rattle.time_cat.specs.declared.segment.End.TheVariants.{On, AfterAll}
+use Rattle.time_cat.specs.Eras.{Hit, year_of, date, end_of, segment, date_is_no_later, is_no_later, era}
 use Rattle.time_cat.specs.Keywords.{takes_of}
 use Rattle.time_cat.specs.Faults.{format_reason, line_checked, checked}
 use Rattle.time_cat.specs.TimeValues.{TimeValues, format_text, text_at, joined}
@@ -69,29 +73,36 @@ abbrev hit : List ℕ → ℕ → List ℕ → Found
 hit name year format = Some (record { year = pos year; name = name; format = format })
 
 reiwa_1 : era (segments_in reiwa) 2019 5 1 ≡ hit (codes "Reiwa") 1 (codes "%EC %Ey")
-unfolding split few_digits year_of date end_number segment
+unfolding cut_at few_digits year_of date end_of segment
 reiwa_1 = refl
 
 heisei_31 : era (segments_in reiwa) 2019 4 30 ≡ hit (codes "Heisei") 31 (codes "%EC %Ey")
-unfolding split few_digits year_of date end_number segment
+unfolding cut_at few_digits year_of date end_of segment
 heisei_31 = refl
 
 before_heisei : era (segments_in reiwa) 1989 1 7 ≡ None
-unfolding split few_digits year_of date end_number segment
+unfolding cut_at few_digits year_of date end_of segment
 before_heisei = refl
 
 -- from -543 to 2021 are 2563 years, since there is no year 0
 buddhist : era (segments_in (codes "+:1:-543/01/01:+*:BE:" ∷ [])) 2021 1 1 ≡ hit (codes "BE") 2564 []
-unfolding split few_digits year_of date end_number segment
+unfolding cut_at few_digits year_of date end_of segment
 buddhist = refl
 
 -- years count down from the offset, below 0 too; a segment may begin at its later end
 backward : era (segments_in (codes "-:1:10/12/31:-*:B:" ∷ [])) 7 1 1 ≡ Some (record { year = negsuc 1; name = codes "B"; format = [] })
-unfolding split few_digits year_of date end_number segment
+unfolding cut_at few_digits year_of date end_of segment
 backward = refl
 
+abbrev date_at : ℕ → ℕ → ℕ → Date
+date_at year month day = record { year = year; month = month; day = day }
+
+-- by year, then month, then day, before what is after all
+orders : date_is_no_later (date_at 2019 4 30) (date_at 2019 5 1) ∷ date_is_no_later (date_at 2019 5 1) (date_at 2019 4 30) ∷ date_is_no_later (date_at 2018 12 31) (date_at 2019 1 1) ∷ date_is_no_later (date_at 2019 5 1) (date_at 2019 5 1) ∷ is_no_later AfterAll (On (date_at 2019 1 1)) ∷ [] ≡ true ∷ false ∷ true ∷ true ∷ false ∷ []
+orders = refl
+
 not_segments : (segment (codes "+:1:2019/05/01:+*")) ∷ (segment (codes "*:1:2019/05/01:+*:a:")) ∷ (segment (codes "+:12345:2019/05/01:+*:a:")) ∷ (segment (codes "+:1:2019/13/01:+*:a:")) ∷ (segment (codes "+:1:+*:2019/05/01:a:")) ∷ [] ≡ None ∷ None ∷ None ∷ None ∷ None ∷ []
-unfolding split few_digits year_of date end_number segment
+unfolding cut_at few_digits year_of date end_of segment
 not_segments = refl
 
 -- ---- keyword lists
@@ -120,16 +131,16 @@ unfolding takes_of line_checked
 six_days = refl
 
 no_segment : checked (line (codes "era") (codes "+:1:2019/05/01:+*" ∷ [])) ≡ Err (at 2 20, BadEra)
-unfolding takes_of line_checked format_reason pieces conversion split few_digits year_of date end_number segment
+unfolding takes_of line_checked format_reason pieces conversion cut_at few_digits year_of date end_of segment
 no_segment = refl
 
 -- the place of a fault in an era's format counts from the segment's first byte
 era_format_at : checked (line (codes "era") (codes "+:1:2019/05/01:+*:R:a%Q" ∷ [])) ≡ Err (at 2 20, BadFormat 21)
-unfolding takes_of line_checked format_reason pieces conversion split few_digits year_of date end_number segment
+unfolding takes_of line_checked format_reason pieces conversion cut_at few_digits year_of date end_of segment
 era_format_at = refl
 
 era_format_rank : checked (line (codes "era") (reiwa ++ codes "+:1:1/1/1:+*:x:%EY" ∷ [])) ≡ Err (at 2 40, FormatRank)
-unfolding takes_of line_checked format_reason pieces conversion split few_digits year_of date end_number segment
+unfolding takes_of line_checked format_reason pieces conversion cut_at few_digits year_of date end_of segment
 era_format_rank = refl
 
 -- a `%` that begins no conversion goes before a rank that is too high
@@ -196,7 +207,7 @@ abbrev japanese : TimeValues
 japanese = values_of (line (codes "era") reiwa ++ line (codes "alt_digits") (codes "zero" ∷ codes "one" ∷ codes "two" ∷ []))
 
 era_names : time_text japanese (day 2019 5 1 3 120) (codes "%EC") ∷ time_text japanese (day 2019 4 30 2 119) (codes "%EC") ∷ time_text japanese (day 1989 1 7 6 6) (codes "%EC%Ey") ∷ [] ≡ Ok (codes "Reiwa") ∷ Ok (codes "Heisei") ∷ Ok (codes "1989") ∷ []
-unfolding values_of expanded pieces conversion split few_digits year_of date end_number segment
+unfolding values_of expanded pieces conversion cut_at few_digits year_of date end_of segment
 era_names = refl
 
 alternative_digits : (time_text japanese (day 2021 2 2 2 32) (codes "%Od %Oe")) ∷ (time_text japanese (day 2021 2 3 3 33) (codes "%Od %Oe")) ∷ [] ≡ (Ok (codes "two two")) ∷ (Ok (codes "03  3")) ∷ []

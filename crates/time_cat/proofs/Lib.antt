@@ -1,4 +1,3 @@
-pub mod NumberLemmas
 pub mod StepLemmas
 pub mod Whole
 mod Examples

@@ -1,6 +1,6 @@
 -- The conversions of a format (XSH strftime; the ranks are our own).
 use Rattle.std.specs.Prelude.{ℕ, ◌==◌, ◌&&◌, List, [], ◌∷◌, ◌++◌, find, Option, option_map}
-use Rattle.time_cat.specs.declared.conversion.Named.TheVariants as named
+use Rattle.time_cat.specs.declared.conversion.NameList.TheVariants as name_lists
 use Rattle.time_cat.specs.declared.conversion.Quantity.TheVariants as quantities
 use Rattle.time_cat.specs.declared.conversion.Layout.TheVariants as layouts
 use Rattle.time_cat.specs.declared.conversion.TimeText.TheVariants as formats
@@ -9,16 +9,16 @@ use Rattle.time_cat.specs.declared.conversion.Shows.TheVariants.{Name, Number, A
 use Rattle.time_cat.specs.declared.conversion.Conversion.{Conversion}
 
 -- a conversion: its modifier (the bytes of E and O are 69 and 79, and 0 is none), its letter, its rank and what it gives
-abbrev pub Row : Type 0
-Row = ℕ × ℕ × ℕ × Shows
+abbrev pub ConversionRow : Type 0
+ConversionRow = ℕ × ℕ × ℕ × Shows
 
 -- the conversions without a modifier
-abbrev pub plain_conversions : List Row
+abbrev pub plain_conversions : List ConversionRow
 plain_conversions =
-    (0, 97, 0, Name named.ShortWeekday) ∷  -- %a
-    (0, 65, 0, Name named.Weekday) ∷  -- %A
-    (0, 98, 0, Name named.ShortMonth) ∷  -- %b
-    (0, 66, 0, Name named.Month) ∷  -- %B
+    (0, 97, 0, Name name_lists.ShortWeekday) ∷  -- %a
+    (0, 65, 0, Name name_lists.Weekday) ∷  -- %A
+    (0, 98, 0, Name name_lists.ShortMonth) ∷  -- %b
+    (0, 66, 0, Name name_lists.Month) ∷  -- %B
     (0, 99, 4, Format formats.DateTime) ∷  -- %c
     (0, 67, 0, Number quantities.Century layouts.Two) ∷  -- %C
     (0, 100, 0, Number quantities.Day layouts.Two) ∷  -- %d
@@ -27,14 +27,14 @@ plain_conversions =
     (0, 70, 0, DashedDate) ∷  -- %F
     (0, 103, 0, Number quantities.WeekYearOfCentury layouts.Two) ∷  -- %g
     (0, 71, 0, Number quantities.WeekYear layouts.Bare) ∷  -- %G
-    (0, 104, 0, Name named.ShortMonth) ∷  -- %h
+    (0, 104, 0, Name name_lists.ShortMonth) ∷  -- %h
     (0, 72, 0, Number quantities.Hour layouts.Two) ∷  -- %H
     (0, 73, 0, Number quantities.HalfDayHour layouts.Two) ∷  -- %I
     (0, 106, 0, Number quantities.YearDay layouts.Three) ∷  -- %j
     (0, 109, 0, Number quantities.Month layouts.Two) ∷  -- %m
     (0, 77, 0, Number quantities.Minute layouts.Two) ∷  -- %M
     (0, 110, 0, Sign 10) ∷  -- %n
-    (0, 112, 0, Name named.HalfDay) ∷  -- %p
+    (0, 112, 0, Name name_lists.HalfDay) ∷  -- %p
     (0, 114, 2, Format formats.HalfDayClock) ∷  -- %r
     (0, 82, 0, ShortTime) ∷  -- %R
     (0, 83, 0, Number quantities.Second layouts.Two) ∷  -- %S
@@ -54,7 +54,7 @@ plain_conversions =
     (0, 37, 0, Sign 37) ∷ []  -- %%
 
 -- those of eras
-abbrev pub era_conversions : List Row
+abbrev pub era_conversions : List ConversionRow
 era_conversions =
     (69, 99, 4, EraFormat formats.EraDateTime formats.DateTime) ∷  -- %Ec
     (69, 67, 0, EraName) ∷  -- %EC
@@ -64,7 +64,7 @@ era_conversions =
     (69, 89, 1, EraFull) ∷ []  -- %EY
 
 -- those of alternative digits
-abbrev pub digit_conversions : List Row
+abbrev pub digit_conversions : List ConversionRow
 digit_conversions =
     (79, 100, 0, Alternative quantities.Day layouts.Two) ∷  -- %Od
     (79, 101, 0, Alternative quantities.Day layouts.Spaced) ∷  -- %Oe
@@ -80,15 +80,15 @@ digit_conversions =
     (79, 87, 0, Alternative quantities.MondayWeek layouts.Two) ∷  -- %OW
     (79, 121, 0, Alternative quantities.YearOfCentury layouts.Two) ∷ []  -- %Oy
 
-abbrev pub conversions : List Row
+abbrev pub conversions : List ConversionRow
 conversions = plain_conversions ++ era_conversions ++ digit_conversions
 
 -- the first row of a modifier and a letter
-abbrev pub first_row : List Row → ℕ → ℕ → Option Row
-first_row rows modifier letter = find (λ (r : Row). r.0 == modifier && r.1 == letter) rows
+abbrev pub first_row : List ConversionRow → ℕ → ℕ → Option ConversionRow
+first_row rows modifier letter = find (λ (r : ConversionRow). r.0 == modifier && r.1 == letter) rows
 
 -- the rank of a row, and what it gives
-abbrev pub conversion_in : Row → Conversion
+abbrev pub conversion_in : ConversionRow → Conversion
 conversion_in r = record { rank = r.2; shows = r.3 }
 
 -- the conversion of a letter behind a modifier

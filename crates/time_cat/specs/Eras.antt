@@ -1,26 +1,14 @@
 -- Era segments, and the year of an era that a date has (XBD 7.3.5.2, era).
-use Rattle.std.specs.Prelude.{ℕ, ℤ, pos, ◌-ℤ◌, ◌+◌, ◌-◌, ◌*◌, ◌==◌, nat_lt, nat_le, Bool, true, false, ◌&&◌, List, [], ◌∷◌, codes, length, take, drop, position, find, min, max, Option, Some, None, option_map, if◌then◌else◌}
+use Rattle.std.specs.Prelude.{ℕ, ℤ, pos, ◌-ℤ◌, ◌+◌, ◌-◌, ◌==◌, nat_lt, nat_le, Bool, true, false, ◌&&◌, ◌||◌, List, [], ◌∷◌, codes, find, Option, Some, None, option_map, if◌then◌else◌}
 use Rattle.std.specs.Int.{is_in_range}
-use Rattle.std.specs.Char.{is_ascii_digit}
-use Rattle.std.specs.List.{list_all}
 use Rattle.std.specs.Str.{bytes_eq}
-use Rattle.std.specs.Str.Parse.{digits_value}
 use Rattle.lc_base.specs.Lines.{◌>>=◌}
+use Rattle.byte_words.specs.Cuts.{cut_at}
+use Rattle.byte_words.specs.Numbers.{few_digits}
 use Rattle.time_cat.specs.declared.segment.Date.{Date}
+use Rattle.time_cat.specs.declared.segment.End.{End}
+use Rattle.time_cat.specs.declared.segment.End.TheVariants.{BeforeAll, On, AfterAll}
 use Rattle.time_cat.specs.declared.segment.Segment.{Segment}
-
--- what stands before and behind the byte at an index
-abbrev pub split_at : List ℕ → Option ℕ → Option (List ℕ × List ℕ)
-split_at text None = None
-split_at text (Some n) = Some (take n text, drop (n + 1) text)
-
--- what stands before and behind the first separator
-unfoldable pub split : ℕ → List ℕ → Option (List ℕ × List ℕ)
-split separator text = split_at text (position (λ c. c == separator) text)
-
--- the value of decimal digits, at least one and at most so many
-unfoldable pub few_digits : ℕ → List ℕ → Option ℕ
-few_digits most ds = if is_in_range 1 most (length ds) && list_all is_ascii_digit ds then Some (digits_value 10 ds) else None
 
 -- a number in a range
 abbrev pub within : ℕ → ℕ → Option ℕ → Option ℕ
@@ -40,55 +28,62 @@ unfoldable pub year_of : List ℕ → Option ℕ
 year_of [] = None
 year_of (c ∷ cs) = if c == 45 then option_map counted_year_before (few_digits 4 cs) else option_map counted_year (few_digits 4 (c ∷ cs))
 
--- dates as numbers in their order: by year, month and day
-abbrev pub day_number : ℕ → ℕ → ℕ → ℕ
-day_number year month day = (year * 16 + month) * 32 + day
-
--- a number before those of all dates, and one after them
-abbrev pub before_all : ℕ
-before_all = 0
-
-abbrev pub after_all : ℕ
-after_all = 20000 * 16 * 32
-
 -- a date: year, month and day with `/` between
 unfoldable pub date : List ℕ → Option Date
 date text = do
-  y ← split 47 text
-  m ← split 47 y.1
+  y ← cut_at 47 text
+  m ← cut_at 47 y.1
   year ← year_of y.0
   month ← within 1 12 (few_digits 2 m.0)
   day ← within 1 31 (few_digits 2 m.1)
-  Some (record { year = year; number = day_number year month day })
+  Some (record { year = year; month = month; day = day })
 
 -- the end of a segment: a date, or before or after all dates
-unfoldable pub end_number : List ℕ → Option ℕ
-end_number text =
-    if bytes_eq text (codes "-*") then Some before_all
-    else (if bytes_eq text (codes "+*") then Some after_all
-    else option_map (λ (d : Date). d.number) (date text))
+unfoldable pub end_of : List ℕ → Option End
+end_of text =
+    if bytes_eq text (codes "-*") then Some BeforeAll
+    else (if bytes_eq text (codes "+*") then Some AfterAll
+    else option_map (λ (d : Date). On d) (date text))
 
 -- the direction: whether years count up behind the start
 abbrev pub direction : List ℕ → Option Bool
 direction text = if bytes_eq text (codes "+") then Some true else (if bytes_eq text (codes "-") then Some false else None)
 
--- a segment: direction, offset, start, end, name and format, with `:` between. A segment is kept by its lesser end first
+-- a segment: direction, offset, start, end, name and format, with `:` between
 unfoldable pub segment : List ℕ → Option Segment
 segment text = do
-  d ← split 58 text
-  o ← split 58 d.1
-  s ← split 58 o.1
-  e ← split 58 s.1
-  n ← split 58 e.1
+  d ← cut_at 58 text
+  o ← cut_at 58 d.1
+  s ← cut_at 58 o.1
+  e ← cut_at 58 s.1
+  n ← cut_at 58 e.1
   forward ← direction d.0
   offset ← few_digits 4 o.0
   start ← date s.0
-  end ← end_number e.0
-  Some (record { forward = forward; offset = offset; start = start.year; first = min start.number end; last = max start.number end; name = n.0; format = n.1 })
+  end ← end_of e.0
+  Some (record { forward = forward; offset = offset; start = start; end = end; name = n.0; format = n.1 })
 
--- whether a segment contains a date, both ends included
-abbrev pub contains : ℕ → Segment → Bool
-contains number s = nat_le s.first number && nat_le number s.last
+-- whether a date is no later than another: by year, then month, then day
+abbrev pub date_is_no_later : Date → Date → Bool
+date_is_no_later a b = nat_lt a.year b.year || ((a.year == b.year) && (nat_lt a.month b.month || ((a.month == b.month) && nat_le a.day b.day)))
+
+-- whether an end is no later than another
+abbrev pub is_no_later : End → End → Bool
+is_no_later BeforeAll b = true
+is_no_later (On a) BeforeAll = false
+is_no_later (On a) (On b) = date_is_no_later a b
+is_no_later (On a) AfterAll = true
+is_no_later AfterAll BeforeAll = false
+is_no_later AfterAll (On b) = false
+is_no_later AfterAll AfterAll = true
+
+-- whether a date is between two ends, both included
+abbrev pub is_between : End → End → Date → Bool
+is_between from to d = is_no_later from (On d) && is_no_later (On d) to
+
+-- whether a segment contains a date: of its start and its end either may be the earlier one
+abbrev pub contains : Date → Segment → Bool
+contains d s = is_between (On s.start) s.end d || is_between s.end (On s.start) d
 
 -- how far two years are apart
 abbrev pub distance : ℕ → ℕ → ℕ
@@ -96,7 +91,7 @@ distance a b = if nat_lt a b then b - a else a - b
 
 -- the era's year of a year: as far from the offset as the year is from the start, up or down
 abbrev pub year_in : Segment → ℕ → ℤ
-year_in s year = if s.forward then pos (s.offset + distance s.start year) else pos s.offset -ℤ pos (distance s.start year)
+year_in s year = if s.forward then pos (s.offset + distance s.start.year year) else pos s.offset -ℤ pos (distance s.start.year year)
 
 -- the era of a date: its year in the era, the era's name and format
 pub record Hit : Type 0 where
@@ -109,4 +104,4 @@ hit_in year s = record { year = year_in s year; name = s.name; format = s.format
 
 -- the era of a date of this calendar: that of the first segment that contains it
 abbrev pub era : List Segment → ℕ → ℕ → ℕ → Option Hit
-era segments year month day = option_map (hit_in (counted_year year)) (find (contains (day_number (counted_year year) month day)) segments)
+era segments year month day = option_map (hit_in (counted_year year)) (find (contains (record { year = counted_year year; month = month; day = day })) segments)

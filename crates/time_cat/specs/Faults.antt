@@ -1,5 +1,5 @@
 -- What is wrong with the operands of LC_TIME (our own rules on the number of bytes and of conversions, and on ranks).
-use Rattle.std.specs.Prelude.{◌≡◌, ℕ, ◌+◌, ◌-◌, ◌^◌, ◌==◌, ◌≤◌, nat_lt, nat_le, min, Bool, false, not, List, [], ◌∷◌, length, count_by, Option, Some, None, Ok, Err, if◌then◌else◌}
+use Rattle.std.specs.Prelude.{◌≡◌, ℕ, ◌+◌, ◌-◌, ◌^◌, ◌==◌, ◌≤◌, nat_lt, nat_le, min, Bool, false, not, List, [], ◌∷◌, length, count_by, Option, Some, None, Ok, if◌then◌else◌}
 use Rattle.std.specs.List.{list_any}
 use Rattle.lc_base.specs.declared.place.Place.{Place}
 use Rattle.lc_base.specs.declared.reason.Reason.{Reason}
@@ -9,19 +9,14 @@ use Rattle.lc_base.specs.Reading.{Reads, ◌>>=◌}
 use Rattle.keyword_lists.specs.declared.source.Value.{Value}
 use Rattle.keyword_lists.specs.declared.source.Value.TheVariants.{Text, Number, Chars, Pair}
 use Rattle.keyword_lists.specs.declared.source.Entry.{Entry}
+use Rattle.keyword_table.specs.declared.row.Rule.{Rule}
+use Rattle.keyword_table.specs.declared.row.Rule.TheVariants.{Format, Segments, Digits}
+use Rattle.keyword_values.specs.Keywords.{texts}
+use Rattle.keyword_values.specs.Rules.{unless}
 use Rattle.time_cat.specs.declared.segment.Segment.{Segment}
-use Rattle.time_cat.specs.declared.keywords.Takes.{Takes}
-use Rattle.time_cat.specs.declared.keywords.Takes.TheVariants.{Names, Format, Segments, Digits}
 use Rattle.time_cat.specs.Formats.{Piece, pieces, is_conversion, has_rank, bad_place}
 use Rattle.time_cat.specs.Eras.{segment}
 use Rattle.time_cat.specs.Keywords.{takes_of, fixed_count}
-
--- the text that an operand is; one of another kind counts as an empty text
-abbrev pub text_of : Value → List ℕ
-text_of (Text text) = text
-text_of (Number n) = []
-text_of (Chars a b) = []
-text_of (Pair a b) = []
 
 -- a reason that comes first, or else another
 abbrev pub or_reason : Option Reason → Option Reason → Option Reason
@@ -71,36 +66,35 @@ abbrev pub most_bytes : ℕ
 most_bytes = 4097
 
 -- what is wrong with a text where so many more may come, with so many bytes
-abbrev pub operand_reason : Takes → ℕ → ℕ → List ℕ → Option Reason
-operand_reason (Names n) left room text = None
+abbrev pub operand_reason : Rule → ℕ → ℕ → List ℕ → Option Reason
 operand_reason (Format rank) left room text = format_reason 0 rank text
 operand_reason Segments left room text = or_reason (list_reason room text) (segment_reason text)
 operand_reason Digits left room text = or_reason (reason_if (left == 0) TooManyDigits) (list_reason room text)
-
--- nothing, or what is wrong at a place
-abbrev pub unless : Place → Option Reason → Reads (Unit {0})
-unless place None = Ok tt
-unless place (Some reason) = Err (place, reason)
+operand_reason _ left room text = None
 
 -- the operands of a keyword, of which so many more may come with so many bytes, or the first broken rule
-abbrev pub operands_checked : Takes → ℕ → ℕ → List (Place × Value) → Reads (Unit {0})
+abbrev pub operands_checked : Rule → ℕ → ℕ → List (Place × Value) → Reads (Unit {0})
 operands_checked takes left room [] = Ok tt
-operands_checked takes left room (o ∷ os) =
-    unless o.0 (operand_reason takes left room (text_of o.1)) >>= λ _. operands_checked takes (left - 1) (room - length (text_of o.1) - 1) os
+operands_checked takes left room ((place, Text text) ∷ vs) =
+    unless place (operand_reason takes left room text) >>= λ _. operands_checked takes (left - 1) (room - length text - 1) vs
+operands_checked takes left room ((place, Number n) ∷ vs) = operands_checked takes left room vs
+operands_checked takes left room ((place, Chars a b) ∷ vs) = operands_checked takes left room vs
+operands_checked takes left room ((place, Pair a b) ∷ vs) = operands_checked takes left room vs
 
--- whether a number of operands is not the one that is fixed
+-- whether a number of texts is not the one that is fixed
 abbrev pub is_wrong_count : Option ℕ → ℕ → Bool
 is_wrong_count None n = false
 is_wrong_count (Some fixed) n = not (n == fixed)
 
--- a line, or its first broken rule
-abbrev pub values_checked : Entry → Option Takes → Reads (Unit {0})
-values_checked e None = Ok tt
-values_checked e (Some takes) =
-    unless e.place (reason_if (is_wrong_count (fixed_count takes) (length e.values)) WrongCount) >>= λ _. operands_checked takes most_digits most_bytes e.values
+-- the operands of a line whose keyword stands at a place, or the first broken rule
+abbrev pub values_checked : Place → List (Place × Value) → Option Rule → Reads (Unit {0})
+values_checked place vs None = Ok tt
+values_checked place vs (Some takes) =
+    unless place (reason_if (is_wrong_count (fixed_count takes) (length (texts vs))) WrongCount) >>= λ _. operands_checked takes most_digits most_bytes vs
 
+-- a line, or its first broken rule
 unfoldable pub line_checked : Entry → Reads (Unit {0})
-line_checked e = values_checked e (takes_of e.keyword)
+line_checked e = values_checked e.place e.values (takes_of e.keyword)
 
 -- the lines, or the first broken rule
 abbrev pub checked : List Entry → Reads (Unit {0})

@@ -4,4 +4,4 @@ use Rattle.time_cat.specs.declared.segment.SegmentText.{SegmentText}
 
 -- a segment with its texts
 abbrev pub whole : SegmentText → Segment
-whole s = record { forward = s.forward; offset = s.offset; start = s.start; first = s.first; last = s.last; name = s.name.now; format = s.format.now }
+whole s = record { forward = s.forward; offset = s.offset; start = s.start; end = s.end; name = s.name.now; format = s.format.now }

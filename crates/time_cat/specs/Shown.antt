@@ -2,8 +2,8 @@
 use Rattle.std.specs.Prelude.{ℕ, zero, suc, ℤ, pos, negsuc, ◌+◌, ◌-◌, ◌/◌, ◌%◌, nat_lt, List, [], ◌∷◌, ◌++◌, count_by, slice_get, decimal, Option, Some, None, Result, Ok, Err, if◌then◌else◌}
 use Rattle.std.specs.List.{flat_map}
 use Rattle.std.specs.Fmt.{signed_decimal}
-use Rattle.time_cat.specs.declared.conversion.Named.{Named}
-use Rattle.time_cat.specs.declared.conversion.Named.TheVariants.{ShortWeekday, Weekday, ShortMonth, Month, HalfDay}
+use Rattle.time_cat.specs.declared.conversion.NameList.{NameList}
+use Rattle.time_cat.specs.declared.conversion.NameList.TheVariants.{ShortWeekday, Weekday, ShortMonth, Month, HalfDay}
 use Rattle.time_cat.specs.declared.conversion.Quantity.{Quantity}
 use Rattle.time_cat.specs.declared.conversion.Quantity.TheVariants as quantities
 use Rattle.time_cat.specs.declared.conversion.Layout.{Layout}
@@ -65,9 +65,9 @@ laid_out Two n = two n
 laid_out Three n = three n
 laid_out Spaced n = spaced n
 
--- the alternative digit at a number; a list has at most 100
+-- the alternative digit at a number
 abbrev pub alternative : List (List ℕ) → ℕ → Option (List ℕ)
-alternative digits n = if nat_lt n 256 then slice_get digits n else None
+alternative digits n = slice_get digits n
 
 abbrev pub or_text : Option (List ℕ) → List ℕ → List ℕ
 or_text None text = text
@@ -76,7 +76,7 @@ or_text (Some found) text = found
 -- ---- names and fixed forms
 
 -- a name of the locale
-abbrev pub name_text : TimeValues → TmValues → Named → List ℕ
+abbrev pub name_text : TimeValues → TmValues → NameList → List ℕ
 name_text v t ShortWeekday = text_at v.names.abday t.wday
 name_text v t Weekday = text_at v.names.day t.wday
 name_text v t ShortMonth = text_at v.names.abmon (t.mon - 1)

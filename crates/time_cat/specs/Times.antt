@@ -1,5 +1,6 @@
 -- Broken-down times (XBD time.h, struct tm; the ranges of the year and of the offset are our own).
-use Rattle.std.specs.Prelude.{ℕ, ℤ, pos, negsuc, ◌≤◌, nat_le, ◌&&◌, List, Option, Some, None, Result, Ok, Err, if◌then◌else◌}
+use Rattle.std.specs.Prelude.{ℕ, ℤ, pos, negsuc, ◌≤◌, nat_le, ◌&&◌, unsigned_abs, List, Option, Some, None, Result, Ok, Err, if◌then◌else◌}
+use Rattle.std.specs.Result.{result_and}
 use Rattle.time_cat.specs.declared.tm.TmField.{TmField}
 use Rattle.time_cat.specs.declared.tm.TmField.TheVariants.{Year, Mon, Mday, Hour, Min, Sec, Wday, Yday, Offset}
 use Rattle.time_cat.specs.declared.tm.TmRange.{TmRange}
@@ -29,24 +30,30 @@ offset_in_range None = Ok None
 offset_in_range (Some (pos n)) = if nat_le n 1439 then Ok (Some (pos n)) else Err (record { field = Offset })
 offset_in_range (Some (negsuc n)) = if nat_le n 1438 then Ok (Some (negsuc n)) else Err (record { field = Offset })
 
-infixl 10 ◌>>=◌
-abbrev ◌>>=◌ : {A B : Type 0} → Result A TmRange → (A → Result B TmRange) → Result B TmRange
-(Ok x) >>= f = f x
-(Err e) >>= f = Err e
-
 -- the time with these fields, or the first field out of its range
 unfoldable pub time_of : ℤ → ℤ → ℤ → ℤ → ℤ → ℤ → ℤ → ℤ → Option ℤ → List ℕ → Result TmValues TmRange
-time_of year mon mday hour min sec wday yday offset zone = do
-  y ← in_range Year 1 9999 year
-  m ← in_range Mon 1 12 mon
-  d ← in_range Mday 1 31 mday
-  h ← in_range Hour 0 23 hour
-  i ← in_range Min 0 59 min
-  s ← in_range Sec 0 60 sec
-  w ← in_range Wday 0 6 wday
-  n ← in_range Yday 0 365 yday
-  o ← offset_in_range offset
-  Ok (record { year = y; mon = m; mday = d; hour = h; min = i; sec = s; wday = w; yday = n; offset = o; zone = zone })
+time_of year mon mday hour min sec wday yday offset zone =
+    result_and (in_range Year 1 9999 year)
+    (result_and (in_range Mon 1 12 mon)
+    (result_and (in_range Mday 1 31 mday)
+    (result_and (in_range Hour 0 23 hour)
+    (result_and (in_range Min 0 59 min)
+    (result_and (in_range Sec 0 60 sec)
+    (result_and (in_range Wday 0 6 wday)
+    (result_and (in_range Yday 0 365 yday)
+    (result_and (offset_in_range offset)
+    (Ok (record {
+      year = unsigned_abs year;
+      mon = unsigned_abs mon;
+      mday = unsigned_abs mday;
+      hour = unsigned_abs hour;
+      min = unsigned_abs min;
+      sec = unsigned_abs sec;
+      wday = unsigned_abs wday;
+      yday = unsigned_abs yday;
+      offset = offset;
+      zone = zone;
+    }))))))))))
 
 -- an offset of less than a day either way, if there is one
 abbrev pub IsOffset : Option ℤ → Type 0

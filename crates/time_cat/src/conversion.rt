@@ -24,7 +24,7 @@ pub enum TimeText {
 
 /// A list of names.
 #[derive(Clone, Copy, Debug, PartialEq, Eq)]
-pub enum Named {
+pub enum NameList {
     ShortWeekday,
     Weekday,
     ShortMonth,
@@ -79,7 +79,7 @@ pub enum Layout {
 #[derive(Clone, Copy, Debug, PartialEq, Eq)]
 pub enum Shows {
     /// A name of the locale.
-    Name(Named),
+    Name(NameList),
     /// A number.
     Number(Quantity, Layout),
     /// The alternative digit at a number, or else the number.
@@ -133,10 +133,10 @@ fn plain_conversion(letter: u8) -> Option<Conversion>
     ensures { result ≡ conversion 0 letter }
 {
     match letter {
-        b'a' => row(0, Shows::Name(Named::ShortWeekday)),
-        b'A' => row(0, Shows::Name(Named::Weekday)),
-        b'b' => row(0, Shows::Name(Named::ShortMonth)),
-        b'B' => row(0, Shows::Name(Named::Month)),
+        b'a' => row(0, Shows::Name(NameList::ShortWeekday)),
+        b'A' => row(0, Shows::Name(NameList::Weekday)),
+        b'b' => row(0, Shows::Name(NameList::ShortMonth)),
+        b'B' => row(0, Shows::Name(NameList::Month)),
         b'c' => row(4, Shows::Format(TimeText::DateTime)),
         b'C' => row(0, Shows::Number(Quantity::Century, Layout::Two)),
         b'd' => row(0, Shows::Number(Quantity::Day, Layout::Two)),
@@ -145,14 +145,14 @@ fn plain_conversion(letter: u8) -> Option<Conversion>
         b'F' => row(0, Shows::DashedDate),
         b'g' => row(0, Shows::Number(Quantity::WeekYearOfCentury, Layout::Two)),
         b'G' => row(0, Shows::Number(Quantity::WeekYear, Layout::Bare)),
-        b'h' => row(0, Shows::Name(Named::ShortMonth)),
+        b'h' => row(0, Shows::Name(NameList::ShortMonth)),
         b'H' => row(0, Shows::Number(Quantity::Hour, Layout::Two)),
         b'I' => row(0, Shows::Number(Quantity::HalfDayHour, Layout::Two)),
         b'j' => row(0, Shows::Number(Quantity::YearDay, Layout::Three)),
         b'm' => row(0, Shows::Number(Quantity::Month, Layout::Two)),
         b'M' => row(0, Shows::Number(Quantity::Minute, Layout::Two)),
         b'n' => row(0, Shows::Sign(b'\n')),
-        b'p' => row(0, Shows::Name(Named::HalfDay)),
+        b'p' => row(0, Shows::Name(NameList::HalfDay)),
         b'r' => row(2, Shows::Format(TimeText::HalfDayClock)),
         b'R' => row(0, Shows::ShortTime),
         b'S' => row(0, Shows::Number(Quantity::Second, Layout::Two)),

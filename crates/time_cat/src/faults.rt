@@ -3,15 +3,16 @@
 ghost use Rattle.std.specs.Prelude.{◌≡◌, ◌+◌, ◌≤◌, length, count_by, None, Some, IfOk, IfErr};
 ghost use Rattle.std.specs.List.{list_any};
 ghost use Rattle.lc_base.specs.Reading.{Gives};
-ghost use Rattle.keyword_lists.specs.Cells.{seen};
 ghost use Rattle.time_cat.specs.Formats.{pieces, is_conversion, has_rank, bad_place};
-ghost use Rattle.time_cat.specs.Faults.{text_of, byte_place, format_reason, segment_reason, list_reason, operand_reason, unless, most_digits, most_bytes, operands_checked, is_wrong_count, line_checked, checked};
+ghost use Rattle.time_cat.specs.Faults.{byte_place, format_reason, segment_reason, list_reason, operand_reason, most_digits, most_bytes, operands_checked, is_wrong_count, line_checked, checked};
 
-use crate::keywords::{Takes, takes_of};
+use crate::keywords::{fixed_count, takes_of};
 use crate::segment::segment_of;
 use crate::step::{Step, step_here};
 use keyword_lists::{Entry, ValueRef, Values};
-use lc_base::{Limit, Place, Reason, TextFault};
+use keyword_table::Rule;
+use keyword_values::{text_count, unless};
+use lc_base::{Limit, Reason, TextFault};
 
 /// The most conversions of a format.
 const CONVERSIONS: usize = 16;
@@ -28,16 +29,6 @@ struct Survey {
     conversions: usize,
     /// Whether one is of a rank or above.
     ranked: bool,
-}
-
-/// The bytes of an operand that is a text; one of another kind counts as an empty text.
-pub fn text_of<'a>(value: ValueRef<'a>) -> &'a [u8]
-    ensures { result.now ≡ text_of (seen value.entry) }
-{
-    match value {
-        ValueRef::Text(text) => text,
-        ValueRef::Number(_) | ValueRef::Chars(_, _) | ValueRef::Pair(_, _) => b"",
-    }
 }
 
 /// The conversions of a format, or where a `%` stands that begins none.
@@ -121,48 +112,39 @@ fn list_reason(room: usize, text: &[u8]) -> Option<Reason>
 }
 
 /// What is wrong with a text where so many more may come, with so many bytes.
-fn operand_reason(takes: Takes, left: usize, room: usize, text: &[u8]) -> Option<Reason>
+fn operand_reason(takes: Rule, left: usize, room: usize, text: &[u8]) -> Option<Reason>
     ensures { result ≡ operand_reason takes left room text.now }
 {
     match takes {
-        Takes::Names(_) => None,
-        Takes::Format(rank) => format_reason(0, rank, text),
-        Takes::Segments => match list_reason(room, text) {
+        Rule::Format(rank) => format_reason(0, rank, text),
+        Rule::Segments => match list_reason(room, text) {
             None => segment_reason(text),
             Some(reason) => Some(reason),
         },
-        Takes::Digits if left == 0 => Some(Reason::TooManyDigits),
-        Takes::Digits => list_reason(room, text),
-    }
-}
-
-/// Nothing, or what is wrong at a place.
-fn unless(place: Place, reason: Option<Reason>) -> Result<(), TextFault>
-    ensures { Gives (λ _. tt) result (unless place reason) }
-{
-    match reason {
-        None => Ok(()),
-        Some(reason) => Err(TextFault::At(place, reason)),
+        Rule::Digits if left == 0 => Some(Reason::TooManyDigits),
+        Rule::Digits => list_reason(room, text),
+        _ => None,
     }
 }
 
 /// Checks the operands of a keyword, from left to right.
-fn check_operands(takes: Takes, values: &Values) -> Result<(), TextFault>
+fn check_operands(takes: Rule, values: &Values) -> Result<(), TextFault>
     ensures { Gives (λ _. tt) result (operands_checked takes most_digits most_bytes values.now) }
 {
     let mut walk = values.walk();
     let mut left = DIGITS;
     let mut room = LIST_BYTES;
     while let Some((place, value)) = walk.next() {
-        let text = text_of(value);
-        unless(place, operand_reason(takes, left, room, text))?;
-        left = left.saturating_sub(1);
-        room = room.saturating_sub(text.len()).saturating_sub(1);
+        if let ValueRef::Text(text) = value {
+            unless(place, operand_reason(takes, left, room, text))?;
+            left = left.saturating_sub(1);
+            room = room.saturating_sub(text.len()).saturating_sub(1);
+        }
     }
     Ok(())
 }
 
-/// Whether a number of operands is not the one that is fixed.
+/// Whether a number of texts is not the one that is fixed.
 fn is_wrong_count(fixed: Option<usize>, count: usize) -> bool
     ensures { result ≡ is_wrong_count fixed count }
 {
@@ -172,7 +154,7 @@ fn is_wrong_count(fixed: Option<usize>, count: usize) -> bool
     }
 }
 
-/// Checks a line: the number of its operands first.
+/// Checks a line: the number of its texts first.
 #[tactic(auto, unfolding(crate::specs::Faults::line_checked))]
 fn check_line(entry: &Entry) -> Result<(), TextFault>
     ensures { Gives (λ _. tt) result (line_checked entry.now) }
@@ -180,7 +162,7 @@ fn check_line(entry: &Entry) -> Result<(), TextFault>
     match takes_of(entry.keyword.as_bytes()) {
         None => Ok(()),
         Some(takes) => {
-            if is_wrong_count(takes.fixed_count(), entry.values.len()) {
+            if is_wrong_count(fixed_count(takes), text_count(&entry.values)) {
                 return Err(TextFault::At(entry.place, Reason::WrongCount));
             }
             check_operands(takes, &entry.values)

@@ -12,7 +12,7 @@ mod texts;
 mod time;
 mod tm;
 
-pub use conversion::{Conversion, Layout, Named, Quantity, Shows, TimeText, conversion_of};
+pub use conversion::{Conversion, Layout, NameList, Quantity, Shows, TimeText, conversion_of};
 pub use step::{Step, step_at};
 pub use steps::Steps;
 pub use time::{EraHit, Time};

@@ -1,23 +1,32 @@
 //! Segments of eras (XBD 7.3.5.2, era).
 
-ghost use Rattle.std.specs.Prelude.{◌≡◌, ◌+◌, ◌*◌, ◌^◌, ◌<◌, ◌≤◌, ◌==◌, true, length, find, position, IfSome, IfOk, option_map, pos};
-ghost use Rattle.std.specs.Char.{is_ascii_digit};
-ghost use Rattle.std.specs.List.{list_all};
+ghost use Rattle.std.specs.Prelude.{◌≡◌, ◌<◌, ◌≤◌, find, IfSome, IfOk, option_map};
 ghost use Rattle.std.specs.Option.{option_copied};
-ghost use Rattle.std.specs.Str.Parse.{digits_value};
-ghost use Rattle.time_cat.specs.Eras.{split, few_digits, within, year_of, day_number, after_all, date, end_number, direction, segment, contains, distance, year_in};
+ghost use Rattle.byte_words.specs.Numbers.{few_digits};
+ghost use Rattle.time_cat.specs.Eras.{within, year_of, date, end_of, direction, segment, date_is_no_later, is_no_later, is_between, contains, distance};
 ghost use Rattle.time_cat.specs.Segments.{whole};
 
+use byte_words::{cut_at, few_digits};
 use lc_base::ByteText;
 use std::alloc::{AllocError, Global};
 
 /// A date.
-#[derive(Clone, Copy, Debug, PartialEq, Eq)]
+#[derive(Clone, Copy, Debug)]
 pub struct Date {
     /// The year, counted so that the year 1 is 10001.
     pub year: u16,
-    /// The place among all dates.
-    pub number: u32,
+    pub month: u16,
+    pub day: u16,
+}
+
+/// An end of a segment.
+#[derive(Clone, Copy, Debug)]
+pub enum End {
+    /// Before all dates.
+    BeforeAll,
+    On(Date),
+    /// After all dates.
+    AfterAll,
 }
 
 /// A segment of an era.
@@ -26,12 +35,9 @@ pub struct Segment {
     /// Whether years count up behind the start.
     pub forward: bool,
     pub offset: u16,
-    /// The counted year of the start.
-    pub start: u16,
-    /// The number of the first date.
-    pub first: u32,
-    /// The number of the last date.
-    pub last: u32,
+    pub start: Date,
+    /// The other end, which may be before the start.
+    pub end: End,
     pub name: ByteText,
     pub format: ByteText,
 }
@@ -41,77 +47,20 @@ pub struct Segment {
 pub struct SegmentText<'a> {
     pub forward: bool,
     pub offset: u16,
-    pub start: u16,
-    pub first: u32,
-    pub last: u32,
+    pub start: Date,
+    pub end: End,
     pub name: &'a [u8],
     pub format: &'a [u8],
 }
 
-/// Where the first such byte stands.
-fn place_of(text: &[u8], separator: u8) -> Option<usize>
-    ensures is { result ≡ position (λ c. c == separator) text.now }
-    ensures within { IfSome result (λ n. n < length text.now) }
-{
-    text.iter().position(|c| *c == separator)
-}
-
-/// What stands before and behind the first separator.
-#[tactic(auto, unfolding(crate::specs::Eras::split))]
-fn split(text: &[u8], separator: u8) -> Option<(&[u8], &[u8])>
-    ensures { option_map (λ x. (x.0.now, x.1.now)) result ≡ split separator text.now }
-{
-    match place_of(text, separator) {
-        None => None,
-        Some(n) => Some((&text[..n], &text[n + 1..])),
-    }
-}
-
-/// The value of at most four digits.
-fn value_of(digits: &[u8]) -> u16
-    requires all_digits { list_all is_ascii_digit digits.now ≡ true }
-    requires few { length digits.now ≤ 4 }
-    ensures is { result ≡ digits_value 10 digits.now }
-    ensures small { result < 10000 }
-{
-    let mut value = 0;
-    for digit in digits {
-        value = value * 10 + u16::from(*digit - b'0');
-    }
-    value
-}
-
-/// Whether each byte is a digit.
-fn are_digits(bytes: &[u8]) -> bool
-    ensures { result ≡ list_all is_ascii_digit bytes.now }
-{
-    bytes.iter().all(|byte| byte.is_ascii_digit())
-}
-
-/// The value of at least one and at most so many digits.
-#[tactic(auto, unfolding(crate::specs::Eras::few_digits))]
-fn few_digits(most: usize, text: &[u8]) -> Option<u16>
-    requires { most ≤ 4 }
-    ensures is { result ≡ few_digits most text.now }
-    ensures small { IfSome result (λ n. n < 10000) }
-{
-    if text.is_empty() || text.len() > most {
-        return None;
-    }
-    if !are_digits(text) {
-        return None;
-    }
-    Some(value_of(text))
-}
-
 /// A number of two digits in a range.
-fn within(low: u16, high: u16, text: &[u8]) -> Option<u16>
+fn within(low: u32, high: u32, text: &[u8]) -> Option<u16>
     ensures is { result ≡ within low high (few_digits 2 text.now) }
     ensures capped { IfSome result (λ n. n ≤ high) }
 {
     let number = few_digits(2, text)?;
     if low <= number && number <= high {
-        Some(number)
+        Some(number as u16)
     } else {
         None
     }
@@ -127,20 +76,13 @@ fn year_of(text: &[u8]) -> Option<u16>
         [] => None,
         [b'-', digits @ ..] => {
             let year = few_digits(4, digits)?;
-            Some(10000 - year.saturating_sub(1))
+            Some(10000 - (year as u16).saturating_sub(1))
         }
         _ => {
             let year = few_digits(4, text)?;
-            Some(10000 + year)
+            Some(10000 + year as u16)
         }
     }
-}
-
-/// The place of a date among all dates, whose year is counted.
-pub fn day_number(year: u16, month: u16, day: u16) -> u32
-    ensures { result ≡ day_number year month day }
-{
-    (u32::from(year) * 16 + u32::from(month)) * 32 + u32::from(day)
 }
 
 /// A date: year, month and day with `/` between.
@@ -148,31 +90,28 @@ pub fn day_number(year: u16, month: u16, day: u16) -> u32
 fn date_of(text: &[u8]) -> Option<Date>
     ensures { result ≡ date text.now }
 {
-    let (year, rest) = split(text, b'/')?;
-    let (month, day) = split(rest, b'/')?;
+    let (year, rest) = cut_at(b'/', text)?;
+    let (month, day) = cut_at(b'/', rest)?;
     let year = year_of(year)?;
     let month = within(1, 12, month)?;
     let day = within(1, 31, day)?;
-    Some(Date {
-        year,
-        number: day_number(year, month, day),
-    })
+    Some(Date { year, month, day })
 }
 
 /// The end of a segment: a date, or before or after all dates.
-#[tactic(auto, unfolding(crate::specs::Eras::end_number))]
-fn end_number(text: &[u8]) -> Option<u32>
-    ensures { result ≡ end_number text.now }
+#[tactic(auto, unfolding(crate::specs::Eras::end_of))]
+fn end_of(text: &[u8]) -> Option<End>
+    ensures { result ≡ end_of text.now }
 {
     if text == b"-*".as_slice() {
-        return Some(0);
+        return Some(End::BeforeAll);
     }
     if text == b"+*".as_slice() {
-        return Some(20000 * 16 * 32);
+        return Some(End::AfterAll);
     }
     match date_of(text) {
         None => None,
-        Some(date) => Some(date.number),
+        Some(date) => Some(End::On(date)),
     }
 }
 
@@ -194,21 +133,20 @@ fn direction(text: &[u8]) -> Option<bool>
 pub fn segment_of(text: &[u8]) -> Option<SegmentText<'_>>
     ensures { option_map whole result ≡ segment text.now }
 {
-    let (sign, rest) = split(text, b':')?;
-    let (offset, rest) = split(rest, b':')?;
-    let (start, rest) = split(rest, b':')?;
-    let (end, rest) = split(rest, b':')?;
-    let (name, format) = split(rest, b':')?;
+    let (sign, rest) = cut_at(b':', text)?;
+    let (offset, rest) = cut_at(b':', rest)?;
+    let (start, rest) = cut_at(b':', rest)?;
+    let (end, rest) = cut_at(b':', rest)?;
+    let (name, format) = cut_at(b':', rest)?;
     let forward = direction(sign)?;
-    let offset = few_digits(4, offset)?;
+    let offset = few_digits(4, offset)? as u16;
     let start = date_of(start)?;
-    let end = end_number(end)?;
+    let end = end_of(end)?;
     Some(SegmentText {
         forward,
         offset,
-        start: start.year,
-        first: start.number.min(end),
-        last: start.number.max(end),
+        start,
+        end,
         name,
         format,
     })
@@ -225,30 +163,63 @@ impl SegmentText<'_> {
             forward: self.forward,
             offset: self.offset,
             start: self.start,
-            first: self.first,
-            last: self.last,
+            end: self.end,
             name: ByteText::of(alloc, self.name)?,
             format: ByteText::of(alloc, self.format)?,
         })
     }
 }
 
-/// The first segment that contains the date of a number.
-pub fn segment_at(segments: &[Segment], number: u32) -> Option<&Segment>
-    ensures { option_copied result ≡ find (contains number) segments.now }
+/// Whether a date is no later than another.
+fn date_is_no_later(a: Date, b: Date) -> bool
+    ensures { result ≡ date_is_no_later a b }
 {
-    segments.iter().find(|segment| segment.first <= number && number <= segment.last)
+    a.year < b.year
+        || (a.year == b.year && (a.month < b.month || (a.month == b.month && a.day <= b.day)))
+}
+
+/// Whether an end is no later than another.
+fn is_no_later(a: End, b: End) -> bool
+    ensures { result ≡ is_no_later a b }
+{
+    match (a, b) {
+        (End::BeforeAll, _) | (_, End::AfterAll) => true,
+        (End::On(a), End::On(b)) => date_is_no_later(a, b),
+        (End::On(_), End::BeforeAll) | (End::AfterAll, _) => false,
+    }
+}
+
+/// Whether a date is between two ends, both included.
+fn is_between(from: End, to: End, date: Date) -> bool
+    ensures { result ≡ is_between from to date }
+{
+    is_no_later(from, End::On(date)) && is_no_later(End::On(date), to)
+}
+
+/// The first segment that contains a date.
+pub fn segment_at(segments: &[Segment], date: Date) -> Option<&Segment>
+    ensures { option_copied result ≡ find (contains date) segments.now }
+{
+    segments.iter().find(|segment| segment.contains(date))
 }
 
 impl Segment {
     ghost use Rattle.std.specs.Prelude.{◌≡◌, ◌+◌, ◌<◌, ◌≤◌};
-    ghost use Rattle.time_cat.specs.Eras.{distance, year_in};
+    ghost use Rattle.time_cat.specs.Eras.{contains, year_in};
+
+    /// Whether it contains a date.
+    fn contains(&self, date: Date) -> bool
+        ensures { result ≡ contains date self.now }
+    {
+        is_between(End::On(self.start), self.end, date)
+            || is_between(self.end, End::On(self.start), date)
+    }
 
     /// The era's year of a counted year.
     pub fn year_of(&self, year: u16) -> i32
         ensures { result ≡ year_in self.now year }
     {
-        let distance = distance(self.start, year);
+        let distance = distance(self.start.year, year);
         if self.forward {
             i32::from(self.offset) + i32::from(distance)
         } else {

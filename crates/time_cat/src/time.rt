@@ -10,7 +10,7 @@ ghost use Rattle.time_cat.specs.Values.{values_of, posix_values, time_values};
 
 use crate::conversion::TimeText;
 use crate::faults::check;
-use crate::segment::{Segment, day_number, segment_at};
+use crate::segment::{Date, Segment, segment_at};
 use crate::texts::{FormatTexts, NameLists, digits_in, eras_in, formats_in, names_in, text_at};
 use keyword_lists::Entry;
 use lc_base::{ByteText, List, TextFault};
@@ -169,8 +169,12 @@ impl Time {
         ensures format { IfSome result (λ found. IsFormat 1 found.format.now) }
     {
         let year = 10000 + year as u16;
-        let number = day_number(year, u16::from(mon), u16::from(mday));
-        let segment = segment_at(self.era.as_slice(), number)?;
+        let date = Date {
+            year,
+            month: u16::from(mon),
+            day: u16::from(mday),
+        };
+        let segment = segment_at(self.era.as_slice(), date)?;
         Some(EraHit {
             year: segment.year_of(year),
             name: segment.name.as_bytes(),
@@ -179,7 +183,7 @@ impl Time {
     }
 
     /// The text that stands for a number, if the list reaches so far.
-    pub fn alt_digit(&self, i: u8) -> Option<&[u8]>
+    pub fn alt_digit(&self, i: u32) -> Option<&[u8]>
         ensures { option_copied result ≡ slice_get self.now.alt_digits i }
     {
         let text = self.alt_digits.as_slice().get(i as usize)?;

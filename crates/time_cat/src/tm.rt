@@ -1,6 +1,6 @@
 //! Broken-down times (XBD time.h, struct tm).
 
-ghost use Rattle.std.specs.Prelude.{◌≡◌, ◌≤◌, ◌^◌, IfOk, pos, ◌≤ℤ◌};
+ghost use Rattle.std.specs.Prelude.{◌≡◌, ◌≤◌, ◌^◌, IfOk, unsigned_abs};
 ghost use Rattle.time_cat.specs.Times.{TmValues, IsTime, time_of, in_range, offset_in_range, IsOffset};
 
 use lc_base::ByteText;
@@ -68,6 +68,7 @@ fn in_range(field: TmField, low: u32, high: u32, value: i32) -> Result<u32, TmRa
     ensures is { result ≡ in_range field low high value }
     ensures from { IfOk result (λ n. low ≤ n) }
     ensures to { IfOk result (λ n. n ≤ high) }
+    ensures same { IfOk result (λ n. n ≡ unsigned_abs value) }
 {
     if value < 0 {
         return Err(TmRange { field });
@@ -84,6 +85,7 @@ fn in_range(field: TmField, low: u32, high: u32, value: i32) -> Result<u32, TmRa
 fn offset_in_range(offset: Option<i32>) -> Result<Option<i32>, TmRange>
     ensures is { result ≡ offset_in_range offset }
     ensures near { IfOk result IsOffset }
+    ensures same { IfOk result (λ o. o ≡ offset) }
 {
     match offset {
         None => Ok(None),

@@ -1,4 +1,5 @@
-//! What each reason and refusal says: the rule, an example that breaks it, and one that keeps it.
+//! What each reason and refusal says: the rule, an example that breaks it, and one that keeps it;
+//! and what each keyword of a source takes.
 #![tactic(auto)]
 
 mod explain;
@@ -7,6 +8,6 @@ mod names;
 mod table;
 
 pub use explain::{explained, rule_of};
-pub use keywords::wanted_of;
+pub use keywords::{Wanted, push_wanted, wanted_of};
 pub use names::name_of;
 pub use table::{ROW_COUNT, ReasonRow, row_at};

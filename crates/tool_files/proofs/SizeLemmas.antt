@@ -4,7 +4,7 @@ use Rattle.std.specs.List.{All}
 use Rattle.std.proofs.lemmas.List.Elements.{All-nil, All-cons}
 use Rattle.lc_base.specs.declared.block.Block.{Block}
 use Rattle.lc_base.specs.declared.block.Later.{Later}
-use Rattle.source_blocks.specs.Blocks.{IsSized}
+use Rattle.lc_base.specs.Blocks.{IsSized}
 
 pub none_sized : All IsSized []
 none_sized = All-nil IsSized

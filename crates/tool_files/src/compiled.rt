@@ -2,7 +2,7 @@
 
 ghost use Rattle.std.specs.Prelude.{◌≡◌, ◌≤◌, length, All, IsTrue};
 ghost use Rattle.lc_base.specs.Reading.{Gives};
-ghost use Rattle.source_blocks.specs.Blocks.{IsSized};
+ghost use Rattle.lc_base.specs.Blocks.{IsSized};
 ghost use Rattle.tool_files.specs.Library.{are_taken, library};
 
 use crate::sized::{are_sized, is_sized};

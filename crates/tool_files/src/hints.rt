@@ -2,13 +2,13 @@
 
 use lc_base::Reason;
 use std::alloc::AllocError;
-use tool_explain::wanted_of;
+use tool_explain::{push_wanted, wanted_of};
 
 /// Adds what the keyword of a line takes, where an operand is wrong, and how a copied locale is found.
 pub fn push_hint_of(out: &mut Vec<u8>, reason: Reason, line: &[u8]) -> Result<(), AllocError> {
     match reason {
         Reason::WrongOperand | Reason::BadNumber | Reason::WrongCount => {
-            push_wanted(out, first_word(line))
+            push_hint_of_keyword(out, first_word(line))
         }
         Reason::CopyMissing => out.extend_from_slice(
             b"hint: `--path DIR` names a folder with the file of the locale that is copied\n",
@@ -28,13 +28,13 @@ pub fn push_hint_of_bytes(out: &mut Vec<u8>, line: &[u8]) -> Result<(), AllocErr
 }
 
 /// Adds what a keyword takes.
-fn push_wanted(out: &mut Vec<u8>, keyword: &[u8]) -> Result<(), AllocError> {
+fn push_hint_of_keyword(out: &mut Vec<u8>, keyword: &[u8]) -> Result<(), AllocError> {
     match wanted_of(keyword) {
         Some(wanted) => {
             out.extend_from_slice(b"hint: `")?;
             out.extend_from_slice(keyword)?;
             out.extend_from_slice(b"` takes ")?;
-            out.extend_from_slice(wanted.as_bytes())?;
+            push_wanted(out, wanted)?;
             out.extend_from_slice(b"\n")
         }
         None => Ok(()),

@@ -28,7 +28,7 @@ shown true plan text lines = explained_text plan.bundle.threads plan.bundle.comm
 abbrev pub has_refusal : List OutLine → Bool
 has_refusal lines = list_any (λ (l : OutLine). is_refused l.reply) lines
 
--- an accepted bundle's script was run in this way: its lines are shown, and it is told whether a command was refused
+-- an accepted bundle's script was run in this way: its lines are shown, and it is known whether a command was refused
 pub record IsPlayed (text : List ℕ) (how : Playing) (played : Played) : Type 0 where
   pub plan : PlanData
   pub lines : List OutLine

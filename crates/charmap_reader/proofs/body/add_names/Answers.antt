@@ -1,6 +1,6 @@
 use Rattle.std.proofs.Common.{◌≡◌, ◌+◌, ◌-◌, ◌++◌, List, ℕ, length, replicate, refl, sym, ap, ◌∙◌, arith}
 use Rattle.charmap_reader.specs.Blocks.{block_from}
-use Rattle.charmap_reader.specs.Names.{block_entries, IsAdded}
+use Rattle.charmap_reader.specs.CharacterNames.{block_entries, IsAdded}
 use Rattle.charmap_reader.specs.Numbering.{stem, digits, number, padded}
 use Rattle.charmap_reader.specs.Portable.{Name}
 use Rattle.charmap_reader.specs.Tails.{front, tail, tail_width}

@@ -2,7 +2,7 @@ use Rattle.std.proofs.Common.{◌≡◌, ◌+◌, ◌-◌, ◌≤◌, Some, leng
 use Rattle.std.specs.List.{range_with_len}
 use Rattle.std.specs.Str.Parse.{AllDigits}
 use Rattle.charmap_reader.specs.Charmap.{added}
-use Rattle.charmap_reader.specs.Names.{valued_after}
+use Rattle.charmap_reader.specs.CharacterNames.{valued_after}
 use Rattle.charmap_reader.specs.Numbering.{digits, number, padded, stem}
 use Rattle.charmap_reader.proofs.body.add_names.Given as goal
 

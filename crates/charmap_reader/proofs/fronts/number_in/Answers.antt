@@ -8,13 +8,13 @@ use Rattle.charmap_reader.proofs.fronts.number_in.Goals as goal
 
 pub returns-in-Ok-clause-found : goal.returns-in-Ok-clause-found
 returns-in-Ok-clause-found c =
-    let texts = c.args.texts.now in
-    let search_is = c.in-Ok.ensures.position (λ (n : ℕ). slice_cmp nat_cmp (get_or texts n []) c.args.text.now) (always_returns_same _ _ _ (λ a r g called. search rules)) in
+    let strings = c.args.strings.now in
+    let search_is = c.in-Ok.ensures.position (λ (n : ℕ). slice_cmp nat_cmp (get_or strings n []) c.args.string.now) (always_returns_same _ _ _ (λ a r g called. search rules)) in
     let n : ℕ = get_or c.args.sorted.now c.in-Ok.at 0 in
-    found_at texts c.args.sorted.now c.args.text.now c.in-Ok.at n c.in-Ok.ensures.bound search_is (get_or_default c.args.sorted.now c.in-Ok.at 0 n c.in-Ok.ensures.bound)
+    found_at strings c.args.sorted.now c.args.string.now c.in-Ok.at n c.in-Ok.ensures.bound search_is (get_or_default c.args.sorted.now c.in-Ok.at 0 n c.in-Ok.ensures.bound)
 
 pub returns-in-Err-clause-absent : goal.returns-in-Err-clause-absent
 returns-in-Err-clause-absent c =
-    let texts = c.args.texts.now in
-    let search_is = c.in-Err.ensures.position (λ (n : ℕ). slice_cmp nat_cmp (get_or texts n []) c.args.text.now) (always_returns_same _ _ _ (λ a r g called. search rules)) in
-    absent_from texts c.args.sorted.now c.args.text.now _ c.requires search_is
+    let strings = c.args.strings.now in
+    let search_is = c.in-Err.ensures.position (λ (n : ℕ). slice_cmp nat_cmp (get_or strings n []) c.args.string.now) (always_returns_same _ _ _ (λ a r g called. search rules)) in
+    absent_from strings c.args.sorted.now c.args.string.now _ c.requires search_is

@@ -1,6 +1,6 @@
 use Rattle.std.proofs.Common.{◌∷◌, [], Option, ap, sym, ◌∙◌}
 use Rattle.std.specs.Option.{option_or}
-use Rattle.handle_table.specs.Entry.{Refusal}
+use Rattle.handle_table.specs.declared.op.Refusal.{Refusal}
 use Rattle.handle_table.specs.History.{free_row}
 use Rattle.handle_table.specs.Answer.{no_data, global_handle, never_made, stale, too_many}
 use Rattle.handle_table.specs.Seen.{reason_of}

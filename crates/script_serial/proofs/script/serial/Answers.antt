@@ -1,10 +1,10 @@
 use Rattle.std.proofs.Common.{◌≡◌, [], sym, ap, ◌∙◌}
 use Rattle.script_lines.specs.Catalogs.{Books}
 use Rattle.script_lang.specs.declared.bundle.Bundle.{Bundle}
-use Rattle.script_serial.proofs.PlayLemmas.{no_lines, sound_parts, serial_told}
+use Rattle.script_serial.proofs.PlayLemmas.{no_lines, sound_parts, serial_lines_are}
 use Rattle.script_serial.specs.Serial.{setting}
 use Rattle.script_serial.proofs.SerialNewest.{printed_in_order}
-use Rattle.script_serial.proofs.ToldApart.{printed_isolated, catalogs_isolated}
+use Rattle.script_serial.proofs.AnsweredApart.{printed_isolated, catalogs_isolated}
 use Rattle.script_serial.proofs.script.serial.Goals as goal
 
 pub returns-then-is_empty-clause-lines : goal.returns-then-is_empty-clause-lines
@@ -22,7 +22,7 @@ all_lines-requires-clause-blocks c = ap (λ (b : Books). b.blocks) c.books-books
 pub returns-clause-lines : goal.returns-clause-lines
 returns-clause-lines c =
     c.of-2.ensures
-    ∙ serial_told c.args.plan.now c.args.rows c.args.generations c.len-count.result c.bundle-bundle.result.now c.library-library.result.now c.books-books.result.books c.in_ok-alone.alone.table.setting c.in_ok-lines.lines.items
+    ∙ serial_lines_are c.args.plan.now c.args.rows c.args.generations c.len-count.result c.bundle-bundle.result.now c.library-library.result.now c.books-books.result.books c.in_ok-alone.alone.table.setting c.in_ok-lines.lines.items
     c.in_ok-alone.ensures.setting c.len-count.ensures c.bundle-bundle.ensures.bundle c.library-library.ensures (ap (λ (b : Books). b.books) c.books-books.ensures) c.in_ok-lines.ensures
 
 pub returns-then-is_empty-clause-prints : goal.returns-then-is_empty-clause-prints

@@ -2,7 +2,7 @@ use Rattle.std.proofs.Common.{◌∙◌, ap, sym, subst, length, List}
 use Rattle.std.specs.List.{All}
 use Rattle.std.proofs.lemmas.Result.{IfOk-weaker}
 use Rattle.source_blocks.specs.declared.blocks.Placed.{Placed}
-use Rattle.source_blocks.specs.Blocks.{IsSized}
+use Rattle.lc_base.specs.Blocks.{IsSized}
 use Rattle.source_blocks.proofs.SizeLemmas.{blocks_sized, blocks_count}
 use Rattle.source_blocks.proofs.reading.read_blocks.Goals as goal
 

@@ -1,5 +1,5 @@
 use Rattle.std.proofs.Common.{ap, ◌∙◌, arith}
-use Rattle.handle_table.specs.Shelf.{no_offer}
+use Rattle.mask_compose.specs.Offer.{no_offer}
 use Rattle.handle_table.specs.Grid.{cell}
 use Rattle.handle_table.specs.Kept.{KeptData}
 use Rattle.handle_table.proofs.KeptSays.{object_is}

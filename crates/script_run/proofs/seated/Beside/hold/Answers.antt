@@ -1,6 +1,5 @@
 use Rattle.std.proofs.Common.{refl, ◌∙◌}
 use Rattle.handle_table.specs.Entry as table
-use Rattle.handle_table.specs.Seen.{refusal_of}
 use Rattle.script_run.proofs.SeatLemmas.{answers_hold, answers_fault}
 use Rattle.script_run.proofs.seated.Beside.hold.Goals as goal
 
@@ -13,7 +12,7 @@ returns-in_ok-push-in-Ok g c = record {
 
 pub returns-in-Err : goal.returns-in-Err
 returns-in-Err g c = record {
-  answers = answers_fault c.args.self.now.shared.now c.args.side.now _ (table.Hold c.args.h) c.in-Err.fault.place (refusal_of c.in-Err.fault.refusal) c.refused.result.0 _
+  answers = answers_fault c.args.self.now.shared.now c.args.side.now _ (table.Hold c.args.h) c.in-Err.fault.place c.in-Err.fault.refusal c.refused.result.0 _
       c.requires.calls c.in-Err.ensures.fault c.in-Err.ensures.in_order refl refl c.refused.ensures;
   reader = refl;
 }

@@ -1,6 +1,5 @@
 use Rattle.std.proofs.Common.{refl}
 use Rattle.handle_table.specs.Entry as table
-use Rattle.handle_table.specs.Seen.{refusal_of}
 use Rattle.script_run.proofs.SeatLemmas.{answers_plain, answers_fault}
 use Rattle.script_run.proofs.seated.Beside.plain.Goals as goal
 
@@ -9,7 +8,7 @@ returns-in-Ok g c = record { answers = rw c.in-New.is (answers_plain c.args.self
 
 pub returns-in-Err : goal.returns-in-Err
 returns-in-Err g c = record {
-  answers = rw c.in-New.is (answers_fault c.args.self.now.shared.now c.args.side.now _ (table.New c.in-New.mask c.in-New.names c.in-New.base) c.in-Err.fault.place (refusal_of c.in-Err.fault.refusal) c.refused.result.0 _
+  answers = rw c.in-New.is (answers_fault c.args.self.now.shared.now c.args.side.now _ (table.New c.in-New.mask c.in-New.names c.in-New.base) c.in-Err.fault.place c.in-Err.fault.refusal c.refused.result.0 _
       c.requires.calls c.in-Err.ensures.fault c.in-Err.ensures.in_order refl refl c.refused.ensures);
   reader = refl;
 }
@@ -19,7 +18,7 @@ returns-in-Ok-duplocale g c = record { answers = rw c.in-Dup.is (answers_plain c
 
 pub returns-in-Err-duplocale : goal.returns-in-Err-duplocale
 returns-in-Err-duplocale g c = record {
-  answers = rw c.in-Dup.is (answers_fault c.args.self.now.shared.now c.args.side.now _ (table.Dup c.in-Dup.from) c.in-Err-duplocale.fault.place (refusal_of c.in-Err-duplocale.fault.refusal) c.refused-in-Err-duplocale.result.0 _
+  answers = rw c.in-Dup.is (answers_fault c.args.self.now.shared.now c.args.side.now _ (table.Dup c.in-Dup.from) c.in-Err-duplocale.fault.place c.in-Err-duplocale.fault.refusal c.refused-in-Err-duplocale.result.0 _
       c.requires.calls c.in-Err-duplocale.ensures.fault c.in-Err-duplocale.ensures.in_order refl refl c.refused-in-Err-duplocale.ensures);
   reader = refl;
 }
@@ -29,7 +28,7 @@ returns-in-Ok-freelocale g c = record { answers = rw c.in-Free.is (answers_plain
 
 pub returns-in-Err-freelocale : goal.returns-in-Err-freelocale
 returns-in-Err-freelocale g c = record {
-  answers = rw c.in-Free.is (answers_fault c.args.self.now.shared.now c.args.side.now _ (table.Free c.in-Free.h) c.in-Err-freelocale.fault.place (refusal_of c.in-Err-freelocale.fault.refusal) c.refused-in-Err-freelocale.result.0 _
+  answers = rw c.in-Free.is (answers_fault c.args.self.now.shared.now c.args.side.now _ (table.Free c.in-Free.h) c.in-Err-freelocale.fault.place c.in-Err-freelocale.fault.refusal c.refused-in-Err-freelocale.result.0 _
       c.requires.calls c.in-Err-freelocale.ensures.fault c.in-Err-freelocale.ensures.in_order refl refl c.refused-in-Err-freelocale.ensures);
   reader = refl;
 }
@@ -39,7 +38,7 @@ returns-in-Ok-post g c = record { answers = rw c.in-Post.is (answers_plain c.arg
 
 pub returns-in-Err-post : goal.returns-in-Err-post
 returns-in-Err-post g c = record {
-  answers = rw c.in-Post.is (answers_fault c.args.self.now.shared.now c.args.side.now _ (table.Post c.in-Post.cell c.in-Post.h) c.in-Err-post.fault.place (refusal_of c.in-Err-post.fault.refusal) c.refused-in-Err-post.result.0 _
+  answers = rw c.in-Post.is (answers_fault c.args.self.now.shared.now c.args.side.now _ (table.Post c.in-Post.cell c.in-Post.h) c.in-Err-post.fault.place c.in-Err-post.fault.refusal c.refused-in-Err-post.result.0 _
       c.requires.calls c.in-Err-post.ensures.fault c.in-Err-post.ensures.in_order refl refl c.refused-in-Err-post.ensures);
   reader = refl;
 }
@@ -49,7 +48,7 @@ returns-in-Ok-fetch g c = record { answers = rw c.in-Fetch.is (answers_plain c.a
 
 pub returns-in-Err-fetch : goal.returns-in-Err-fetch
 returns-in-Err-fetch g c = record {
-  answers = rw c.in-Fetch.is (answers_fault c.args.self.now.shared.now c.args.side.now _ (table.Fetch c.in-Fetch.owner c.in-Fetch.cell) c.in-Err-fetch.fault.place (refusal_of c.in-Err-fetch.fault.refusal) c.refused-in-Err-fetch.result.0 _
+  answers = rw c.in-Fetch.is (answers_fault c.args.self.now.shared.now c.args.side.now _ (table.Fetch c.in-Fetch.owner c.in-Fetch.cell) c.in-Err-fetch.fault.place c.in-Err-fetch.fault.refusal c.refused-in-Err-fetch.result.0 _
       c.requires.calls c.in-Err-fetch.ensures.fault c.in-Err-fetch.ensures.in_order refl refl c.refused-in-Err-fetch.ensures);
   reader = refl;
 }
@@ -59,7 +58,7 @@ returns-in-Ok-pins g c = record { answers = rw c.in-Pins.is (answers_plain c.arg
 
 pub returns-in-Err-pins : goal.returns-in-Err-pins
 returns-in-Err-pins g c = record {
-  answers = rw c.in-Pins.is (answers_fault c.args.self.now.shared.now c.args.side.now _ (table.Pins c.in-Pins.h) c.in-Err-pins.fault.place (refusal_of c.in-Err-pins.fault.refusal) c.refused-in-Err-pins.result.0 _
+  answers = rw c.in-Pins.is (answers_fault c.args.self.now.shared.now c.args.side.now _ (table.Pins c.in-Pins.h) c.in-Err-pins.fault.place c.in-Err-pins.fault.refusal c.refused-in-Err-pins.result.0 _
       c.requires.calls c.in-Err-pins.ensures.fault c.in-Err-pins.ensures.in_order refl refl c.refused-in-Err-pins.ensures);
   reader = refl;
 }

@@ -1,6 +1,5 @@
 use Rattle.std.proofs.Common.{refl}
 use Rattle.handle_table.specs.Entry as table
-use Rattle.handle_table.specs.Seen.{refusal_of}
 use Rattle.script_run.proofs.SeatLemmas.{taken_held, unheld_free, answers_release, answers_refused}
 use Rattle.script_run.proofs.seated.Beside.release.Goals as goal
 
@@ -19,7 +18,7 @@ returns-in-Some g c = record {
 
 pub returns-in-None : goal.returns-in-None
 returns-in-None g c = record {
-  answers = answers_refused c.args.self.now.shared.now c.args.side.now _ (table.Release c.args.h) c.release_unheld-place.result.0 (refusal_of c.release_unheld-place.result.1)
+  answers = answers_refused c.args.self.now.shared.now c.args.side.now _ (table.Release c.args.h) c.release_unheld-place.result.0 c.release_unheld-place.result.1
       c.requires.calls c.release_unheld-place.ensures.fault c.release_unheld-place.ensures.in_order refl c.in-None.ensures.1;
   reader = refl;
 }

@@ -1,4 +1,4 @@
-use Rattle.std.proofs.Common.{◌≡◌, Some, sym, ap, subst}
+use Rattle.std.proofs.Common.{◌≡◌, Some, sym, subst}
 use Rattle.turn_gate.specs.declared.entry.Terms.{Terms}
 use Rattle.handle_table.specs.Entry.{Setting}
 use Rattle.handle_table.specs.History.{sets, global_at}

@@ -1,4 +1,4 @@
-use Rattle.std.proofs.Common.{rules, ◌≡◌, Some, refl, sym, ap, ◌∙◌, subst}
+use Rattle.std.proofs.Common.{◌≡◌, refl, sym, ap, ◌∙◌}
 use Rattle.handle_table.specs.History.{global_at}
 use Rattle.thread_current.specs.Seen.{entries_of}
 use Rattle.thread_current.specs.Thread.{thread_of}

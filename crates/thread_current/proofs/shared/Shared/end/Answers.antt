@@ -1,4 +1,4 @@
-use Rattle.std.proofs.Common.{◌≡◌, sym, ap, subst}
+use Rattle.std.proofs.Common.{subst}
 use Rattle.turn_gate.specs.Callers.{Gate}
 use Rattle.handle_table.specs.Entry.{Setting}
 use Rattle.thread_current.specs.Thread.{thread_of, IsInOrder}

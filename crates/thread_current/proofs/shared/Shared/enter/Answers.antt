@@ -1,4 +1,4 @@
-use Rattle.std.proofs.Common.{◌≡◌, refl, sym, ap, ◌∙◌, subst}
+use Rattle.std.proofs.Common.{refl}
 use Rattle.handle_table.specs.Seen.{op_of, reply_of}
 use Rattle.thread_current.specs.Thread.{thread_of}
 use Rattle.thread_current.proofs.Calls.{Turned, turned, turned_seen, before_says, plain_keeps, mine_later}

@@ -1,4 +1,3 @@
-use Rattle.std.proofs.Common.{◌≡◌, Some, sym, ap, ◌∙◌, subst}
 use Rattle.thread_current.proofs.Calls.{ReadDone, read_done, risen}
 use Rattle.thread_current.proofs.shared.Shared.global_now.Given as given
 use Rattle.thread_current.proofs.shared.Shared.global_now.Goals as goal

@@ -1,4 +1,4 @@
-use Rattle.std.proofs.Common.{◌≡◌, refl, sym, ap, ◌∙◌, subst}
+use Rattle.std.proofs.Common.{refl, ap, subst}
 use Rattle.thread_current.specs.Seen.{entries_of}
 use Rattle.thread_current.specs.Thread.{Thread, thread_of, GoesOnFrom}
 use Rattle.thread_current.proofs.Calls.{Looked, looked, looked_seen, mine_later, extends_entries}

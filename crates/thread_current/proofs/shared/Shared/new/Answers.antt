@@ -1,4 +1,4 @@
-use Rattle.std.proofs.Common.{◌≡◌, List, [], ◌++◌, map, refl, sym, ap, ◌∙◌, subst}
+use Rattle.std.proofs.Common.{List, [], ◌++◌, map, sym, ap, ◌∙◌}
 use Rattle.thread_current.specs.Thread.{Thread, thread_of}
 use Rattle.thread_current.proofs.Calls.{all_unused, first_threads}
 use Rattle.thread_current.proofs.shared.Shared.new.Goals as goal

@@ -1,15 +1,14 @@
-use Rattle.std.proofs.Common.{◌≡◌, Some, sym, ap, ◌∙◌, subst}
+use Rattle.std.proofs.Common.{Some, sym, ap, ◌∙◌, subst}
 use Rattle.handle_table.specs.declared.op.Reply.{Reply as ReplyOf}
 use Rattle.handle_table.specs.Entry.{New}
-use Rattle.handle_table.specs.Answer.{answer}
-use Rattle.handle_table.specs.Seen.{reply_of, refusal_of}
+use Rattle.handle_table.specs.Seen.{reply_of}
 use Rattle.thread_current.specs.Thread.{before}
 use Rattle.thread_current.proofs.Refusals.{OnNew, on_new, reason_is}
 use Rattle.thread_current.proofs.shared.Shared.newlocale.Given as given
 use Rattle.thread_current.proofs.shared.Shared.newlocale.Goals as goal
 use Rattle.thread_current.proofs.shared.Shared.newlocale.Goals.{In-Refused}
 
-against : (g : given.Over) (c : In-Refused g) → OnNew c.args.self.now.terms.setting (before c.enter-place.new.mine) c.args.mine.now.number c.args.mask c.args.names c.args.base (Some (refusal_of c.in-Refused.refusal))
+against : (g : given.Over) (c : In-Refused g) → OnNew c.args.self.now.terms.setting (before c.enter-place.new.mine) c.args.mine.now.number c.args.mask c.args.names c.args.base (Some c.in-Refused.refusal)
 against g c =
     let C = c.args.self.now.terms.setting in
     let H = before c.enter-place.new.mine in

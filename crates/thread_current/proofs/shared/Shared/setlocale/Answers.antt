@@ -1,9 +1,9 @@
-use Rattle.std.proofs.Common.{◌≡◌, Some, sym, ap, ◌∙◌, subst}
+use Rattle.std.proofs.Common.{subst}
 use Rattle.handle_table.specs.declared.op.Reply.{Reply as ReplyOf}
 use Rattle.handle_table.specs.Entry.{SetGlobal}
 use Rattle.handle_table.specs.Seen.{reply_of}
 use Rattle.thread_current.specs.Thread.{Answered, After}
-use Rattle.thread_current.proofs.Calls.{SetDone, set_done, set_reply}
+use Rattle.thread_current.proofs.Calls.{SetDone, set_done}
 use Rattle.thread_current.proofs.shared.Shared.setlocale.Given as given
 use Rattle.thread_current.proofs.shared.Shared.setlocale.Goals as goal
 use Rattle.thread_current.proofs.shared.Shared.setlocale.Goals.{After-read}

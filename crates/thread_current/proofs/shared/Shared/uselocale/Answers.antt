@@ -1,5 +1,5 @@
-use Rattle.std.proofs.Common.{◌≡◌, Some, refl, sym, ap, ◌∙◌, subst}
-use Rattle.handle_table.specs.Seen.{reply_of, refusal_of}
+use Rattle.std.proofs.Common.{refl, ap}
+use Rattle.handle_table.specs.Seen.{reply_of}
 use Rattle.thread_current.proofs.Calls.{turned, used, use_refused}
 use Rattle.thread_current.proofs.shared.Shared.uselocale.Goals as goal
 
@@ -12,7 +12,7 @@ invariant_of-mine g c = (used c.self.inside.turns c.args.self.now _ c.args.mine.
     (ap reply_of c.in-Was.is) refl c.mine.invariant).mine
 
 pub invariant_of-mine-in-Refused : goal.invariant_of-mine-in-Refused
-invariant_of-mine-in-Refused g c = (use_refused c.self.inside.turns c.args.self.now _ c.args.mine.now _ c.args.to c.mine.inside.named c.mine.inside.own c.mine.inside.object (refusal_of c.in-Refused.refusal) c.turn-place.result.0 _
+invariant_of-mine-in-Refused g c = (use_refused c.self.inside.turns c.args.self.now _ c.args.mine.now _ c.args.to c.mine.inside.named c.mine.inside.own c.mine.inside.object c.in-Refused.refusal c.turn-place.result.0 _
     c.self.view_is c.mine.view_is
     (turned c.self.inside.turns c.args.self.now c.mine.inside.version c.mine.inside.version c.mine.inside.seat c.turn-place.new.seat c.args.mine.now
     c.mine.inside.named c.mine.inside.own c.mine.inside.object _ c.turn-place.result.0 c.turn-place.result.1 c.self.view_is c.mine.view_is c.requires.thread
@@ -71,7 +71,7 @@ pub returns-in-Was-clause-cached : goal.returns-in-Was-clause-cached
 returns-in-Was-clause-cached g c = ap (λ t. t.cached) c.mine.view_is
 
 pub returns-in-Refused-clause-fault : goal.returns-in-Refused-clause-fault
-returns-in-Refused-clause-fault g c = (use_refused c.self.inside.turns c.args.self.now _ c.args.mine.now _ c.args.to c.mine.inside.named c.mine.inside.own c.mine.inside.object (refusal_of c.in-Refused.refusal) c.turn-place.result.0 _
+returns-in-Refused-clause-fault g c = (use_refused c.self.inside.turns c.args.self.now _ c.args.mine.now _ c.args.to c.mine.inside.named c.mine.inside.own c.mine.inside.object c.in-Refused.refusal c.turn-place.result.0 _
     c.self.view_is c.mine.view_is
     (turned c.self.inside.turns c.args.self.now c.mine.inside.version c.mine.inside.version c.mine.inside.seat c.turn-place.new.seat c.args.mine.now
     c.mine.inside.named c.mine.inside.own c.mine.inside.object _ c.turn-place.result.0 c.turn-place.result.1 c.self.view_is c.mine.view_is c.requires.thread
@@ -79,7 +79,7 @@ returns-in-Refused-clause-fault g c = (use_refused c.self.inside.turns c.args.se
     (ap reply_of c.in-Refused.is) refl c.mine.invariant).fault
 
 pub returns-in-Refused-clause-in_order : goal.returns-in-Refused-clause-in_order
-returns-in-Refused-clause-in_order g c = (use_refused c.self.inside.turns c.args.self.now _ c.args.mine.now _ c.args.to c.mine.inside.named c.mine.inside.own c.mine.inside.object (refusal_of c.in-Refused.refusal) c.turn-place.result.0 _
+returns-in-Refused-clause-in_order g c = (use_refused c.self.inside.turns c.args.self.now _ c.args.mine.now _ c.args.to c.mine.inside.named c.mine.inside.own c.mine.inside.object c.in-Refused.refusal c.turn-place.result.0 _
     c.self.view_is c.mine.view_is
     (turned c.self.inside.turns c.args.self.now c.mine.inside.version c.mine.inside.version c.mine.inside.seat c.turn-place.new.seat c.args.mine.now
     c.mine.inside.named c.mine.inside.own c.mine.inside.object _ c.turn-place.result.0 c.turn-place.result.1 c.self.view_is c.mine.view_is c.requires.thread
@@ -87,7 +87,7 @@ returns-in-Refused-clause-in_order g c = (use_refused c.self.inside.turns c.args
     (ap reply_of c.in-Refused.is) refl c.mine.invariant).is
 
 pub returns-in-Refused-clause-keeps : goal.returns-in-Refused-clause-keeps
-returns-in-Refused-clause-keeps g c = (use_refused c.self.inside.turns c.args.self.now _ c.args.mine.now _ c.args.to c.mine.inside.named c.mine.inside.own c.mine.inside.object (refusal_of c.in-Refused.refusal) c.turn-place.result.0 _
+returns-in-Refused-clause-keeps g c = (use_refused c.self.inside.turns c.args.self.now _ c.args.mine.now _ c.args.to c.mine.inside.named c.mine.inside.own c.mine.inside.object c.in-Refused.refusal c.turn-place.result.0 _
     c.self.view_is c.mine.view_is
     (turned c.self.inside.turns c.args.self.now c.mine.inside.version c.mine.inside.version c.mine.inside.seat c.turn-place.new.seat c.args.mine.now
     c.mine.inside.named c.mine.inside.own c.mine.inside.object _ c.turn-place.result.0 c.turn-place.result.1 c.self.view_is c.mine.view_is c.requires.thread
@@ -95,7 +95,7 @@ returns-in-Refused-clause-keeps g c = (use_refused c.self.inside.turns c.args.se
     (ap reply_of c.in-Refused.is) refl c.mine.invariant).selection
 
 pub returns-in-Refused-clause-holds : goal.returns-in-Refused-clause-holds
-returns-in-Refused-clause-holds g c = (use_refused c.self.inside.turns c.args.self.now _ c.args.mine.now _ c.args.to c.mine.inside.named c.mine.inside.own c.mine.inside.object (refusal_of c.in-Refused.refusal) c.turn-place.result.0 _
+returns-in-Refused-clause-holds g c = (use_refused c.self.inside.turns c.args.self.now _ c.args.mine.now _ c.args.to c.mine.inside.named c.mine.inside.own c.mine.inside.object c.in-Refused.refusal c.turn-place.result.0 _
     c.self.view_is c.mine.view_is
     (turned c.self.inside.turns c.args.self.now c.mine.inside.version c.mine.inside.version c.mine.inside.seat c.turn-place.new.seat c.args.mine.now
     c.mine.inside.named c.mine.inside.own c.mine.inside.object _ c.turn-place.result.0 c.turn-place.result.1 c.self.view_is c.mine.view_is c.requires.thread
