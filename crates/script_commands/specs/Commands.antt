@@ -346,46 +346,86 @@ catclose_command known threads s = do
   over ← no_more catalog.1
   Ok (CatClose catalog.0)
 
--- the commands, a row each: its first word, and the command that the words behind it say. localeconv has no form with a
--- handle (XSH localeconv)
-unfoldable pub commands_table : Option Known → List (List ℕ) → Span → List (List ℕ × Reads Command)
-commands_table known threads s =
+-- ---- the tables of commands, a row each: its first word, and the command that the words behind it say
+
+-- the objects and their pins
+abbrev pub objects_table : Option Known → List (List ℕ) → Span → List (List ℕ × Reads Command)
+objects_table known threads s =
     (codes "new", new_command known threads s) ∷
     (codes "dup", dup_command known threads s) ∷
     (codes "free", lone_target known threads s >>= λ named. Ok (Free named)) ∷
     (codes "use", use_command known threads s) ∷
     (codes "hold", lone_target known threads s >>= λ named. Ok (Hold named)) ∷
     (codes "release", lone_target known threads s >>= λ named. Ok (Release named)) ∷
+    (codes "pins", lone_target known threads s >>= λ named. Ok (Pins named)) ∷
+    []
+
+-- what all threads share: the global locale, later versions of locales, and cells
+abbrev pub shared_table : Option Known → List (List ℕ) → Span → List (List ℕ × Reads Command)
+shared_table known threads s =
     (codes "setlocale", setlocale_command s) ∷
     (codes "install", install_command known s) ∷
     (codes "post", post_command known threads s) ∷
     (codes "fetch", fetch_command known threads s) ∷
-    (codes "pins", lone_target known threads s >>= λ named. Ok (Pins named)) ∷
-    (codes "info", read_command (info_words s)) ∷
-    (codes "info_l", read_of_command known threads info_words s) ∷
-    (codes "conv", read_command (conv_words s)) ∷
-    (codes "class", read_command (class_words s)) ∷
-    (codes "class_l", read_of_command known threads class_words s) ∷
-    (codes "upper", read_command (upper_words s)) ∷
-    (codes "upper_l", read_of_command known threads upper_words s) ∷
-    (codes "lower", read_command (lower_words s)) ∷
-    (codes "lower_l", read_of_command known threads lower_words s) ∷
-    (codes "money", read_command (money_words s)) ∷
-    (codes "money_l", read_of_command known threads money_words s) ∷
-    (codes "time", read_command (time_words s)) ∷
-    (codes "time_l", read_of_command known threads time_words s) ∷
-    (codes "number", read_command (number_words s)) ∷
-    (codes "number_l", read_of_command known threads number_words s) ∷
-    (codes "parse", read_command (parse_words s)) ∷
-    (codes "parse_l", read_of_command known threads parse_words s) ∷
+    []
+
+-- the catalogs
+abbrev pub catalogs_table : Option Known → List (List ℕ) → Span → List (List ℕ × Reads Command)
+catalogs_table known threads s =
     (codes "catopen", catopen_command s) ∷
     (codes "catgets", catgets_command known threads s) ∷
     (codes "catclose", catclose_command known threads s) ∷
     []
 
+-- reads of the thread's own object, or of the global locale
+abbrev pub own_reads_table : Option Known → List (List ℕ) → Span → List (List ℕ × Reads Command)
+own_reads_table known threads s =
+    (codes "info", read_command (info_words s)) ∷
+    (codes "conv", read_command (conv_words s)) ∷
+    (codes "class", read_command (class_words s)) ∷
+    (codes "upper", read_command (upper_words s)) ∷
+    (codes "lower", read_command (lower_words s)) ∷
+    (codes "money", read_command (money_words s)) ∷
+    (codes "time", read_command (time_words s)) ∷
+    (codes "number", read_command (number_words s)) ∷
+    (codes "parse", read_command (parse_words s)) ∷
+    []
+
+-- reads of the object of a handle; localeconv has none (XSH localeconv)
+abbrev pub handle_reads_table : Option Known → List (List ℕ) → Span → List (List ℕ × Reads Command)
+handle_reads_table known threads s =
+    (codes "info_l", read_of_command known threads info_words s) ∷
+    (codes "class_l", read_of_command known threads class_words s) ∷
+    (codes "upper_l", read_of_command known threads upper_words s) ∷
+    (codes "lower_l", read_of_command known threads lower_words s) ∷
+    (codes "money_l", read_of_command known threads money_words s) ∷
+    (codes "time_l", read_of_command known threads time_words s) ∷
+    (codes "number_l", read_of_command known threads number_words s) ∷
+    (codes "parse_l", read_of_command known threads parse_words s) ∷
+    []
+
+-- ---- the command of a line: the tables in turn
+
+-- what a table says for a word, or else what is said otherwise
+abbrev pub command_among : List (List ℕ × Reads Command) → List ℕ → Reads Command → Reads Command
+command_among rows word otherwise = elim (first_named rows word) [ None ↦ otherwise | Some said ↦ said ]
+
+-- the command whose first word is w, where it can only be a read with a handle
+unfoldable pub handle_read_command : Option Known → List (List ℕ) → Span → Span → Reads Command
+handle_read_command known threads w s = command_among (handle_reads_table known threads s) w.bytes (Err (w.place, BadLine CommandPart))
+
+-- the command whose first word is w, where it can only be a read
+unfoldable pub own_read_command : Option Known → List (List ℕ) → Span → Span → Reads Command
+own_read_command known threads w s = command_among (own_reads_table known threads s) w.bytes (handle_read_command known threads w s)
+
+-- the command whose first word is w, where it can only be one of a catalog or a read
+unfoldable pub catalog_command : Option Known → List (List ℕ) → Span → Span → Reads Command
+catalog_command known threads w s = command_among (catalogs_table known threads s) w.bytes (own_read_command known threads w s)
+
+-- the command whose first word is w, where it is none of the table of objects
+unfoldable pub shared_command : Option Known → List (List ℕ) → Span → Span → Reads Command
+shared_command known threads w s = command_among (shared_table known threads s) w.bytes (catalog_command known threads w s)
+
 -- the command whose first word is w, with what follows it, where the threads named so far are these
 unfoldable pub command : Option Known → List (List ℕ) → Span → Span → Reads Command
-command known threads w s = elim (first_named (commands_table known threads s) w.bytes) [
-  | None ↦ Err (w.place, BadLine CommandPart)
-  | Some said ↦ said
-]
+command known threads w s = command_among (objects_table known threads s) w.bytes (shared_command known threads w s)

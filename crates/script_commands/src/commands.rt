@@ -5,7 +5,7 @@ ghost use Rattle.std.specs.Option.{option_copied};
 ghost use Rattle.lc_base.specs.Reading.{Gives};
 ghost use Rattle.script_commands.specs.InRange.{IsBaseOwned, IsInRange};
 ghost use Rattle.script_words.specs.Spans.{span};
-ghost use Rattle.script_commands.specs.Commands.{info_words, conv_words, class_words, lone_value, money_words, time_words, number_words, parse_words, upper_words, lower_words, base, new_command, dup_command, selection, use_command, setlocale_command, install_command, post_command, fetch_command, read_of_command, catopen_command, catgets_command, catclose_command, command};
+ghost use Rattle.script_commands.specs.Commands.{info_words, conv_words, class_words, lone_value, money_words, time_words, number_words, parse_words, upper_words, lower_words, base, new_command, dup_command, selection, use_command, setlocale_command, install_command, post_command, fetch_command, read_of_command, catopen_command, catgets_command, catclose_command, handle_read_command, own_read_command, catalog_command, shared_command, command};
 
 use crate::arguments::{
     amounts, argument, catalog_name, catalog_word, categories, cell, cell_word, class,
@@ -409,9 +409,121 @@ fn catclose_command(
     Ok(Command::CatClose(catalog))
 }
 
+/// The command with this first word, where it can only be a read with a handle.
+#[tactic(auto, unfolding(crate::specs::Commands::handle_read_command))]
+fn handle_read_command(
+    alloc: Global,
+    scope: Scope<'_>,
+    word: Stretch<'_>,
+    rest: Stretch<'_>,
+) -> Result<Command, TextFault>
+    ensures is { Gives (λ x. x) result (handle_read_command (option_copied scope.entry.known) scope.entry.threads.now (span word.entry) (span rest.entry)) }
+    ensures in_range { IfOk result (IsInRange (length scope.entry.threads.now)) }
+{
+    if b"info_l".as_slice() == word.bytes {
+        info_of_command(alloc, scope, rest)
+    } else if b"class_l".as_slice() == word.bytes {
+        class_of_command(alloc, scope, rest)
+    } else if b"upper_l".as_slice() == word.bytes {
+        upper_of_command(alloc, scope, rest)
+    } else if b"lower_l".as_slice() == word.bytes {
+        lower_of_command(alloc, scope, rest)
+    } else if b"money_l".as_slice() == word.bytes {
+        money_of_command(alloc, scope, rest)
+    } else if b"time_l".as_slice() == word.bytes {
+        time_of_command(alloc, scope, rest)
+    } else if b"number_l".as_slice() == word.bytes {
+        number_of_command(alloc, scope, rest)
+    } else if b"parse_l".as_slice() == word.bytes {
+        parse_of_command(alloc, scope, rest)
+    } else {
+        Err(TextFault::At(word.place, Reason::BadLine(LinePart::Command)))
+    }
+}
+
+/// The command with this first word, where it can only be a read.
+#[tactic(auto, unfolding(crate::specs::Commands::own_read_command))]
+fn own_read_command(
+    alloc: Global,
+    scope: Scope<'_>,
+    word: Stretch<'_>,
+    rest: Stretch<'_>,
+) -> Result<Command, TextFault>
+    ensures is { Gives (λ x. x) result (own_read_command (option_copied scope.entry.known) scope.entry.threads.now (span word.entry) (span rest.entry)) }
+    ensures in_range { IfOk result (IsInRange (length scope.entry.threads.now)) }
+{
+    if b"info".as_slice() == word.bytes {
+        Ok(Command::Read(info_words(rest)?))
+    } else if b"conv".as_slice() == word.bytes {
+        Ok(Command::Read(conv_words(rest)?))
+    } else if b"class".as_slice() == word.bytes {
+        Ok(Command::Read(class_words(alloc, rest)?))
+    } else if b"upper".as_slice() == word.bytes {
+        Ok(Command::Read(upper_words(rest)?))
+    } else if b"lower".as_slice() == word.bytes {
+        Ok(Command::Read(lower_words(rest)?))
+    } else if b"money".as_slice() == word.bytes {
+        Ok(Command::Read(money_words(alloc, rest)?))
+    } else if b"time".as_slice() == word.bytes {
+        Ok(Command::Read(time_words(alloc, rest)?))
+    } else if b"number".as_slice() == word.bytes {
+        Ok(Command::Read(number_words(alloc, rest)?))
+    } else if b"parse".as_slice() == word.bytes {
+        Ok(Command::Read(parse_words(alloc, rest)?))
+    } else {
+        handle_read_command(alloc, scope, word, rest)
+    }
+}
+
+/// The command with this first word, where it can only be one of a catalog or a read.
+#[tactic(auto, unfolding(crate::specs::Commands::catalog_command))]
+fn catalog_command(
+    alloc: Global,
+    scope: Scope<'_>,
+    word: Stretch<'_>,
+    rest: Stretch<'_>,
+) -> Result<Command, TextFault>
+    ensures is { Gives (λ x. x) result (catalog_command (option_copied scope.entry.known) scope.entry.threads.now (span word.entry) (span rest.entry)) }
+    ensures in_range { IfOk result (IsInRange (length scope.entry.threads.now)) }
+{
+    if b"catopen".as_slice() == word.bytes {
+        catopen_command(alloc, rest)
+    } else if b"catgets".as_slice() == word.bytes {
+        catgets_command(alloc, scope, rest)
+    } else if b"catclose".as_slice() == word.bytes {
+        catclose_command(alloc, scope, rest)
+    } else {
+        own_read_command(alloc, scope, word, rest)
+    }
+}
+
+/// The command with this first word, where it is none of the table of objects.
+#[tactic(auto, unfolding(crate::specs::Commands::shared_command))]
+fn shared_command(
+    alloc: Global,
+    scope: Scope<'_>,
+    word: Stretch<'_>,
+    rest: Stretch<'_>,
+) -> Result<Command, TextFault>
+    ensures is { Gives (λ x. x) result (shared_command (option_copied scope.entry.known) scope.entry.threads.now (span word.entry) (span rest.entry)) }
+    ensures in_range { IfOk result (IsInRange (length scope.entry.threads.now)) }
+{
+    if b"setlocale".as_slice() == word.bytes {
+        setlocale_command(alloc, rest)
+    } else if b"install".as_slice() == word.bytes {
+        install_command(alloc, scope.known, rest)
+    } else if b"post".as_slice() == word.bytes {
+        post_command(alloc, scope, rest)
+    } else if b"fetch".as_slice() == word.bytes {
+        fetch_command(alloc, scope, rest)
+    } else {
+        catalog_command(alloc, scope, word, rest)
+    }
+}
+
 /// The command with this first word and the rest of its line, whose names are looked for in this
 /// scope.
-#[tactic(auto, unfolding(crate::specs::Commands::command, crate::specs::Commands::commands_table))]
+#[tactic(auto, unfolding(crate::specs::Commands::command))]
 pub fn command_of_line(
     alloc: Global,
     scope: Scope<'_>,
@@ -421,38 +533,21 @@ pub fn command_of_line(
     ensures is { Gives (λ x. x) result (command (option_copied scope.entry.known) scope.entry.threads.now (span word.entry) (span rest.entry)) }
     ensures in_range { IfOk result (IsInRange (length scope.entry.threads.now)) }
 {
-    match word.bytes {
-        b"new" => new_command(alloc, scope, rest),
-        b"dup" => dup_command(alloc, scope, rest),
-        b"free" => Ok(Command::Free(lone_target(alloc, scope, rest)?)),
-        b"use" => use_command(alloc, scope, rest),
-        b"hold" => Ok(Command::Hold(lone_target(alloc, scope, rest)?)),
-        b"release" => Ok(Command::Release(lone_target(alloc, scope, rest)?)),
-        b"setlocale" => setlocale_command(alloc, rest),
-        b"install" => install_command(alloc, scope.known, rest),
-        b"post" => post_command(alloc, scope, rest),
-        b"fetch" => fetch_command(alloc, scope, rest),
-        b"pins" => Ok(Command::Pins(lone_target(alloc, scope, rest)?)),
-        b"info" => Ok(Command::Read(info_words(rest)?)),
-        b"info_l" => info_of_command(alloc, scope, rest),
-        b"conv" => Ok(Command::Read(conv_words(rest)?)),
-        b"class" => Ok(Command::Read(class_words(alloc, rest)?)),
-        b"class_l" => class_of_command(alloc, scope, rest),
-        b"upper" => Ok(Command::Read(upper_words(rest)?)),
-        b"upper_l" => upper_of_command(alloc, scope, rest),
-        b"lower" => Ok(Command::Read(lower_words(rest)?)),
-        b"lower_l" => lower_of_command(alloc, scope, rest),
-        b"money" => Ok(Command::Read(money_words(alloc, rest)?)),
-        b"money_l" => money_of_command(alloc, scope, rest),
-        b"time" => Ok(Command::Read(time_words(alloc, rest)?)),
-        b"time_l" => time_of_command(alloc, scope, rest),
-        b"number" => Ok(Command::Read(number_words(alloc, rest)?)),
-        b"number_l" => number_of_command(alloc, scope, rest),
-        b"parse" => Ok(Command::Read(parse_words(alloc, rest)?)),
-        b"parse_l" => parse_of_command(alloc, scope, rest),
-        b"catopen" => catopen_command(alloc, rest),
-        b"catgets" => catgets_command(alloc, scope, rest),
-        b"catclose" => catclose_command(alloc, scope, rest),
-        _ => Err(TextFault::At(word.place, Reason::BadLine(LinePart::Command))),
+    if b"new".as_slice() == word.bytes {
+        new_command(alloc, scope, rest)
+    } else if b"dup".as_slice() == word.bytes {
+        dup_command(alloc, scope, rest)
+    } else if b"free".as_slice() == word.bytes {
+        Ok(Command::Free(lone_target(alloc, scope, rest)?))
+    } else if b"use".as_slice() == word.bytes {
+        use_command(alloc, scope, rest)
+    } else if b"hold".as_slice() == word.bytes {
+        Ok(Command::Hold(lone_target(alloc, scope, rest)?))
+    } else if b"release".as_slice() == word.bytes {
+        Ok(Command::Release(lone_target(alloc, scope, rest)?))
+    } else if b"pins".as_slice() == word.bytes {
+        Ok(Command::Pins(lone_target(alloc, scope, rest)?))
+    } else {
+        shared_command(alloc, scope, word, rest)
     }
 }

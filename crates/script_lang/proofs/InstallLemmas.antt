@@ -22,7 +22,7 @@ use Rattle.script_commands.specs.declared.command.Read.{Read}
 use Rattle.script_commands.specs.declared.known.Known.{Known}
 use Rattle.script_commands.specs.declared.known.TheConstants.{THREAD_LIMIT}
 use Rattle.script_commands.specs.Known.{has_block, has_key, lacks_charset, lacks_locale}
-use Rattle.script_commands.specs.Commands.{or_wrong, argument, read_as, no_more, is_over, target, target_word, lone_target, catalog_word, cell, known_key, key, command_text, base, new_command, dup_command, selection, use_command, setlocale_command, install_command, post_command, fetch_command, read_command, read_of_command, info_words, conv_words, class_words, upper_words, lower_words, money_words, time_words, number_words, parse_words, catopen_command, catgets_command, catclose_command, command, commands_table}
+use Rattle.script_commands.specs.Commands.{or_wrong, argument, read_as, no_more, is_over, target, target_word, lone_target, catalog_word, cell, known_key, key, command_text, base, new_command, dup_command, selection, use_command, setlocale_command, install_command, post_command, fetch_command, read_command, read_of_command, info_words, conv_words, class_words, upper_words, lower_words, money_words, time_words, number_words, parse_words, catopen_command, catgets_command, catclose_command, command_among, handle_read_command, own_read_command, catalog_command, shared_command, command, objects_table, shared_table, catalogs_table, own_reads_table, handle_reads_table}
 use Rattle.script_words.specs.declared.table.Directive.{Directive}
 use Rattle.script_words.specs.declared.table.Directive.TheVariants as directives
 use Rattle.script_words.specs.Spans.{Span, start, whole_line, next_word}
@@ -179,56 +179,89 @@ abbrev AreKeyed : List Later → List (List ℕ × Reads Command) → Type 0
 AreKeyed later [] = Unit {0}
 AreKeyed later (row ∷ rows) = IfOk row.1 (IsKeyed later) × AreKeyed later rows
 
--- the command of a row, or else a wrong word
-abbrev of_row : Span → Option (Reads Command) → Reads Command
-of_row w said = elim said [ None ↦ Err (w.place, BadLine CommandPart) | Some said ↦ said ]
-
-found_keyed : (later : List Later) (w : Span) (name : List ℕ) (rows : List (List ℕ × Reads Command)) → AreKeyed later rows → IfOk (of_row w (first_named rows name)) (IsKeyed later)
-found_keyed later w name [] are = tt
-found_keyed later w name (row ∷ rows) are = chosen (bytes_eq row.0 name) where
-  chosen : (b : Bool) → IfOk (of_row w (cond b (Some row.1) (first_named rows name))) (IsKeyed later)
+-- what a table of them says is so, where what is said otherwise is
+among_keyed : (later : List Later) (rows : List (List ℕ × Reads Command)) (word : List ℕ) (otherwise : Reads Command) → AreKeyed later rows → IfOk otherwise (IsKeyed later) → IfOk (command_among rows word otherwise) (IsKeyed later)
+among_keyed later [] word otherwise are is = is
+among_keyed later (row ∷ rows) word otherwise are is = chosen (bytes_eq row.0 word) where
+  chosen : (b : Bool) → IfOk (elim (cond b (Some row.1) (first_named rows word)) [ None ↦ otherwise | Some said ↦ said ]) (IsKeyed later)
   chosen true = are.0
-  chosen false = found_keyed later w name rows are.1
+  chosen false = among_keyed later rows word otherwise are.1 is
 
-table_keyed : (known : Known) (threads : List (List ℕ)) (s : Span) → AreKeyed known.later (commands_table (Some known) threads s)
-unfolding commands_table
-table_keyed known threads s =
+handle_reads_keyed : (known : Known) (threads : List (List ℕ)) (s : Span) → AreKeyed known.later (handle_reads_table (Some known) threads s)
+handle_reads_keyed known threads s =
+    (read_of_keyed known.later (Some known) threads info_words s,
+    (read_of_keyed known.later (Some known) threads class_words s,
+    (read_of_keyed known.later (Some known) threads upper_words s,
+    (read_of_keyed known.later (Some known) threads lower_words s,
+    (read_of_keyed known.later (Some known) threads money_words s,
+    (read_of_keyed known.later (Some known) threads time_words s,
+    (read_of_keyed known.later (Some known) threads number_words s,
+    (read_of_keyed known.later (Some known) threads parse_words s,
+    tt))))))))
+
+own_reads_keyed : (known : Known) (threads : List (List ℕ)) (s : Span) → AreKeyed known.later (own_reads_table (Some known) threads s)
+own_reads_keyed known threads s =
+    (read_keyed known.later (info_words s),
+    (read_keyed known.later (conv_words s),
+    (read_keyed known.later (class_words s),
+    (read_keyed known.later (upper_words s),
+    (read_keyed known.later (lower_words s),
+    (read_keyed known.later (money_words s),
+    (read_keyed known.later (time_words s),
+    (read_keyed known.later (number_words s),
+    (read_keyed known.later (parse_words s),
+    tt)))))))))
+
+catalogs_keyed : (known : Known) (threads : List (List ℕ)) (s : Span) → AreKeyed known.later (catalogs_table (Some known) threads s)
+catalogs_keyed known threads s =
+    (catopen_keyed known.later s,
+    (catgets_keyed known.later (Some known) threads s,
+    (catclose_keyed known.later (Some known) threads s,
+    tt)))
+
+shared_keyed : (known : Known) (threads : List (List ℕ)) (s : Span) → AreKeyed known.later (shared_table (Some known) threads s)
+shared_keyed known threads s =
+    (setlocale_keyed known.later s,
+    (install_keyed known s,
+    (post_keyed known.later (Some known) threads s,
+    (fetch_keyed known.later (Some known) threads s,
+    tt))))
+
+objects_keyed : (known : Known) (threads : List (List ℕ)) (s : Span) → AreKeyed known.later (objects_table (Some known) threads s)
+objects_keyed known threads s =
     (new_keyed known.later (Some known) threads s,
     (dup_keyed known.later (Some known) threads s,
     (through (IsKeyed known.later) (lone_target (Some known) threads s) _ (λ named k e. absurd cc),
     (use_keyed known.later (Some known) threads s,
     (through (IsKeyed known.later) (lone_target (Some known) threads s) _ (λ named k e. absurd cc),
     (through (IsKeyed known.later) (lone_target (Some known) threads s) _ (λ named k e. absurd cc),
-    (setlocale_keyed known.later s,
-    (install_keyed known s,
-    (post_keyed known.later (Some known) threads s,
-    (fetch_keyed known.later (Some known) threads s,
     (through (IsKeyed known.later) (lone_target (Some known) threads s) _ (λ named k e. absurd cc),
-    (read_keyed known.later (info_words s),
-    (read_of_keyed known.later (Some known) threads info_words s,
-    (read_keyed known.later (conv_words s),
-    (read_keyed known.later (class_words s),
-    (read_of_keyed known.later (Some known) threads class_words s,
-    (read_keyed known.later (upper_words s),
-    (read_of_keyed known.later (Some known) threads upper_words s,
-    (read_keyed known.later (lower_words s),
-    (read_of_keyed known.later (Some known) threads lower_words s,
-    (read_keyed known.later (money_words s),
-    (read_of_keyed known.later (Some known) threads money_words s,
-    (read_keyed known.later (time_words s),
-    (read_of_keyed known.later (Some known) threads time_words s,
-    (read_keyed known.later (number_words s),
-    (read_of_keyed known.later (Some known) threads number_words s,
-    (read_keyed known.later (parse_words s),
-    (read_of_keyed known.later (Some known) threads parse_words s,
-    (catopen_keyed known.later s,
-    (catgets_keyed known.later (Some known) threads s,
-    (catclose_keyed known.later (Some known) threads s,
-    tt)))))))))))))))))))))))))))))))
+    tt)))))))
+
+handle_read_keyed : (known : Known) (threads : List (List ℕ)) (w s : Span) → IfOk (handle_read_command (Some known) threads w s) (IsKeyed known.later)
+unfolding handle_read_command
+handle_read_keyed known threads w s =
+    among_keyed known.later (handle_reads_table (Some known) threads s) w.bytes (Err (w.place, BadLine CommandPart)) (handle_reads_keyed known threads s) tt
+
+own_read_keyed : (known : Known) (threads : List (List ℕ)) (w s : Span) → IfOk (own_read_command (Some known) threads w s) (IsKeyed known.later)
+unfolding own_read_command
+own_read_keyed known threads w s =
+    among_keyed known.later (own_reads_table (Some known) threads s) w.bytes (handle_read_command (Some known) threads w s) (own_reads_keyed known threads s) (handle_read_keyed known threads w s)
+
+catalog_keyed : (known : Known) (threads : List (List ℕ)) (w s : Span) → IfOk (catalog_command (Some known) threads w s) (IsKeyed known.later)
+unfolding catalog_command
+catalog_keyed known threads w s =
+    among_keyed known.later (catalogs_table (Some known) threads s) w.bytes (own_read_command (Some known) threads w s) (catalogs_keyed known threads s) (own_read_keyed known threads w s)
+
+shared_command_keyed : (known : Known) (threads : List (List ℕ)) (w s : Span) → IfOk (shared_command (Some known) threads w s) (IsKeyed known.later)
+unfolding shared_command
+shared_command_keyed known threads w s =
+    among_keyed known.later (shared_table (Some known) threads s) w.bytes (catalog_command (Some known) threads w s) (shared_keyed known threads s) (catalog_keyed known threads w s)
 
 command_keyed : (known : Known) (threads : List (List ℕ)) (w s : Span) → IfOk (command (Some known) threads w s) (IsKeyed known.later)
 unfolding command
-command_keyed known threads w s = found_keyed known.later w w.bytes (commands_table (Some known) threads s) (table_keyed known threads s)
+command_keyed known threads w s =
+    among_keyed known.later (objects_table (Some known) threads s) w.bytes (shared_command (Some known) threads w s) (objects_keyed known threads s) (shared_command_keyed known threads w s)
 
 -- ---- what a directive does
 
