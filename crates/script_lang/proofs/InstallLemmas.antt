@@ -175,19 +175,19 @@ catclose_keyed later known threads s =
     through (IsKeyed later) (no_more named.1) _ (λ over k e. absurd cc))
 
 -- each row of a table says a command whose key is there
-abbrev AreKeyed : List Later → List (List ℕ × Reads Command) → Type 0
-AreKeyed later [] = Unit {0}
-AreKeyed later (row ∷ rows) = IfOk row.1 (IsKeyed later) × AreKeyed later rows
+abbrev IsKeyedTable : List Later → List (List ℕ × Reads Command) → Type 0
+IsKeyedTable later [] = Unit {0}
+IsKeyedTable later (row ∷ rows) = IfOk row.1 (IsKeyed later) × IsKeyedTable later rows
 
 -- what a table of them says is so, where what is said otherwise is
-among_keyed : (later : List Later) (rows : List (List ℕ × Reads Command)) (word : List ℕ) (otherwise : Reads Command) → AreKeyed later rows → IfOk otherwise (IsKeyed later) → IfOk (command_among rows word otherwise) (IsKeyed later)
+among_keyed : (later : List Later) (rows : List (List ℕ × Reads Command)) (word : List ℕ) (otherwise : Reads Command) → IsKeyedTable later rows → IfOk otherwise (IsKeyed later) → IfOk (command_among rows word otherwise) (IsKeyed later)
 among_keyed later [] word otherwise are is = is
-among_keyed later (row ∷ rows) word otherwise are is = chosen (bytes_eq row.0 word) where
-  chosen : (b : Bool) → IfOk (elim (cond b (Some row.1) (first_named rows word)) [ None ↦ otherwise | Some said ↦ said ]) (IsKeyed later)
-  chosen true = are.0
-  chosen false = among_keyed later rows word otherwise are.1 is
+among_keyed later (row ∷ rows) word otherwise are is = chosen (bytes_eq row.0 word) (among_keyed later rows word otherwise are.1 is) where
+  chosen : (b : Bool) → IfOk (command_among rows word otherwise) (IsKeyed later) → IfOk (elim (cond b (Some row.1) (first_named rows word)) [ None ↦ otherwise | Some said ↦ said ]) (IsKeyed later)
+  chosen true among = are.0
+  chosen false among = among
 
-handle_reads_keyed : (known : Known) (threads : List (List ℕ)) (s : Span) → AreKeyed known.later (handle_reads_table (Some known) threads s)
+handle_reads_keyed : (known : Known) (threads : List (List ℕ)) (s : Span) → IsKeyedTable known.later (handle_reads_table (Some known) threads s)
 handle_reads_keyed known threads s =
     (read_of_keyed known.later (Some known) threads info_words s,
     (read_of_keyed known.later (Some known) threads class_words s,
@@ -199,7 +199,7 @@ handle_reads_keyed known threads s =
     (read_of_keyed known.later (Some known) threads parse_words s,
     tt))))))))
 
-own_reads_keyed : (known : Known) (threads : List (List ℕ)) (s : Span) → AreKeyed known.later (own_reads_table (Some known) threads s)
+own_reads_keyed : (known : Known) (threads : List (List ℕ)) (s : Span) → IsKeyedTable known.later (own_reads_table (Some known) threads s)
 own_reads_keyed known threads s =
     (read_keyed known.later (info_words s),
     (read_keyed known.later (conv_words s),
@@ -212,14 +212,14 @@ own_reads_keyed known threads s =
     (read_keyed known.later (parse_words s),
     tt)))))))))
 
-catalogs_keyed : (known : Known) (threads : List (List ℕ)) (s : Span) → AreKeyed known.later (catalogs_table (Some known) threads s)
+catalogs_keyed : (known : Known) (threads : List (List ℕ)) (s : Span) → IsKeyedTable known.later (catalogs_table (Some known) threads s)
 catalogs_keyed known threads s =
     (catopen_keyed known.later s,
     (catgets_keyed known.later (Some known) threads s,
     (catclose_keyed known.later (Some known) threads s,
     tt)))
 
-shared_keyed : (known : Known) (threads : List (List ℕ)) (s : Span) → AreKeyed known.later (shared_table (Some known) threads s)
+shared_keyed : (known : Known) (threads : List (List ℕ)) (s : Span) → IsKeyedTable known.later (shared_table (Some known) threads s)
 shared_keyed known threads s =
     (setlocale_keyed known.later s,
     (install_keyed known s,
@@ -227,7 +227,7 @@ shared_keyed known threads s =
     (fetch_keyed known.later (Some known) threads s,
     tt))))
 
-objects_keyed : (known : Known) (threads : List (List ℕ)) (s : Span) → AreKeyed known.later (objects_table (Some known) threads s)
+objects_keyed : (known : Known) (threads : List (List ℕ)) (s : Span) → IsKeyedTable known.later (objects_table (Some known) threads s)
 objects_keyed known threads s =
     (new_keyed known.later (Some known) threads s,
     (dup_keyed known.later (Some known) threads s,
