@@ -187,56 +187,55 @@ among_keyed later (row ∷ rows) word otherwise are is = chosen (bytes_eq row.0 
   chosen true among = are.0
   chosen false among = among
 
+-- what holds of a row, and of the rows behind it
+both : {A B : Type 0} → A → B → A × B
+both a b = (a, b)
+
 handle_reads_keyed : (known : Known) (threads : List (List ℕ)) (s : Span) → IsKeyedTable known.later (handle_reads_table (Some known) threads s)
 handle_reads_keyed known threads s =
-    (read_of_keyed known.later (Some known) threads info_words s,
-    (read_of_keyed known.later (Some known) threads class_words s,
-    (read_of_keyed known.later (Some known) threads upper_words s,
-    (read_of_keyed known.later (Some known) threads lower_words s,
-    (read_of_keyed known.later (Some known) threads money_words s,
-    (read_of_keyed known.later (Some known) threads time_words s,
-    (read_of_keyed known.later (Some known) threads number_words s,
-    (read_of_keyed known.later (Some known) threads parse_words s,
-    tt))))))))
+    both (read_of_keyed known.later (Some known) threads info_words s) (
+    both (read_of_keyed known.later (Some known) threads class_words s) (
+    both (read_of_keyed known.later (Some known) threads upper_words s) (
+    both (read_of_keyed known.later (Some known) threads lower_words s) (
+    both (read_of_keyed known.later (Some known) threads money_words s) (
+    both (read_of_keyed known.later (Some known) threads time_words s) (
+    both (read_of_keyed known.later (Some known) threads number_words s) (
+    both (read_of_keyed known.later (Some known) threads parse_words s) tt)))))))
 
 own_reads_keyed : (known : Known) (threads : List (List ℕ)) (s : Span) → IsKeyedTable known.later (own_reads_table (Some known) threads s)
 own_reads_keyed known threads s =
-    (read_keyed known.later (info_words s),
-    (read_keyed known.later (conv_words s),
-    (read_keyed known.later (class_words s),
-    (read_keyed known.later (upper_words s),
-    (read_keyed known.later (lower_words s),
-    (read_keyed known.later (money_words s),
-    (read_keyed known.later (time_words s),
-    (read_keyed known.later (number_words s),
-    (read_keyed known.later (parse_words s),
-    tt)))))))))
+    both (read_keyed known.later (info_words s)) (
+    both (read_keyed known.later (conv_words s)) (
+    both (read_keyed known.later (class_words s)) (
+    both (read_keyed known.later (upper_words s)) (
+    both (read_keyed known.later (lower_words s)) (
+    both (read_keyed known.later (money_words s)) (
+    both (read_keyed known.later (time_words s)) (
+    both (read_keyed known.later (number_words s)) (
+    both (read_keyed known.later (parse_words s)) tt))))))))
 
 catalogs_keyed : (known : Known) (threads : List (List ℕ)) (s : Span) → IsKeyedTable known.later (catalogs_table (Some known) threads s)
 catalogs_keyed known threads s =
-    (catopen_keyed known.later s,
-    (catgets_keyed known.later (Some known) threads s,
-    (catclose_keyed known.later (Some known) threads s,
-    tt)))
+    both (catopen_keyed known.later s) (
+    both (catgets_keyed known.later (Some known) threads s) (
+    both (catclose_keyed known.later (Some known) threads s) tt))
 
 shared_keyed : (known : Known) (threads : List (List ℕ)) (s : Span) → IsKeyedTable known.later (shared_table (Some known) threads s)
 shared_keyed known threads s =
-    (setlocale_keyed known.later s,
-    (install_keyed known s,
-    (post_keyed known.later (Some known) threads s,
-    (fetch_keyed known.later (Some known) threads s,
-    tt))))
+    both (setlocale_keyed known.later s) (
+    both (install_keyed known s) (
+    both (post_keyed known.later (Some known) threads s) (
+    both (fetch_keyed known.later (Some known) threads s) tt)))
 
 objects_keyed : (known : Known) (threads : List (List ℕ)) (s : Span) → IsKeyedTable known.later (objects_table (Some known) threads s)
 objects_keyed known threads s =
-    (new_keyed known.later (Some known) threads s,
-    (dup_keyed known.later (Some known) threads s,
-    (through (IsKeyed known.later) (lone_target (Some known) threads s) _ (λ named k e. absurd cc),
-    (use_keyed known.later (Some known) threads s,
-    (through (IsKeyed known.later) (lone_target (Some known) threads s) _ (λ named k e. absurd cc),
-    (through (IsKeyed known.later) (lone_target (Some known) threads s) _ (λ named k e. absurd cc),
-    (through (IsKeyed known.later) (lone_target (Some known) threads s) _ (λ named k e. absurd cc),
-    tt)))))))
+    both (new_keyed known.later (Some known) threads s) (
+    both (dup_keyed known.later (Some known) threads s) (
+    both (through (IsKeyed known.later) (lone_target (Some known) threads s) _ (λ named k e. absurd cc)) (
+    both (use_keyed known.later (Some known) threads s) (
+    both (through (IsKeyed known.later) (lone_target (Some known) threads s) _ (λ named k e. absurd cc)) (
+    both (through (IsKeyed known.later) (lone_target (Some known) threads s) _ (λ named k e. absurd cc)) (
+    both (through (IsKeyed known.later) (lone_target (Some known) threads s) _ (λ named k e. absurd cc)) tt))))))
 
 handle_read_keyed : (known : Known) (threads : List (List ℕ)) (w s : Span) → IfOk (handle_read_command (Some known) threads w s) (IsKeyed known.later)
 unfolding handle_read_command
