@@ -19,15 +19,11 @@ use Rattle.script_commands.specs.declared.command.Target.TheVariants.{Global, Va
 use Rattle.script_words.specs.declared.given.TheConstants.{DEFAULT_MAX, AMOUNT_LIMIT, FORMAT_LIMIT, NUMBER_LIMIT, TEXT_LIMIT}
 use Rattle.script_words.specs.declared.given.WrittenTime.{WrittenTime}
 use Rattle.script_commands.specs.declared.known.Known.{Known}
-use Rattle.script_words.specs.declared.table.Question.{Question}
-use Rattle.script_words.specs.declared.table.Question.TheVariants as questions
-use Rattle.script_words.specs.declared.table.Verb.{Verb}
-use Rattle.script_words.specs.declared.table.Verb.TheVariants as verbs
 use Rattle.script_commands.specs.Known.{lacks_key, thread_number}
 use Rattle.script_words.specs.Names.{is_thread_name}
 use Rattle.script_words.specs.Spans.{Span, next_word, end_of}
 use Rattle.byte_words.specs.Tables.{first_named}
-use Rattle.script_words.specs.Tables.{commands_table, items_table}
+use Rattle.script_words.specs.Tables.{items_table}
 use Rattle.byte_words.specs.Numbers.{decimal_number}
 use Rattle.script_words.specs.Words.{text_of_word, quoted_of_word, bounded, zone_of_word, behind_front, max_number, categories_of_word, mask_of_word, variable_of_word, class_of_word, key_of_word, cell_number, WrittenHandle, handle_of_word, WrittenCell, cell_of_word}
 use Rattle.script_words.specs.Numbers.{short_number, offset_of_word, three_numbers, Amount, amount_of_word, number_of_word}
@@ -242,17 +238,13 @@ parse_words s = do
   over ← no_more text.1
   Ok (Parse format.0 text.0)
 
--- the words of what is read
-abbrev pub read_words : Question → Span → Reads Read
-read_words questions.Info s = info_words s
-read_words questions.Conv s = conv_words s
-read_words questions.Class s = class_words s
-read_words questions.Upper s = lone_value s >>= λ value. Ok (Upper value)
-read_words questions.Lower s = lone_value s >>= λ value. Ok (Lower value)
-read_words questions.Money s = money_words s
-read_words questions.Time s = time_words s
-read_words questions.Number s = number_words s
-read_words questions.Parse s = parse_words s
+-- `W`, of `upper`
+unfoldable pub upper_words : Span → Reads Read
+upper_words s = lone_value s >>= λ value. Ok (Upper value)
+
+-- `W`, of `lower`
+unfoldable pub lower_words : Span → Reads Read
+lower_words s = lone_value s >>= λ value. Ok (Lower value)
 
 -- ---- commands, each by its words in order; what follows the first word is given
 
@@ -319,14 +311,14 @@ fetch_command known threads s = do
   Ok (Fetch variable.0 cell.0 cell.1)
 
 -- what is read of the thread's own object, or of the global locale
-abbrev pub read_command : Question → Span → Reads Command
-read_command question s = read_words question s >>= λ read. Ok (commands.Read read)
+abbrev pub read_command : Reads Read → Reads Command
+read_command words = words >>= λ read. Ok (commands.Read read)
 
 -- the same words behind a handle: what is read of its object
-unfoldable pub read_of_command : Option Known → List (List ℕ) → Question → Span → Reads Command
-read_of_command known threads question s = do
+unfoldable pub read_of_command : Option Known → List (List ℕ) → (Span → Reads Read) → Span → Reads Command
+read_of_command known threads words s = do
   object ← target_word known threads s
-  read ← read_words question object.1
+  read ← words object.1
   Ok (ReadOf object.0 read)
 
 -- `catopen N NAME`
@@ -354,28 +346,86 @@ catclose_command known threads s = do
   over ← no_more catalog.1
   Ok (CatClose catalog.0)
 
--- the command of a verb
-abbrev pub command_of : Option Known → List (List ℕ) → Verb → Span → Reads Command
-command_of known threads verbs.New s = new_command known threads s
-command_of known threads verbs.Dup s = dup_command known threads s
-command_of known threads verbs.Free s = lone_target known threads s >>= λ named. Ok (Free named)
-command_of known threads verbs.Use s = use_command known threads s
-command_of known threads verbs.Hold s = lone_target known threads s >>= λ named. Ok (Hold named)
-command_of known threads verbs.Release s = lone_target known threads s >>= λ named. Ok (Release named)
-command_of known threads verbs.Setlocale s = setlocale_command s
-command_of known threads verbs.Install s = install_command known s
-command_of known threads verbs.Post s = post_command known threads s
-command_of known threads verbs.Fetch s = fetch_command known threads s
-command_of known threads verbs.Pins s = lone_target known threads s >>= λ named. Ok (Pins named)
-command_of known threads (verbs.Read question) s = read_command question s
-command_of known threads (verbs.ReadOf question) s = read_of_command known threads question s
-command_of known threads verbs.CatOpen s = catopen_command s
-command_of known threads verbs.CatGets s = catgets_command known threads s
-command_of known threads verbs.CatClose s = catclose_command known threads s
+-- ---- the tables of commands, a row each: its first word, and the command that the words behind it say
+
+-- the objects and their pins
+abbrev pub objects_table : Option Known → List (List ℕ) → Span → List (List ℕ × Reads Command)
+objects_table known threads s =
+    (codes "new", new_command known threads s) ∷
+    (codes "dup", dup_command known threads s) ∷
+    (codes "free", lone_target known threads s >>= λ named. Ok (Free named)) ∷
+    (codes "use", use_command known threads s) ∷
+    (codes "hold", lone_target known threads s >>= λ named. Ok (Hold named)) ∷
+    (codes "release", lone_target known threads s >>= λ named. Ok (Release named)) ∷
+    (codes "pins", lone_target known threads s >>= λ named. Ok (Pins named)) ∷
+    []
+
+-- what all threads share: the global locale, later versions of locales, and cells
+abbrev pub shared_table : Option Known → List (List ℕ) → Span → List (List ℕ × Reads Command)
+shared_table known threads s =
+    (codes "setlocale", setlocale_command s) ∷
+    (codes "install", install_command known s) ∷
+    (codes "post", post_command known threads s) ∷
+    (codes "fetch", fetch_command known threads s) ∷
+    []
+
+-- the catalogs
+abbrev pub catalogs_table : Option Known → List (List ℕ) → Span → List (List ℕ × Reads Command)
+catalogs_table known threads s =
+    (codes "catopen", catopen_command s) ∷
+    (codes "catgets", catgets_command known threads s) ∷
+    (codes "catclose", catclose_command known threads s) ∷
+    []
+
+-- reads of the thread's own object, or of the global locale
+abbrev pub own_reads_table : Option Known → List (List ℕ) → Span → List (List ℕ × Reads Command)
+own_reads_table known threads s =
+    (codes "info", read_command (info_words s)) ∷
+    (codes "conv", read_command (conv_words s)) ∷
+    (codes "class", read_command (class_words s)) ∷
+    (codes "upper", read_command (upper_words s)) ∷
+    (codes "lower", read_command (lower_words s)) ∷
+    (codes "money", read_command (money_words s)) ∷
+    (codes "time", read_command (time_words s)) ∷
+    (codes "number", read_command (number_words s)) ∷
+    (codes "parse", read_command (parse_words s)) ∷
+    []
+
+-- reads of the object of a handle; localeconv has none (XSH localeconv)
+abbrev pub handle_reads_table : Option Known → List (List ℕ) → Span → List (List ℕ × Reads Command)
+handle_reads_table known threads s =
+    (codes "info_l", read_of_command known threads info_words s) ∷
+    (codes "class_l", read_of_command known threads class_words s) ∷
+    (codes "upper_l", read_of_command known threads upper_words s) ∷
+    (codes "lower_l", read_of_command known threads lower_words s) ∷
+    (codes "money_l", read_of_command known threads money_words s) ∷
+    (codes "time_l", read_of_command known threads time_words s) ∷
+    (codes "number_l", read_of_command known threads number_words s) ∷
+    (codes "parse_l", read_of_command known threads parse_words s) ∷
+    []
+
+-- ---- the command of a line: the tables in turn
+
+-- what a table says for a word, or else what is said otherwise
+abbrev pub command_among : List (List ℕ × Reads Command) → List ℕ → Reads Command → Reads Command
+command_among rows word otherwise = elim (first_named rows word) [ None ↦ otherwise | Some said ↦ said ]
+
+-- the command whose first word is w, where it can only be a read with a handle
+unfoldable pub handle_read_command : Option Known → List (List ℕ) → Span → Span → Reads Command
+handle_read_command known threads w s = command_among (handle_reads_table known threads s) w.bytes (Err (w.place, BadLine CommandPart))
+
+-- the command whose first word is w, where it can only be a read
+unfoldable pub own_read_command : Option Known → List (List ℕ) → Span → Span → Reads Command
+own_read_command known threads w s = command_among (own_reads_table known threads s) w.bytes (handle_read_command known threads w s)
+
+-- the command whose first word is w, where it can only be one of a catalog or a read
+unfoldable pub catalog_command : Option Known → List (List ℕ) → Span → Span → Reads Command
+catalog_command known threads w s = command_among (catalogs_table known threads s) w.bytes (own_read_command known threads w s)
+
+-- the command whose first word is w, where it is none of the table of objects
+unfoldable pub shared_command : Option Known → List (List ℕ) → Span → Span → Reads Command
+shared_command known threads w s = command_among (shared_table known threads s) w.bytes (catalog_command known threads w s)
 
 -- the command whose first word is w, with what follows it, where the threads named so far are these
 unfoldable pub command : Option Known → List (List ℕ) → Span → Span → Reads Command
-command known threads w s = elim (first_named commands_table w.bytes) [
-  | None ↦ Err (w.place, BadLine CommandPart)
-  | Some verb ↦ command_of known threads verb s
-]
+command known threads w s = command_among (objects_table known threads s) w.bytes (shared_command known threads w s)

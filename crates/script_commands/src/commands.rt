@@ -5,7 +5,7 @@ ghost use Rattle.std.specs.Option.{option_copied};
 ghost use Rattle.lc_base.specs.Reading.{Gives};
 ghost use Rattle.script_commands.specs.InRange.{IsBaseOwned, IsInRange};
 ghost use Rattle.script_words.specs.Spans.{span};
-ghost use Rattle.script_commands.specs.Commands.{info_words, conv_words, class_words, lone_value, money_words, time_words, number_words, parse_words, read_words, base, new_command, dup_command, selection, use_command, setlocale_command, install_command, post_command, fetch_command, read_command, read_of_command, catopen_command, catgets_command, catclose_command, command_of, command};
+ghost use Rattle.script_commands.specs.Commands.{info_words, conv_words, class_words, lone_value, money_words, time_words, number_words, parse_words, upper_words, lower_words, base, new_command, dup_command, selection, use_command, setlocale_command, install_command, post_command, fetch_command, read_of_command, catopen_command, catgets_command, catclose_command, handle_read_command, own_read_command, catalog_command, shared_command, command};
 
 use crate::arguments::{
     amounts, argument, catalog_name, catalog_word, categories, cell, cell_word, class,
@@ -16,7 +16,7 @@ use crate::command::{Command, Read, Target};
 use crate::known::Known;
 use crate::scope::Scope;
 use lc_base::{ByteText, LinePart, List, Reason, TextFault};
-use script_words::{Question, Stretch, Verb, command_named};
+use script_words::Stretch;
 use std::alloc::Global;
 
 /// `ITEM`, of `info`.
@@ -112,21 +112,20 @@ fn parse_words(alloc: Global, rest: Stretch<'_>) -> Result<Read, TextFault>
     Ok(Read::Parse { format, text })
 }
 
-/// The words of what is read.
-fn read_words(alloc: Global, question: Question, rest: Stretch<'_>) -> Result<Read, TextFault>
-    ensures { Gives (λ x. x) result (read_words question (span rest.entry)) }
+/// `W`, of `upper`.
+#[tactic(auto, unfolding(crate::specs::Commands::upper_words))]
+fn upper_words(rest: Stretch<'_>) -> Result<Read, TextFault>
+    ensures { Gives (λ x. x) result (upper_words (span rest.entry)) }
 {
-    match question {
-        Question::Info => info_words(rest),
-        Question::Conv => conv_words(rest),
-        Question::Class => class_words(alloc, rest),
-        Question::Upper => Ok(Read::Upper(lone_value(rest)?)),
-        Question::Lower => Ok(Read::Lower(lone_value(rest)?)),
-        Question::Money => money_words(alloc, rest),
-        Question::Time => time_words(alloc, rest),
-        Question::Number => number_words(alloc, rest),
-        Question::Parse => parse_words(alloc, rest),
-    }
+    Ok(Read::Upper(lone_value(rest)?))
+}
+
+/// `W`, of `lower`.
+#[tactic(auto, unfolding(crate::specs::Commands::lower_words))]
+fn lower_words(rest: Stretch<'_>) -> Result<Read, TextFault>
+    ensures { Gives (λ x. x) result (lower_words (span rest.entry)) }
+{
+    Ok(Read::Lower(lone_value(rest)?))
 }
 
 /// A base, which may be left out.
@@ -252,27 +251,115 @@ fn fetch_command(alloc: Global, scope: Scope<'_>, rest: Stretch<'_>) -> Result<C
     })
 }
 
-/// What is read of the thread's own object, or of the global locale.
-fn read_command(alloc: Global, question: Question, rest: Stretch<'_>) -> Result<Command, TextFault>
-    ensures is { Gives (λ x. x) result (read_command question (span rest.entry)) }
-    ensures in_range { (n : ℕ) → IfOk result (IsInRange n) }
-{
-    Ok(Command::Read(read_words(alloc, question, rest)?))
-}
-
-/// The same words behind a handle: what is read of its object.
+/// `info_l H`, and the words of `info`.
 #[tactic(auto, unfolding(crate::specs::Commands::read_of_command))]
-fn read_of_command(
-    alloc: Global,
-    scope: Scope<'_>,
-    question: Question,
-    rest: Stretch<'_>,
-) -> Result<Command, TextFault>
-    ensures is { Gives (λ x. x) result (read_of_command (option_copied scope.entry.known) scope.entry.threads.now question (span rest.entry)) }
+fn info_of_command(alloc: Global, scope: Scope<'_>, rest: Stretch<'_>) -> Result<Command, TextFault>
+    ensures is { Gives (λ x. x) result (read_of_command (option_copied scope.entry.known) scope.entry.threads.now info_words (span rest.entry)) }
     ensures in_range { IfOk result (IsInRange (length scope.entry.threads.now)) }
 {
     let (object, rest) = target_word(alloc, scope, rest)?;
-    let read = read_words(alloc, question, rest)?;
+    let read = info_words(rest)?;
+    Ok(Command::ReadOf { object, read })
+}
+
+/// `class_l H`, and the words of `class`.
+#[tactic(auto, unfolding(crate::specs::Commands::read_of_command))]
+fn class_of_command(
+    alloc: Global,
+    scope: Scope<'_>,
+    rest: Stretch<'_>,
+) -> Result<Command, TextFault>
+    ensures is { Gives (λ x. x) result (read_of_command (option_copied scope.entry.known) scope.entry.threads.now class_words (span rest.entry)) }
+    ensures in_range { IfOk result (IsInRange (length scope.entry.threads.now)) }
+{
+    let (object, rest) = target_word(alloc, scope, rest)?;
+    let read = class_words(alloc, rest)?;
+    Ok(Command::ReadOf { object, read })
+}
+
+/// `upper_l H`, and the words of `upper`.
+#[tactic(auto, unfolding(crate::specs::Commands::read_of_command))]
+fn upper_of_command(
+    alloc: Global,
+    scope: Scope<'_>,
+    rest: Stretch<'_>,
+) -> Result<Command, TextFault>
+    ensures is { Gives (λ x. x) result (read_of_command (option_copied scope.entry.known) scope.entry.threads.now upper_words (span rest.entry)) }
+    ensures in_range { IfOk result (IsInRange (length scope.entry.threads.now)) }
+{
+    let (object, rest) = target_word(alloc, scope, rest)?;
+    let read = upper_words(rest)?;
+    Ok(Command::ReadOf { object, read })
+}
+
+/// `lower_l H`, and the words of `lower`.
+#[tactic(auto, unfolding(crate::specs::Commands::read_of_command))]
+fn lower_of_command(
+    alloc: Global,
+    scope: Scope<'_>,
+    rest: Stretch<'_>,
+) -> Result<Command, TextFault>
+    ensures is { Gives (λ x. x) result (read_of_command (option_copied scope.entry.known) scope.entry.threads.now lower_words (span rest.entry)) }
+    ensures in_range { IfOk result (IsInRange (length scope.entry.threads.now)) }
+{
+    let (object, rest) = target_word(alloc, scope, rest)?;
+    let read = lower_words(rest)?;
+    Ok(Command::ReadOf { object, read })
+}
+
+/// `money_l H`, and the words of `money`.
+#[tactic(auto, unfolding(crate::specs::Commands::read_of_command))]
+fn money_of_command(
+    alloc: Global,
+    scope: Scope<'_>,
+    rest: Stretch<'_>,
+) -> Result<Command, TextFault>
+    ensures is { Gives (λ x. x) result (read_of_command (option_copied scope.entry.known) scope.entry.threads.now money_words (span rest.entry)) }
+    ensures in_range { IfOk result (IsInRange (length scope.entry.threads.now)) }
+{
+    let (object, rest) = target_word(alloc, scope, rest)?;
+    let read = money_words(alloc, rest)?;
+    Ok(Command::ReadOf { object, read })
+}
+
+/// `time_l H`, and the words of `time`.
+#[tactic(auto, unfolding(crate::specs::Commands::read_of_command))]
+fn time_of_command(alloc: Global, scope: Scope<'_>, rest: Stretch<'_>) -> Result<Command, TextFault>
+    ensures is { Gives (λ x. x) result (read_of_command (option_copied scope.entry.known) scope.entry.threads.now time_words (span rest.entry)) }
+    ensures in_range { IfOk result (IsInRange (length scope.entry.threads.now)) }
+{
+    let (object, rest) = target_word(alloc, scope, rest)?;
+    let read = time_words(alloc, rest)?;
+    Ok(Command::ReadOf { object, read })
+}
+
+/// `number_l H`, and the words of `number`.
+#[tactic(auto, unfolding(crate::specs::Commands::read_of_command))]
+fn number_of_command(
+    alloc: Global,
+    scope: Scope<'_>,
+    rest: Stretch<'_>,
+) -> Result<Command, TextFault>
+    ensures is { Gives (λ x. x) result (read_of_command (option_copied scope.entry.known) scope.entry.threads.now number_words (span rest.entry)) }
+    ensures in_range { IfOk result (IsInRange (length scope.entry.threads.now)) }
+{
+    let (object, rest) = target_word(alloc, scope, rest)?;
+    let read = number_words(alloc, rest)?;
+    Ok(Command::ReadOf { object, read })
+}
+
+/// `parse_l H`, and the words of `parse`.
+#[tactic(auto, unfolding(crate::specs::Commands::read_of_command))]
+fn parse_of_command(
+    alloc: Global,
+    scope: Scope<'_>,
+    rest: Stretch<'_>,
+) -> Result<Command, TextFault>
+    ensures is { Gives (λ x. x) result (read_of_command (option_copied scope.entry.known) scope.entry.threads.now parse_words (span rest.entry)) }
+    ensures in_range { IfOk result (IsInRange (length scope.entry.threads.now)) }
+{
+    let (object, rest) = target_word(alloc, scope, rest)?;
+    let read = parse_words(alloc, rest)?;
     Ok(Command::ReadOf { object, read })
 }
 
@@ -322,33 +409,115 @@ fn catclose_command(
     Ok(Command::CatClose(catalog))
 }
 
-/// The command of a verb.
-fn command_of(
+/// The command with this first word, where it can only be a read with a handle.
+#[tactic(auto, unfolding(crate::specs::Commands::handle_read_command))]
+fn handle_read_command(
     alloc: Global,
     scope: Scope<'_>,
-    verb: Verb,
+    word: Stretch<'_>,
     rest: Stretch<'_>,
 ) -> Result<Command, TextFault>
-    ensures is { Gives (λ x. x) result (command_of (option_copied scope.entry.known) scope.entry.threads.now verb (span rest.entry)) }
+    ensures is { Gives (λ x. x) result (handle_read_command (option_copied scope.entry.known) scope.entry.threads.now (span word.entry) (span rest.entry)) }
     ensures in_range { IfOk result (IsInRange (length scope.entry.threads.now)) }
 {
-    match verb {
-        Verb::New => new_command(alloc, scope, rest),
-        Verb::Dup => dup_command(alloc, scope, rest),
-        Verb::Free => Ok(Command::Free(lone_target(alloc, scope, rest)?)),
-        Verb::Use => use_command(alloc, scope, rest),
-        Verb::Hold => Ok(Command::Hold(lone_target(alloc, scope, rest)?)),
-        Verb::Release => Ok(Command::Release(lone_target(alloc, scope, rest)?)),
-        Verb::Setlocale => setlocale_command(alloc, rest),
-        Verb::Install => install_command(alloc, scope.known, rest),
-        Verb::Post => post_command(alloc, scope, rest),
-        Verb::Fetch => fetch_command(alloc, scope, rest),
-        Verb::Pins => Ok(Command::Pins(lone_target(alloc, scope, rest)?)),
-        Verb::Read(question) => read_command(alloc, question, rest),
-        Verb::ReadOf(question) => read_of_command(alloc, scope, question, rest),
-        Verb::CatOpen => catopen_command(alloc, rest),
-        Verb::CatGets => catgets_command(alloc, scope, rest),
-        Verb::CatClose => catclose_command(alloc, scope, rest),
+    if b"info_l".as_slice() == word.bytes {
+        info_of_command(alloc, scope, rest)
+    } else if b"class_l".as_slice() == word.bytes {
+        class_of_command(alloc, scope, rest)
+    } else if b"upper_l".as_slice() == word.bytes {
+        upper_of_command(alloc, scope, rest)
+    } else if b"lower_l".as_slice() == word.bytes {
+        lower_of_command(alloc, scope, rest)
+    } else if b"money_l".as_slice() == word.bytes {
+        money_of_command(alloc, scope, rest)
+    } else if b"time_l".as_slice() == word.bytes {
+        time_of_command(alloc, scope, rest)
+    } else if b"number_l".as_slice() == word.bytes {
+        number_of_command(alloc, scope, rest)
+    } else if b"parse_l".as_slice() == word.bytes {
+        parse_of_command(alloc, scope, rest)
+    } else {
+        Err(TextFault::At(word.place, Reason::BadLine(LinePart::Command)))
+    }
+}
+
+/// The command with this first word, where it can only be a read.
+#[tactic(auto, unfolding(crate::specs::Commands::own_read_command))]
+fn own_read_command(
+    alloc: Global,
+    scope: Scope<'_>,
+    word: Stretch<'_>,
+    rest: Stretch<'_>,
+) -> Result<Command, TextFault>
+    ensures is { Gives (λ x. x) result (own_read_command (option_copied scope.entry.known) scope.entry.threads.now (span word.entry) (span rest.entry)) }
+    ensures in_range { IfOk result (IsInRange (length scope.entry.threads.now)) }
+{
+    if b"info".as_slice() == word.bytes {
+        Ok(Command::Read(info_words(rest)?))
+    } else if b"conv".as_slice() == word.bytes {
+        Ok(Command::Read(conv_words(rest)?))
+    } else if b"class".as_slice() == word.bytes {
+        Ok(Command::Read(class_words(alloc, rest)?))
+    } else if b"upper".as_slice() == word.bytes {
+        Ok(Command::Read(upper_words(rest)?))
+    } else if b"lower".as_slice() == word.bytes {
+        Ok(Command::Read(lower_words(rest)?))
+    } else if b"money".as_slice() == word.bytes {
+        Ok(Command::Read(money_words(alloc, rest)?))
+    } else if b"time".as_slice() == word.bytes {
+        Ok(Command::Read(time_words(alloc, rest)?))
+    } else if b"number".as_slice() == word.bytes {
+        Ok(Command::Read(number_words(alloc, rest)?))
+    } else if b"parse".as_slice() == word.bytes {
+        Ok(Command::Read(parse_words(alloc, rest)?))
+    } else {
+        handle_read_command(alloc, scope, word, rest)
+    }
+}
+
+/// The command with this first word, where it can only be one of a catalog or a read.
+#[tactic(auto, unfolding(crate::specs::Commands::catalog_command))]
+fn catalog_command(
+    alloc: Global,
+    scope: Scope<'_>,
+    word: Stretch<'_>,
+    rest: Stretch<'_>,
+) -> Result<Command, TextFault>
+    ensures is { Gives (λ x. x) result (catalog_command (option_copied scope.entry.known) scope.entry.threads.now (span word.entry) (span rest.entry)) }
+    ensures in_range { IfOk result (IsInRange (length scope.entry.threads.now)) }
+{
+    if b"catopen".as_slice() == word.bytes {
+        catopen_command(alloc, rest)
+    } else if b"catgets".as_slice() == word.bytes {
+        catgets_command(alloc, scope, rest)
+    } else if b"catclose".as_slice() == word.bytes {
+        catclose_command(alloc, scope, rest)
+    } else {
+        own_read_command(alloc, scope, word, rest)
+    }
+}
+
+/// The command with this first word, where it is none of the table of objects.
+#[tactic(auto, unfolding(crate::specs::Commands::shared_command))]
+fn shared_command(
+    alloc: Global,
+    scope: Scope<'_>,
+    word: Stretch<'_>,
+    rest: Stretch<'_>,
+) -> Result<Command, TextFault>
+    ensures is { Gives (λ x. x) result (shared_command (option_copied scope.entry.known) scope.entry.threads.now (span word.entry) (span rest.entry)) }
+    ensures in_range { IfOk result (IsInRange (length scope.entry.threads.now)) }
+{
+    if b"setlocale".as_slice() == word.bytes {
+        setlocale_command(alloc, rest)
+    } else if b"install".as_slice() == word.bytes {
+        install_command(alloc, scope.known, rest)
+    } else if b"post".as_slice() == word.bytes {
+        post_command(alloc, scope, rest)
+    } else if b"fetch".as_slice() == word.bytes {
+        fetch_command(alloc, scope, rest)
+    } else {
+        catalog_command(alloc, scope, word, rest)
     }
 }
 
@@ -364,8 +533,21 @@ pub fn command_of_line(
     ensures is { Gives (λ x. x) result (command (option_copied scope.entry.known) scope.entry.threads.now (span word.entry) (span rest.entry)) }
     ensures in_range { IfOk result (IsInRange (length scope.entry.threads.now)) }
 {
-    match command_named(word.bytes) {
-        Some(verb) => command_of(alloc, scope, verb, rest),
-        None => Err(TextFault::At(word.place, Reason::BadLine(LinePart::Command))),
+    if b"new".as_slice() == word.bytes {
+        new_command(alloc, scope, rest)
+    } else if b"dup".as_slice() == word.bytes {
+        dup_command(alloc, scope, rest)
+    } else if b"free".as_slice() == word.bytes {
+        Ok(Command::Free(lone_target(alloc, scope, rest)?))
+    } else if b"use".as_slice() == word.bytes {
+        use_command(alloc, scope, rest)
+    } else if b"hold".as_slice() == word.bytes {
+        Ok(Command::Hold(lone_target(alloc, scope, rest)?))
+    } else if b"release".as_slice() == word.bytes {
+        Ok(Command::Release(lone_target(alloc, scope, rest)?))
+    } else if b"pins".as_slice() == word.bytes {
+        Ok(Command::Pins(lone_target(alloc, scope, rest)?))
+    } else {
+        shared_command(alloc, scope, word, rest)
     }
 }

@@ -16,11 +16,11 @@ use Rattle.script_lang.specs.declared.reading.BlockKind.TheVariants as kinds
 use Rattle.script_lang.specs.declared.reading.Reading.{Reading}
 use Rattle.script_words.specs.Names.{is_formed, is_locale_name, is_part_name, is_charmap_name, is_thread_name}
 use Rattle.script_words.specs.Spans.{whole_line, next_word}
-use Rattle.script_words.specs.Tables.{directives_table, commands_table}
+use Rattle.script_words.specs.Tables.{directives_table}
 use Rattle.byte_words.specs.Cuts.{cut_at}
 use Rattle.byte_words.specs.Numbers.{decimal_number}
 use Rattle.script_words.specs.Words.{text_of_word, mask_of_word, variable_of_word, key_of_word, cell_number, handle_of_word, cell_of_word}
-use Rattle.script_commands.specs.Commands.{argument, read_as, no_more, is_over, command, target, target_word, lone_target, cell, key, base, new_command, use_command, install_command, fetch_command}
+use Rattle.script_commands.specs.Commands.{argument, read_as, no_more, is_over, command, target, target_word, lone_target, cell, key, base, new_command, use_command, install_command, fetch_command, shared_command, catalog_command, own_read_command, handle_read_command}
 use Rattle.script_lang.specs.Reading.{at_first, with_open, new_thread, one_word, two_words, three_words, charmap_line, locale_line, later_line, catalog_line, native_line, thread_line, round_line, directive_line, command_line, outside, line_read}
 use Rattle.script_lang.specs.Accepted.{bundle_with, bundle_of, IsPlaced, IsAccepted}
 
@@ -185,11 +185,11 @@ whole : bundle_of (codes ".thread A\n.locale a c\n#y\n\n .end\n.end\nfree A.0.1\
   rounds = 1;
   commands = record { round = 1; thread = 0; command = Free (targets.Handle (record { owner = 0; row = 0; generation = 1 })) } ∷ [];
 })
-unfolding bundle_of bundle_with line_read outside directive_line command_line charmap_line locale_line later_line native_line thread_line round_line one_word two_words three_words command new_command base use_command install_command fetch_command lone_target target_word target cell key next_word argument no_more read_as is_over text_of_word variable_of_word key_of_word cell_number decimal_number cut_at handle_of_word cell_of_word is_formed is_locale_name is_charmap_name is_thread_name directives_table commands_table
+unfolding bundle_of bundle_with line_read outside directive_line command_line charmap_line locale_line later_line native_line thread_line round_line one_word two_words three_words command new_command base use_command install_command fetch_command lone_target target_word target cell key next_word argument no_more read_as is_over text_of_word variable_of_word key_of_word cell_number decimal_number cut_at handle_of_word cell_of_word is_formed is_locale_name is_charmap_name is_thread_name directives_table shared_command catalog_command own_read_command handle_read_command
 whole = refl
 
 empty : bundle_of [] ≡ Ok (record { charmaps = []; locales = []; later = []; catalogs = []; native = None; threads = []; rounds = 1; commands = [] })
-unfolding bundle_of bundle_with line_read outside directive_line command_line charmap_line locale_line later_line native_line thread_line round_line one_word two_words three_words command new_command base use_command install_command fetch_command lone_target target_word target cell key next_word argument no_more read_as is_over text_of_word variable_of_word key_of_word cell_number decimal_number cut_at handle_of_word cell_of_word is_formed is_locale_name is_charmap_name is_thread_name directives_table commands_table
+unfolding bundle_of bundle_with line_read outside directive_line command_line charmap_line locale_line later_line native_line thread_line round_line one_word two_words three_words command new_command base use_command install_command fetch_command lone_target target_word target cell key next_word argument no_more read_as is_over text_of_word variable_of_word key_of_word cell_number decimal_number cut_at handle_of_word cell_of_word is_formed is_locale_name is_charmap_name is_thread_name directives_table shared_command catalog_command own_read_command handle_read_command
 empty = refl
 
 -- ---- first faults
@@ -199,52 +199,52 @@ refused line column reason = Err (record { line = line; column = column }, reaso
 
 -- a block without an end, behind which no line is read
 not_closed : bundle_of (codes ".charmap a\n.end x\n") ≡ refused 1 1 reasons.NoEnd
-unfolding bundle_of bundle_with line_read outside directive_line command_line charmap_line locale_line later_line native_line thread_line round_line one_word two_words three_words command new_command base use_command install_command fetch_command lone_target target_word target cell key next_word argument no_more read_as is_over text_of_word variable_of_word key_of_word cell_number decimal_number cut_at handle_of_word cell_of_word is_formed is_locale_name is_charmap_name is_thread_name directives_table commands_table
+unfolding bundle_of bundle_with line_read outside directive_line command_line charmap_line locale_line later_line native_line thread_line round_line one_word two_words three_words command new_command base use_command install_command fetch_command lone_target target_word target cell key next_word argument no_more read_as is_over text_of_word variable_of_word key_of_word cell_number decimal_number cut_at handle_of_word cell_of_word is_formed is_locale_name is_charmap_name is_thread_name directives_table shared_command catalog_command own_read_command handle_read_command
 not_closed = refl
 
 -- a fault of a line goes before one of a name, wherever it stands
 line_first : bundle_of (codes ".charmap a\n.end\n.charmap a\n.end\nfree x\n") ≡ refused 5 1 (reasons.BadLine parts.Thread)
-unfolding bundle_of bundle_with line_read outside directive_line command_line charmap_line locale_line later_line native_line thread_line round_line one_word two_words three_words command new_command base use_command install_command fetch_command lone_target target_word target cell key next_word argument no_more read_as is_over text_of_word variable_of_word key_of_word cell_number decimal_number cut_at handle_of_word cell_of_word is_formed is_locale_name is_charmap_name is_thread_name directives_table commands_table
+unfolding bundle_of bundle_with line_read outside directive_line command_line charmap_line locale_line later_line native_line thread_line round_line one_word two_words three_words command new_command base use_command install_command fetch_command lone_target target_word target cell key next_word argument no_more read_as is_over text_of_word variable_of_word key_of_word cell_number decimal_number cut_at handle_of_word cell_of_word is_formed is_locale_name is_charmap_name is_thread_name directives_table shared_command catalog_command own_read_command handle_read_command
 line_first = refl
 
 -- a name that was given before
 name_twice : bundle_of (codes ".charmap a\n.end\n.charmap  a\n.end\n") ≡ refused 3 11 reasons.NameTwice
-unfolding bundle_of bundle_with line_read outside directive_line command_line charmap_line locale_line later_line native_line thread_line round_line one_word two_words three_words command new_command base use_command install_command fetch_command lone_target target_word target cell key next_word argument no_more read_as is_over text_of_word variable_of_word key_of_word cell_number decimal_number cut_at handle_of_word cell_of_word is_formed is_locale_name is_charmap_name is_thread_name directives_table commands_table
+unfolding bundle_of bundle_with line_read outside directive_line command_line charmap_line locale_line later_line native_line thread_line round_line one_word two_words three_words command new_command base use_command install_command fetch_command lone_target target_word target cell key next_word argument no_more read_as is_over text_of_word variable_of_word key_of_word cell_number decimal_number cut_at handle_of_word cell_of_word is_formed is_locale_name is_charmap_name is_thread_name directives_table shared_command catalog_command own_read_command handle_read_command
 name_twice = refl
 
 -- a key that was given before; the names of later versions may be given twice
 key_twice : bundle_of (codes ".later k a UTF-8\n.end\n.later k a cs\n.end\n") ≡ refused 3 8 reasons.NameTwice
-unfolding bundle_of bundle_with line_read outside directive_line command_line charmap_line locale_line later_line native_line thread_line round_line one_word two_words three_words command new_command base use_command install_command fetch_command lone_target target_word target cell key next_word argument no_more read_as is_over text_of_word variable_of_word key_of_word cell_number decimal_number cut_at handle_of_word cell_of_word is_formed is_locale_name is_charmap_name is_thread_name directives_table commands_table
+unfolding bundle_of bundle_with line_read outside directive_line command_line charmap_line locale_line later_line native_line thread_line round_line one_word two_words three_words command new_command base use_command install_command fetch_command lone_target target_word target cell key next_word argument no_more read_as is_over text_of_word variable_of_word key_of_word cell_number decimal_number cut_at handle_of_word cell_of_word is_formed is_locale_name is_charmap_name is_thread_name directives_table shared_command catalog_command own_read_command handle_read_command
 key_twice = refl
 
 -- a charset that no charmap has
 no_charmap : bundle_of (codes ".locale a cs\n.end\n.native b\n") ≡ refused 1 11 reasons.NoCharmap
-unfolding bundle_of bundle_with line_read outside directive_line command_line charmap_line locale_line later_line native_line thread_line round_line one_word two_words three_words command new_command base use_command install_command fetch_command lone_target target_word target cell key next_word argument no_more read_as is_over text_of_word variable_of_word key_of_word cell_number decimal_number cut_at handle_of_word cell_of_word is_formed is_locale_name is_charmap_name is_thread_name directives_table commands_table
+unfolding bundle_of bundle_with line_read outside directive_line command_line charmap_line locale_line later_line native_line thread_line round_line one_word two_words three_words command new_command base use_command install_command fetch_command lone_target target_word target cell key next_word argument no_more read_as is_over text_of_word variable_of_word key_of_word cell_number decimal_number cut_at handle_of_word cell_of_word is_formed is_locale_name is_charmap_name is_thread_name directives_table shared_command catalog_command own_read_command handle_read_command
 no_charmap = refl
 
 -- a native locale that only a later version has
 no_native : bundle_of (codes ".later k a POSIX\n.end\n.native a\n") ≡ refused 3 9 reasons.NoNative
-unfolding bundle_of bundle_with line_read outside directive_line command_line charmap_line locale_line later_line native_line thread_line round_line one_word two_words three_words command new_command base use_command install_command fetch_command lone_target target_word target cell key next_word argument no_more read_as is_over text_of_word variable_of_word key_of_word cell_number decimal_number cut_at handle_of_word cell_of_word is_formed is_locale_name is_charmap_name is_thread_name directives_table commands_table
+unfolding bundle_of bundle_with line_read outside directive_line command_line charmap_line locale_line later_line native_line thread_line round_line one_word two_words three_words command new_command base use_command install_command fetch_command lone_target target_word target cell key next_word argument no_more read_as is_over text_of_word variable_of_word key_of_word cell_number decimal_number cut_at handle_of_word cell_of_word is_formed is_locale_name is_charmap_name is_thread_name directives_table shared_command catalog_command own_read_command handle_read_command
 no_native = refl
 
 -- a thread that is not named goes before a charset behind it
 no_thread : bundle_of (codes ".thread A\nuse B.0.1\n.locale a b\n.end\n") ≡ refused 2 5 reasons.NoThread
-unfolding bundle_of bundle_with line_read outside directive_line command_line charmap_line locale_line later_line native_line thread_line round_line one_word two_words three_words command new_command base use_command install_command fetch_command lone_target target_word target cell key next_word argument no_more read_as is_over text_of_word variable_of_word key_of_word cell_number decimal_number cut_at handle_of_word cell_of_word is_formed is_locale_name is_charmap_name is_thread_name directives_table commands_table
+unfolding bundle_of bundle_with line_read outside directive_line command_line charmap_line locale_line later_line native_line thread_line round_line one_word two_words three_words command new_command base use_command install_command fetch_command lone_target target_word target cell key next_word argument no_more read_as is_over text_of_word variable_of_word key_of_word cell_number decimal_number cut_at handle_of_word cell_of_word is_formed is_locale_name is_charmap_name is_thread_name directives_table shared_command catalog_command own_read_command handle_read_command
 no_thread = refl
 
 -- a second native locale
 second_native : bundle_of (codes ".native C\n.native C\n") ≡ refused 2 1 (reasons.BadLine parts.Directive)
-unfolding bundle_of bundle_with line_read outside directive_line command_line charmap_line locale_line later_line native_line thread_line round_line one_word two_words three_words command new_command base use_command install_command fetch_command lone_target target_word target cell key next_word argument no_more read_as is_over text_of_word variable_of_word key_of_word cell_number decimal_number cut_at handle_of_word cell_of_word is_formed is_locale_name is_charmap_name is_thread_name directives_table commands_table
+unfolding bundle_of bundle_with line_read outside directive_line command_line charmap_line locale_line later_line native_line thread_line round_line one_word two_words three_words command new_command base use_command install_command fetch_command lone_target target_word target cell key next_word argument no_more read_as is_over text_of_word variable_of_word key_of_word cell_number decimal_number cut_at handle_of_word cell_of_word is_formed is_locale_name is_charmap_name is_thread_name directives_table shared_command catalog_command own_read_command handle_read_command
 second_native = refl
 
 -- an end outside of blocks
 end_outside : bundle_of (codes ".end\n") ≡ refused 1 1 (reasons.BadLine parts.Directive)
-unfolding bundle_of bundle_with line_read outside directive_line command_line charmap_line locale_line later_line native_line thread_line round_line one_word two_words three_words command new_command base use_command install_command fetch_command lone_target target_word target cell key next_word argument no_more read_as is_over text_of_word variable_of_word key_of_word cell_number decimal_number cut_at handle_of_word cell_of_word is_formed is_locale_name is_charmap_name is_thread_name directives_table commands_table
+unfolding bundle_of bundle_with line_read outside directive_line command_line charmap_line locale_line later_line native_line thread_line round_line one_word two_words three_words command new_command base use_command install_command fetch_command lone_target target_word target cell key next_word argument no_more read_as is_over text_of_word variable_of_word key_of_word cell_number decimal_number cut_at handle_of_word cell_of_word is_formed is_locale_name is_charmap_name is_thread_name directives_table shared_command catalog_command own_read_command handle_read_command
 end_outside = refl
 
 -- a directive behind blanks is a command
 directive_behind_blanks : bundle_of (codes ".thread A\n .thread A\n") ≡ refused 2 2 (reasons.BadLine parts.Command)
-unfolding bundle_of bundle_with line_read outside directive_line command_line charmap_line locale_line later_line native_line thread_line round_line one_word two_words three_words command new_command base use_command install_command fetch_command lone_target target_word target cell key next_word argument no_more read_as is_over text_of_word variable_of_word key_of_word cell_number decimal_number cut_at handle_of_word cell_of_word is_formed is_locale_name is_charmap_name is_thread_name directives_table commands_table
+unfolding bundle_of bundle_with line_read outside directive_line command_line charmap_line locale_line later_line native_line thread_line round_line one_word two_words three_words command new_command base use_command install_command fetch_command lone_target target_word target cell key next_word argument no_more read_as is_over text_of_word variable_of_word key_of_word cell_number decimal_number cut_at handle_of_word cell_of_word is_formed is_locale_name is_charmap_name is_thread_name directives_table shared_command catalog_command own_read_command handle_read_command
 directive_behind_blanks = refl
 
 -- threads are numbered as they are first named, and may be named again, in any round
@@ -262,12 +262,12 @@ interleaved : bundle_of (codes ".thread B\nfree A.0.1\n.round\n.thread A\nfree x
       record { round = 2; thread = 0; command = Free (targets.Variable (codes "y")) } ∷
       [];
 })
-unfolding bundle_of bundle_with line_read outside directive_line command_line charmap_line locale_line later_line native_line thread_line round_line one_word two_words three_words command new_command base use_command install_command fetch_command lone_target target_word target cell key next_word argument no_more read_as is_over text_of_word variable_of_word key_of_word cell_number decimal_number cut_at handle_of_word cell_of_word is_formed is_locale_name is_charmap_name is_thread_name directives_table commands_table
+unfolding bundle_of bundle_with line_read outside directive_line command_line charmap_line locale_line later_line native_line thread_line round_line one_word two_words three_words command new_command base use_command install_command fetch_command lone_target target_word target cell key next_word argument no_more read_as is_over text_of_word variable_of_word key_of_word cell_number decimal_number cut_at handle_of_word cell_of_word is_formed is_locale_name is_charmap_name is_thread_name directives_table shared_command catalog_command own_read_command handle_read_command
 interleaved = refl
 
 -- no thread is current behind `.round`
 round_ends_thread : bundle_of (codes ".thread A\nfree x\n.round\nfree x\n") ≡ refused 4 1 (reasons.BadLine parts.Thread)
-unfolding bundle_of bundle_with line_read outside directive_line command_line charmap_line locale_line later_line native_line thread_line round_line one_word two_words three_words command new_command base use_command install_command fetch_command lone_target target_word target cell key next_word argument no_more read_as is_over text_of_word variable_of_word key_of_word cell_number decimal_number cut_at handle_of_word cell_of_word is_formed is_locale_name is_charmap_name is_thread_name directives_table commands_table
+unfolding bundle_of bundle_with line_read outside directive_line command_line charmap_line locale_line later_line native_line thread_line round_line one_word two_words three_words command new_command base use_command install_command fetch_command lone_target target_word target cell key next_word argument no_more read_as is_over text_of_word variable_of_word key_of_word cell_number decimal_number cut_at handle_of_word cell_of_word is_formed is_locale_name is_charmap_name is_thread_name directives_table shared_command catalog_command own_read_command handle_read_command
 round_ends_thread = refl
 
 -- a later version may stand behind the command that installs it
@@ -284,27 +284,27 @@ installed : bundle_of (codes ".thread A\ninstall k\nfetch x A.7\n.later k a POSI
       record { round = 1; thread = 0; command = Fetch (codes "x") 0 7 } ∷
       [];
 })
-unfolding bundle_of bundle_with line_read outside directive_line command_line charmap_line locale_line later_line native_line thread_line round_line one_word two_words three_words command new_command base use_command install_command fetch_command lone_target target_word target cell key next_word argument no_more read_as is_over text_of_word variable_of_word key_of_word cell_number decimal_number cut_at handle_of_word cell_of_word is_formed is_locale_name is_charmap_name is_thread_name directives_table commands_table
+unfolding bundle_of bundle_with line_read outside directive_line command_line charmap_line locale_line later_line native_line thread_line round_line one_word two_words three_words command new_command base use_command install_command fetch_command lone_target target_word target cell key next_word argument no_more read_as is_over text_of_word variable_of_word key_of_word cell_number decimal_number cut_at handle_of_word cell_of_word is_formed is_locale_name is_charmap_name is_thread_name directives_table shared_command catalog_command own_read_command handle_read_command
 installed = refl
 
 -- a key that no later version has, although a locale has the name; it goes before a thread behind it
 no_later : bundle_of (codes ".thread A\ninstall a\n.locale a POSIX\n.end\nuse B.0.1\n") ≡ refused 2 9 reasons.NoLater
-unfolding bundle_of bundle_with line_read outside directive_line command_line charmap_line locale_line later_line native_line thread_line round_line one_word two_words three_words command new_command base use_command install_command fetch_command lone_target target_word target cell key next_word argument no_more read_as is_over text_of_word variable_of_word key_of_word cell_number decimal_number cut_at handle_of_word cell_of_word is_formed is_locale_name is_charmap_name is_thread_name directives_table commands_table
+unfolding bundle_of bundle_with line_read outside directive_line command_line charmap_line locale_line later_line native_line thread_line round_line one_word two_words three_words command new_command base use_command install_command fetch_command lone_target target_word target cell key next_word argument no_more read_as is_over text_of_word variable_of_word key_of_word cell_number decimal_number cut_at handle_of_word cell_of_word is_formed is_locale_name is_charmap_name is_thread_name directives_table shared_command catalog_command own_read_command handle_read_command
 no_later = refl
 
 -- a cell of a thread that is not named
 no_thread_of_cell : bundle_of (codes ".thread A\nfetch x B.0\n") ≡ refused 2 9 reasons.NoThread
-unfolding bundle_of bundle_with line_read outside directive_line command_line charmap_line locale_line later_line native_line thread_line round_line one_word two_words three_words command new_command base use_command install_command fetch_command lone_target target_word target cell key next_word argument no_more read_as is_over text_of_word variable_of_word key_of_word cell_number decimal_number cut_at handle_of_word cell_of_word is_formed is_locale_name is_charmap_name is_thread_name directives_table commands_table
+unfolding bundle_of bundle_with line_read outside directive_line command_line charmap_line locale_line later_line native_line thread_line round_line one_word two_words three_words command new_command base use_command install_command fetch_command lone_target target_word target cell key next_word argument no_more read_as is_over text_of_word variable_of_word key_of_word cell_number decimal_number cut_at handle_of_word cell_of_word is_formed is_locale_name is_charmap_name is_thread_name directives_table shared_command catalog_command own_read_command handle_read_command
 no_thread_of_cell = refl
 
 -- nor may a base be of one
 no_thread_of_base : bundle_of (codes ".thread A\nnew x 1 C B.0.1\n") ≡ refused 2 11 reasons.NoThread
-unfolding bundle_of bundle_with line_read outside directive_line command_line charmap_line locale_line later_line native_line thread_line round_line one_word two_words three_words command new_command base use_command install_command fetch_command lone_target target_word target cell key next_word argument no_more read_as is_over text_of_word mask_of_word variable_of_word key_of_word cell_number decimal_number cut_at handle_of_word cell_of_word is_formed is_locale_name is_charmap_name is_thread_name directives_table commands_table
+unfolding bundle_of bundle_with line_read outside directive_line command_line charmap_line locale_line later_line native_line thread_line round_line one_word two_words three_words command new_command base use_command install_command fetch_command lone_target target_word target cell key next_word argument no_more read_as is_over text_of_word mask_of_word variable_of_word key_of_word cell_number decimal_number cut_at handle_of_word cell_of_word is_formed is_locale_name is_charmap_name is_thread_name directives_table shared_command catalog_command own_read_command handle_read_command
 no_thread_of_base = refl
 
 -- comments and lines of blanks are skipped
 comments : bundle_of (codes "# a\n\t#b\n \t\n\nx") ≡ refused 5 1 (reasons.BadLine parts.Thread)
-unfolding bundle_of bundle_with line_read outside directive_line command_line charmap_line locale_line later_line native_line thread_line round_line one_word two_words three_words command new_command base use_command install_command fetch_command lone_target target_word target cell key next_word argument no_more read_as is_over text_of_word variable_of_word key_of_word cell_number decimal_number cut_at handle_of_word cell_of_word is_formed is_locale_name is_charmap_name is_thread_name directives_table commands_table
+unfolding bundle_of bundle_with line_read outside directive_line command_line charmap_line locale_line later_line native_line thread_line round_line one_word two_words three_words command new_command base use_command install_command fetch_command lone_target target_word target cell key next_word argument no_more read_as is_over text_of_word variable_of_word key_of_word cell_number decimal_number cut_at handle_of_word cell_of_word is_formed is_locale_name is_charmap_name is_thread_name directives_table shared_command catalog_command own_read_command handle_read_command
 comments = refl
 
 -- ---- message catalogs
@@ -320,20 +320,20 @@ catalogs_apart : bundle_of (codes ".catalog g us\n$set 2\n1 a\n.end\n.catalog g 
   rounds = 1;
   commands = [];
 })
-unfolding bundle_of bundle_with line_read outside directive_line command_line charmap_line catalog_line thread_line two_words one_word command lone_target target_word target next_word argument no_more read_as is_over decimal_number cut_at handle_of_word is_formed is_locale_name is_part_name is_charmap_name is_thread_name directives_table commands_table
+unfolding bundle_of bundle_with line_read outside directive_line command_line charmap_line catalog_line thread_line two_words one_word command lone_target target_word target next_word argument no_more read_as is_over decimal_number cut_at handle_of_word is_formed is_locale_name is_part_name is_charmap_name is_thread_name directives_table shared_command catalog_command own_read_command handle_read_command
 catalogs_apart = refl
 
 -- a pair that was given before; it goes before a thread behind it
 pair_twice : bundle_of (codes ".catalog g us\n.end\n.catalog  g us\n.end\n.thread A\nfree B.0.1\n") ≡ refused 3 11 reasons.NameTwice
-unfolding bundle_of bundle_with line_read outside directive_line command_line charmap_line catalog_line thread_line two_words one_word command lone_target target_word target next_word argument no_more read_as is_over decimal_number cut_at handle_of_word is_formed is_locale_name is_part_name is_charmap_name is_thread_name directives_table commands_table
+unfolding bundle_of bundle_with line_read outside directive_line command_line charmap_line catalog_line thread_line two_words one_word command lone_target target_word target next_word argument no_more read_as is_over decimal_number cut_at handle_of_word is_formed is_locale_name is_part_name is_charmap_name is_thread_name directives_table shared_command catalog_command own_read_command handle_read_command
 pair_twice = refl
 
 -- a catalog may have the name of another block
 named_as_a_charmap : bundle_of (codes ".charmap g\n.end\n.catalog g g\n.end\n.catalog h g\n") ≡ refused 5 1 reasons.NoEnd
-unfolding bundle_of bundle_with line_read outside directive_line command_line charmap_line catalog_line thread_line two_words one_word command lone_target target_word target next_word argument no_more read_as is_over decimal_number cut_at handle_of_word is_formed is_locale_name is_part_name is_charmap_name is_thread_name directives_table commands_table
+unfolding bundle_of bundle_with line_read outside directive_line command_line charmap_line catalog_line thread_line two_words one_word command lone_target target_word target next_word argument no_more read_as is_over decimal_number cut_at handle_of_word is_formed is_locale_name is_part_name is_charmap_name is_thread_name directives_table shared_command catalog_command own_read_command handle_read_command
 named_as_a_charmap = refl
 
 -- the pair is looked for once all lines are right
 line_before_pair : bundle_of (codes ".catalog g us\n.end\n.catalog g us\n.end\n.end\n") ≡ refused 5 1 (reasons.BadLine parts.Directive)
-unfolding bundle_of bundle_with line_read outside directive_line command_line charmap_line catalog_line thread_line two_words one_word command lone_target target_word target next_word argument no_more read_as is_over decimal_number cut_at handle_of_word is_formed is_locale_name is_part_name is_charmap_name is_thread_name directives_table commands_table
+unfolding bundle_of bundle_with line_read outside directive_line command_line charmap_line catalog_line thread_line two_words one_word command lone_target target_word target next_word argument no_more read_as is_over decimal_number cut_at handle_of_word is_formed is_locale_name is_part_name is_charmap_name is_thread_name directives_table shared_command catalog_command own_read_command handle_read_command
 line_before_pair = refl

@@ -18,18 +18,16 @@ use Rattle.lc_base.proofs.ReadingLemmas.{value_of}
 use Rattle.script_commands.specs.declared.command.Command.{Command}
 use Rattle.script_commands.specs.declared.command.Command.TheVariants.{Install, Selected, Use, LocaleName}
 use Rattle.script_commands.specs.declared.command.Placed.{Placed}
+use Rattle.script_commands.specs.declared.command.Read.{Read}
 use Rattle.script_commands.specs.declared.known.Known.{Known}
 use Rattle.script_commands.specs.declared.known.TheConstants.{THREAD_LIMIT}
 use Rattle.script_commands.specs.Known.{has_block, has_key, lacks_charset, lacks_locale}
-use Rattle.script_commands.specs.Commands.{or_wrong, argument, read_as, no_more, is_over, target, target_word, lone_target, catalog_word, cell, known_key, key, command_text, read_words, base, new_command, dup_command, selection, use_command, setlocale_command, install_command, post_command, fetch_command, read_of_command, catopen_command, catgets_command, catclose_command, command_of, command}
+use Rattle.script_commands.specs.Commands.{or_wrong, argument, read_as, no_more, is_over, target, target_word, lone_target, catalog_word, cell, known_key, key, command_text, base, new_command, dup_command, selection, use_command, setlocale_command, install_command, post_command, fetch_command, read_command, read_of_command, info_words, conv_words, class_words, upper_words, lower_words, money_words, time_words, number_words, parse_words, catopen_command, catgets_command, catclose_command, command_among, handle_read_command, own_read_command, catalog_command, shared_command, command, objects_table, shared_table, catalogs_table, own_reads_table, handle_reads_table}
 use Rattle.script_words.specs.declared.table.Directive.{Directive}
 use Rattle.script_words.specs.declared.table.Directive.TheVariants as directives
-use Rattle.script_words.specs.declared.table.Verb.{Verb}
-use Rattle.script_words.specs.declared.table.Verb.TheVariants as verbs
-use Rattle.script_words.specs.declared.table.Question.{Question}
 use Rattle.script_words.specs.Spans.{Span, start, whole_line, next_word}
 use Rattle.byte_words.specs.Tables.{first_named}
-use Rattle.script_words.specs.Tables.{directives_table, commands_table}
+use Rattle.script_words.specs.Tables.{directives_table}
 use Rattle.script_words.specs.Names.{is_formed, is_locale_name, is_part_name, is_charmap_name, is_thread_name}
 use Rattle.byte_words.specs.Numbers.{decimal_number}
 use Rattle.script_words.specs.Words.{text_of_word, categories_of_word, mask_of_word, variable_of_word, key_of_word, cell_number}
@@ -145,11 +143,14 @@ fetch_keyed later known threads s =
     through (IsKeyed later) (cell known threads word.0) _ (λ numbers.
     through (IsKeyed later) (no_more word.1) _ (λ over k e. absurd cc))))
 
-read_of_keyed : (later : List Later) (known : Option Known) (threads : List (List ℕ)) (question : Question) (s : Span) → IfOk (read_of_command known threads question s) (IsKeyed later)
+read_keyed : (later : List Later) (words : Reads Read) → IfOk (read_command words) (IsKeyed later)
+read_keyed later words = through (IsKeyed later) words _ (λ read k e. absurd cc)
+
+read_of_keyed : (later : List Later) (known : Option Known) (threads : List (List ℕ)) (words : Span → Reads Read) (s : Span) → IfOk (read_of_command known threads words s) (IsKeyed later)
 unfolding read_of_command
-read_of_keyed later known threads question s =
+read_of_keyed later known threads words s =
     through (IsKeyed later) (target_word known threads s) _ (λ object.
-    through (IsKeyed later) (read_words question object.1) _ (λ read k e. absurd cc))
+    through (IsKeyed later) (words object.1) _ (λ read k e. absurd cc))
 
 catopen_keyed : (later : List Later) (s : Span) → IfOk (catopen_command s) (IsKeyed later)
 unfolding catopen_command
@@ -173,38 +174,93 @@ catclose_keyed later known threads s =
     through (IsKeyed later) (catalog_word known threads s) _ (λ named.
     through (IsKeyed later) (no_more named.1) _ (λ over k e. absurd cc))
 
-verb_keyed : (known : Known) (threads : List (List ℕ)) (verb : Verb) (s : Span) → IfOk (command_of (Some known) threads verb s) (IsKeyed known.later)
-verb_keyed known threads verbs.New s = new_keyed known.later (Some known) threads s
-verb_keyed known threads verbs.Dup s = dup_keyed known.later (Some known) threads s
-verb_keyed known threads verbs.Free s = through (IsKeyed known.later) (lone_target (Some known) threads s) _ (λ named k e. absurd cc)
-verb_keyed known threads verbs.Use s = use_keyed known.later (Some known) threads s
-verb_keyed known threads verbs.Hold s = through (IsKeyed known.later) (lone_target (Some known) threads s) _ (λ named k e. absurd cc)
-verb_keyed known threads verbs.Release s = through (IsKeyed known.later) (lone_target (Some known) threads s) _ (λ named k e. absurd cc)
-verb_keyed known threads verbs.Setlocale s = setlocale_keyed known.later s
-verb_keyed known threads verbs.Install s = install_keyed known s
-verb_keyed known threads verbs.Post s = post_keyed known.later (Some known) threads s
-verb_keyed known threads verbs.Fetch s = fetch_keyed known.later (Some known) threads s
-verb_keyed known threads verbs.Pins s = through (IsKeyed known.later) (lone_target (Some known) threads s) _ (λ named k e. absurd cc)
-verb_keyed known threads (verbs.Read question) s = through (IsKeyed known.later) (read_words question s) _ (λ read k e. absurd cc)
-verb_keyed known threads (verbs.ReadOf question) s = read_of_keyed known.later (Some known) threads question s
-verb_keyed known threads verbs.CatOpen s = catopen_keyed known.later s
-verb_keyed known threads verbs.CatGets s = catgets_keyed known.later (Some known) threads s
-verb_keyed known threads verbs.CatClose s = catclose_keyed known.later (Some known) threads s
+-- each row of a table says a command whose key is there
+abbrev IsKeyedTable : List Later → List (List ℕ × Reads Command) → Type 0
+IsKeyedTable later [] = Unit {0}
+IsKeyedTable later (row ∷ rows) = IfOk row.1 (IsKeyed later) × IsKeyedTable later rows
 
--- the command of a verb, or else a wrong word
-abbrev by_verb : Option Known → List (List ℕ) → Span → Span → Option Verb → Reads Command
-by_verb known threads w s verb = elim verb [
-  | None ↦ Err (w.place, BadLine CommandPart)
-  | Some v ↦ command_of known threads v s
-]
+-- what a table of them says is so, where what is said otherwise is
+among_keyed : (later : List Later) (rows : List (List ℕ × Reads Command)) (word : List ℕ) (otherwise : Reads Command) → IsKeyedTable later rows → IfOk otherwise (IsKeyed later) → IfOk (command_among rows word otherwise) (IsKeyed later)
+among_keyed later [] word otherwise are is = is
+among_keyed later (row ∷ rows) word otherwise are is = chosen (bytes_eq row.0 word) (among_keyed later rows word otherwise are.1 is) where
+  chosen : (b : Bool) → IfOk (command_among rows word otherwise) (IsKeyed later) → IfOk (elim (cond b (Some row.1) (first_named rows word)) [ None ↦ otherwise | Some said ↦ said ]) (IsKeyed later)
+  chosen true among = are.0
+  chosen false among = among
 
-by_verb_keyed : (known : Known) (threads : List (List ℕ)) (w s : Span) (verb : Option Verb) → IfOk (by_verb (Some known) threads w s verb) (IsKeyed known.later)
-by_verb_keyed known threads w s None = tt
-by_verb_keyed known threads w s (Some v) = verb_keyed known threads v s
+-- what holds of a row, and of the rows behind it
+both : {A B : Type 0} → A → B → A × B
+both a b = (a, b)
+
+handle_reads_keyed : (known : Known) (threads : List (List ℕ)) (s : Span) → IsKeyedTable known.later (handle_reads_table (Some known) threads s)
+handle_reads_keyed known threads s =
+    both (read_of_keyed known.later (Some known) threads info_words s) (
+    both (read_of_keyed known.later (Some known) threads class_words s) (
+    both (read_of_keyed known.later (Some known) threads upper_words s) (
+    both (read_of_keyed known.later (Some known) threads lower_words s) (
+    both (read_of_keyed known.later (Some known) threads money_words s) (
+    both (read_of_keyed known.later (Some known) threads time_words s) (
+    both (read_of_keyed known.later (Some known) threads number_words s) (
+    both (read_of_keyed known.later (Some known) threads parse_words s) tt)))))))
+
+own_reads_keyed : (known : Known) (threads : List (List ℕ)) (s : Span) → IsKeyedTable known.later (own_reads_table (Some known) threads s)
+own_reads_keyed known threads s =
+    both (read_keyed known.later (info_words s)) (
+    both (read_keyed known.later (conv_words s)) (
+    both (read_keyed known.later (class_words s)) (
+    both (read_keyed known.later (upper_words s)) (
+    both (read_keyed known.later (lower_words s)) (
+    both (read_keyed known.later (money_words s)) (
+    both (read_keyed known.later (time_words s)) (
+    both (read_keyed known.later (number_words s)) (
+    both (read_keyed known.later (parse_words s)) tt))))))))
+
+catalogs_keyed : (known : Known) (threads : List (List ℕ)) (s : Span) → IsKeyedTable known.later (catalogs_table (Some known) threads s)
+catalogs_keyed known threads s =
+    both (catopen_keyed known.later s) (
+    both (catgets_keyed known.later (Some known) threads s) (
+    both (catclose_keyed known.later (Some known) threads s) tt))
+
+shared_keyed : (known : Known) (threads : List (List ℕ)) (s : Span) → IsKeyedTable known.later (shared_table (Some known) threads s)
+shared_keyed known threads s =
+    both (setlocale_keyed known.later s) (
+    both (install_keyed known s) (
+    both (post_keyed known.later (Some known) threads s) (
+    both (fetch_keyed known.later (Some known) threads s) tt)))
+
+objects_keyed : (known : Known) (threads : List (List ℕ)) (s : Span) → IsKeyedTable known.later (objects_table (Some known) threads s)
+objects_keyed known threads s =
+    both (new_keyed known.later (Some known) threads s) (
+    both (dup_keyed known.later (Some known) threads s) (
+    both (through (IsKeyed known.later) (lone_target (Some known) threads s) _ (λ named k e. absurd cc)) (
+    both (use_keyed known.later (Some known) threads s) (
+    both (through (IsKeyed known.later) (lone_target (Some known) threads s) _ (λ named k e. absurd cc)) (
+    both (through (IsKeyed known.later) (lone_target (Some known) threads s) _ (λ named k e. absurd cc)) (
+    both (through (IsKeyed known.later) (lone_target (Some known) threads s) _ (λ named k e. absurd cc)) tt))))))
+
+handle_read_keyed : (known : Known) (threads : List (List ℕ)) (w s : Span) → IfOk (handle_read_command (Some known) threads w s) (IsKeyed known.later)
+unfolding handle_read_command
+handle_read_keyed known threads w s =
+    among_keyed known.later (handle_reads_table (Some known) threads s) w.bytes (Err (w.place, BadLine CommandPart)) (handle_reads_keyed known threads s) tt
+
+own_read_keyed : (known : Known) (threads : List (List ℕ)) (w s : Span) → IfOk (own_read_command (Some known) threads w s) (IsKeyed known.later)
+unfolding own_read_command
+own_read_keyed known threads w s =
+    among_keyed known.later (own_reads_table (Some known) threads s) w.bytes (handle_read_command (Some known) threads w s) (own_reads_keyed known threads s) (handle_read_keyed known threads w s)
+
+catalog_keyed : (known : Known) (threads : List (List ℕ)) (w s : Span) → IfOk (catalog_command (Some known) threads w s) (IsKeyed known.later)
+unfolding catalog_command
+catalog_keyed known threads w s =
+    among_keyed known.later (catalogs_table (Some known) threads s) w.bytes (own_read_command (Some known) threads w s) (catalogs_keyed known threads s) (own_read_keyed known threads w s)
+
+shared_command_keyed : (known : Known) (threads : List (List ℕ)) (w s : Span) → IfOk (shared_command (Some known) threads w s) (IsKeyed known.later)
+unfolding shared_command
+shared_command_keyed known threads w s =
+    among_keyed known.later (shared_table (Some known) threads s) w.bytes (catalog_command (Some known) threads w s) (shared_keyed known threads s) (catalog_keyed known threads w s)
 
 command_keyed : (known : Known) (threads : List (List ℕ)) (w s : Span) → IfOk (command (Some known) threads w s) (IsKeyed known.later)
 unfolding command
-command_keyed known threads w s = by_verb_keyed known threads w s (first_named commands_table w.bytes)
+command_keyed known threads w s =
+    among_keyed known.later (objects_table (Some known) threads s) w.bytes (shared_command (Some known) threads w s) (objects_keyed known threads s) (shared_command_keyed known threads w s)
 
 -- ---- what a directive does
 

@@ -1,7 +1,6 @@
 -- The accepted bundle, or the bundle's first fault (our own).
 use Rattle.std.specs.Prelude.{◌≡◌, ℕ, ◌-◌, ◌<◌, ◌≤◌, true, List, [], length, Option, Some, None, Ok, Err}
 use Rattle.std.specs.List.{All}
-use Rattle.lc_base.specs.declared.block.Block.{Block}
 use Rattle.lc_base.specs.declared.block.Later.{Later}
 use Rattle.lc_base.specs.declared.reason.Reason.TheVariants.{NoEnd}
 use Rattle.lc_base.specs.Blocks.{IsSized}

@@ -1,10 +1,6 @@
 -- Whole numbers, and the commands that format and scan them, on small inputs.
 use Rattle.std.proofs.Common.{◌≡◌, [], Some, None, refl}
 use Rattle.std.specs.Prelude.{pos, negsuc, codes}
-use Rattle.script_words.specs.declared.table.Question.TheVariants.{Number, Parse}
-use Rattle.script_words.specs.declared.table.Verb.TheVariants.{Read, ReadOf}
-use Rattle.byte_words.specs.Tables.{first_named}
-use Rattle.script_words.specs.Tables.{commands_table}
 use Rattle.script_words.specs.Numbers.{number_of_word}
 
 largest : number_of_word (codes "18446744073709551615") ≡ Some (pos 18446744073709551615)
@@ -54,19 +50,3 @@ fraction = refl
 empty : number_of_word [] ≡ None
 unfolding number_of_word
 empty = refl
-
-number_word : first_named commands_table (codes "number") ≡ Some (Read Number)
-unfolding commands_table
-number_word = refl
-
-number_word_of_handle : first_named commands_table (codes "number_l") ≡ Some (ReadOf Number)
-unfolding commands_table
-number_word_of_handle = refl
-
-parse_word : first_named commands_table (codes "parse") ≡ Some (Read Parse)
-unfolding commands_table
-parse_word = refl
-
-parse_word_of_handle : first_named commands_table (codes "parse_l") ≡ Some (ReadOf Parse)
-unfolding commands_table
-parse_word_of_handle = refl

@@ -1,10 +1,7 @@
--- The words of directives, commands and items (our own; the items are those of XSH nl_langinfo).
+-- The words of directives and items (our own; the items are those of XSH nl_langinfo).
 use Rattle.std.specs.Prelude.{ℕ, List, [], ◌∷◌, codes}
 use Rattle.lc_base.specs.declared.item.Item.{Item}
 use Rattle.lc_base.specs.declared.item.Item.TheVariants as items
-use Rattle.script_words.specs.declared.table.Verb.{Verb}
-use Rattle.script_words.specs.declared.table.Verb.TheVariants as verbs
-use Rattle.script_words.specs.declared.table.Question.TheVariants as questions
 use Rattle.script_words.specs.declared.table.Directive.{Directive}
 use Rattle.script_words.specs.declared.table.Directive.TheVariants as directives
 
@@ -18,42 +15,6 @@ directives_table =
     (codes ".native", directives.Native) ∷
     (codes ".thread", directives.Thread) ∷
     (codes ".round", directives.Round) ∷
-    []
-
--- the commands; localeconv has no form with a handle (XSH localeconv)
-unfoldable pub commands_table : List (List ℕ × Verb)
-commands_table =
-    (codes "new", verbs.New) ∷
-    (codes "dup", verbs.Dup) ∷
-    (codes "free", verbs.Free) ∷
-    (codes "use", verbs.Use) ∷
-    (codes "hold", verbs.Hold) ∷
-    (codes "release", verbs.Release) ∷
-    (codes "setlocale", verbs.Setlocale) ∷
-    (codes "install", verbs.Install) ∷
-    (codes "post", verbs.Post) ∷
-    (codes "fetch", verbs.Fetch) ∷
-    (codes "pins", verbs.Pins) ∷
-    (codes "info", verbs.Read questions.Info) ∷
-    (codes "info_l", verbs.ReadOf questions.Info) ∷
-    (codes "conv", verbs.Read questions.Conv) ∷
-    (codes "class", verbs.Read questions.Class) ∷
-    (codes "class_l", verbs.ReadOf questions.Class) ∷
-    (codes "upper", verbs.Read questions.Upper) ∷
-    (codes "lower", verbs.Read questions.Lower) ∷
-    (codes "upper_l", verbs.ReadOf questions.Upper) ∷
-    (codes "lower_l", verbs.ReadOf questions.Lower) ∷
-    (codes "money", verbs.Read questions.Money) ∷
-    (codes "money_l", verbs.ReadOf questions.Money) ∷
-    (codes "time", verbs.Read questions.Time) ∷
-    (codes "time_l", verbs.ReadOf questions.Time) ∷
-    (codes "number", verbs.Read questions.Number) ∷
-    (codes "number_l", verbs.ReadOf questions.Number) ∷
-    (codes "parse", verbs.Read questions.Parse) ∷
-    (codes "parse_l", verbs.ReadOf questions.Parse) ∷
-    (codes "catopen", verbs.CatOpen) ∷
-    (codes "catgets", verbs.CatGets) ∷
-    (codes "catclose", verbs.CatClose) ∷
     []
 
 -- the items

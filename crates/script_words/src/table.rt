@@ -1,8 +1,8 @@
-//! The words of directives, commands and items.
+//! The words of directives and items.
 
 ghost use Rattle.std.specs.Prelude.{◌≡◌};
 ghost use Rattle.byte_words.specs.Tables.{first_named};
-ghost use Rattle.script_words.specs.Tables.{directives_table, commands_table, items_table};
+ghost use Rattle.script_words.specs.Tables.{directives_table, items_table};
 
 use byte_words::first_named;
 use lc_base::Item;
@@ -26,66 +26,6 @@ pub enum Directive {
     Round,
 }
 
-/// What is read.
-#[derive(Clone, Copy, PartialEq, Eq)]
-pub enum Question {
-    /// nl_langinfo.
-    Info,
-    /// localeconv.
-    Conv,
-    /// iswctype.
-    Class,
-    /// towupper.
-    Upper,
-    /// towlower.
-    Lower,
-    /// strfmon.
-    Money,
-    /// strftime.
-    Time,
-    /// printf's whole numbers.
-    Number,
-    /// strptime.
-    Parse,
-}
-
-/// What a command does.
-#[derive(Clone, Copy, PartialEq, Eq)]
-pub enum Verb {
-    /// newlocale.
-    New,
-    /// duplocale.
-    Dup,
-    /// freelocale.
-    Free,
-    /// uselocale.
-    Use,
-    /// A pin of the thread's own is taken.
-    Hold,
-    /// A pin of the thread's own is given back.
-    Release,
-    /// setlocale.
-    Setlocale,
-    /// A later version of a locale is installed.
-    Install,
-    /// A handle is put into a cell of the thread.
-    Post,
-    /// A handle is taken from a cell of a thread.
-    Fetch,
-    /// The pins of an object are counted.
-    Pins,
-    /// The thread's own object, or the global locale, is read.
-    Read(Question),
-    /// The object of a handle is read.
-    ReadOf(Question),
-    /// catopen.
-    CatOpen,
-    /// catgets.
-    CatGets,
-    /// catclose.
-    CatClose,
-}
-
 const DIRECTIVES: [(&[u8], Directive); 7] = [
     (b".charmap", Directive::Charmap),
     (b".locale", Directive::Locale),
@@ -94,41 +34,6 @@ const DIRECTIVES: [(&[u8], Directive); 7] = [
     (b".native", Directive::Native),
     (b".thread", Directive::Thread),
     (b".round", Directive::Round),
-];
-
-/// The commands.
-const COMMANDS: [(&[u8], Verb); 31] = [
-    (b"new", Verb::New),
-    (b"dup", Verb::Dup),
-    (b"free", Verb::Free),
-    (b"use", Verb::Use),
-    (b"hold", Verb::Hold),
-    (b"release", Verb::Release),
-    (b"setlocale", Verb::Setlocale),
-    (b"install", Verb::Install),
-    (b"post", Verb::Post),
-    (b"fetch", Verb::Fetch),
-    (b"pins", Verb::Pins),
-    (b"info", Verb::Read(Question::Info)),
-    (b"info_l", Verb::ReadOf(Question::Info)),
-    (b"conv", Verb::Read(Question::Conv)),
-    (b"class", Verb::Read(Question::Class)),
-    (b"class_l", Verb::ReadOf(Question::Class)),
-    (b"upper", Verb::Read(Question::Upper)),
-    (b"lower", Verb::Read(Question::Lower)),
-    (b"upper_l", Verb::ReadOf(Question::Upper)),
-    (b"lower_l", Verb::ReadOf(Question::Lower)),
-    (b"money", Verb::Read(Question::Money)),
-    (b"money_l", Verb::ReadOf(Question::Money)),
-    (b"time", Verb::Read(Question::Time)),
-    (b"time_l", Verb::ReadOf(Question::Time)),
-    (b"number", Verb::Read(Question::Number)),
-    (b"number_l", Verb::ReadOf(Question::Number)),
-    (b"parse", Verb::Read(Question::Parse)),
-    (b"parse_l", Verb::ReadOf(Question::Parse)),
-    (b"catopen", Verb::CatOpen),
-    (b"catgets", Verb::CatGets),
-    (b"catclose", Verb::CatClose),
 ];
 
 /// The items of nl_langinfo.
@@ -196,14 +101,6 @@ pub fn directive_named(word: &[u8]) -> Option<Directive>
     ensures { result ≡ first_named directives_table word.now }
 {
     first_named(&DIRECTIVES, word)
-}
-
-/// The command of a word.
-#[tactic(auto, unfolding(crate::specs::Tables::commands_table))]
-pub fn command_named(word: &[u8]) -> Option<Verb>
-    ensures { result ≡ first_named commands_table word.now }
-{
-    first_named(&COMMANDS, word)
 }
 
 /// The item of a word.
