@@ -1,4 +1,4 @@
-pub mod Alone
+pub mod AloneLemmas
 pub mod AnsweredApart
 pub mod CatalogLines
 pub mod Examples

@@ -25,7 +25,7 @@ use Rattle.script_lines.specs.Thread.{BindsAs}
 use Rattle.script_lines.specs.Board.{Left, LeavesTurn, turn_caller}
 use Rattle.script_serial.specs.Alone.{AloneSideData, Knows, AloneData}
 use Rattle.script_serial.specs.Session.{ThreadData, Follows, IsAt, CatalogsAreAt, ops_answered, IsWith, AreAt, IsReady, GoesOn, IsNumberedThread, AreNumbered, CanPlay}
-use Rattle.script_serial.proofs.Alone.{alone, alone_catalogs}
+use Rattle.script_serial.proofs.AloneLemmas.{alone, alone_catalogs}
 use Rattle.script_serial.proofs.OutcomeLemmas.{granted_thread, one_more_line, no_line_more, knows_granted}
 
 -- ---- what variables stand for
