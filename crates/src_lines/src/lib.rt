@@ -26,4 +26,4 @@ pub use lines::{Lines, split, split_front};
 pub use pieces::{PieceRef, Pieces, Walk};
 pub use signs::{Kind, Signs};
 pub use spelling::have_spellings;
-pub use words::{Word, closes, next_word};
+pub use words::{Word, next_word};
