@@ -203,7 +203,20 @@ def main(work, program=None):
     shutil.copytree(f"{HERE}/files", f"{work}/files")
     with open(f"{work}/files/large", "wb") as it:
         it.write(b"%" * 20_000_000)
+    # sources that each copy the next one
+    for number in range(65):
+        copies = f'copy "chain_{number + 1}"' if number < 64 else ""
+        with open(f"{work}/files/chain_{number}", "wb") as it:
+            it.write(lines(["LC_TIME", copies, "END LC_TIME"]))
     cases.append(Case("large_file", 1, ["money", "-l", "files/large", "%n", "1"], ["locale_tool: files/large: it has more than 16777216 bytes"]))
+    too_long = [
+        "files/chain_63:2:6: OverLimit locales: a bundle has at most 64 locales",
+        'copy "chain_64"',
+        "     ^",
+        "hint: copies are followed up to 64 files",
+    ]
+    cases.append(Case("chain_of_files", 0, ["check", "files/chain_1", "--path", "files"]))
+    cases.append(Case("too_long_chain_of_files", 1, ["check", "files/chain_0", "--path", "files"], too_long))
     count, wrong = len(cases), []
     if program:
         wrong, more = run_streams(program, work)

@@ -1,4 +1,5 @@
-pub mod SectionLemmas
+pub mod LookLemmas
+pub mod CopiedLemmas
 pub mod FoundLemmas
 pub mod SummaryLemmas
 pub mod CheckedLemmas

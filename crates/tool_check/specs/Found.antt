@@ -1,30 +1,35 @@
 -- The faults that are told of a source (our own).
-use Rattle.std.specs.Prelude.{◌≡◌, ℕ, ◌+◌, ◌≤◌, ◌==◌, Bool, true, not, ◌&&◌, List, [], ◌∷◌, ◌++◌, length, Option, Some, None, if◌then◌else◌}
-use Rattle.std.specs.List.{list_any}
-use Rattle.tool_check.specs.declared.sections.TheConstants.{SECTIONS_MOST}
-use Rattle.tool_check.specs.declared.faults.Fault.{Fault}
+use Rattle.std.specs.Prelude.{◌≡◌, ℕ, ◌+◌, ◌≤◌, ◌==◌, nat_lt, Bool, true, ◌&&◌, List, [], ◌∷◌, ◌++◌, length, Option, Some, None, if◌then◌else◌}
+use Rattle.std.specs.List.{list_any, list_all, insert, position_or_len}
+use Rattle.tool_check.specs.declared.looks.TheConstants.{LOOK_COUNT}
+use Rattle.tool_check.specs.declared.found.Fault.{Fault}
 
 -- whether a fault stands on this line
 abbrev pub has_line : ℕ → List Fault → Bool
 has_line line faults = list_any (λ (f : Fault). f.place.line == line) faults
 
--- one more fault, if there is one and it stands on a line of its own
+-- where the first fault on a later line stands, or the end
+abbrev pub place_of : ℕ → List Fault → ℕ
+place_of line faults = position_or_len (λ (f : Fault). nat_lt line f.place.line) faults
+
+-- one more fault before the first one on a later line, if there is one and it stands on a line of its own
 abbrev pub with_fault : List Fault → Option Fault → List Fault
 with_fault faults None = faults
-with_fault faults (Some fault) = if has_line fault.place.line faults then faults else faults ++ fault ∷ []
+with_fault faults (Some fault) = if has_line fault.place.line faults then faults else insert faults (place_of fault.place.line faults) fault
 
--- whether no two faults stand on one line
-abbrev pub are_apart : List Fault → Bool
-are_apart [] = true
-are_apart (fault ∷ faults) = not (has_line fault.place.line faults) && are_apart faults
+-- whether each fault stands on an earlier line than those behind it
+abbrev pub are_ordered : List Fault → Bool
+are_ordered [] = true
+are_ordered (fault ∷ faults) = list_all (λ (f : Fault). nat_lt fault.place.line f.place.line) faults && are_ordered faults
 
--- the faults of a source: this one first, no two on one line, and at most so many
+-- the faults of a source: this one among them, each on an earlier line than those behind it, and at most so many
 pub record AreTold (first : Fault) (most : ℕ) (faults : List Fault) : Type 0 where
-  pub others : List Fault
-  pub first_is : faults ≡ first ∷ others
-  pub apart : are_apart faults ≡ true
+  pub before : List Fault
+  pub behind : List Fault
+  pub first_is : faults ≡ before ++ first ∷ behind
+  pub ordered : are_ordered faults ≡ true
   pub few : length faults ≤ most
 
--- the faults that are told: the first one, and behind it at most one for each section that is looked at
+-- the faults that are told: the first one that is found, and beside it at most one for each look
 abbrev pub AreAllTold : Fault → List Fault → Type 0
-AreAllTold first faults = AreTold first (SECTIONS_MOST + 1) faults
+AreAllTold first faults = AreTold first (LOOK_COUNT + 1) faults

@@ -1,5 +1,5 @@
-pub mod Sections
 pub mod Texts
+pub mod Looks
 pub mod Found
 pub mod Summary
 pub mod Checked

@@ -1,5 +1,5 @@
 -- What accepted files have, as a table (our own).
-use Rattle.std.specs.Prelude.{ℕ, ◌+◌, ◌^◌, Bool, false, ◌&&◌, List, [], ◌∷◌, ◌++◌, length, drop, codes, zero, suc, unwrap_or, if◌then◌else◌}
+use Rattle.std.specs.Prelude.{ℕ, ◌+◌, ◌^◌, ◌==◌, Bool, false, ◌&&◌, List, [], ◌∷◌, ◌++◌, length, drop, codes, zero, suc, unwrap_or, if◌then◌else◌}
 use Rattle.std.specs.List.{flat_map}
 use Rattle.std.specs.Borrow.{Bor}
 use Rattle.std.specs.Fmt.{decimal}
@@ -18,10 +18,14 @@ row name value = name ++ drop (length name) (codes "               ") ++ value +
 abbrev pub accepted_line : List ℕ → List ℕ
 accepted_line path = path ++ codes ": accepted" ++ 10 ∷ []
 
+-- so many keywords
+abbrev pub keyword_count : ℕ → List ℕ
+keyword_count n = decimal n ++ (if n == 1 then codes " keyword" else codes " keywords")
+
 -- what a section says: the locale that it copies, or the number of its keywords
 abbrev pub body_text : Body → List ℕ
 body_text (Copy place name) = codes "copy of " ++ name
-body_text (Entries entries) = decimal (length entries) ++ codes " keywords"
+body_text (Entries entries) = keyword_count (length entries)
 
 abbrev pub section_row : Section → List ℕ
 section_row s = row (category_name s.category) (body_text s.body)

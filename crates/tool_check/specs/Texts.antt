@@ -1,11 +1,15 @@
--- Which text is a charmap (our own).
-use Rattle.std.specs.Prelude.{ℕ, ◌==◌, Bool, false, not, ◌||◌, List, drop, codes, Option, Some, None}
+-- Words of a line, and which text is a charmap (our own).
+use Rattle.std.specs.Prelude.{ℕ, ◌==◌, Bool, false, not, ◌||◌, List, [], ◌∷◌, drop, codes, Option, Some, None, unwrap_or, if◌then◌else◌}
 use Rattle.std.specs.List.{list_any, list_all, position_or_len}
-use Rattle.lc_base.specs.Lines.{lines_of, after}
+use Rattle.lc_base.specs.Lines.{lines_of, after, ◌>>=◌}
 
 -- a space, a tab, or the CR of a line that ends in CR LF
 abbrev pub is_blank : ℕ → Bool
 is_blank c = (c == 32) || (c == 9) || (c == 13)
+
+-- a space or a tab
+abbrev pub is_space : ℕ → Bool
+is_space c = (c == 32) || (c == 9)
 
 -- what stands behind the blanks with which a line begins
 abbrev pub from_word : List ℕ → List ℕ
@@ -16,10 +20,23 @@ abbrev pub is_only_blank : Option (List ℕ) → Bool
 is_only_blank None = false
 is_only_blank (Some rest) = list_all is_blank rest
 
--- a line with the one word `CHARMAP`
-abbrev pub is_charmap_line : List ℕ → Bool
-is_charmap_line line = is_only_blank (after (codes "CHARMAP") (from_word line))
+-- a line with just this word
+abbrev pub is_alone : List ℕ → List ℕ → Bool
+is_alone word line = is_only_blank (after word (from_word line))
 
--- whether a text is a charmap: it has such a line
+-- what stands behind a blank
+abbrev pub behind_blank : List ℕ → Option (List ℕ)
+behind_blank [] = None
+behind_blank (c ∷ rest) = if is_blank c then Some rest else None
+
+-- what stands behind this word and a blank in a line that begins with them
+abbrev pub operand : List ℕ → List ℕ → Option (List ℕ)
+operand word line = after word (from_word line) >>= behind_blank
+
+-- a line without the byte order mark, U+FEFF in UTF-8, with which it begins
+abbrev pub from_mark : List ℕ → List ℕ
+from_mark line = unwrap_or (after (239 ∷ 187 ∷ 191 ∷ []) line) line
+
+-- whether a text is a charmap: it has a line with the one word `CHARMAP`
 abbrev pub is_charmap : List ℕ → Bool
-is_charmap text = list_any is_charmap_line (lines_of text)
+is_charmap text = list_any (is_alone (codes "CHARMAP")) (lines_of text)

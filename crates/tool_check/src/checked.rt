@@ -6,7 +6,8 @@ ghost use Rattle.tool_check.specs.Checked.{BeginsWith, IsSummary, IsChecked, IsW
 ghost use Rattle.tool_check.specs.Summary.{accepted_line, charmap_summary};
 
 use crate::declared::{accepted_sections, declared_classes};
-use crate::faults::{Fault, faults_of};
+use crate::faults::faults_of;
+use crate::found::Fault;
 use crate::summary::{push_charmap, push_locale};
 use crate::texts::is_charmap;
 use category_store::{Library, Share};
@@ -234,7 +235,20 @@ fn summary_in(
 
 /// The messages of the faults of a source.
 fn fault_messages(alloc: Global, sources: &Sources, first: Fault) -> Result<ByteText, Problem> {
-    let faults = faults_of(alloc, sources, first)?;
+    match charset_of(alloc, sources) {
+        Ok(charset) => messages_in(alloc, sources, &charset, first),
+        Err(fault) => Err(fault_problem(alloc, sources, fault)),
+    }
+}
+
+/// The same, in the charset of the source.
+fn messages_in(
+    alloc: Global,
+    sources: &Sources,
+    charset: &Charset,
+    first: Fault,
+) -> Result<ByteText, Problem> {
+    let faults = faults_of(alloc, sources, charset, first)?;
     Ok(messages_of(alloc, sources, faults.as_slice())?)
 }
 

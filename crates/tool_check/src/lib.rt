@@ -2,9 +2,11 @@
 #![tactic(auto)]
 
 mod checked;
+mod copied;
 mod declared;
 mod faults;
-mod sections;
+mod found;
+mod looks;
 mod summary;
 mod texts;
 

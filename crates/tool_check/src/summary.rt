@@ -4,7 +4,7 @@ ghost use Rattle.std.specs.Prelude.{◌≡◌, ◌+◌, ◌≤◌, ◌^◌, ◌+
 ghost use Rattle.std.specs.List.{flat_map};
 ghost use Rattle.std.specs.Fmt.{decimal};
 ghost use Rattle.charmap_reader.specs.CodedSet.{set_name};
-ghost use Rattle.tool_check.specs.Summary.{row, accepted_line, body_text, section_row, count_below, is_numbered, numbered_count, class_count, class_row, standard_classes, charmap_summary, locale_summary, name_seen};
+ghost use Rattle.tool_check.specs.Summary.{row, accepted_line, keyword_count, body_text, section_row, count_below, is_numbered, numbered_count, class_count, class_row, standard_classes, charmap_summary, locale_summary, name_seen};
 
 use charmap_reader::Charset;
 use ctype_classes::Ctype;
@@ -96,10 +96,19 @@ fn push_body(output: &mut Vec<u8>, body: &Body) -> Result<(), AllocError>
             output.extend_from_slice(b"copy of ")?;
             output.extend_from_slice(name.as_bytes())
         }
-        Body::Entries(entries) => {
-            push_number(output, entries.len() as u64)?;
-            output.extend_from_slice(b" keywords")
-        }
+        Body::Entries(entries) => push_keyword_count(output, entries.len() as u64),
+    }
+}
+
+/// Adds so many keywords.
+fn push_keyword_count(output: &mut Vec<u8>, count: u64) -> Result<(), AllocError>
+    ensures { OnOk result (output.new.items ≡ output.old.items ++ keyword_count count) }
+{
+    push_number(output, count)?;
+    if count == 1 {
+        output.extend_from_slice(b" keyword")
+    } else {
+        output.extend_from_slice(b" keywords")
     }
 }
 

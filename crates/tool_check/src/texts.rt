@@ -1,10 +1,14 @@
-//! Which text is a charmap.
+//! Words of a line, and which text is a charmap.
 
 ghost use Rattle.std.specs.Prelude.{◌≡◌, not};
 ghost use Rattle.std.specs.List.{list_all, position_or_len};
-ghost use Rattle.tool_check.specs.Texts.{is_blank, from_word, is_charmap_line, is_charmap};
+ghost use Rattle.std.specs.Option.{option_copied};
+ghost use Rattle.tool_check.specs.Texts.{is_blank, is_space, from_word, is_alone, is_charmap, behind_blank, operand, from_mark};
 
 use lc_base::{after, next_line};
+
+/// What a text begins with that an editor wrote in UTF-8 with a mark.
+const BYTE_ORDER_MARK: &[u8] = b"\xef\xbb\xbf";
 
 /// Whether a text has a line with the one word `CHARMAP`.
 pub fn is_charmap(text: &[u8]) -> bool
@@ -12,7 +16,7 @@ pub fn is_charmap(text: &[u8]) -> bool
 {
     let mut rest = text;
     while let Some((line, following)) = next_line(rest) {
-        if is_charmap_line(line) {
+        if is_alone(b"CHARMAP", line) {
             return true;
         }
         rest = following;
@@ -20,17 +24,35 @@ pub fn is_charmap(text: &[u8]) -> bool
     false
 }
 
-fn is_charmap_line(line: &[u8]) -> bool
-    ensures { result ≡ is_charmap_line line.now }
+/// Whether a line has just this word.
+pub fn is_alone(word: &[u8], line: &[u8]) -> bool
+    ensures { result ≡ is_alone word.now line.now }
 {
-    match after(b"CHARMAP", from_word(line)) {
+    match after(word, from_word(line)) {
         Some(rest) => are_blank(rest),
         None => false,
     }
 }
 
+/// What stands behind this word and a blank in a line that begins with them.
+pub fn operand<'a>(word: &[u8], line: &'a [u8]) -> Option<&'a [u8]>
+    ensures { option_copied result ≡ operand word.now line.now }
+{
+    behind_blank(after(word, from_word(line))?)
+}
+
+/// What stands behind a blank.
+fn behind_blank(text: &[u8]) -> Option<&[u8]>
+    ensures { option_copied result ≡ behind_blank text.now }
+{
+    match text {
+        [first, rest @ ..] if is_blank(*first) => Some(rest),
+        _ => None,
+    }
+}
+
 /// What stands behind the blanks with which a line begins.
-fn from_word(line: &[u8]) -> &[u8]
+pub fn from_word(line: &[u8]) -> &[u8]
     ensures { result.now ≡ from_word line.now }
 {
     let mut rest = line;
@@ -41,6 +63,16 @@ fn from_word(line: &[u8]) -> &[u8]
         rest = others;
     }
     rest
+}
+
+/// A line without the byte order mark with which it begins.
+pub fn from_mark(line: &[u8]) -> &[u8]
+    ensures { result.now ≡ from_mark line.now }
+{
+    match after(BYTE_ORDER_MARK, line) {
+        Some(rest) => rest,
+        None => line,
+    }
 }
 
 /// Whether bytes are all blanks.
@@ -59,4 +91,22 @@ fn is_blank(byte: u8) -> bool
     ensures { result ≡ is_blank byte }
 {
     byte == b' ' || byte == b'\t' || byte == b'\r'
+}
+
+/// Whether bytes are all spaces and tabs.
+pub fn are_spaces(bytes: &[u8]) -> bool
+    ensures { result ≡ list_all is_space bytes.now }
+{
+    for byte in bytes {
+        if !is_space(*byte) {
+            return false;
+        }
+    }
+    true
+}
+
+fn is_space(byte: u8) -> bool
+    ensures { result ≡ is_space byte }
+{
+    byte == b' ' || byte == b'\t'
 }

@@ -1,20 +1,46 @@
 //! Hints that go by the reason of a fault, and by its line.
 
-use lc_base::Reason;
+use crate::format::word_at;
+use lc_base::{Limit, Reason};
 use std::alloc::AllocError;
 use tool_explain::{push_wanted, wanted_of};
 
-/// Adds what the keyword of a line takes, where an operand is wrong, and how a copied locale is found.
+/// Adds what the keyword of a line takes, where an operand is wrong.
 pub fn push_hint_of(out: &mut Vec<u8>, reason: Reason, line: &[u8]) -> Result<(), AllocError> {
     match reason {
         Reason::WrongOperand | Reason::BadNumber | Reason::WrongCount => {
-            push_hint_of_keyword(out, first_word(line))
+            push_hint_of_keyword(out, word_at(line, 0))
         }
-        Reason::CopyMissing => out.extend_from_slice(
-            b"hint: `--path DIR` names a folder with the file of the locale that is copied\n",
-        ),
         _ => Ok(()),
     }
+}
+
+/// Adds how a copied locale is found, where it is not; where it is, its file is given, which lacks the
+/// category.
+pub fn push_hint_of_copy(
+    out: &mut Vec<u8>,
+    reason: Reason,
+    file: Option<&[u8]>,
+) -> Result<(), AllocError> {
+    match reason {
+        Reason::CopyMissing => match file {
+            Some(path) => push_hint_of_category(out, path),
+            None => out.extend_from_slice(
+                b"hint: `--path DIR` names a folder with the file of the locale that is copied\n",
+            ),
+        },
+        Reason::OverLimit(Limit::Locales) => {
+            out.extend_from_slice(b"hint: copies are followed up to 64 files\n")
+        }
+        _ => Ok(()),
+    }
+}
+
+/// Adds that a file lacks the category.
+fn push_hint_of_category(out: &mut Vec<u8>, path: &[u8]) -> Result<(), AllocError> {
+    out.extend_from_slice(b"hint: ")?;
+    out.extend_from_slice(path)?;
+    out.extend_from_slice(b" is there, and has no section of this category\n")
 }
 
 /// Adds a hint where a line is no UTF-8 text.
@@ -39,18 +65,4 @@ fn push_hint_of_keyword(out: &mut Vec<u8>, keyword: &[u8]) -> Result<(), AllocEr
         }
         None => Ok(()),
     }
-}
-
-/// The first word of a line; empty where there is none.
-fn first_word(line: &[u8]) -> &[u8] {
-    for word in line.split(|byte| is_blank(*byte)) {
-        if !word.is_empty() {
-            return word;
-        }
-    }
-    b""
-}
-
-fn is_blank(byte: u8) -> bool {
-    byte == b' ' || byte == b'\t' || byte == b'\r'
 }

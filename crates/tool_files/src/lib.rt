@@ -4,6 +4,7 @@
 mod compiled;
 mod copies;
 mod files;
+mod format;
 mod hints;
 mod loading;
 mod shown;
@@ -11,6 +12,7 @@ mod sized;
 mod sources;
 
 pub use compiled::{charset_of, library_of, sections_in, sections_of, sized_library};
+pub use copies::{CopiedName, copied_names};
 pub use files::{FILE_LIMIT, file_text};
 pub use loading::{Wanted, load, load_with};
 pub use shown::{fault_message, fault_problem, text_problem};

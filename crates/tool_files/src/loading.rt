@@ -1,12 +1,12 @@
 //! The files that a command reads.
 
 use crate::compiled::charset_of;
-use crate::copies::copied_names;
+use crate::copies::{CopiedName, copied_names};
 use crate::files::file_text;
 use crate::shown::fault_problem;
 use crate::sources::Sources;
 use charmap_reader::Charset;
-use lc_base::{Block, ByteText};
+use lc_base::{Block, ByteText, Limit, Reason, TextFault};
 use locale_sources::is_posix;
 use std::alloc::{AllocError, Global};
 use std::fs;
@@ -135,7 +135,7 @@ fn names_at(
     locales: &[Block],
     number: usize,
     charset: &Charset,
-) -> Result<Vec<ByteText>, AllocError> {
+) -> Result<Vec<CopiedName>, AllocError> {
     match locales.get(number) {
         Some(block) => copied_names(alloc, block, charset),
         None => Ok(Vec::new(alloc)),
@@ -147,12 +147,12 @@ fn add_named<R: Files>(
     rt: &R,
     alloc: Global,
     folders: &[&str],
-    names: &[ByteText],
+    names: &[CopiedName],
     sources: &mut Sources,
 ) -> Result<(), Problem> {
-    for name in names {
-        if !is_there(sources.locales.as_slice(), name.as_bytes()) {
-            add_found(rt, alloc, folders, name.as_bytes(), sources)?;
+    for copied in names {
+        if !is_there(sources.locales.as_slice(), copied.name.as_bytes()) {
+            add_found(rt, alloc, folders, copied, sources)?;
         }
     }
     Ok(())
@@ -160,7 +160,7 @@ fn add_named<R: Files>(
 
 /// Whether a name needs no file.
 fn is_there(locales: &[Block], name: &[u8]) -> bool {
-    is_posix(name) || locales.len() >= FILES_MOST || has_name(locales, name)
+    is_posix(name) || has_name(locales, name)
 }
 
 fn has_name(locales: &[Block], name: &[u8]) -> bool {
@@ -177,16 +177,31 @@ fn add_found<R: Files>(
     rt: &R,
     alloc: Global,
     folders: &[&str],
-    name: &[u8],
+    copied: &CopiedName,
     sources: &mut Sources,
 ) -> Result<(), Problem> {
     for folder in folders {
-        let path = path_in(alloc, folder, name)?;
+        let path = path_in(alloc, folder, copied.name.as_bytes())?;
         if is_file(rt, path.as_str()) {
-            return add_file(rt, alloc, path.as_str(), sources);
+            return add_next(rt, alloc, path.as_str(), copied, sources);
         }
     }
     Ok(())
+}
+
+/// Adds the file of a locale that is copied, unless it is one too many.
+fn add_next<R: Files>(
+    rt: &R,
+    alloc: Global,
+    path: &str,
+    copied: &CopiedName,
+    sources: &mut Sources,
+) -> Result<(), Problem> {
+    if sources.locales.len() >= FILES_MOST {
+        let fault = TextFault::At(copied.place, Reason::OverLimit(Limit::Locales));
+        return Err(fault_problem(alloc, sources, fault));
+    }
+    add_file(rt, alloc, path, sources)
 }
 
 fn is_file<R: Files>(rt: &R, path: &str) -> bool {

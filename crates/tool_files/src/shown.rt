@@ -2,8 +2,12 @@
 
 ghost use Rattle.tool_files.specs.Told.{IsTold};
 
-use crate::hints::{push_hint_of, push_hint_of_bytes};
+use crate::compiled::charset_of;
+use crate::copies::name_at;
+use crate::format::{byte_place, from_place};
+use crate::hints::{push_hint_of, push_hint_of_bytes, push_hint_of_copy};
 use crate::sources::{FilePath, Sources};
+use charmap_reader::Charset;
 use lc_base::{Block, ByteText, Place, Reason, TextFault};
 use script_out::push_refusal;
 use std::alloc::{AllocError, Global};
@@ -32,15 +36,40 @@ pub fn fault_message(
 ) -> Result<ByteText, AllocError> {
     let mut message = Vec::new(alloc);
     let file = file_of(&sources.paths, place.line);
-    push_fault_of(
-        alloc,
-        &mut message,
-        file,
-        text_of(sources, file),
-        place,
-        reason,
-    )?;
+    let text = text_of(sources, file);
+    let charset = charset_for(alloc, sources, reason);
+    let spot = shown_place(text, charset.as_ref(), place_in(file, place), reason);
+    let source = line_of(text, spot.line);
+    push_fault_of(alloc, &mut message, file.path, spot, source, reason)?;
+    push_hint_of_copy(&mut message, reason, copied_path(sources, text, spot))?;
+    if sources.charmaps.is_empty() {
+        push_hint_of_bytes(&mut message, source)?;
+    }
+    push_hints(&mut message, text, source)?;
     Ok(ByteText::from_vec(message))
+}
+
+/// The charset that tells where a fault is shown, if that is asked for.
+fn charset_for(alloc: Global, sources: &Sources, reason: Reason) -> Option<Charset> {
+    match reason {
+        Reason::BadFormat(_) => charset_of(alloc, sources).ok(),
+        _ => None,
+    }
+}
+
+/// The file of the locale whose name stands at a place.
+fn copied_path<'a>(sources: &'a Sources, text: &[u8], place: Place) -> Option<&'a [u8]> {
+    let block = block_named(sources.locales.as_slice(), name_at(from_place(text, place)))?;
+    Some(file_of(&sources.paths, block.first_line).path)
+}
+
+fn block_named<'a>(blocks: &'a [Block], name: &[u8]) -> Option<&'a Block> {
+    for block in blocks {
+        if block.name.as_bytes() == name {
+            return Some(block);
+        }
+    }
+    None
 }
 
 /// The problem of a fault in a text that a file has by itself.
@@ -64,11 +93,11 @@ fn text_message(
     reason: Reason,
 ) -> Result<ByteText, AllocError> {
     let mut message = Vec::new(alloc);
-    let file = Found {
-        path: path.as_bytes(),
-        first_line: 1,
-    };
-    push_fault_of(alloc, &mut message, file, text, place, reason)?;
+    let spot = shown_place(text, None, place, reason);
+    let source = line_of(text, spot.line);
+    push_fault_of(alloc, &mut message, path.as_bytes(), spot, source, reason)?;
+    push_hint_of_bytes(&mut message, source)?;
+    push_hints(&mut message, text, source)?;
     Ok(ByteText::from_vec(message))
 }
 
@@ -116,29 +145,41 @@ fn text_in(blocks: &[Block], first_line: u32) -> Option<&[u8]> {
     None
 }
 
-/// Adds the message of a fault in a file.
+/// A place by the lines of its file.
+fn place_in(file: Found<'_>, place: Place) -> Place {
+    Place {
+        line: place.line.saturating_sub(file.first_line).saturating_add(1),
+        column: place.column,
+    }
+}
+
+/// Where a fault is shown: that of a format at the byte that it tells of.
+fn shown_place(text: &[u8], charset: Option<&Charset>, place: Place, reason: Reason) -> Place {
+    match reason {
+        Reason::BadFormat(number) => byte_place(text, charset, place, number),
+        _ => place,
+    }
+}
+
+/// Adds the message of a fault in a line of a file, and what its keyword takes.
 fn push_fault_of(
     alloc: Global,
     message: &mut Vec<u8>,
-    file: Found<'_>,
-    text: &[u8],
+    path: &[u8],
     place: Place,
+    source: &[u8],
     reason: Reason,
 ) -> Result<(), AllocError> {
-    let line = place.line.saturating_sub(file.first_line).saturating_add(1);
-    let source = line_of(text, line);
     let spot = Spot {
-        file: file.path,
-        line,
+        file: path,
+        line: place.line,
         column: place.column,
         source,
     };
     let words = reason_words(alloc, reason)?;
     let rule = rule_of(name_of(reason));
     push_fault(message, &spot, words.as_bytes(), rule.as_bytes())?;
-    push_hint_of(message, reason, source)?;
-    push_hint_of_bytes(message, source)?;
-    push_hints(message, text, source)
+    push_hint_of(message, reason, source)
 }
 
 /// A reason with what it names.

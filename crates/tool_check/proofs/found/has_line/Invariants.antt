@@ -1,6 +1,6 @@
 use Rattle.std.proofs.Common.{◌≡◌, drop}
 use Rattle.tool_check.specs.Found.{has_line}
-use Rattle.tool_check.proofs.faults.has_line.Given as goal
+use Rattle.tool_check.proofs.found.has_line.Given as goal
 
 -- no fault so far stands there
 abbrev pub invariant-loop-fault : goal.invariant-loop-fault
