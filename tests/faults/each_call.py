@@ -1,6 +1,7 @@
 #!/usr/bin/env python3
 """Runs a built program of locales over one bundle, each time with one of its calls failing: an allocation,
 the start of a thread, a read of standard input, a write to standard output; and over fronts of the bundle.
+It also counts the threads that are started.
 
     each_call.py PROGRAM BUNDLE OUTPUT
 
@@ -155,6 +156,22 @@ def writes(program, mode, text, wanted):
         for n in range(1, count + 1)]
 
 
+def begun_beside(program):
+    """The threads of a script run beside each other: each round starts one for each, or one fewer where the
+    caller is one of them. `serial` starts none, and `make` runs its script as `run` does."""
+    rounds, count = 5, 16
+    script = "".join(
+        ".round\n" * (made > 0) + "".join(f".thread T{number}\nuse ?\n" for number in range(count))
+        for made in range(rounds)).encode()
+    def tried(mode, least, most):
+        started = program.reached("FAULTS_THREAD", mode, script)
+        return None if least <= started <= most else f"{mode}: {started} threads, and not {least} to {most}"
+    return [
+        lambda: tried("run", rounds * (count - 1), rounds * count),
+        lambda: tried("serial", 0, 0),
+        lambda: tried("make seed=0 commands=4", 3, 4)]
+
+
 def no_more_reads(program, size, other):
     """A longer input is read no further than one byte past the limit."""
     def tried():
@@ -182,6 +199,7 @@ def main():
                 row(program, mode, bundle, is_front(0, outputs), nothing=1)])
             check(f"single_bytes_of_{mode}", [
                 row(program, mode, bundle, is_just(DONE, outputs), read_step=1, write_step=1)])
+        check("threads_begun_beside", begun_beside(program))
         check("threads_that_do_not_start", threads(program, "run", bundle, wanted["run"]))
         check("failing_writes_of_a_refusal", writes(
             program, "check", b".end\n", [b"refused: 1:1 BadLine directive\n"]))

@@ -5,7 +5,8 @@ use Rattle.std.proofs.lemmas.List.{length-set}
 use Rattle.std.specs.Prelude.{if◌then◌else◌}
 use Rattle.catalog_table.specs.declared.handle.CatalogHandle.{CatalogHandle}
 use Rattle.catalog_table.specs.declared.setting.CatalogSetting.{CatalogSetting}
-use Rattle.catalog_table.specs.Entry.{Op, Open, Get, Close, NeverMade, Stale, Reply, Opened, Book, Closed, Refused, Entry, History, same_handle, is_accepted}
+use Rattle.catalog_table.specs.declared.op.CatalogRefusal.TheVariants.{NeverMade, Stale}
+use Rattle.catalog_table.specs.Entry.{Op, Open, Get, Close, Reply, Opened, Book, Closed, Refused, Entry, History, same_handle, is_accepted}
 use Rattle.catalog_table.specs.History.{handle_made, is_handle, makes_handle, made, closes_handle, live, book_opened, book, is_in_row, with_handle, handles, makes, free_row}
 use Rattle.catalog_table.specs.Answer.{against, unless, opened_in, entry}
 use Rattle.catalog_table.specs.Rows.{RowData, RowsData, place, row_at, with_row, is_inside, is_newest, closed, opened, after_open, after_close}

@@ -4,7 +4,8 @@ use Rattle.std.proofs.lemmas.Bool.{and_right, cases_Bool, false_from_ne_true, fa
 use Rattle.std.specs.Prelude.{if◌then◌else◌, nat_lt}
 use Rattle.catalog_table.specs.declared.handle.CatalogHandle.{CatalogHandle}
 use Rattle.catalog_table.specs.declared.setting.CatalogSetting.{CatalogSetting}
-use Rattle.catalog_table.specs.Entry.{Op, Open, Get, Close, Opened, Book, Closed, NeverMade, Stale, Entry, History, same_handle, named_by, is_accepted}
+use Rattle.catalog_table.specs.declared.op.CatalogRefusal.TheVariants.{NeverMade, Stale}
+use Rattle.catalog_table.specs.Entry.{Op, Open, Get, Close, Opened, Book, Closed, Entry, History, same_handle, named_by, is_accepted}
 use Rattle.catalog_table.specs.History.{handle_made, makes_handle, made, op_closes, closes_handle, live, book_opened, book, is_in_row, with_handle, handles, makes, is_free, free_row}
 use Rattle.catalog_table.specs.Answer.{against, unless, opened_in, answer, entry, IsLegal}
 use Rattle.catalog_table.specs.Isolation.{has_thread, is_owned, is_own, keeps_apart, IsClosed, part_of}

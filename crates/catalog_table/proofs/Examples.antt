@@ -2,7 +2,8 @@
 use Rattle.std.proofs.Common.{◌≡◌, ℕ, true, false, List, [], ◌∷◌, None, Some, refl}
 use Rattle.catalog_table.specs.declared.handle.CatalogHandle.{CatalogHandle}
 use Rattle.catalog_table.specs.declared.setting.CatalogSetting.{CatalogSetting}
-use Rattle.catalog_table.specs.Entry.{Op, Open, Get, Close, NeverMade, Stale, TooMany, Reply, Opened, Book, Closed, Refused, History}
+use Rattle.catalog_table.specs.declared.op.CatalogRefusal.TheVariants.{NeverMade, Stale, TooMany}
+use Rattle.catalog_table.specs.Entry.{Op, Open, Get, Close, Reply, Opened, Book, Closed, Refused, History}
 use Rattle.catalog_table.specs.History.{book, free_row}
 use Rattle.catalog_table.specs.Answer.{answer, entry}
 use Rattle.catalog_table.specs.Causes.{IsOfUnmade, IsOfClosed, IsWithoutRow}

@@ -6,7 +6,9 @@ use Rattle.std.specs.Prelude.{if◌then◌else◌, nat_lt}
 use Rattle.std.specs.List.{list_any}
 use Rattle.catalog_table.specs.declared.handle.CatalogHandle.{CatalogHandle}
 use Rattle.catalog_table.specs.declared.setting.CatalogSetting.{CatalogSetting}
-use Rattle.catalog_table.specs.Entry.{Op, Open, Get, Close, Refusal, NeverMade, Stale, TooMany, Reply, Book, Closed, Refused, Entry, History, is_accepted}
+use Rattle.catalog_table.specs.declared.op.CatalogRefusal.{CatalogRefusal}
+use Rattle.catalog_table.specs.declared.op.CatalogRefusal.TheVariants.{NeverMade, Stale, TooMany}
+use Rattle.catalog_table.specs.Entry.{Op, Open, Get, Close, Reply, Book, Closed, Refused, Entry, History, is_accepted}
 use Rattle.catalog_table.specs.History.{makes_handle, made, op_closes, live, book, handles, is_free, free_row}
 use Rattle.catalog_table.specs.Answer.{unless, opened_in, answer, IsLegal}
 use Rattle.catalog_table.specs.Causes.{IsOfUnmade, IsOfClosed, IsWithoutRow}
@@ -19,7 +21,7 @@ use Rattle.catalog_table.proofs.After.{refused_makes, none_made, handles_kept, m
 -- ---- causes
 
 -- what is against a handle, by whether it was made and is live
-abbrev against_by : Bool → Bool → Option Refusal
+abbrev against_by : Bool → Bool → Option CatalogRefusal
 against_by a b = if a then (if b then None else Some Stale) else Some NeverMade
 
 unmade_by : (a b : Bool) (reply : Reply) → (reply ≡ Refused NeverMade → ⊥) → (unless (against_by a b) reply ≡ Refused NeverMade) ↔ (a ≡ false)

@@ -3,7 +3,9 @@ use Rattle.std.proofs.Common.{◌≡◌, ℕ, ◌+◌, Bool, true, false, Option
 use Rattle.std.specs.Prelude.{if◌then◌else◌}
 use Rattle.catalog_table.specs.declared.handle.CatalogHandle.{CatalogHandle}
 use Rattle.catalog_table.specs.declared.setting.CatalogSetting.{CatalogSetting}
-use Rattle.catalog_table.specs.Entry.{Refusal, NeverMade, Stale, Reply, Opened, Book, Closed, Refused, History}
+use Rattle.catalog_table.specs.declared.op.CatalogRefusal.{CatalogRefusal}
+use Rattle.catalog_table.specs.declared.op.CatalogRefusal.TheVariants.{NeverMade, Stale}
+use Rattle.catalog_table.specs.Entry.{Reply, Opened, Book, Closed, Refused, History}
 use Rattle.catalog_table.specs.History.{made, live, book, makes}
 use Rattle.catalog_table.specs.Answer.{against, unless, opened_in}
 use Rattle.catalog_table.specs.Rows.{RowsData, row_at, says_made, says_book}
@@ -13,7 +15,7 @@ use Rattle.catalog_table.proofs.Says.{made_said, book_said}
 use Rattle.catalog_table.proofs.After.{against_live}
 
 -- why a handle that is not live is refused
-abbrev pub reason : Bool → Refusal
+abbrev pub reason : Bool → CatalogRefusal
 reason a = if a then Stale else NeverMade
 
 pub reason_said : (c : CatalogSetting) (H : History) (rows : RowsData) (h : CatalogHandle) (b : Bool) → Keeps c H rows → b ≡ says_made rows h
@@ -45,7 +47,7 @@ get_found c H rows h n k is =
     ap (λ m. Book m) found.1 ∙ ap (λ o. unless o (Book (book H h))) (sym (against_live H h found.0))
 
 -- one without is refused
-pub refused_found : (c : CatalogSetting) (H : History) (rows : RowsData) (h : CatalogHandle) (r : Refusal) (reply : Reply) → Keeps c H rows
+pub refused_found : (c : CatalogSetting) (H : History) (rows : RowsData) (h : CatalogHandle) (r : CatalogRefusal) (reply : Reply) → Keeps c H rows
     → None ≡ says_book rows h → r ≡ reason (made H h) → Refused r ≡ unless (against H h) reply
 refused_found c H rows h r reply k is why =
     let closed = found_none (live H h) (book H h) (is ∙ book_said c H rows h k) in
@@ -68,7 +70,7 @@ close_found c H rows h k is =
     ap (λ o. unless o Closed) (sym (against_live H h found.0))
 
 -- one of another handle is refused
-pub close_refused : (c : CatalogSetting) (H : History) (rows : RowsData) (h : CatalogHandle) (r : Refusal) → Keeps c H rows
+pub close_refused : (c : CatalogSetting) (H : History) (rows : RowsData) (h : CatalogHandle) (r : CatalogRefusal) → Keeps c H rows
     → false ≡ is_some (says_book rows h) → r ≡ reason (made H h) → Refused r ≡ unless (against H h) Closed
 close_refused c H rows h r k is why = refused_found c H rows h r Closed k (none_is (says_book rows h) is) why
 

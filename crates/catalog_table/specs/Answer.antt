@@ -2,15 +2,17 @@
 use Rattle.std.specs.Prelude.{◌≡◌, ℕ, ◌+◌, ◌<◌, if◌then◌else◌, [], ◌∷◌, Option, None, Some}
 use Rattle.catalog_table.specs.declared.handle.CatalogHandle.{CatalogHandle}
 use Rattle.catalog_table.specs.declared.setting.CatalogSetting.{CatalogSetting}
-use Rattle.catalog_table.specs.Entry.{Op, Open, Get, Close, Refusal, NeverMade, Stale, TooMany, Reply, Opened, Book, Closed, Refused, Entry, History}
+use Rattle.catalog_table.specs.declared.op.CatalogRefusal.{CatalogRefusal}
+use Rattle.catalog_table.specs.declared.op.CatalogRefusal.TheVariants.{NeverMade, Stale, TooMany}
+use Rattle.catalog_table.specs.Entry.{Op, Open, Get, Close, Reply, Opened, Book, Closed, Refused, Entry, History}
 use Rattle.catalog_table.specs.History.{made, live, book, makes, free_row}
 
 -- what is against the use of a handle: no entry made it, or it was closed
-abbrev pub against : History → CatalogHandle → Option Refusal
+abbrev pub against : History → CatalogHandle → Option CatalogRefusal
 against H h = if made H h then (if live H h then None else Some Stale) else Some NeverMade
 
 -- the refusal where there is one, else the reply
-abbrev pub unless : Option Refusal → Reply → Reply
+abbrev pub unless : Option CatalogRefusal → Reply → Reply
 unless (Some refusal) reply = Refused refusal
 unless None reply = reply
 

@@ -1,6 +1,7 @@
 -- One entry of a history: who called, what was asked and what was replied, as plain data.
 use Rattle.std.specs.Prelude.{ℕ, List, Option, Some, None, Bool, true, false, ◌==◌, ◌&&◌}
 use Rattle.catalog_table.specs.declared.handle.CatalogHandle.{CatalogHandle}
+use Rattle.catalog_table.specs.declared.op.CatalogRefusal.{CatalogRefusal}
 
 -- what a thread asks: to open the catalog of a number, to read by a handle, or to close it (XSH catopen, catgets, catclose)
 pub data Op : Type 0 where
@@ -8,18 +9,12 @@ pub data Op : Type 0 where
   Get : CatalogHandle → Op
   Close : CatalogHandle → Op
 
--- why an op is refused
-pub data Refusal : Type 0 where
-  NeverMade : Refusal
-  Stale : Refusal
-  TooMany : Refusal
-
 -- what is replied; a catalog is its number
 pub data Reply : Type 0 where
   Opened : CatalogHandle → Reply
   Book : ℕ → Reply
   Closed : Reply
-  Refused : Refusal → Reply
+  Refused : CatalogRefusal → Reply
 
 -- one call of a thread, with its reply
 pub record Entry : Type 0 where

@@ -2,7 +2,8 @@
 use Rattle.std.specs.Prelude.{◌≡◌, ℕ, false, true, ◌++◌}
 use Rattle.catalog_table.specs.declared.handle.CatalogHandle.{CatalogHandle}
 use Rattle.catalog_table.specs.declared.setting.CatalogSetting.{CatalogSetting}
-use Rattle.catalog_table.specs.Entry.{Get, Close, Stale, Refused, History}
+use Rattle.catalog_table.specs.declared.op.CatalogRefusal.TheVariants.{Stale}
+use Rattle.catalog_table.specs.Entry.{Get, Close, Refused, History}
 use Rattle.catalog_table.specs.History.{made, live, book}
 use Rattle.catalog_table.specs.Answer.{answer, IsLegal}
 

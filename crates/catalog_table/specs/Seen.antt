@@ -7,9 +7,7 @@ use Rattle.catalog_table.specs.declared.op.CatalogOp.{CatalogOp}
 use Rattle.catalog_table.specs.declared.op.CatalogOp.TheVariants as ops
 use Rattle.catalog_table.specs.declared.op.CatalogReply.{CatalogReply}
 use Rattle.catalog_table.specs.declared.op.CatalogReply.TheVariants as replies
-use Rattle.catalog_table.specs.declared.op.CatalogRefusal.{CatalogRefusal}
-use Rattle.catalog_table.specs.declared.op.CatalogRefusal.TheVariants as refusals
-use Rattle.catalog_table.specs.Entry.{Op, Open, Get, Close, Refusal, NeverMade, Stale, TooMany, Reply, Opened, Book, Closed, Refused, Entry, History}
+use Rattle.catalog_table.specs.Entry.{Op, Open, Get, Close, Reply, Opened, Book, Closed, Refused, Entry, History}
 
 -- an op as data, by the numbers of catalogs
 abbrev pub op_of : {B : Type 0} → (B → ℕ) → CatalogOp B → Op
@@ -17,18 +15,12 @@ op_of number (ops.Open book) = Open (number book)
 op_of number (ops.Get h) = Get h
 op_of number (ops.Close h) = Close h
 
--- a refusal as data
-abbrev pub refusal_of : CatalogRefusal → Refusal
-refusal_of refusals.NeverMade = NeverMade
-refusal_of refusals.Stale = Stale
-refusal_of refusals.TooMany = TooMany
-
 -- a reply as data
 abbrev pub reply_of : {B : Type 0} → (B → ℕ) → CatalogReply B → Reply
 reply_of number (replies.Opened h) = Opened h
 reply_of number (replies.Book book) = Book (number book)
 reply_of number replies.Closed = Closed
-reply_of number (replies.Refused refusal) = Refused (refusal_of refusal)
+reply_of number (replies.Refused refusal) = Refused refusal
 
 -- a call on the turns as an entry
 abbrev pub entry_of : {B : Type 0} → (B → ℕ) → calls.Entry (CatalogOp B) (CatalogReply B) → Entry

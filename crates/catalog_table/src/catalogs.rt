@@ -31,12 +31,13 @@ impl<B: Part> Model for Catalogs<B> {
 }
 
 impl<B: Part> Catalogs<B> {
-    ghost use Rattle.catalog_table.specs.Entry.{Open, Get, Close, History, NeverMade, Stale, TooMany, Refused, is_accepted};
+    ghost use Rattle.catalog_table.specs.declared.op.CatalogRefusal.TheVariants.{NeverMade, Stale, TooMany};
+    ghost use Rattle.catalog_table.specs.Entry.{Open, Get, Close, History, Refused, is_accepted};
     ghost use Rattle.catalog_table.specs.Answer.{answer, entry};
     ghost use Rattle.catalog_table.specs.History.{made};
     ghost use Rattle.catalog_table.specs.Causes.{IsOfUnmade, IsOfClosed, IsWithoutRow};
     ghost use Rattle.catalog_table.specs.Isolation.{has_thread, IsClosed, part_of};
-    ghost use Rattle.catalog_table.specs.Seen.{op_of, reply_of, refusal_of};
+    ghost use Rattle.catalog_table.specs.Seen.{op_of, reply_of};
     ghost use Rattle.catalog_table.specs.Table.{StandsFor, SaysTheSame};
 
     /// No open catalogs, for 1 to 16 threads of 1 to 64 rows with 1 to 2147483647 generations each.
@@ -164,7 +165,7 @@ impl<B: Part> Catalogs<B> {
     /// Why a handle that is not live is refused.
     fn refusal(&self, h: CatalogHandle) -> CatalogRefusal
         ensures { (H : History) → StandsFor self.now H →
-            refusal_of result ≡ (if made H h then Stale else NeverMade) }
+            result ≡ (if made H h then Stale else NeverMade) }
     {
         if self.rows.is_made(h) {
             CatalogRefusal::Stale

@@ -4,5 +4,5 @@
 mod rules;
 mod values;
 
-pub use rules::{check, unless};
+pub use rules::{check, check_operands, text_fault, unless};
 pub use values::{number_value, numbers_value, pairs, ranges, text_count, text_value, texts_value};

@@ -9,8 +9,8 @@ use keyword_lists::{Entry, ValueRef, Values};
 use keyword_table::{Rule, rule_of};
 use lc_base::{Category, Place, Reason, TextFault};
 
-/// The rule that a text breaks.
-fn text_fault(rule: Rule, text: &[u8]) -> Option<Reason>
+/// The rule that a text breaks. A rule that its category looks at itself is broken by no text here.
+pub fn text_fault(rule: Rule, text: &[u8]) -> Option<Reason>
     ensures { result ≡ text_fault rule text.now }
 {
     match rule {
@@ -55,7 +55,7 @@ pub fn unless(place: Place, reason: Option<Reason>) -> Result<(), TextFault>
 }
 
 /// Checks the operands of a line, from left to right.
-fn check_operands(rule: Rule, values: &Values) -> Result<(), TextFault>
+pub fn check_operands(rule: Rule, values: &Values) -> Result<(), TextFault>
     ensures { Gives (λ _. tt) result (operands_checked rule values.now) }
 {
     let mut walk = values.walk();

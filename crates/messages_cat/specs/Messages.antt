@@ -1,9 +1,10 @@
 -- The values of LC_MESSAGES's keywords (XBD 7.3.6).
 use Rattle.std.specs.Prelude.{List, [], codes, Ok}
 use Rattle.lc_base.specs.declared.category.Category.TheVariants as categories
-use Rattle.lc_base.specs.Reading.{Reads}
+use Rattle.lc_base.specs.Reading.{Reads, ◌>>=◌}
 use Rattle.keyword_lists.specs.declared.source.Entry.{Entry}
 use Rattle.keyword_values.specs.Keywords.{text_value}
+use Rattle.keyword_values.specs.Rules.{checked}
 use Rattle.messages_cat.specs.MessagesValues.{MessagesValues}
 
 -- the values, where each keyword that is absent has its POSIX value
@@ -17,6 +18,6 @@ values_of list = record {
 abbrev pub posix_values : MessagesValues
 posix_values = values_of []
 
--- the values that a keyword list defines; no list breaks a rule
+-- the values that a keyword list defines, or its first broken rule; no row of the table has a rule
 abbrev pub messages_values : List Entry → Reads MessagesValues
-messages_values list = Ok (values_of list)
+messages_values list = checked categories.Messages list >>= λ _. Ok (values_of list)

@@ -6,7 +6,7 @@ ghost use Rattle.lc_base.specs.Reading.{Gives};
 ghost use Rattle.messages_cat.specs.Messages.{messages_values, values_of, posix_values};
 
 use keyword_lists::Entry;
-use keyword_values::text_value;
+use keyword_values::{check, text_value};
 use lc_base::{ByteText, Category, List, TextFault};
 use std::alloc::{AllocError, Global};
 use std::marker::Model;
@@ -29,10 +29,12 @@ impl Model for Messages {
 impl Messages {
     /// The category that a keyword list defines. A keyword that is absent has its POSIX value.
     ///
-    /// Refused for want of memory alone.
+    /// The rules of its rows are kept. The table has none for them, so it is refused for want of
+    /// memory alone.
     pub fn build(alloc: Global, entries: &List<Entry>) -> Result<Messages, TextFault>
         ensures { Gives (λ m. m) result (messages_values entries.now) }
     {
+        check(Category::Messages, entries.as_slice())?;
         Ok(values_of(alloc, entries.as_slice())?)
     }
 
@@ -58,7 +60,7 @@ impl Messages {
     }
 }
 
-/// The values that a keyword list gives.
+/// The values that a keyword list gives, good or not.
 fn values_of(alloc: Global, entries: &[Entry]) -> Result<Messages, AllocError>
     ensures { IfOk result (λ m. m ≡ values_of entries.now) }
 {

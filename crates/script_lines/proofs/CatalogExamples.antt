@@ -5,6 +5,7 @@ use Rattle.lc_base.specs.declared.block.Block.{Block}
 use Rattle.mask_compose.specs.Parts.{Parts}
 use Rattle.msg_catalog.specs.declared.book.Message.{Message}
 use Rattle.catalog_table.specs.declared.handle.CatalogHandle.{CatalogHandle}
+use Rattle.catalog_table.specs.declared.op.CatalogRefusal.TheVariants as catalog_refusals
 use Rattle.catalog_table.specs.Entry as catalogs
 use Rattle.category_store.specs.Catalog.{Catalog}
 use Rattle.compiled_categories.specs.Locale.{posix_locale}
@@ -119,7 +120,7 @@ message_is_shown = refl
 default_is_shown : message_shown books 3 1 (codes "?") (catalogs.Book 0) ≡ said.Text (codes "?")
 default_is_shown = refl
 
-stale_is_shown : message_shown books 1 1 (codes "?") (catalogs.Refused catalogs.Stale) ≡ said.Refused (whys.Table refusals.Stale)
+stale_is_shown : message_shown books 1 1 (codes "?") (catalogs.Refused catalog_refusals.Stale) ≡ said.Refused (whys.Table refusals.Stale)
 stale_is_shown = refl
 
 opened_is_shown : handle_reply_shown (catalogs.Opened first_catalog) ≡ said.Opened first_handle
@@ -128,7 +129,7 @@ opened_is_shown = refl
 closed_is_shown : handle_reply_shown catalogs.Closed ≡ said.Closed
 closed_is_shown = refl
 
-too_many_is_shown : handle_reply_shown (catalogs.Refused catalogs.TooMany) ≡ said.Refused (whys.Table refusals.TooMany)
+too_many_is_shown : handle_reply_shown (catalogs.Refused catalog_refusals.TooMany) ≡ said.Refused (whys.Table refusals.TooMany)
 too_many_is_shown = refl
 
 -- ---- variables of both spaces

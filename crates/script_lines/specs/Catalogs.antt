@@ -10,6 +10,8 @@ use Rattle.msg_catalog.specs.Books.{text_at}
 use Rattle.catalog_table.specs.declared.handle.CatalogHandle.{CatalogHandle}
 use Rattle.catalog_table.specs.declared.share.BookShare.{BookShare}
 use Rattle.catalog_table.specs.declared.setting.CatalogSetting.{CatalogSetting}
+use Rattle.catalog_table.specs.declared.op.CatalogRefusal.{CatalogRefusal}
+use Rattle.catalog_table.specs.declared.op.CatalogRefusal.TheVariants as catalog_refusals
 use Rattle.catalog_table.specs.Entry as catalogs
 use Rattle.catalog_table.specs.Answer as answers
 use Rattle.category_store.specs.Catalog.{Catalog}
@@ -109,12 +111,12 @@ catalogs_after c M thread (Some op) = answers.entry c M thread op ∷ M
 -- ---- what is printed
 
 -- the printed form of a refusal of the catalogs
-abbrev pub catalog_refusal_shown : catalogs.Refusal → Refusal
-catalog_refusal_shown catalogs.NeverMade = refusals.NeverMade
-catalog_refusal_shown catalogs.Stale = refusals.Stale
-catalog_refusal_shown catalogs.TooMany = refusals.TooMany
+abbrev pub catalog_refusal_shown : CatalogRefusal → Refusal
+catalog_refusal_shown catalog_refusals.NeverMade = refusals.NeverMade
+catalog_refusal_shown catalog_refusals.Stale = refusals.Stale
+catalog_refusal_shown catalog_refusals.TooMany = refusals.TooMany
 
-abbrev pub refused_by : catalogs.Refusal → Said
+abbrev pub refused_by : CatalogRefusal → Said
 refused_by refusal = said.Refused (whys.Table (catalog_refusal_shown refusal))
 
 -- the printed form of a reply of the catalogs, where the catalog that a Get is given has this text

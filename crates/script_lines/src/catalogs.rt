@@ -2,7 +2,7 @@
 
 ghost use Rattle.std.specs.Prelude.{◌≡◌, ◌<◌, ◌^◌, length, position, IfOk};
 ghost use Rattle.std.specs.Option.{option_copied, option_map};
-ghost use Rattle.catalog_table.specs.Seen.{reply_of, refusal_of};
+ghost use Rattle.catalog_table.specs.Seen.{reply_of};
 ghost use Rattle.script_lines.specs.Catalogs.{number_of, is_for, book_named, message_at, book_for, handle_shown, handle_meant, handle_reply_shown, message_shown, text_or, refused_by};
 
 use crate::names::part_name;
@@ -160,7 +160,7 @@ pub fn handle_meant(handle: Handle) -> CatalogHandle
 
 /// The printed form of a refusal of the catalogs.
 fn refused(refusal: CatalogRefusal) -> Said
-    ensures { result ≡ refused_by (refusal_of refusal) }
+    ensures { result ≡ refused_by refusal }
 {
     Said::Refused(Why::Table(match refusal {
         CatalogRefusal::NeverMade => Refusal::NeverMade,

@@ -12,7 +12,7 @@ use Rattle.keyword_lists.specs.declared.source.Entry.{Entry}
 use Rattle.keyword_table.specs.declared.row.Rule.{Rule}
 use Rattle.keyword_table.specs.declared.row.Rule.TheVariants.{Format, Segments, Digits}
 use Rattle.keyword_values.specs.Keywords.{texts}
-use Rattle.keyword_values.specs.Rules.{unless}
+use Rattle.keyword_values.specs.Rules.{text_fault, unless}
 use Rattle.time_cat.specs.declared.segment.Segment.{Segment}
 use Rattle.time_cat.specs.Formats.{Piece, pieces, is_conversion, has_rank, bad_place}
 use Rattle.time_cat.specs.Eras.{segment}
@@ -65,12 +65,12 @@ most_digits = 100
 abbrev pub most_bytes : ℕ
 most_bytes = 4097
 
--- what is wrong with a text where so many more may come, with so many bytes
+-- what is wrong with a text where so many more may come, with so many bytes; a rule that is not LC_TIME's own is looked at as in other categories
 abbrev pub operand_reason : Rule → ℕ → ℕ → List ℕ → Option Reason
 operand_reason (Format rank) left room text = format_reason 0 rank text
 operand_reason Segments left room text = or_reason (list_reason room text) (segment_reason text)
 operand_reason Digits left room text = or_reason (reason_if (left == 0) TooManyDigits) (list_reason room text)
-operand_reason _ left room text = None
+operand_reason rule left room text = text_fault rule text
 
 -- the operands of a keyword, of which so many more may come with so many bytes, or the first broken rule
 abbrev pub operands_checked : Rule → ℕ → ℕ → List (Place × Value) → Reads (Unit {0})

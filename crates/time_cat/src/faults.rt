@@ -11,7 +11,7 @@ use crate::segment::segment_of;
 use crate::step::{Step, step_here};
 use keyword_lists::{Entry, ValueRef, Values};
 use keyword_table::Rule;
-use keyword_values::{text_count, unless};
+use keyword_values::{text_count, text_fault, unless};
 use lc_base::{Limit, Reason, TextFault};
 
 /// The most conversions of a format.
@@ -123,7 +123,7 @@ fn operand_reason(takes: Rule, left: usize, room: usize, text: &[u8]) -> Option<
         },
         Rule::Digits if left == 0 => Some(Reason::TooManyDigits),
         Rule::Digits => list_reason(room, text),
-        _ => None,
+        _ => text_fault(takes, text),
     }
 }
 

@@ -1,6 +1,6 @@
 use Rattle.std.proofs.Common.{◌<◌, ap, sym, subst, ◌∙◌}
 use Rattle.catalog_table.specs.Entry.{Close}
-use Rattle.catalog_table.specs.Seen.{reply_of, refusal_of}
+use Rattle.catalog_table.specs.Seen.{reply_of}
 use Rattle.catalog_table.specs.Rows.{after_close}
 use Rattle.catalog_table.specs.Kept.{Keeps}
 use Rattle.catalog_table.specs.Table.{CatalogsData}
@@ -18,7 +18,7 @@ returns-clause-answers g c = λ H who s.
           ∙ close_found c.self.inside.setting H c.self.inside.rows c.args.h keeps w.if-close.ensures.was
       | else-close w ↦
           ap (reply_of g.B.Part.number) w.result-is
-          ∙ close_refused c.self.inside.setting H c.self.inside.rows c.args.h (refusal_of c.refusal-refusal.result) keeps w.if-close.ensures.was
+          ∙ close_refused c.self.inside.setting H c.self.inside.rows c.args.h c.refusal-refusal.result keeps w.if-close.ensures.was
           (c.refusal-refusal.ensures H s)
     ]
 

@@ -1,7 +1,6 @@
 use Rattle.std.proofs.Common.{sym, subst}
 use Rattle.catalog_table.specs.Entry.{Book}
 use Rattle.catalog_table.specs.History.{book}
-use Rattle.catalog_table.specs.Seen.{refusal_of}
 use Rattle.catalog_table.specs.Kept.{Keeps}
 use Rattle.catalog_table.specs.Table.{CatalogsData}
 use Rattle.catalog_table.proofs.Replies.{get_found, refused_found}
@@ -15,5 +14,5 @@ returns-in-Some g c = λ H who s.
 pub returns-in-None : goal.returns-in-None
 returns-in-None g c = λ H who s.
     let keeps = subst (λ (v : CatalogsData). Keeps v.setting H v.rows) (sym c.self.view_is) s in
-    refused_found c.self.inside.setting H c.self.inside.rows c.args.h (refusal_of c.refusal.result) (Book (book H c.args.h)) keeps
+    refused_found c.self.inside.setting H c.self.inside.rows c.args.h c.refusal.result (Book (book H c.args.h)) keeps
     c.in-None.ensures (c.refusal.ensures H s)

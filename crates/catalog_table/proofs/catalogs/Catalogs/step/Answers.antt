@@ -1,5 +1,6 @@
 use Rattle.std.proofs.Common.{ap, sym, ◌∙◌}
-use Rattle.catalog_table.specs.Entry.{NeverMade, Stale, TooMany, Refused, is_accepted}
+use Rattle.catalog_table.specs.declared.op.CatalogRefusal.TheVariants.{NeverMade, Stale, TooMany}
+use Rattle.catalog_table.specs.Entry.{Refused, is_accepted}
 use Rattle.catalog_table.specs.Answer.{answer, entry}
 use Rattle.catalog_table.specs.Seen.{op_of, reply_of}
 use Rattle.catalog_table.proofs.Refused.{unmade_is, closed_is, full_is, caused, refused_changes_nothing}
