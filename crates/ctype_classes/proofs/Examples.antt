@@ -1,18 +1,19 @@
 -- Keyword lists of LC_CTYPE, and what they define.
-use Rattle.std.proofs.Common.{◌≡◌, ℕ, true, false, List, [], ◌∷◌, Some, None, Err, refl}
-use Rattle.std.specs.Prelude.{codes}
+use Rattle.std.proofs.Common.{◌≡◌, ℕ, true, false, List, [], ◌∷◌, map, Some, None, Ok, Err, refl}
+use Rattle.std.specs.Prelude.{codes, pos}
 use Rattle.lc_base.specs.declared.place.Place.{Place}
 use Rattle.lc_base.specs.declared.reason.Class.TheVariants.{Alpha, Space, Punct}
-use Rattle.lc_base.specs.declared.reason.Reason.TheVariants.{BadClassName, DigitsNotTen, NotCased, Excluded}
+use Rattle.lc_base.specs.declared.reason.Reason.TheVariants.{EmptyRadix, BadNumber, BadClassName, DigitsNotTen, NotCased, Excluded}
 use Rattle.charmap_reader.specs.CodedSet.{CodedSet, utf8, posix, listed}
 use Rattle.keyword_lists.specs.declared.source.Value.{Value}
-use Rattle.keyword_lists.specs.declared.source.Value.TheVariants.{Text, Chars, Pair}
+use Rattle.keyword_lists.specs.declared.source.Value.TheVariants.{Text, Number, Chars, Pair}
 use Rattle.keyword_lists.specs.declared.source.Entry.{Entry}
+use Rattle.keyword_table.specs.declared.row.Rule.TheVariants.{NotEmpty, Between}
 use Rattle.ctype_classes.specs.Characters.{characters}
 use Rattle.ctype_classes.specs.Named.{place_of}
 use Rattle.ctype_classes.specs.Classes.{Classes, members_of, numbered_answer}
 use Rattle.ctype_classes.specs.Lines.{rule_of_line}
-use Rattle.ctype_classes.specs.Lists.{classes_of}
+use Rattle.ctype_classes.specs.Lists.{is_reserved, is_taken, after_operands, classes_of}
 use Rattle.ctype_classes.specs.Exclusions.{all_kept_apart}
 use Rattle.ctype_classes.specs.Case.{upper_pairs, lower_pairs, map_of, image}
 use Rattle.ctype_classes.specs.Ctype.{ctype_values, posix_values}
@@ -167,11 +168,11 @@ caseless_first = refl
 
 -- names of classes: a keyword, one declared before, one too long, and one that begins with a digit
 keyword_declared : classes_of posix (line 3 (codes "charclass") ((at 3 11, Text (codes "vowel")) ∷ (at 3 17, Text (codes "toupper")) ∷ []) ∷ []) ≡ Err (at 3 17, BadClassName)
-unfolding classes_of rule_of_line characters
+unfolding classes_of rule_of_line is_reserved characters
 keyword_declared = refl
 
 declared_twice : classes_of posix (line 3 (codes "charclass") ((at 3 11, Text (codes "vowel")) ∷ []) ∷ line 4 (codes "charclass") ((at 4 11, Text (codes "vowel")) ∷ []) ∷ []) ≡ Err (at 4 11, BadClassName)
-unfolding classes_of rule_of_line characters
+unfolding classes_of rule_of_line is_reserved characters
 declared_twice = refl
 
 long_name : classes_of posix (line 3 (codes "charclass") ((at 3 11, Text (codes "abcdefghijklmno")) ∷ []) ∷ []) ≡ Err (at 3 11, BadClassName)
@@ -181,6 +182,32 @@ long_name = refl
 digit_first : classes_of posix (line 3 (codes "charclass") ((at 3 11, Text (codes "2nd")) ∷ []) ∷ []) ≡ Err (at 3 11, BadClassName)
 unfolding classes_of rule_of_line characters
 digit_first = refl
+
+-- each keyword of LC_CTYPE keeps its name from classes, but `copy`; so does each class
+keywords_kept : map (is_taken two_classes) (codes "charclass" ∷ codes "toupper" ∷ codes "tolower" ∷ codes "alpha" ∷ []) ≡ true ∷ true ∷ true ∷ true ∷ []
+unfolding is_reserved
+keywords_kept = refl
+
+classes_kept : map (is_taken two_classes) (codes "upper" ∷ codes "vowel" ∷ []) ≡ true ∷ true ∷ []
+unfolding is_reserved
+classes_kept = refl
+
+names_left : map (is_taken two_classes) (codes "copy" ∷ codes "consonant" ∷ codes "toupp" ∷ codes "decimal_point" ∷ []) ≡ false ∷ false ∷ false ∷ false ∷ []
+unfolding is_reserved
+names_left = refl
+
+-- rules that may stand in any category; without a rule nothing is looked at
+empty_text : after_operands posix [] two_classes (Some NotEmpty) ((at 3 7, Text (codes ".")) ∷ (at 3 11, Text []) ∷ []) ≡ Err (at 3 11, EmptyRadix)
+empty_text = refl
+
+outside_range : after_operands posix [] two_classes (Some (Between (pos 0) (pos 4))) ((at 3 7, Number (pos 4)) ∷ (at 3 9, Number (pos 5)) ∷ []) ≡ Err (at 3 9, BadNumber)
+outside_range = refl
+
+inside_range : after_operands posix [] two_classes (Some (Between (pos 0) (pos 4))) ((at 3 7, Number (pos 4)) ∷ []) ≡ Ok two_classes
+inside_range = refl
+
+no_rule : after_operands posix [] two_classes None ((at 3 7, Text []) ∷ []) ≡ Ok two_classes
+no_rule = refl
 
 -- a declared class has its listed members, or none
 declared_list : membership posix (line 3 (codes "charclass") ((at 3 11, Text (codes "vowel")) ∷ (at 3 17, Text (codes "copy")) ∷ []) ∷ line 4 (codes "vowel") ((at 4 7, one 97) ∷ []) ∷ []) (codes "vowel") 97 ≡ Some true

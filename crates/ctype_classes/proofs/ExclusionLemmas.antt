@@ -1,12 +1,12 @@
 -- Refusals of classes with a common member.
-use Rattle.std.proofs.Common.{◌≡◌, ℕ, Bool, true, false, cond, ◌&&◌, List, [], ◌∷◌, Option, Some, None, Result, Ok, Err, sym, ap, ◌∙◌, inl, inr}
-use Rattle.std.specs.Prelude.{not, unwrap_or, OnOk}
+use Rattle.std.proofs.Common.{◌≡◌, ℕ, ℤ, Bool, true, false, cond, ◌==◌, ◌&&◌, ◌||◌, List, [], ◌∷◌, length, Option, Some, None, Result, Ok, Err, sym, ap, ◌∙◌, inl, inr}
+use Rattle.std.specs.Prelude.{not, int_le, unwrap_or, OnOk}
 use Rattle.lc_base.specs.declared.place.Place.{Place}
 use Rattle.lc_base.specs.declared.fault.TextFault.{TextFault}
 use Rattle.lc_base.specs.declared.fault.TextFault.TheVariants.{At, Memory}
 use Rattle.lc_base.specs.declared.reason.Class.{Class}
 use Rattle.lc_base.specs.declared.reason.Reason.{Reason}
-use Rattle.lc_base.specs.declared.reason.Reason.TheVariants.{BadClassName, DigitsNotTen, NotCased, Excluded}
+use Rattle.lc_base.specs.declared.reason.Reason.TheVariants.{EmptyRadix, BadCurrency, BadNumber, BadClassName, DigitsNotTen, NotCased, Excluded}
 use Rattle.lc_base.specs.Reading.{Reads, Fails, ◌>>=◌}
 use Rattle.class_ranges.specs.Ranges.{IsLeast}
 use Rattle.charmap_reader.specs.Portable.{Name}
@@ -16,6 +16,7 @@ use Rattle.keyword_lists.specs.declared.source.Value.TheVariants.{Text, Number, 
 use Rattle.keyword_lists.specs.declared.source.Entry.{Entry}
 use Rattle.keyword_table.specs.declared.row.Rule.{Rule}
 use Rattle.keyword_table.specs.declared.row.Rule.TheVariants as rules
+use Rattle.keyword_values.specs.Rules.{text_fault, number_fault, fault_of, unless, operands_checked}
 use Rattle.ctype_classes.specs.Lines.{rule_of_line}
 use Rattle.ctype_classes.specs.Table.{declared_row}
 use Rattle.ctype_classes.specs.Classes.{Classes, with_class, twelve_classes}
@@ -70,6 +71,15 @@ no_digit a b w is = absurd (cc)
 no_case : IsOther NotCased
 no_case a b w is = absurd (cc)
 
+no_radix : IsOther EmptyRadix
+no_radix a b w is = absurd (cc)
+
+no_currency : IsOther BadCurrency
+no_currency a b w is = absurd (cc)
+
+no_number : IsOther BadNumber
+no_number a b w is = absurd (cc)
+
 -- a fault of a part, or of what follows it
 abbrev FaultsOther : {A : Type 0} → Reads A → Type 0
 FaultsOther r = (place : Place) (a b : Class) (w : ℕ) → r ≡ Err (place, Excluded a b w) → ⊥
@@ -92,6 +102,55 @@ passes_other test reason other (v ∷ vs) =
     let P : Bool → Type 0 = λ c. FaultsOther (cond c (each_passes test reason vs) (Err (v.0, reason))) in
     elim (test v.1) as P [ true ↦ passes_other test reason other vs | false ↦ λ place a b w (is : Err (v.0, reason) ≡ Err (place, Excluded a b w)). other a b w (same_reason v.0 place reason (Excluded a b w) is) ]
 
+-- the faults of rules that may stand in any category
+abbrev NoneExcluded : Option Reason → Type 0
+NoneExcluded None = Unit {0}
+NoneExcluded (Some reason) = IsOther reason
+
+text_fault_other : (rule : Rule) (bytes : List ℕ) → NoneExcluded (text_fault rule bytes)
+text_fault_other rules.Free bytes = tt
+text_fault_other rules.NotEmpty bytes = elim (length bytes == 0) as (λ c. NoneExcluded (cond c (Some EmptyRadix) None)) [ true ↦ no_radix | false ↦ tt ]
+text_fault_other rules.EmptyOrFour bytes = elim (length bytes == 0 || length bytes == 4) as (λ c. NoneExcluded (cond c None (Some BadCurrency))) [ true ↦ tt | false ↦ no_currency ]
+text_fault_other (rules.Between low high) bytes = tt
+text_fault_other rules.TenDigits bytes = tt
+text_fault_other rules.Cased bytes = tt
+text_fault_other rules.ClassNames bytes = tt
+text_fault_other (rules.Names n) bytes = tt
+text_fault_other (rules.Format rank) bytes = tt
+text_fault_other rules.Segments bytes = tt
+text_fault_other rules.Digits bytes = tt
+
+number_fault_other : (rule : Rule) (m : ℤ) → NoneExcluded (number_fault rule m)
+number_fault_other rules.Free m = tt
+number_fault_other rules.NotEmpty m = tt
+number_fault_other rules.EmptyOrFour m = tt
+number_fault_other (rules.Between low high) m = elim (int_le low m && int_le m high) as (λ c. NoneExcluded (cond c None (Some BadNumber))) [ true ↦ tt | false ↦ no_number ]
+number_fault_other rules.TenDigits m = tt
+number_fault_other rules.Cased m = tt
+number_fault_other rules.ClassNames m = tt
+number_fault_other (rules.Names n) m = tt
+number_fault_other (rules.Format rank) m = tt
+number_fault_other rules.Segments m = tt
+number_fault_other rules.Digits m = tt
+
+fault_other : (rule : Rule) (value : Value) → NoneExcluded (fault_of rule value)
+fault_other rule (Text bytes) = text_fault_other rule bytes
+fault_other rule (Number m) = number_fault_other rule m
+fault_other rule (Chars a b) = tt
+fault_other rule (Pair a b) = tt
+
+unless_other : (place : Place) (o : Option Reason) → NoneExcluded o → FaultsOther (unless place o)
+unless_other place None other = ok_other tt
+unless_other place (Some reason) other = λ place' a b w (is : Err (place, reason) ≡ Err (place', Excluded a b w)). other a b w (same_reason place place' reason (Excluded a b w) is)
+
+operands_other : (rule : Rule) (vs : List (Place × Value)) → FaultsOther (operands_checked rule vs)
+operands_other rule [] = ok_other tt
+operands_other rule (v ∷ vs) =
+    after_other (unless v.0 (fault_of rule v.1)) (λ u. operands_checked rule vs) (unless_other v.0 (fault_of rule v.1) (fault_other rule v.1)) (λ u. operands_other rule vs)
+
+checked_other : (classes : Classes) (rule : Rule) (vs : List (Place × Value)) → FaultsOther (operands_checked rule vs >>= (λ u. Ok classes))
+checked_other classes rule vs = after_other (operands_checked rule vs) (λ u. Ok classes) (operands_other rule vs) (λ u. ok_other classes)
+
 declaring_other : (set : CodedSet) (entries : List Entry) (classes : Classes) (place : Place) (name : Name) → FaultsOther (declaring set entries classes place name)
 declaring_other set entries classes place name =
     let P : Bool → Type 0 = λ c. FaultsOther (cond c (Ok (with_class set entries classes (declared_row name))) (Err (place, BadClassName))) in
@@ -113,14 +172,14 @@ after_operands_other set entries classes None vs = ok_other classes
 after_operands_other set entries classes (Some rules.ClassNames) vs = declaring_values_other set entries classes vs
 after_operands_other set entries classes (Some rules.TenDigits) vs = after_other (each_passes is_ten DigitsNotTen vs) (λ u. Ok classes) (passes_other is_ten DigitsNotTen no_digit vs) (λ u. ok_other classes)
 after_operands_other set entries classes (Some rules.Cased) vs = after_other (each_passes (is_cased_pair classes) NotCased vs) (λ u. Ok classes) (passes_other (is_cased_pair classes) NotCased no_case vs) (λ u. ok_other classes)
-after_operands_other set entries classes (Some rules.Free) vs = ok_other classes
-after_operands_other set entries classes (Some rules.NotEmpty) vs = ok_other classes
-after_operands_other set entries classes (Some rules.EmptyOrFour) vs = ok_other classes
-after_operands_other set entries classes (Some (rules.Between low high)) vs = ok_other classes
-after_operands_other set entries classes (Some (rules.Names n)) vs = ok_other classes
-after_operands_other set entries classes (Some (rules.Format rank)) vs = ok_other classes
-after_operands_other set entries classes (Some rules.Segments) vs = ok_other classes
-after_operands_other set entries classes (Some rules.Digits) vs = ok_other classes
+after_operands_other set entries classes (Some rules.Free) vs = checked_other classes rules.Free vs
+after_operands_other set entries classes (Some rules.NotEmpty) vs = checked_other classes rules.NotEmpty vs
+after_operands_other set entries classes (Some rules.EmptyOrFour) vs = checked_other classes rules.EmptyOrFour vs
+after_operands_other set entries classes (Some (rules.Between low high)) vs = checked_other classes (rules.Between low high) vs
+after_operands_other set entries classes (Some (rules.Names n)) vs = checked_other classes (rules.Names n) vs
+after_operands_other set entries classes (Some (rules.Format rank)) vs = checked_other classes (rules.Format rank) vs
+after_operands_other set entries classes (Some rules.Segments) vs = checked_other classes rules.Segments vs
+after_operands_other set entries classes (Some rules.Digits) vs = checked_other classes rules.Digits vs
 
 after_lines_other : (set : CodedSet) (entries : List Entry) (classes : Classes) (es : List Entry) → FaultsOther (after_lines set entries classes es)
 after_lines_other set entries classes [] = ok_other classes

@@ -18,6 +18,7 @@ use Rattle.keyword_lists.specs.declared.source.Entry.{Entry}
 use Rattle.keyword_table.specs.declared.row.Rule.{Rule}
 use Rattle.keyword_table.specs.declared.row.Rule.TheVariants.{Free, NotEmpty, EmptyOrFour, Between, TenDigits, Cased, ClassNames, Names, Format, Segments, Digits}
 use Rattle.keyword_values.specs.Keywords.{operands, texts}
+use Rattle.keyword_values.specs.Rules.{operands_checked}
 use Rattle.ctype_classes.specs.Lines.{rule_of_line}
 use Rattle.ctype_classes.specs.Named.{with_named}
 use Rattle.ctype_classes.specs.Characters.{characters}
@@ -148,14 +149,14 @@ after_operands_is set entries classes out None vs h = cc
 after_operands_is set entries classes out (Some ClassNames) vs h = declaring_values_is set entries classes out vs h
 after_operands_is set entries classes out (Some TenDigits) vs h = checked_is classes out (each_passes is_ten DigitsNotTen vs) h
 after_operands_is set entries classes out (Some Cased) vs h = checked_is classes out (each_passes (is_cased_pair classes) NotCased vs) h
-after_operands_is set entries classes out (Some Free) vs h = cc
-after_operands_is set entries classes out (Some NotEmpty) vs h = cc
-after_operands_is set entries classes out (Some EmptyOrFour) vs h = cc
-after_operands_is set entries classes out (Some (Between low high)) vs h = cc
-after_operands_is set entries classes out (Some (Names n)) vs h = cc
-after_operands_is set entries classes out (Some (Format rank)) vs h = cc
-after_operands_is set entries classes out (Some Segments) vs h = cc
-after_operands_is set entries classes out (Some Digits) vs h = cc
+after_operands_is set entries classes out (Some Free) vs h = checked_is classes out (operands_checked Free vs) h
+after_operands_is set entries classes out (Some NotEmpty) vs h = checked_is classes out (operands_checked NotEmpty vs) h
+after_operands_is set entries classes out (Some EmptyOrFour) vs h = checked_is classes out (operands_checked EmptyOrFour vs) h
+after_operands_is set entries classes out (Some (Between low high)) vs h = checked_is classes out (operands_checked (Between low high) vs) h
+after_operands_is set entries classes out (Some (Names n)) vs h = checked_is classes out (operands_checked (Names n) vs) h
+after_operands_is set entries classes out (Some (Format rank)) vs h = checked_is classes out (operands_checked (Format rank) vs) h
+after_operands_is set entries classes out (Some Segments) vs h = checked_is classes out (operands_checked Segments vs) h
+after_operands_is set entries classes out (Some Digits) vs h = checked_is classes out (operands_checked Digits vs) h
 
 after_lines_is : (set : CodedSet) (entries : List Entry) (classes out : Classes) (es : List Entry) → after_lines set entries classes es ≡ Ok out → out ≡ with_classes set entries classes (map declared_row (declared_names es))
 after_lines_is set entries classes out [] h = cc

@@ -1,9 +1,9 @@
 -- The faults of the lines of LC_CTYPE, and the classes that they declare (XBD 7.3.1).
-use Rattle.std.specs.Prelude.{ℕ, Bool, true, ◌||◌, ◌&&◌, not, List, [], ◌∷◌, length, slice_index, codes, Option, Some, is_some, Ok, Err, if◌then◌else◌}
+use Rattle.std.specs.Prelude.{ℕ, Bool, true, false, ◌||◌, ◌&&◌, not, List, [], ◌∷◌, length, slice_index, codes, Option, Some, None, is_some, Ok, Err, if◌then◌else◌}
 use Rattle.std.specs.Char.{is_ascii_alphabetic, is_ascii_alphanumeric}
 use Rattle.std.specs.Int.{is_in_range}
-use Rattle.std.specs.List.{list_any, list_all}
-use Rattle.std.specs.Str.{bytes_eq}
+use Rattle.std.specs.List.{list_all}
+use Rattle.lc_base.specs.declared.category.Category.TheVariants as categories
 use Rattle.lc_base.specs.declared.place.Place.{Place}
 use Rattle.lc_base.specs.declared.reason.Reason.{Reason}
 use Rattle.lc_base.specs.declared.reason.Reason.TheVariants.{BadClassName, DigitsNotTen, NotCased}
@@ -15,10 +15,14 @@ use Rattle.charmap_reader.specs.CodedSet.{CodedSet}
 use Rattle.keyword_lists.specs.declared.source.Value.{Value}
 use Rattle.keyword_lists.specs.declared.source.Value.TheVariants.{Text, Number, Chars, Pair}
 use Rattle.keyword_lists.specs.declared.source.Entry.{Entry}
+use Rattle.keyword_table.specs.declared.row.Operands.{Operands}
+use Rattle.keyword_table.specs.declared.row.Operands.TheVariants.{Copied}
 use Rattle.keyword_table.specs.declared.row.Rule.{Rule}
 use Rattle.keyword_table.specs.declared.row.Rule.TheVariants.{TenDigits, Cased, ClassNames}
+use Rattle.keyword_table.specs.LookUp.{takes_of}
+use Rattle.keyword_values.specs.Rules.{operands_checked}
 use Rattle.ctype_classes.specs.Lines.{rule_of_line}
-use Rattle.ctype_classes.specs.Table.{declared_row, other_keywords}
+use Rattle.ctype_classes.specs.Table.{declared_row}
 use Rattle.ctype_classes.specs.Classes.{Classes, members_of, with_class, twelve_classes}
 
 -- a value of the line `digit` has none but the ten digits; a range of characters has its two ends
@@ -52,9 +56,19 @@ is_word name = is_ascii_alphabetic (slice_index name 0) && list_all is_ascii_alp
 abbrev pub is_class_name : Name → Bool
 is_class_name name = is_in_range 1 14 (length name) && is_word name
 
--- a name that is a keyword or that of a class
+-- a keyword that keeps its name from classes, by what it takes: each does but the one that copies a category (our own rule)
+abbrev pub keeps_its_name : Option Operands → Bool
+keeps_its_name None = false
+keeps_its_name (Some Copied) = false
+keeps_its_name (Some _) = true
+
+-- a name that a keyword of LC_CTYPE keeps
+unfoldable pub is_reserved : Name → Bool
+is_reserved name = keeps_its_name (takes_of categories.Ctype name)
+
+-- a name that is that of a class, or that a keyword keeps
 abbrev pub is_taken : Classes → Name → Bool
-is_taken classes name = is_some (first_named classes name) || list_any (λ keyword. bytes_eq keyword name) other_keywords
+is_taken classes name = is_some (first_named classes name) || is_reserved name
 
 -- the classes after one that an operand declares
 abbrev pub declaring : CodedSet → List Entry → Classes → Place → Name → Reads Classes
@@ -72,12 +86,13 @@ abbrev pub declaring_values : CodedSet → List Entry → Classes → List (Plac
 declaring_values set entries classes [] = Ok classes
 declaring_values set entries classes (v ∷ vs) = declaring_value set entries classes v >>= λ more. declaring_values set entries more vs
 
--- the classes after the operands of a line with this rule
+-- the classes after the operands of a line with this rule; a rule that is not of LC_CTYPE alone is held as in any category
 abbrev pub after_operands : CodedSet → List Entry → Classes → Option Rule → List (Place × Value) → Reads Classes
+after_operands set entries classes None vs = Ok classes
 after_operands set entries classes (Some ClassNames) vs = declaring_values set entries classes vs
 after_operands set entries classes (Some TenDigits) vs = each_passes is_ten DigitsNotTen vs >>= λ _. Ok classes
 after_operands set entries classes (Some Cased) vs = each_passes (is_cased_pair classes) NotCased vs >>= λ _. Ok classes
-after_operands set entries classes _ vs = Ok classes
+after_operands set entries classes (Some rule) vs = operands_checked rule vs >>= λ _. Ok classes
 
 -- the classes after a line
 abbrev pub after_line : CodedSet → List Entry → Classes → Entry → Reads Classes

@@ -36,7 +36,3 @@ class_table =
 -- a class that a charclass line declares has its listed members alone
 abbrev pub declared_row : Name → ClassRow
 declared_row name = record { name = name; always = []; absent = []; parts = [] }
-
--- the keywords of LC_CTYPE that are no class
-abbrev pub other_keywords : List Name
-other_keywords = codes "charclass" ∷ codes "toupper" ∷ codes "tolower" ∷ []

@@ -1,26 +1,23 @@
 //! The faults of the lines of a keyword list, and the classes that they declare.
 
 ghost use Rattle.std.specs.Prelude.{◌≡◌, ◌<◌, length};
-ghost use Rattle.std.specs.List.{list_any, list_all};
+ghost use Rattle.std.specs.List.{list_all};
 ghost use Rattle.std.specs.Char.{is_ascii_alphanumeric};
-ghost use Rattle.std.specs.Str.{bytes_eq};
 ghost use Rattle.lc_base.specs.Reading.{Gives};
 ghost use Rattle.lc_base.specs.declared.reason.Reason.TheVariants.{DigitsNotTen as NotTen, NotCased as Caseless};
 ghost use Rattle.keyword_lists.specs.Cells.{seen};
 ghost use Rattle.ctype_classes.specs.Lines.{rule_of_line};
-ghost use Rattle.ctype_classes.specs.Lists.{is_ten, is_cased, is_cased_pair, each_passes, is_word, is_class_name, is_taken, declaring, declaring_value, declaring_values, after_operands, after_line, after_lines, classes_of};
+ghost use Rattle.ctype_classes.specs.Lists.{is_ten, is_cased, is_cased_pair, each_passes, is_word, is_class_name, is_reserved, is_taken, declaring, declaring_value, declaring_values, after_operands, after_line, after_lines, classes_of};
 
 use crate::classes::{Classes, has_member, twelve_classes, with_class};
 use crate::first_lines::KeywordList;
 use crate::table::ClassRow;
 use charmap_reader::Charset;
 use keyword_lists::{Entry, ValueRef, Values};
-use keyword_table::{Rule, rule_of};
+use keyword_table::{Operands, Rule, rule_of, takes_of};
+use keyword_values::check_operands;
 use lc_base::{Category, Place, Reason, TextFault};
 use std::alloc::Global;
-
-/// The keywords of LC_CTYPE that are no class.
-const OTHER_KEYWORDS: [&[u8]; 3] = [b"charclass", b"toupper", b"tolower"];
 
 /// Whether a value of the line `digit` has none but the ten digits.
 fn is_ten(value: ValueRef<'_>) -> bool
@@ -97,18 +94,22 @@ fn is_class_name(name: &[u8]) -> bool
     (1..=14).contains(&name.len()) && is_word(name)
 }
 
-/// Whether a name is one of these.
-fn is_among(names: &[&[u8]], name: &[u8]) -> bool
-    ensures { result ≡ list_any (λ n. bytes_eq n.now name.now) names.now }
+/// Whether a name is that of a keyword, but for the one that copies a category.
+#[tactic(auto, unfolding(crate::specs::Lists::is_reserved))]
+fn is_reserved(name: &[u8]) -> bool
+    ensures { result ≡ is_reserved name.now }
 {
-    names.iter().any(|other| *other == name)
+    match takes_of(Category::Ctype, name) {
+        None | Some(Operands::Copied) => false,
+        Some(_) => true,
+    }
 }
 
-/// Whether a name is a keyword or that of a class.
+/// Whether a name is that of a class or of a keyword that keeps it.
 fn is_taken(classes: &Classes, name: &[u8]) -> bool
     ensures { result ≡ is_taken classes.now name.now }
 {
-    classes.get(name).is_some() || is_among(&OTHER_KEYWORDS, name)
+    classes.get(name).is_some() || is_reserved(name)
 }
 
 /// The classes after one that an operand declares.
@@ -181,6 +182,7 @@ fn after_operands(
     ensures { Gives (λ c. c) result (after_operands charset.now list.now classes rule operands.now) }
 {
     match rule {
+        None => Ok(classes),
         Some(Rule::ClassNames) => declaring_values(alloc, charset, list, classes, operands),
         Some(Rule::TenDigits) => {
             check_digits(operands)?;
@@ -190,7 +192,10 @@ fn after_operands(
             check_pairs(&classes, operands)?;
             Ok(classes)
         }
-        _ => Ok(classes),
+        Some(rule) => {
+            check_operands(rule, operands)?;
+            Ok(classes)
+        }
     }
 }
 

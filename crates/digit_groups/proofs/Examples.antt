@@ -1,8 +1,9 @@
--- Digits in groups, and how wide they are.
-use Rattle.std.proofs.Common.{◌≡◌, ℕ, List, [], ◌∷◌, refl}
+-- Digits in groups, how wide they are, and numbers at the front of a text.
+use Rattle.std.proofs.Common.{◌≡◌, ℕ, List, [], ◌∷◌, Some, None, refl}
 use Rattle.std.specs.Prelude.{codes, ℤ, pos, negsuc}
 use Rattle.digit_groups.specs.Digits.{last_digits}
 use Rattle.digit_groups.specs.Groups.{grouped, grouped_width, separated, separators}
+use Rattle.digit_groups.specs.Numbers.{number_behind, leading_number, leading_digits, small_value}
 
 -- seven digits
 abbrev seven : List ℤ → List ℕ
@@ -82,3 +83,37 @@ zeros_before = refl
 number_in_groups : grouped (last_digits 7 1234567) (pos 3 ∷ []) (codes ",") ≡ codes "1,234,567"
 unfolding separated last_digits
 number_in_groups = refl
+
+-- ---- numbers at the front of a text
+
+before_a_letter : leading_number (codes "12n3") ≡ Some (12, 2)
+unfolding number_behind
+before_a_letter = refl
+
+letter_first : leading_number (codes "n3") ≡ Some (0, 0)
+unfolding number_behind
+letter_first = refl
+
+number_behind_zeros : leading_number (codes "007") ≡ Some (7, 3)
+unfolding number_behind
+number_behind_zeros = refl
+
+highest : leading_number (codes "255") ≡ Some (255, 3)
+unfolding number_behind
+highest = refl
+
+above : leading_number (codes "256") ≡ None
+unfolding number_behind
+above = refl
+
+digits_before_a_letter : leading_digits (codes "12n3") ≡ codes "12"
+digits_before_a_letter = refl
+
+value_behind_zeros : small_value (codes "007") ≡ Some (7, 3)
+value_behind_zeros = refl
+
+highest_value : small_value (codes "255") ≡ Some (255, 3)
+highest_value = refl
+
+above_value : small_value (codes "256") ≡ None
+above_value = refl

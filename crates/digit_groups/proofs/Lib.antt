@@ -1,3 +1,4 @@
 pub mod DigitLemmas
 pub mod GroupLemmas
+pub mod NumberLemmas
 mod Examples

@@ -1,4 +1,5 @@
-//! Digits with a separator between groups of them (XBD 7.3.3 and 7.3.4).
+//! Digits with a separator between groups of them (XBD 7.3.3 and 7.3.4), and the number at the front of a
+//! text.
 #![tactic(auto)]
 
 ghost use Rattle.std.specs.Prelude.{◌≡◌, true, drop, ◌+◌, ◌*◌, ◌≤◌, List, ℕ, ◌++◌, length, OnOk, OnErr, IfSome};
@@ -6,7 +7,10 @@ ghost use Rattle.std.specs.List.{list_all};
 ghost use Rattle.digit_groups.specs.Digits.{last_digits, without_last};
 ghost use Rattle.digit_groups.specs.Groups.{is_size, sizes_used, separated, separators, grouped, grouped_width, last_group, before_last};
 
+mod number;
+
 use lc_base::ByteText;
+pub use number::leading_number;
 use std::alloc::{AllocError, Global};
 use std::mem::replace;
 

@@ -6,8 +6,9 @@ use Rattle.numeric_cat.specs.NumericValues.{NumericValues}
 use Rattle.int_format.specs.Refusals.{IntRefusal, BadFormat, MissingNumber, TooBig}
 use Rattle.int_format.specs.declared.fault.IntFault.TheVariants as faults
 use Rattle.digit_groups.specs.Digits.{last_digits}
+use Rattle.digit_groups.specs.Numbers.{number_behind}
 use Rattle.int_format.specs.Digits.{digit_count}
-use Rattle.int_format.specs.Formats.{flags_behind, number_behind, conversion_with, piece, pieces}
+use Rattle.int_format.specs.Formats.{flags_behind, conversion_with, piece, pieces}
 use Rattle.int_format.specs.Ints.{is_number, ints, at_most, pieces_text, missing, shown, Answers, below_zero}
 
 -- a locale with commas between thousands, and one with lakhs

@@ -2,9 +2,10 @@
 use Rattle.std.proofs.Common.{◌≡◌, ℕ, suc, zero, ◌+◌, ◌-◌, ◌<◌, ◌≤◌, List, [], ◌∷◌, length, take, drop, get_or, Option, Some, None, Ok, Err, Bool, arith, refl, ap, ◌∙◌, sym}
 use Rattle.std.proofs.Math.Seq.{drop-cons}
 use Rattle.std.proofs.lemmas.List.{take_rest, drop-drop, drop_all}
+use Rattle.digit_groups.specs.Numbers.{leading_number}
 use Rattle.int_format.specs.declared.format.Flags.{Flags}
 use Rattle.int_format.specs.declared.format.Piece.{Piece}
-use Rattle.int_format.specs.Formats.{number, precision, letter, conversion_with, piece, pieces, followed}
+use Rattle.int_format.specs.Formats.{precision, letter, conversion_with, piece, pieces, followed}
 
 -- ---- pieces
 
@@ -42,20 +43,20 @@ pieces_over bs at ge = ap (λ t. pieces 0 at t) (drop_all at bs ge)
 -- ---- conversions
 
 pub conversion_some : (f : Flags) (a : ℕ) (bs : List ℕ) (w d : ℕ) (p : Option ℕ) (y : ℕ) (s : Bool) (z : ℕ) →
-    number (drop a bs) ≡ Some (w, d) → precision (drop (a + d) bs) ≡ Some (p, y) → letter (drop (a + d + y) bs) ≡ Some (s, z) →
+    leading_number (drop a bs) ≡ Some (w, d) → precision (drop (a + d) bs) ≡ Some (p, y) → letter (drop (a + d + y) bs) ≡ Some (s, z) →
     conversion_with f a bs ≡ Some (record { flags = f; width = w; precision = p; signed = s }, a + d + y + z)
 unfolding conversion_with
 conversion_some f a bs w d p y s z e1 e2 e3 = rw (e1, e2, e3) refl
 
-pub no_width_there : (f : Flags) (a : ℕ) (bs : List ℕ) → number (drop a bs) ≡ None → conversion_with f a bs ≡ None
+pub no_width_there : (f : Flags) (a : ℕ) (bs : List ℕ) → leading_number (drop a bs) ≡ None → conversion_with f a bs ≡ None
 unfolding conversion_with
 no_width_there f a bs e1 = rw e1 refl
 
-pub no_precision_there : (f : Flags) (a : ℕ) (bs : List ℕ) (w d : ℕ) → number (drop a bs) ≡ Some (w, d) → precision (drop (a + d) bs) ≡ None → conversion_with f a bs ≡ None
+pub no_precision_there : (f : Flags) (a : ℕ) (bs : List ℕ) (w d : ℕ) → leading_number (drop a bs) ≡ Some (w, d) → precision (drop (a + d) bs) ≡ None → conversion_with f a bs ≡ None
 unfolding conversion_with
 no_precision_there f a bs w d e1 e2 = rw (e1, e2) refl
 
 pub no_letter_there : (f : Flags) (a : ℕ) (bs : List ℕ) (w d : ℕ) (p : Option ℕ) (y : ℕ) →
-    number (drop a bs) ≡ Some (w, d) → precision (drop (a + d) bs) ≡ Some (p, y) → letter (drop (a + d + y) bs) ≡ None → conversion_with f a bs ≡ None
+    leading_number (drop a bs) ≡ Some (w, d) → precision (drop (a + d) bs) ≡ Some (p, y) → letter (drop (a + d + y) bs) ≡ None → conversion_with f a bs ≡ None
 unfolding conversion_with
 no_letter_there f a bs w d p y e1 e2 e3 = rw (e1, e2, e3) refl

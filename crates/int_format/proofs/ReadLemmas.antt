@@ -9,8 +9,9 @@ use Rattle.digit_groups.specs.Groups.{sizes_used, separates, separated, separato
 use Rattle.numeric_cat.specs.NumericValues.{NumericValues}
 use Rattle.int_format.specs.Refusals.{IntRefusal}
 use Rattle.digit_groups.specs.Digits.{last_digits}
+use Rattle.digit_groups.specs.Numbers.{number_behind}
 use Rattle.int_format.specs.Digits.{digit_count, digits_at_least}
-use Rattle.int_format.specs.Formats.{flags_behind, number_behind, conversion_with, piece, pieces}
+use Rattle.int_format.specs.Formats.{flags_behind, conversion_with, piece, pieces}
 use Rattle.int_format.specs.Ints.{is_number, ints, pieces_text, missing, grouped_digits, between, below_zero, IsTextOf}
 use Rattle.int_format.proofs.DigitLemmas.{digit_first, divides_power, length-last_digits, few_digits, below_power}
 

@@ -1,8 +1,8 @@
 -- Formats of whole numbers: conversions and bytes that are copied (XSH fprintf; bounds and the refusal are our own).
-use Rattle.std.specs.Prelude.{ℕ, zero, suc, ◌+◌, ◌-◌, ◌*◌, nat_lt, ◌==◌, ◌||◌, Bool, true, false, List, [], ◌∷◌, drop, Option, Some, None, option_map, Result, Ok, Err, if◌then◌else◌}
-use Rattle.std.specs.Char.{is_ascii_digit}
+use Rattle.std.specs.Prelude.{ℕ, zero, suc, ◌+◌, ◌==◌, ◌||◌, Bool, true, false, List, [], ◌∷◌, drop, Option, Some, None, option_map, Result, Ok, Err, if◌then◌else◌}
 use Rattle.std.specs.List.{find}
 use Rattle.lc_base.specs.Lines.{◌>>=◌}
+use Rattle.digit_groups.specs.Numbers.{counted, leading_number}
 use Rattle.int_format.specs.declared.format.Mark.{Mark}
 use Rattle.int_format.specs.declared.format.Mark.TheVariants.{Groups, LeftAligned, PlusSign, SpaceSign, Zeros}
 use Rattle.int_format.specs.declared.format.Flags.{Flags}
@@ -35,10 +35,6 @@ with_mark f PlusSign = record f { plus = true }
 with_mark f SpaceSign = record f { space = true }
 with_mark f Zeros = record f { zeros = true }
 
--- so many bytes more
-abbrev pub counted : {A : Type 0} → ℕ → A × ℕ → A × ℕ
-counted n r = (r.0, r.1 + n)
-
 -- the flags that bytes begin with, beside those before them, and how many bytes they take
 unfoldable pub flags_behind : Flags → List ℕ → Flags × ℕ
 flags_behind f [] = (f, 0)
@@ -52,28 +48,10 @@ flags bs = flags_behind no_flags bs
 
 -- ---- numbers
 
-abbrev pub further : {A : Type 0} → ℕ → Option (A × ℕ) → Option (A × ℕ)
-further n r = option_map (λ x. counted n x) r
-
--- the number that digits are which bytes begin with, behind others of this value, and how many they are; it is at most 255
-unfoldable pub number_behind : ℕ → List ℕ → Option (ℕ × ℕ)
-number_behind v [] = Some (v, 0)
-number_behind v (c ∷ cs) = elim (is_ascii_digit c) [
-  | false ↦ Some (v, 0)
-  | true ↦ elim (nat_lt 255 (v * 10 + (c - 48))) [
-    | true ↦ None
-    | false ↦ further 1 (number_behind (v * 10 + (c - 48)) cs)
-  ]
-]
-
--- the number that bytes begin with, 0 where no digit is there
-abbrev pub number : List ℕ → Option (ℕ × ℕ)
-number bs = number_behind 0 bs
-
 -- the precision behind a `.`, if the `.` is there; without digits it is 0
 abbrev pub precision : List ℕ → Option (Option ℕ × ℕ)
 precision [] = Some (None, 0)
-precision (c ∷ cs) = if c == 46 then (number cs >>= λ r. Some (Some r.0, r.1 + 1)) else Some (None, 0)
+precision (c ∷ cs) = if c == 46 then (leading_number cs >>= λ r. Some (Some r.0, r.1 + 1)) else Some (None, 0)
 
 -- ---- conversions
 
@@ -99,7 +77,7 @@ letter bs = option_map (λ s. (s, modifier bs + 1)) (is_signed (drop (modifier b
 -- the conversion that bytes behind a `%` begin with, whose flags take so many bytes: the width, the precision and the letter, and how many bytes it takes
 unfoldable pub conversion_with : Flags → ℕ → List ℕ → Option (Conversion × ℕ)
 conversion_with f n bs = do
-  w ← number (drop n bs)
+  w ← leading_number (drop n bs)
   p ← precision (drop (n + w.1) bs)
   l ← letter (drop (n + w.1 + p.1) bs)
   Some (record { flags = f; width = w.0; precision = p.0; signed = l.0 }, n + w.1 + p.1 + l.1)

@@ -1,7 +1,9 @@
 //! Formats of whole numbers (XSH fprintf).
 
 ghost use Rattle.std.specs.Prelude.{◌≡◌, ◌+◌, ◌≤◌, ◌<◌, length, IfSome};
-ghost use Rattle.int_format.specs.Formats.{mark_of, with_mark, flags, number, precision, modifier, is_signed, letter, conversion, behind_percent, piece};
+ghost use Rattle.int_format.specs.Formats.{mark_of, with_mark, flags, precision, modifier, is_signed, letter, conversion, behind_percent, piece};
+
+use digit_groups::leading_number;
 
 /// A flag.
 #[derive(Clone, Copy, Debug, PartialEq, Eq)]
@@ -106,27 +108,6 @@ fn flags_of(bytes: &[u8]) -> (Flags, usize)
     (flags, count)
 }
 
-/// The number that bytes begin with, and how many digits it has; it is at most 255.
-#[tactic(auto, unfolding(crate::specs::Formats::number_behind))]
-fn number(bytes: &[u8]) -> Option<(u8, usize)>
-    ensures is { result ≡ number bytes.now }
-    ensures within { IfSome result (λ r. r.1 ≤ length bytes.now) }
-{
-    let mut value: u16 = 0;
-    let mut count = 0;
-    for byte in bytes {
-        if !byte.is_ascii_digit() {
-            break;
-        }
-        value = value * 10 + u16::from(*byte - b'0');
-        if value > 255 {
-            return None;
-        }
-        count += 1;
-    }
-    Some((value as u8, count))
-}
-
 /// The precision that bytes begin with, if a `.` is there, and how many bytes it takes.
 #[inline(always)]
 fn precision_of(bytes: &[u8]) -> Option<(Option<u8>, usize)>
@@ -135,7 +116,7 @@ fn precision_of(bytes: &[u8]) -> Option<(Option<u8>, usize)>
 {
     match bytes {
         [b'.', rest @ ..] => {
-            let (value, count) = number(rest)?;
+            let (value, count) = leading_number(rest)?;
             Some((Some(value), count + 1))
         }
         _ => Some((None, 0)),
@@ -187,7 +168,7 @@ fn conversion_of(bytes: &[u8]) -> Option<(Conversion, usize)>
     ensures within { IfSome result (λ r. r.1 ≤ length bytes.now) }
 {
     let (flags, mut at) = flags_of(bytes);
-    let (width, digits) = number(&bytes[at..])?;
+    let (width, digits) = leading_number(&bytes[at..])?;
     at += digits;
     let (precision, more) = precision_of(&bytes[at..])?;
     at += more;

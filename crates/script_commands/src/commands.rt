@@ -2,9 +2,10 @@
 
 ghost use Rattle.std.specs.Prelude.{◌≡◌, ℕ, ◌<◌, ◌≤◌, length, IfOk};
 ghost use Rattle.std.specs.Option.{option_copied};
-ghost use Rattle.lc_base.specs.Reading.{Gives};
+ghost use Rattle.lc_base.specs.Reading.{Gives, Reads};
 ghost use Rattle.script_commands.specs.InRange.{IsBaseOwned, IsInRange};
-ghost use Rattle.script_words.specs.Spans.{span};
+ghost use Rattle.script_words.specs.Spans.{Span, span};
+ghost use Rattle.script_commands.specs.declared.command.Read.{Read};
 ghost use Rattle.script_commands.specs.Commands.{info_words, conv_words, class_words, lone_value, money_words, time_words, number_words, parse_words, upper_words, lower_words, base, new_command, dup_command, selection, use_command, setlocale_command, install_command, post_command, fetch_command, read_of_command, catopen_command, catgets_command, catclose_command, handle_read_command, own_read_command, catalog_command, shared_command, command};
 
 use crate::arguments::{
@@ -251,115 +252,21 @@ fn fetch_command(alloc: Global, scope: Scope<'_>, rest: Stretch<'_>) -> Result<C
     })
 }
 
-/// `info_l H`, and the words of `info`.
+/// `H`, and the words of a read behind it, which `words` reads. Whatever definition it follows, the
+/// command follows the same one.
 #[tactic(auto, unfolding(crate::specs::Commands::read_of_command))]
-fn info_of_command(alloc: Global, scope: Scope<'_>, rest: Stretch<'_>) -> Result<Command, TextFault>
-    ensures is { Gives (λ x. x) result (read_of_command (option_copied scope.entry.known) scope.entry.threads.now info_words (span rest.entry)) }
-    ensures in_range { IfOk result (IsInRange (length scope.entry.threads.now)) }
-{
-    let (object, rest) = target_word(alloc, scope, rest)?;
-    let read = info_words(rest)?;
-    Ok(Command::ReadOf { object, read })
-}
-
-/// `class_l H`, and the words of `class`.
-#[tactic(auto, unfolding(crate::specs::Commands::read_of_command))]
-fn class_of_command(
+fn read_of_command<F: FnOnce(Stretch<'_>) -> Result<Read, TextFault>>(
     alloc: Global,
     scope: Scope<'_>,
     rest: Stretch<'_>,
+    words: F,
 ) -> Result<Command, TextFault>
-    ensures is { Gives (λ x. x) result (read_of_command (option_copied scope.entry.known) scope.entry.threads.now class_words (span rest.entry)) }
+    requires { F.IsAlwaysCallable words }
+    ensures is { (said : Span → Reads Read) → ((s : _) (read : _) → F.post words s read → Gives (λ x. x) read (said (span s))) → Gives (λ x. x) result (read_of_command (option_copied scope.entry.known) scope.entry.threads.now said (span rest.entry)) }
     ensures in_range { IfOk result (IsInRange (length scope.entry.threads.now)) }
 {
     let (object, rest) = target_word(alloc, scope, rest)?;
-    let read = class_words(alloc, rest)?;
-    Ok(Command::ReadOf { object, read })
-}
-
-/// `upper_l H`, and the words of `upper`.
-#[tactic(auto, unfolding(crate::specs::Commands::read_of_command))]
-fn upper_of_command(
-    alloc: Global,
-    scope: Scope<'_>,
-    rest: Stretch<'_>,
-) -> Result<Command, TextFault>
-    ensures is { Gives (λ x. x) result (read_of_command (option_copied scope.entry.known) scope.entry.threads.now upper_words (span rest.entry)) }
-    ensures in_range { IfOk result (IsInRange (length scope.entry.threads.now)) }
-{
-    let (object, rest) = target_word(alloc, scope, rest)?;
-    let read = upper_words(rest)?;
-    Ok(Command::ReadOf { object, read })
-}
-
-/// `lower_l H`, and the words of `lower`.
-#[tactic(auto, unfolding(crate::specs::Commands::read_of_command))]
-fn lower_of_command(
-    alloc: Global,
-    scope: Scope<'_>,
-    rest: Stretch<'_>,
-) -> Result<Command, TextFault>
-    ensures is { Gives (λ x. x) result (read_of_command (option_copied scope.entry.known) scope.entry.threads.now lower_words (span rest.entry)) }
-    ensures in_range { IfOk result (IsInRange (length scope.entry.threads.now)) }
-{
-    let (object, rest) = target_word(alloc, scope, rest)?;
-    let read = lower_words(rest)?;
-    Ok(Command::ReadOf { object, read })
-}
-
-/// `money_l H`, and the words of `money`.
-#[tactic(auto, unfolding(crate::specs::Commands::read_of_command))]
-fn money_of_command(
-    alloc: Global,
-    scope: Scope<'_>,
-    rest: Stretch<'_>,
-) -> Result<Command, TextFault>
-    ensures is { Gives (λ x. x) result (read_of_command (option_copied scope.entry.known) scope.entry.threads.now money_words (span rest.entry)) }
-    ensures in_range { IfOk result (IsInRange (length scope.entry.threads.now)) }
-{
-    let (object, rest) = target_word(alloc, scope, rest)?;
-    let read = money_words(alloc, rest)?;
-    Ok(Command::ReadOf { object, read })
-}
-
-/// `time_l H`, and the words of `time`.
-#[tactic(auto, unfolding(crate::specs::Commands::read_of_command))]
-fn time_of_command(alloc: Global, scope: Scope<'_>, rest: Stretch<'_>) -> Result<Command, TextFault>
-    ensures is { Gives (λ x. x) result (read_of_command (option_copied scope.entry.known) scope.entry.threads.now time_words (span rest.entry)) }
-    ensures in_range { IfOk result (IsInRange (length scope.entry.threads.now)) }
-{
-    let (object, rest) = target_word(alloc, scope, rest)?;
-    let read = time_words(alloc, rest)?;
-    Ok(Command::ReadOf { object, read })
-}
-
-/// `number_l H`, and the words of `number`.
-#[tactic(auto, unfolding(crate::specs::Commands::read_of_command))]
-fn number_of_command(
-    alloc: Global,
-    scope: Scope<'_>,
-    rest: Stretch<'_>,
-) -> Result<Command, TextFault>
-    ensures is { Gives (λ x. x) result (read_of_command (option_copied scope.entry.known) scope.entry.threads.now number_words (span rest.entry)) }
-    ensures in_range { IfOk result (IsInRange (length scope.entry.threads.now)) }
-{
-    let (object, rest) = target_word(alloc, scope, rest)?;
-    let read = number_words(alloc, rest)?;
-    Ok(Command::ReadOf { object, read })
-}
-
-/// `parse_l H`, and the words of `parse`.
-#[tactic(auto, unfolding(crate::specs::Commands::read_of_command))]
-fn parse_of_command(
-    alloc: Global,
-    scope: Scope<'_>,
-    rest: Stretch<'_>,
-) -> Result<Command, TextFault>
-    ensures is { Gives (λ x. x) result (read_of_command (option_copied scope.entry.known) scope.entry.threads.now parse_words (span rest.entry)) }
-    ensures in_range { IfOk result (IsInRange (length scope.entry.threads.now)) }
-{
-    let (object, rest) = target_word(alloc, scope, rest)?;
-    let read = parse_words(alloc, rest)?;
+    let read = words(rest)?;
     Ok(Command::ReadOf { object, read })
 }
 
@@ -421,21 +328,21 @@ fn handle_read_command(
     ensures in_range { IfOk result (IsInRange (length scope.entry.threads.now)) }
 {
     if b"info_l".as_slice() == word.bytes {
-        info_of_command(alloc, scope, rest)
+        read_of_command(alloc, scope, rest, info_words)
     } else if b"class_l".as_slice() == word.bytes {
-        class_of_command(alloc, scope, rest)
+        read_of_command(alloc, scope, rest, |rest| class_words(alloc, rest))
     } else if b"upper_l".as_slice() == word.bytes {
-        upper_of_command(alloc, scope, rest)
+        read_of_command(alloc, scope, rest, upper_words)
     } else if b"lower_l".as_slice() == word.bytes {
-        lower_of_command(alloc, scope, rest)
+        read_of_command(alloc, scope, rest, lower_words)
     } else if b"money_l".as_slice() == word.bytes {
-        money_of_command(alloc, scope, rest)
+        read_of_command(alloc, scope, rest, |rest| money_words(alloc, rest))
     } else if b"time_l".as_slice() == word.bytes {
-        time_of_command(alloc, scope, rest)
+        read_of_command(alloc, scope, rest, |rest| time_words(alloc, rest))
     } else if b"number_l".as_slice() == word.bytes {
-        number_of_command(alloc, scope, rest)
+        read_of_command(alloc, scope, rest, |rest| number_words(alloc, rest))
     } else if b"parse_l".as_slice() == word.bytes {
-        parse_of_command(alloc, scope, rest)
+        read_of_command(alloc, scope, rest, |rest| parse_words(alloc, rest))
     } else {
         Err(TextFault::At(word.place, Reason::BadLine(LinePart::Command)))
     }

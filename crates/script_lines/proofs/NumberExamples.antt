@@ -3,7 +3,8 @@ use Rattle.std.proofs.Common.{◌≡◌, ℕ, List, [], ◌∷◌, refl}
 use Rattle.std.specs.Prelude.{ℤ, pos, negsuc, codes}
 use Rattle.digit_groups.specs.Digits.{last_digits}
 use Rattle.digit_groups.specs.Groups.{separated}
-use Rattle.int_format.specs.Formats.{flags_behind, number_behind, conversion_with, piece, pieces}
+use Rattle.digit_groups.specs.Numbers.{number_behind}
+use Rattle.int_format.specs.Formats.{flags_behind, conversion_with, piece, pieces}
 use Rattle.int_format.specs.Ints.{pieces_text, missing}
 use Rattle.category_store.specs.Catalog.{Catalog}
 use Rattle.compiled_categories.specs.Locale.{posix_locale}

@@ -6,11 +6,12 @@ use Rattle.lc_base.specs.declared.item.Item.TheVariants.{Codeset, Crncystr, Yese
 use Rattle.mask_compose.specs.Parts.{Parts}
 use Rattle.digit_groups.specs.Digits.{last_digits}
 use Rattle.digit_groups.specs.Groups.{separated, separators}
+use Rattle.digit_groups.specs.Numbers.{number_behind}
 use Rattle.ctype_classes.specs.CtypeValues.{CtypeValues}
 use Rattle.monetary_cat.specs.MonetaryValues.{MonetaryValues}
 use Rattle.monetary_cat.specs.declared.values.FormNumbers.{FormNumbers}
 use Rattle.monetary_cat.specs.Monetary.{text, number}
-use Rattle.strfmon.specs.Formats.{flags_behind, number_behind, conversion, piece, pieces}
+use Rattle.strfmon.specs.Formats.{flags_behind, conversion, piece, pieces}
 use Rattle.strfmon.specs.Cells.{cell}
 use Rattle.strfmon.specs.Looks.{look_of}
 use Rattle.strfmon.specs.Money.{text_with, pieces_text, missing}

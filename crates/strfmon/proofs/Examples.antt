@@ -6,7 +6,8 @@ use Rattle.monetary_cat.specs.MonetaryValues.{MonetaryValues}
 use Rattle.strfmon.specs.Refusals.{MoneyRefusal, BadFormat, MissingAmount, TooBig}
 use Rattle.strfmon.specs.declared.fault.MoneyFault.TheVariants as faults
 use Rattle.digit_groups.specs.Digits.{last_digits}
-use Rattle.strfmon.specs.Formats.{flags_behind, number_behind, conversion, piece, pieces}
+use Rattle.digit_groups.specs.Numbers.{number_behind}
+use Rattle.strfmon.specs.Formats.{flags_behind, conversion, piece, pieces}
 use Rattle.strfmon.specs.Cells.{cell}
 use Rattle.strfmon.specs.Looks.{look_of}
 use Rattle.strfmon.specs.Money.{money, text_with, pieces_text, missing, Answers}

@@ -4,9 +4,10 @@ use Rattle.std.specs.Prelude.{◌==◌, if◌then◌else◌}
 use Rattle.std.proofs.lemmas.Bool.Decides.{nat_tests}
 use Rattle.std.proofs.Math.Seq.{drop-cons}
 use Rattle.std.proofs.lemmas.List.{take_rest, drop-drop, drop_all}
+use Rattle.digit_groups.specs.Numbers.{further, number_behind, leading_number}
 use Rattle.strfmon.specs.declared.format.Flags.{Flags}
 use Rattle.strfmon.specs.declared.format.Piece.{Piece}
-use Rattle.strfmon.specs.Formats.{further, with_flag, flags_behind, flags, number_behind, number, number_after, is_international, conversion, plain, piece, pieces, followed}
+use Rattle.strfmon.specs.Formats.{with_flag, flags_behind, flags, number_after, is_international, conversion, plain, piece, pieces, followed}
 
 -- ---- flags
 
@@ -98,7 +99,7 @@ pieces_over bs at ge = ap (λ t. pieces 0 at t) (drop_all at bs ge)
 -- ---- conversions
 
 pub conversion_some : (bs : List ℕ) (f : Flags) (a w d : ℕ) (n : Option ℕ) (x : ℕ) (p : Option ℕ) (y : ℕ) (i : Bool) →
-    flags bs ≡ Some (f, a) → number (drop a bs) ≡ Some (w, d) → number_after 35 (drop (a + d) bs) ≡ Some (n, x) → number_after 46 (drop (a + d + x) bs) ≡ Some (p, y) → is_international (drop (a + d + x + y) bs) ≡ Some i →
+    flags bs ≡ Some (f, a) → leading_number (drop a bs) ≡ Some (w, d) → number_after 35 (drop (a + d) bs) ≡ Some (n, x) → number_after 46 (drop (a + d + x) bs) ≡ Some (p, y) → is_international (drop (a + d + x + y) bs) ≡ Some i →
     conversion bs ≡ Some (record { flags = f; width = w; whole_digits = n; precision = p; international = i }, a + d + x + y + 1)
 unfolding conversion
 conversion_some bs f a w d n x p y i e1 e2 e3 e4 e5 = rw (e1, e2, e3, e4, e5) refl
@@ -107,20 +108,20 @@ pub no_flags_there : (bs : List ℕ) → flags bs ≡ None → conversion bs ≡
 unfolding conversion
 no_flags_there bs e1 = rw e1 refl
 
-pub no_width_there : (bs : List ℕ) (f : Flags) (a : ℕ) → flags bs ≡ Some (f, a) → number (drop a bs) ≡ None → conversion bs ≡ None
+pub no_width_there : (bs : List ℕ) (f : Flags) (a : ℕ) → flags bs ≡ Some (f, a) → leading_number (drop a bs) ≡ None → conversion bs ≡ None
 unfolding conversion
 no_width_there bs f a e1 e2 = rw (e1, e2) refl
 
-pub no_digits_there : (bs : List ℕ) (f : Flags) (a w d : ℕ) → flags bs ≡ Some (f, a) → number (drop a bs) ≡ Some (w, d) → number_after 35 (drop (a + d) bs) ≡ None → conversion bs ≡ None
+pub no_digits_there : (bs : List ℕ) (f : Flags) (a w d : ℕ) → flags bs ≡ Some (f, a) → leading_number (drop a bs) ≡ Some (w, d) → number_after 35 (drop (a + d) bs) ≡ None → conversion bs ≡ None
 unfolding conversion
 no_digits_there bs f a w d e1 e2 e3 = rw (e1, e2, e3) refl
 
-pub no_precision_there : (bs : List ℕ) (f : Flags) (a w d : ℕ) (n : Option ℕ) (x : ℕ) → flags bs ≡ Some (f, a) → number (drop a bs) ≡ Some (w, d) → number_after 35 (drop (a + d) bs) ≡ Some (n, x) → number_after 46 (drop (a + d + x) bs) ≡ None → conversion bs ≡ None
+pub no_precision_there : (bs : List ℕ) (f : Flags) (a w d : ℕ) (n : Option ℕ) (x : ℕ) → flags bs ≡ Some (f, a) → leading_number (drop a bs) ≡ Some (w, d) → number_after 35 (drop (a + d) bs) ≡ Some (n, x) → number_after 46 (drop (a + d + x) bs) ≡ None → conversion bs ≡ None
 unfolding conversion
 no_precision_there bs f a w d n x e1 e2 e3 e4 = rw (e1, e2, e3, e4) refl
 
 pub no_letter_there : (bs : List ℕ) (f : Flags) (a w d : ℕ) (n : Option ℕ) (x : ℕ) (p : Option ℕ) (y : ℕ) →
-    flags bs ≡ Some (f, a) → number (drop a bs) ≡ Some (w, d) → number_after 35 (drop (a + d) bs) ≡ Some (n, x) → number_after 46 (drop (a + d + x) bs) ≡ Some (p, y) → is_international (drop (a + d + x + y) bs) ≡ None → conversion bs ≡ None
+    flags bs ≡ Some (f, a) → leading_number (drop a bs) ≡ Some (w, d) → number_after 35 (drop (a + d) bs) ≡ Some (n, x) → number_after 46 (drop (a + d + x) bs) ≡ Some (p, y) → is_international (drop (a + d + x + y) bs) ≡ None → conversion bs ≡ None
 unfolding conversion
 no_letter_there bs f a w d n x p y e1 e2 e3 e4 e5 = rw (e1, e2, e3, e4, e5) refl
 

@@ -1,9 +1,9 @@
 -- Formats of amounts: conversions and bytes that are copied (XSH strfmon; bounds and the refusal are our own).
-use Rattle.std.specs.Prelude.{ℕ, zero, suc, ◌+◌, ◌-◌, ◌*◌, nat_lt, ◌==◌, ◌&&◌, Bool, true, false, List, [], ◌∷◌, drop, Option, Some, None, is_some, is_none, option_map, Result, Ok, Err, if◌then◌else◌}
-use Rattle.std.specs.Char.{is_ascii_digit}
+use Rattle.std.specs.Prelude.{ℕ, zero, suc, ◌+◌, ◌==◌, ◌&&◌, Bool, true, false, List, [], ◌∷◌, drop, Option, Some, None, is_some, is_none, option_map, Result, Ok, Err, if◌then◌else◌}
 use Rattle.std.specs.Int.{is_in_range}
 use Rattle.std.specs.List.{find}
 use Rattle.lc_base.specs.Lines.{◌>>=◌}
+use Rattle.digit_groups.specs.Numbers.{further, leading_number}
 use Rattle.strfmon.specs.declared.format.Signs.TheVariants.{Plus, Parentheses}
 use Rattle.strfmon.specs.declared.format.Mark.{Mark}
 use Rattle.strfmon.specs.declared.format.Mark.TheVariants.{NoGroups, SignTexts, InParentheses, NoSymbol, LeftAligned}
@@ -41,10 +41,6 @@ with_mark f LeftAligned = if f.left then None else Some (record f { left = true 
 abbrev pub with_fill : Flags → ℕ → Option Flags
 with_fill f c = if is_none f.fill && is_in_range 32 126 c then Some (record f { fill = Some c }) else None
 
--- so many bytes more
-abbrev pub further : {A : Type 0} → ℕ → Option (A × ℕ) → Option (A × ℕ)
-further n r = option_map (λ x. (x.0, x.1 + n)) r
-
 -- the flags with the one of a byte
 abbrev pub with_byte : Flags → Option Mark → Option (Flags × ℕ)
 with_byte f None = Some (f, 0)
@@ -76,25 +72,10 @@ flags bs = flags_behind 0 no_flags bs
 
 -- ---- numbers
 
--- the number that digits are which bytes begin with, behind others of this value, and how many they are; it is at most 255
-unfoldable pub number_behind : ℕ → List ℕ → Option (ℕ × ℕ)
-number_behind v [] = Some (v, 0)
-number_behind v (c ∷ cs) = elim (is_ascii_digit c) [
-  | false ↦ Some (v, 0)
-  | true ↦ elim (nat_lt 255 (v * 10 + (c - 48))) [
-    | true ↦ None
-    | false ↦ further 1 (number_behind (v * 10 + (c - 48)) cs)
-  ]
-]
-
--- the number that bytes begin with, 0 where no digit is there
-abbrev pub number : List ℕ → Option (ℕ × ℕ)
-number bs = number_behind 0 bs
-
 -- the number behind a sign, if the sign is there; it needs a digit
 abbrev pub number_after : ℕ → List ℕ → Option (Option ℕ × ℕ)
 number_after sign [] = Some (None, 0)
-number_after sign (c ∷ cs) = if c == sign then (number cs >>= λ r. if r.1 == 0 then None else Some (Some r.0, r.1 + 1)) else Some (None, 0)
+number_after sign (c ∷ cs) = if c == sign then (leading_number cs >>= λ r. if r.1 == 0 then None else Some (Some r.0, r.1 + 1)) else Some (None, 0)
 
 -- ---- conversions
 
@@ -107,7 +88,7 @@ is_international (c ∷ cs) = if c == 105 then Some true else if c == 110 then S
 unfoldable pub conversion : List ℕ → Option (Conversion × ℕ)
 conversion bs = do
   f ← flags bs
-  w ← number (drop f.1 bs)
+  w ← leading_number (drop f.1 bs)
   n ← number_after 35 (drop (f.1 + w.1) bs)
   p ← number_after 46 (drop (f.1 + w.1 + n.1) bs)
   international ← is_international (drop (f.1 + w.1 + n.1 + p.1) bs)

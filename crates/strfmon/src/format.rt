@@ -1,7 +1,9 @@
 //! Formats of amounts (XSH strfmon).
 
 ghost use Rattle.std.specs.Prelude.{◌≡◌, ◌+◌, ◌<◌, ◌≤◌, length, IfSome};
-ghost use Rattle.strfmon.specs.Formats.{mark_of, with_mark, with_fill, with_flag, flags, number, number_after, is_international, conversion, behind_percent, piece, plain};
+ghost use Rattle.strfmon.specs.Formats.{mark_of, with_mark, with_fill, with_flag, flags, number_after, is_international, conversion, behind_percent, piece, plain};
+
+use digit_groups::leading_number;
 
 /// How the sign of an amount shows.
 #[derive(Clone, Copy, Debug, PartialEq, Eq)]
@@ -162,27 +164,6 @@ fn flags_of(bytes: &[u8]) -> Option<(Flags, usize)>
     Some((flags, at))
 }
 
-/// The number that bytes begin with, and how many digits it has; it is at most 255.
-#[tactic(auto, unfolding(crate::specs::Formats::number_behind))]
-fn number(bytes: &[u8]) -> Option<(u8, usize)>
-    ensures is { result ≡ number bytes.now }
-    ensures within { IfSome result (λ r. r.1 ≤ length bytes.now) }
-{
-    let mut value: u16 = 0;
-    let mut count = 0;
-    for byte in bytes {
-        if !byte.is_ascii_digit() {
-            break;
-        }
-        value = value * 10 + u16::from(*byte - b'0');
-        if value > 255 {
-            return None;
-        }
-        count += 1;
-    }
-    Some((value as u8, count))
-}
-
 /// The number behind a sign, if the sign is there, and how many bytes both take.
 #[inline(always)]
 fn number_after(sign: u8, bytes: &[u8]) -> Option<(Option<u8>, usize)>
@@ -191,7 +172,7 @@ fn number_after(sign: u8, bytes: &[u8]) -> Option<(Option<u8>, usize)>
 {
     match bytes {
         [first, rest @ ..] if *first == sign => {
-            let (value, count) = number(rest)?;
+            let (value, count) = leading_number(rest)?;
             if count == 0 {
                 return None;
             }
@@ -221,7 +202,7 @@ fn conversion_of(bytes: &[u8]) -> Option<(Conversion, usize)>
     ensures within { IfSome result (λ r. r.1 ≤ length bytes.now) }
 {
     let (flags, mut at) = flags_of(bytes)?;
-    let (width, digits) = number(&bytes[at..])?;
+    let (width, digits) = leading_number(&bytes[at..])?;
     at += digits;
     let (whole_digits, more) = number_after(b'#', &bytes[at..])?;
     at += more;

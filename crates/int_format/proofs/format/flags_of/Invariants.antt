@@ -1,5 +1,6 @@
 use Rattle.std.proofs.Common.{◌≡◌, drop}
-use Rattle.int_format.specs.Formats.{counted, flags, flags_behind}
+use Rattle.digit_groups.specs.Numbers.{counted}
+use Rattle.int_format.specs.Formats.{flags, flags_behind}
 use Rattle.int_format.proofs.format.flags_of.Given as goal
 
 abbrev pub invariant-loop-byte : goal.invariant-loop-byte

@@ -1,5 +1,6 @@
 use Rattle.std.proofs.Common.{◌≡◌, ◌-◌, ◌≤◌, length, drop}
-use Rattle.strfmon.specs.Formats.{further, flags, flags_behind}
+use Rattle.digit_groups.specs.Numbers.{further}
+use Rattle.strfmon.specs.Formats.{flags, flags_behind}
 use Rattle.strfmon.proofs.format.flags_of.Given as goal
 
 abbrev pub invariant-loop-at : goal.invariant-loop-at

@@ -1,6 +1,6 @@
 use Rattle.std.proofs.Common.{◌≡◌, ◌≤◌, drop}
-use Rattle.strfmon.specs.Formats.{further, number_behind}
-use Rattle.strfmon.proofs.format.number.Given as goal
+use Rattle.digit_groups.specs.Numbers.{further, number_behind}
+use Rattle.digit_groups.proofs.number.leading_number.Given as goal
 
 abbrev pub invariant-loop-byte : goal.invariant-loop-byte
 invariant-loop-byte l = record {
