@@ -74,7 +74,7 @@ fn explain(alloc: Global, words: &[&str]) -> Result<ByteText, Problem> {
         None => Err(usage_problem(
             alloc,
             name.as_bytes(),
-            b"there is no such reason; docs/REFUSALS.md has all of them",
+            b"there is no such reason; `locale_tool explain` prints the names of all",
         )),
     }
 }
