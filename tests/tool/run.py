@@ -197,6 +197,27 @@ def run_streams(program, work):
     return wrong, len(wanted) + 1
 
 
+def control_bytes():
+    """Words that would turn a terminal red: a message shows their escape bytes by their numbers, and in a line of
+    which a place is marked as `?`."""
+    red, shown = "\x1b[31m", "locale_tool: \\x1b[31m: "
+    told = {
+        "amount": (2, ["money", "%n", red], "an amount is"),
+        "time": (2, ["time", "%F", red], "a time is"),
+        "item": (2, ["info", red], "there is no such item"),
+        "class": (1, ["class", red, "a"], "NoClass: "),
+        "reason": (2, ["explain", red], "there is no such reason"),
+        "file": (1, ["money", "-l", red, "%n", "1"], "there is no such file"),
+    }
+    cases = []
+    for name, (status, words, wanted) in told.items():
+        cases.append(Case(f"escape_byte_of_{name}", status, words))
+        cases[-1].message_parts = [shown + wanted]
+    cases.append(Case("escape_byte_of_format", 1, ["money", f"%Q{red}", "1"]))
+    cases[-1].message_parts = ["\n%Q?[31m\n^\n"]
+    return cases
+
+
 def main(work, program=None):
     cases = cases_of(f"{HERE}/cases")
     os.makedirs(work, exist_ok=True)
@@ -204,6 +225,7 @@ def main(work, program=None):
     with open(f"{work}/files/large", "wb") as it:
         it.write(b"%" * 20_000_000)
     cases.append(Case("large_file", 1, ["money", "-l", "files/large", "%n", "1"], ["locale_tool: files/large: it has more than 16777216 bytes"]))
+    cases += control_bytes()
     count, wrong = len(cases), []
     if program:
         wrong, more = run_streams(program, work)

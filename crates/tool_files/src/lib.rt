@@ -6,6 +6,7 @@ mod copies;
 mod files;
 mod hints;
 mod loading;
+mod parts;
 mod shown;
 mod sized;
 mod sources;
