@@ -197,6 +197,27 @@ def run_streams(program, work):
     return wrong, len(wanted) + 1
 
 
+def control_bytes():
+    """Words that would turn a terminal red: a message shows their escape bytes by their numbers, and in a line of
+    which a place is marked as `?`."""
+    red, shown = "\x1b[31m", "locale_tool: \\x1b[31m: "
+    told = {
+        "amount": (2, ["money", "%n", red], "an amount is"),
+        "time": (2, ["time", "%F", red], "a time is"),
+        "item": (2, ["info", red], "there is no such item"),
+        "class": (1, ["class", red, "a"], "NoClass: "),
+        "reason": (2, ["explain", red], "there is no such reason"),
+        "file": (1, ["money", "-l", red, "%n", "1"], "there is no such file"),
+    }
+    cases = []
+    for name, (status, words, wanted) in told.items():
+        cases.append(Case(f"escape_byte_of_{name}", status, words))
+        cases[-1].message_parts = [shown + wanted]
+    cases.append(Case("escape_byte_of_format", 1, ["money", f"%Q{red}", "1"]))
+    cases[-1].message_parts = ["\n%Q?[31m\n^\n"]
+    return cases
+
+
 def main(work, program=None):
     cases = cases_of(f"{HERE}/cases")
     os.makedirs(work, exist_ok=True)
@@ -217,6 +238,7 @@ def main(work, program=None):
     ]
     cases.append(Case("chain_of_files", 0, ["check", "files/chain_1", "--path", "files"]))
     cases.append(Case("too_long_chain_of_files", 1, ["check", "files/chain_0", "--path", "files"], too_long))
+    cases += control_bytes()
     count, wrong = len(cases), []
     if program:
         wrong, more = run_streams(program, work)

@@ -5,7 +5,7 @@ use category_store::{Compiled, Library, Share};
 use charmap_reader::Charset;
 use clap::ArgMatches;
 use ctype_classes::Ctype;
-use lc_base::ByteText;
+use lc_base::{ByteText, Category};
 use std::alloc::{AllocError, Global};
 use std::rt::{Env, Files};
 use std::sync::Wait;
@@ -16,8 +16,8 @@ use tool_commands::{strs, word};
 use tool_explain::explained;
 use tool_files::{Sources, Wanted, charset_of, fault_problem, library_of, load};
 use tool_reads::{
-    Categories, class_lines, conv_lines, info_lines, lower_lines, money_line, number_line,
-    parsed_lines, time_line, upper_lines, usage_problem,
+    Categories, class_lines, conv_lines, info_lines, item_categories, lower_lines, money_line,
+    number_line, parsed_lines, time_line, upper_lines, usage_problem,
 };
 use tool_times::tm_of;
 use tool_words::{Answer, Problem};
@@ -74,7 +74,7 @@ fn explain(alloc: Global, words: &[&str]) -> Result<ByteText, Problem> {
         None => Err(usage_problem(
             alloc,
             name.as_bytes(),
-            b"there is no such reason; docs/REFUSALS.md has all of them",
+            b"there is no such reason; `locale_tool explain` prints the names of all",
         )),
     }
 }
@@ -111,7 +111,35 @@ fn read_locale<R: Files + Env + Clock + AllocGlobal + Clone + Drop>(
     name: &str,
     given: &ArgMatches<'_>,
 ) -> Result<ByteText, Problem> {
-    match load(rt, alloc, &wanted_files(given)) {
+    match name {
+        "info" => {
+            let categories = item_categories(alloc, strs(given, "ITEM"))?;
+            read_categories(rt, alloc, name, given, categories.as_slice())
+        }
+        _ => read_categories(rt, alloc, name, given, categories_of(name)),
+    }
+}
+
+/// The categories that a command reads, whatever its words are.
+fn categories_of(name: &str) -> &'static [Category] {
+    match name {
+        "money" => &[Category::Monetary],
+        "number" => &[Category::Numeric],
+        "time" | "parse" => &[Category::Time],
+        "conv" => &[Category::Numeric, Category::Monetary],
+        _ => &[Category::Ctype],
+    }
+}
+
+/// What a command prints that reads these categories.
+fn read_categories<R: Files + Env + Clock + AllocGlobal + Clone + Drop>(
+    rt: &R,
+    alloc: Global,
+    name: &str,
+    given: &ArgMatches<'_>,
+    categories: &[Category],
+) -> Result<ByteText, Problem> {
+    match load(rt, alloc, &wanted_files(given), categories) {
         Ok(sources) => answer_by(rt, alloc, name, given, &sources),
         Err(problem) => Err(problem),
     }

@@ -39,7 +39,7 @@ fn first_rows(number: u32) -> Option<ReasonRow> {
             name: "BadLine directive",
             rule: "a line that begins with `.` is a directive with the words that it wants, and `.native` stands at most once",
             breaks: ".locale C UTF-8",
-            keeps: ".locale de UTF-8",
+            keeps: ".locale de UTF-8\n.end",
         },
         1 => ReasonRow {
             name: "BadLine thread",
@@ -233,8 +233,8 @@ fn fourth_rows(number: u32) -> Option<ReasonRow> {
         29 => ReasonRow {
             name: "BadEncoding",
             rule: "a line of a charmap is a name or a range and then an encoding, whose first byte of several is not 0 and which does not pass its greatest value within the range",
-            breaks: "<q> \\x00\\x80",
-            keeps: "<q> \\x80",
+            breaks: "<qq> \\x00\\x80",
+            keeps: "<qq> \\x80",
         },
         30 => ReasonRow {
             name: "RangeBackward",
@@ -259,7 +259,7 @@ fn fifth_rows(number: u32) -> Option<ReasonRow> {
             name: "WrongOperand",
             rule: "an operand is of the kind that its keyword wants, operands have a `;` between them, there is none too few or too many, and no range runs backward",
             breaks: "LC_TIME\ncopy a;b\nEND LC_TIME",
-            keeps: "LC_TIME\ncopy \"a\"\nEND LC_TIME",
+            keeps: "LC_TIME\ncopy \"POSIX\"\nEND LC_TIME",
         },
         33 => ReasonRow {
             name: "BadEscape",

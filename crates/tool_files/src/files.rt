@@ -5,7 +5,7 @@ use std::alloc::{AllocError, Global};
 use std::fs;
 use std::io::ErrorKind;
 use std::rt::Files;
-use tool_words::Problem;
+use tool_words::{Problem, push_word};
 
 /// The most bytes of a file.
 pub const FILE_LIMIT: usize = 16_777_216;
@@ -67,7 +67,7 @@ fn unreadable(alloc: Global, path: &str, cause: &[u8]) -> Problem {
 fn unreadable_message(alloc: Global, path: &str, cause: &[u8]) -> Result<ByteText, AllocError> {
     let mut message = Vec::new(alloc);
     message.extend_from_slice(b"locale_tool: ")?;
-    message.extend_from_slice(path.as_bytes())?;
+    push_word(&mut message, path.as_bytes())?;
     message.extend_from_slice(b": ")?;
     message.extend_from_slice(cause)?;
     message.extend_from_slice(b"\n")?;

@@ -7,6 +7,7 @@ mod files;
 mod format;
 mod hints;
 mod loading;
+mod parts;
 mod shown;
 mod sized;
 mod sources;

@@ -3,10 +3,11 @@
 use crate::compiled::charset_of;
 use crate::copies::{CopiedName, copied_names};
 use crate::files::file_text;
+use crate::parts::with_categories;
 use crate::shown::fault_problem;
 use crate::sources::Sources;
 use charmap_reader::Charset;
-use lc_base::{Block, ByteText, Limit, Reason, TextFault};
+use lc_base::{Block, ByteText, Category, Limit, Reason, TextFault};
 use locale_sources::is_posix;
 use std::alloc::{AllocError, Global};
 use std::fs;
@@ -26,27 +27,60 @@ pub struct Wanted<'a> {
     pub folders: &'a [&'a str],
 }
 
-/// Reads the files of a command: its charmap, its locale, and those of the locales that are copied.
-pub fn load<R: Files>(rt: &R, alloc: Global, wanted: &Wanted<'_>) -> Result<Sources, Problem> {
+/// What is read of the files of locales.
+#[derive(Clone, Copy)]
+struct Reading<'a> {
+    /// The categories of the sections; `None` for the whole files.
+    categories: Option<&'a [Category]>,
+    /// Where the files of copied locales are looked for.
+    folders: &'a [&'a str],
+}
+
+/// Reads the files of a command: its charmap, and of its locale, and of those that are copied, the sections of
+/// these categories. The lines of the others are empty.
+pub fn load<R: Files>(
+    rt: &R,
+    alloc: Global,
+    wanted: &Wanted<'_>,
+    categories: &[Category],
+) -> Result<Sources, Problem> {
+    let reading = Reading {
+        categories: Some(categories),
+        folders: wanted.folders,
+    };
     match wanted.locale {
         Some(path) => {
             let text = file_text(rt, alloc, path)?;
-            load_with(rt, alloc, wanted, Some((path, text)))
+            load_parts(rt, alloc, wanted.charmap, Some((path, text)), &reading)
         }
-        None => load_with(rt, alloc, wanted, None),
+        None => load_parts(rt, alloc, wanted.charmap, None, &reading),
     }
 }
 
-/// Reads the files of a command but for its locale, whose path and text are given: what is read of a pipe
-/// is there once.
+/// Reads the whole files of a command but for its locale, whose path and text are given: what is read of a
+/// pipe is there once.
 pub fn load_with<R: Files>(
     rt: &R,
     alloc: Global,
     wanted: &Wanted<'_>,
     locale: Option<(&str, ByteText)>,
 ) -> Result<Sources, Problem> {
+    let reading = Reading {
+        categories: None,
+        folders: wanted.folders,
+    };
+    load_parts(rt, alloc, wanted.charmap, locale, &reading)
+}
+
+fn load_parts<R: Files>(
+    rt: &R,
+    alloc: Global,
+    charmap: Option<&str>,
+    locale: Option<(&str, ByteText)>,
+    reading: &Reading<'_>,
+) -> Result<Sources, Problem> {
     let mut sources = Sources::new(alloc);
-    match load_into(rt, alloc, wanted, locale, &mut sources) {
+    match load_into(rt, alloc, charmap, locale, reading, &mut sources) {
         Ok(()) => Ok(sources),
         Err(problem) => Err(problem),
     }
@@ -55,16 +89,17 @@ pub fn load_with<R: Files>(
 fn load_into<R: Files>(
     rt: &R,
     alloc: Global,
-    wanted: &Wanted<'_>,
+    charmap: Option<&str>,
     locale: Option<(&str, ByteText)>,
+    reading: &Reading<'_>,
     sources: &mut Sources,
 ) -> Result<(), Problem> {
-    add_charmap(rt, alloc, wanted.charmap, sources)?;
+    add_charmap(rt, alloc, charmap, sources)?;
     if let Some((path, text)) = locale {
-        add_text(alloc, path, text, sources)?;
+        add_text(alloc, path, text, reading, sources)?;
     }
     match charset_of(alloc, sources) {
-        Ok(charset) => add_copies(rt, alloc, wanted.folders, &charset, sources),
+        Ok(charset) => add_copies(rt, alloc, reading, &charset, sources),
         Err(fault) => Err(fault_problem(alloc, sources, fault)),
     }
 }
@@ -89,20 +124,26 @@ fn add_file<R: Files>(
     rt: &R,
     alloc: Global,
     path: &str,
+    reading: &Reading<'_>,
     sources: &mut Sources,
 ) -> Result<(), Problem> {
     let text = file_text(rt, alloc, path)?;
-    Ok(add_text(alloc, path, text, sources)?)
+    Ok(add_text(alloc, path, text, reading, sources)?)
 }
 
-/// Adds the text of the file of a locale.
+/// Adds what is read of the text of the file of a locale.
 fn add_text(
     alloc: Global,
     path: &str,
     text: ByteText,
+    reading: &Reading<'_>,
     sources: &mut Sources,
 ) -> Result<(), AllocError> {
     let charset = charset_name(alloc, sources.charmaps.as_slice())?;
+    let text = match reading.categories {
+        Some(categories) => with_categories(alloc, text, categories)?,
+        None => text,
+    };
     sources.add_locale(alloc, path, charset.as_bytes(), text)
 }
 
@@ -118,13 +159,13 @@ fn charset_name(alloc: Global, charmaps: &[Block]) -> Result<ByteText, AllocErro
 fn add_copies<R: Files>(
     rt: &R,
     alloc: Global,
-    folders: &[&str],
+    reading: &Reading<'_>,
     charset: &Charset,
     sources: &mut Sources,
 ) -> Result<(), Problem> {
     for number in 0..FILES_MOST {
         let names = names_at(alloc, sources.locales.as_slice(), number, charset)?;
-        add_named(rt, alloc, folders, names.as_slice(), sources)?;
+        add_named(rt, alloc, reading, names.as_slice(), sources)?;
     }
     Ok(())
 }
@@ -146,13 +187,13 @@ fn names_at(
 fn add_named<R: Files>(
     rt: &R,
     alloc: Global,
-    folders: &[&str],
+    reading: &Reading<'_>,
     names: &[CopiedName],
     sources: &mut Sources,
 ) -> Result<(), Problem> {
     for copied in names {
         if !is_there(sources.locales.as_slice(), copied.name.as_bytes()) {
-            add_found(rt, alloc, folders, copied, sources)?;
+            add_found(rt, alloc, reading, copied, sources)?;
         }
     }
     Ok(())
@@ -176,14 +217,14 @@ fn has_name(locales: &[Block], name: &[u8]) -> bool {
 fn add_found<R: Files>(
     rt: &R,
     alloc: Global,
-    folders: &[&str],
+    reading: &Reading<'_>,
     copied: &CopiedName,
     sources: &mut Sources,
 ) -> Result<(), Problem> {
-    for folder in folders {
+    for folder in reading.folders {
         let path = path_in(alloc, folder, copied.name.as_bytes())?;
         if is_file(rt, path.as_str()) {
-            return add_next(rt, alloc, path.as_str(), copied, sources);
+            return add_next(rt, alloc, path.as_str(), copied, reading, sources);
         }
     }
     Ok(())
@@ -195,13 +236,14 @@ fn add_next<R: Files>(
     alloc: Global,
     path: &str,
     copied: &CopiedName,
+    reading: &Reading<'_>,
     sources: &mut Sources,
 ) -> Result<(), Problem> {
     if sources.locales.len() >= FILES_MOST {
         let fault = TextFault::At(copied.place, Reason::OverLimit(Limit::Locales));
         return Err(fault_problem(alloc, sources, fault));
     }
-    add_file(rt, alloc, path, sources)
+    add_file(rt, alloc, path, reading, sources)
 }
 
 fn is_file<R: Files>(rt: &R, path: &str) -> bool {

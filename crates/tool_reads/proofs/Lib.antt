@@ -1,3 +1,4 @@
 pub mod AnswerLemmas
+pub mod ItemLemmas
 pub mod NumberLemmas
 mod PrintedExamples

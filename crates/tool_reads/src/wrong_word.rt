@@ -6,7 +6,7 @@ ghost use Rattle.tool_reads.specs.Answers.{IsOf, WrongWord, NoAnswer};
 use lc_base::ByteText;
 use std::alloc::{AllocError, Global};
 use tool_explain::rule_of;
-use tool_words::Problem;
+use tool_words::{Problem, push_word};
 
 /// The problem of a word, with what is wanted.
 pub fn usage_problem(alloc: Global, word: &[u8], wanted: &[u8]) -> Problem
@@ -39,7 +39,7 @@ fn ruled_message(alloc: Global, word: &[u8], reason: &str) -> Result<ByteText, A
 fn message_of(alloc: Global, word: &[u8], wanted: &[u8]) -> Result<ByteText, AllocError> {
     let mut message = Vec::new(alloc);
     message.extend_from_slice(b"locale_tool: ")?;
-    message.extend_from_slice(word)?;
+    push_word(&mut message, word)?;
     message.extend_from_slice(b": ")?;
     message.extend_from_slice(wanted)?;
     message.extend_from_slice(b"\n")?;

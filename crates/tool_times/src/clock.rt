@@ -10,12 +10,15 @@ use std::time::Clock;
 use time_cat::Tm;
 use tool_words::Problem;
 
+/// The word for the time of the clock.
+pub const NOW: &[u8] = b"now";
+
 /// The time of the clock, in the system's zone, or in UTC where that is not known.
 pub fn now_tm<R: Files + Env + Clock + AllocGlobal + Clone + Drop>(rt: &R) -> Result<Tm, Problem> {
     let alloc = rt.alloc();
     match Timestamp::now(rt) {
         Ok(now) => zoned_now(rt, alloc, now),
-        Err(_) => Err(when_problem(alloc, b"now")),
+        Err(_) => Err(when_problem(alloc, NOW)),
     }
 }
 
@@ -26,7 +29,7 @@ fn zoned_now<R: Files + Env + AllocGlobal + Clone + Drop>(
 ) -> Result<Tm, Problem> {
     match (TimeZoneDatabase::from_env(rt), SystemTimeZone::read(rt)) {
         (Ok(database), Ok(system)) => in_zone(alloc, now, &database, &system),
-        _ => zoned_tm(alloc, &now.to_zoned(TimeZone::UTC)),
+        _ => zoned_tm(alloc, &now.to_zoned(TimeZone::UTC), NOW),
     }
 }
 
@@ -37,7 +40,7 @@ fn in_zone(
     system: &SystemTimeZone,
 ) -> Result<Tm, Problem> {
     match system.time_zone(database) {
-        Ok(zone) => zoned_tm(alloc, &now.to_zoned(zone)),
-        Err(_) => zoned_tm(alloc, &now.to_zoned(TimeZone::UTC)),
+        Ok(zone) => zoned_tm(alloc, &now.to_zoned(zone), NOW),
+        Err(_) => zoned_tm(alloc, &now.to_zoned(TimeZone::UTC), NOW),
     }
 }

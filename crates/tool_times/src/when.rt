@@ -1,6 +1,6 @@
 //! Times as they are written.
 
-use crate::clock::now_tm;
+use crate::clock::{NOW, now_tm};
 use crate::fields::{civil_tm, zoned_tm};
 use jiff::Zoned;
 use jiff::civil::DateTime;
@@ -10,7 +10,7 @@ use std::alloc::{AllocError, Global};
 use std::rt::{Env, Files};
 use std::time::Clock;
 use time_cat::Tm;
-use tool_words::Problem;
+use tool_words::{Problem, push_word};
 
 /// What a time is.
 const WANTED: &[u8] =
@@ -27,13 +27,35 @@ pub fn tm_of<R: Files + Env + Clock + AllocGlobal + Clone + Drop>(
     rt: &R,
     when: &str,
 ) -> Result<Tm, Problem> {
-    if when.as_bytes() == b"now".as_slice() {
+    if when.as_bytes() == NOW {
         return now_tm(rt);
     }
-    if when.as_bytes().ends_with(b"]") {
+    let (written, suffixes) = parts_of(when.as_bytes());
+    if begins_with_zone(suffixes) {
         return named_zone_tm(rt, when);
     }
-    written_tm(rt.alloc(), when)
+    written_tm(rt.alloc(), when, written, suffixes)
+}
+
+/// A time up to its suffixes, and its suffixes, which stand in brackets.
+fn parts_of(when: &[u8]) -> (&[u8], &[u8]) {
+    match when.iter().position(|byte| *byte == b'[') {
+        Some(at) => when.split_at(at),
+        None => (when, &[]),
+    }
+}
+
+/// Whether suffixes begin with a zone: any other one has a `=` between its key and its value.
+fn begins_with_zone(suffixes: &[u8]) -> bool {
+    for byte in suffixes {
+        if *byte == b'=' {
+            return false;
+        }
+        if *byte == b']' {
+            return true;
+        }
+    }
+    false
 }
 
 /// A time with a zone in brackets.
@@ -55,7 +77,7 @@ fn zoned_text_tm(
     word: &str,
 ) -> Result<Tm, Problem> {
     match Zoned::parse(database, text) {
-        Ok(time) => zoned_tm(alloc, &time),
+        Ok(time) => zoned_tm(alloc, &time, word.as_bytes()),
         Err(fault) => Err(zone_problem(alloc, word.as_bytes(), fault)),
     }
 }
@@ -70,33 +92,41 @@ fn zone_problem(alloc: Global, word: &[u8], fault: jiff::Error) -> Problem {
     }
 }
 
-/// A time without brackets, with an offset or without one.
-fn written_tm(alloc: Global, when: &str) -> Result<Tm, Problem> {
-    match offset_of(when.as_bytes()) {
-        Some(offset) => offset_tm(alloc, when, offset),
+/// A time without a zone in brackets, with an offset or without one.
+fn written_tm(alloc: Global, when: &str, written: &[u8], suffixes: &[u8]) -> Result<Tm, Problem> {
+    match offset_of(written) {
+        Some(offset) => {
+            let text = with_zone(alloc, written, offset, suffixes)?;
+            offset_tm(alloc, when, text.as_slice())
+        }
         None => match when.parse::<DateTime>() {
-            Ok(time) => civil_tm(alloc, time, None, ""),
+            Ok(time) => civil_tm(alloc, time, None, "", when.as_bytes()),
             Err(_) => Err(when_problem(alloc, when.as_bytes())),
         },
     }
 }
 
-/// A time with an offset, which is its zone.
-fn offset_tm(alloc: Global, when: &str, offset: &[u8]) -> Result<Tm, Problem> {
-    let text = with_zone(alloc, when, offset)?;
-    let database = TimeZoneDatabase::new(alloc);
-    zoned_text_tm(alloc, &database, text.as_str(), when)
+/// A time of which the offset is the zone.
+fn offset_tm(alloc: Global, when: &str, text: &[u8]) -> Result<Tm, Problem> {
+    match str::from_utf8(text) {
+        Ok(text) => zoned_text_tm(alloc, &TimeZoneDatabase::new(alloc), text, when),
+        Err(_) => Err(when_problem(alloc, when.as_bytes())),
+    }
 }
 
-/// A time with its offset as a zone in brackets.
-fn with_zone(alloc: Global, when: &str, offset: &[u8]) -> Result<String, AllocError> {
-    let mut text = String::from_str(alloc, when)?;
-    text.push_str("[")?;
-    match str::from_utf8(offset) {
-        Ok(zone) => text.push_str(zone)?,
-        Err(_) => text.push_str("UTC")?,
-    }
-    text.push_str("]")?;
+/// A time with its offset as a zone in brackets, in front of its suffixes.
+fn with_zone(
+    alloc: Global,
+    written: &[u8],
+    offset: &[u8],
+    suffixes: &[u8],
+) -> Result<Vec<u8>, AllocError> {
+    let mut text = Vec::new(alloc);
+    text.extend_from_slice(written)?;
+    text.push(b'[')?;
+    text.extend_from_slice(offset)?;
+    text.push(b']')?;
+    text.extend_from_slice(suffixes)?;
     Ok(text)
 }
 
@@ -173,7 +203,7 @@ fn word_problem(alloc: Global, word: &[u8], wrong: &[u8]) -> Problem {
 fn word_message(alloc: Global, word: &[u8], wrong: &[u8]) -> Result<ByteText, AllocError> {
     let mut message = Vec::new(alloc);
     message.extend_from_slice(b"locale_tool: ")?;
-    message.extend_from_slice(word)?;
+    push_word(&mut message, word)?;
     message.extend_from_slice(wrong)?;
     Ok(ByteText::from_vec(message))
 }

@@ -1,5 +1,6 @@
 //! How a fault is shown.
 
+use crate::shown::push_word;
 use crate::text::push_number;
 use std::alloc::AllocError;
 
@@ -27,7 +28,7 @@ pub fn push_fault(
     reason: &[u8],
     rule: &[u8],
 ) -> Result<(), AllocError> {
-    out.extend_from_slice(spot.file)?;
+    push_word(out, spot.file)?;
     out.extend_from_slice(b":")?;
     push_number(out, u64::from(spot.line))?;
     out.extend_from_slice(b":")?;

@@ -4,9 +4,11 @@
 mod answer;
 mod fault;
 mod hints;
+mod shown;
 mod text;
 
 pub use answer::{Answer, Problem};
 pub use fault::{Spot, push_fault};
 pub use hints::push_hints;
+pub use shown::push_word;
 pub use text::{line_of, push_number};
