@@ -1,6 +1,6 @@
 use Rattle.std.proofs.Common.{◌≡◌, ◌++◌, drop, map}
 use Rattle.tool_reads.specs.ItemCategories.{named_categories}
-use Rattle.tool_reads.proofs.item_categories.named_categories.Given as goal
+use Rattle.tool_reads.proofs.needs.named_categories.Given as goal
 
 -- the categories so far, and those of the names that are left
 abbrev pub invariant-loop-name : goal.invariant-loop-name

@@ -1,7 +1,7 @@
 use Rattle.std.proofs.Common.{◌≡◌, sym, subst, List, ℕ, IfOk}
 use Rattle.tool_reads.specs.ItemCategories.{item_categories}
 use Rattle.tool_reads.proofs.AnswerLemmas.{none_left}
-use Rattle.tool_reads.proofs.item_categories.item_categories.Goals as goal
+use Rattle.tool_reads.proofs.needs.item_categories.Goals as goal
 
 pub returns-in-empty : goal.returns-in-empty
 returns-in-empty c =
