@@ -1,5 +1,6 @@
 -- The definitions of checks, tried on small examples.
 use Rattle.std.proofs.Common.{◌≡◌, ℕ, ◌==◌, ◌||◌, true, false, List, [], ◌∷◌, ◌++◌, Some, codes, refl}
+use Rattle.std.specs.Fmt.{decimal}
 use Rattle.lc_base.specs.declared.reason.Reason.TheVariants.{EmptyRadix}
 use Rattle.lc_base.specs.declared.category.Category.TheVariants.{Numeric, Time}
 use Rattle.tool_check.specs.declared.looks.Look.TheVariants.{Outside, Section}
@@ -75,10 +76,10 @@ ordered = refl
 not_ordered : are_ordered (at 3 1 ∷ at 4 1 ∷ at 2 5 ∷ []) ≡ false
 not_ordered = refl
 
-one_keyword : keyword_count 1 ≡ codes "1 keyword"
+one_keyword : keyword_count 1 ≡ decimal 1 ++ codes " keyword"
 one_keyword = refl
 
-no_keywords : keyword_count 0 ≡ codes "0 keywords"
+no_keywords : keyword_count 0 ≡ decimal 0 ++ codes " keywords"
 no_keywords = refl
 
 short_name : row (codes "LC_TIME") (codes "x") ≡ codes "LC_TIME        x" ++ 10 ∷ []
