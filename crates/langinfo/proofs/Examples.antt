@@ -1,6 +1,6 @@
 -- The items and localeconv's fields of a few locales.
-use Rattle.std.proofs.Common.{◌≡◌, ℕ, List, [], ◌∷◌, refl}
-use Rattle.std.specs.Prelude.{codes, pos, negsuc}
+use Rattle.std.proofs.Common.{◌≡◌, ℕ, List, [], ◌∷◌, map, refl, ap}
+use Rattle.std.specs.Prelude.{ℤ, codes, pos, negsuc}
 use Rattle.lc_base.specs.declared.place.Place.{Place}
 use Rattle.lc_base.specs.declared.item.Item.{Item}
 use Rattle.lc_base.specs.declared.item.Item.TheVariants as items
@@ -15,7 +15,9 @@ use Rattle.monetary_cat.specs.Monetary.{text, number}
 use Rattle.time_cat.specs.Values.{values_of}
 use Rattle.messages_cat.specs.Messages as messages
 use Rattle.langinfo.specs.Items.{info}
-use Rattle.langinfo.specs.Conv.{groups, conv}
+use Rattle.langinfo.specs.Conv.{encoded, groups, conv}
+use Rattle.langinfo.specs.Lent.{lconv_of}
+use Rattle.langinfo.specs.declared.conv.LentConv.{LentConv}
 
 -- a keyword with one operand, and with several
 abbrev here : Place
@@ -282,3 +284,16 @@ conv_all : conv (numeric.values_of numbers_of) (monetary.values_of amounts_of) �
 }
 unfolding text number
 conv_all = refl
+
+-- ---- what categories lend
+
+-- sizes of groups become chars
+sizes_lent : (lent : LentConv) → lent.grouping.now ≡ pos 3 ∷ pos 300 ∷ negsuc 0 ∷ [] → (lconv_of lent).grouping ≡ 3 ∷ 127 ∷ 127 ∷ []
+sizes_lent lent is = ap (λ (sizes : List ℤ). map encoded sizes) is
+
+-- a text and a number stay as they are
+text_lent : (lent : LentConv) → lent.positive_sign.now ≡ codes "+" → (lconv_of lent).positive_sign ≡ codes "+"
+text_lent lent is = is
+
+number_lent : (lent : LentConv) → lent.frac_digits ≡ 2 → (lconv_of lent).frac_digits ≡ 2
+number_lent lent is = is

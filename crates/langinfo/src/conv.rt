@@ -1,8 +1,9 @@
 //! The fields of localeconv's structure (XSH localeconv, XBD <locale.h>).
 
-ghost use Rattle.std.specs.Prelude.{◌≡◌, IfOk};
-ghost use Rattle.monetary_cat.specs.MonetaryValues.{text_of, number_of};
+ghost use Rattle.std.specs.Prelude.{◌≡◌, map, IfOk};
+ghost use Rattle.monetary_cat.specs.MonetaryValues.{number_of};
 ghost use Rattle.langinfo.specs.Conv.{conv, encoded, groups, sizes_of};
+ghost use Rattle.langinfo.specs.Lent.{lconv_of};
 
 use lc_base::ByteText;
 use monetary_cat::{MonNumber, MonText, Monetary};
@@ -42,6 +43,36 @@ pub struct Lconv {
     pub int_n_sign_posn: u8,
 }
 
+/// The fields of localeconv, lent by the categories: of a grouping the sizes that count, of which
+/// `encoded` makes chars.
+#[derive(Drop)]
+pub struct LentConv<'a> {
+    pub decimal_point: &'a [u8],
+    pub thousands_sep: &'a [u8],
+    pub grouping: &'a [i32],
+    pub int_curr_symbol: &'a [u8],
+    pub currency_symbol: &'a [u8],
+    pub mon_decimal_point: &'a [u8],
+    pub mon_thousands_sep: &'a [u8],
+    pub mon_grouping: &'a [i32],
+    pub positive_sign: &'a [u8],
+    pub negative_sign: &'a [u8],
+    pub int_frac_digits: u8,
+    pub frac_digits: u8,
+    pub p_cs_precedes: u8,
+    pub p_sep_by_space: u8,
+    pub n_cs_precedes: u8,
+    pub n_sep_by_space: u8,
+    pub p_sign_posn: u8,
+    pub n_sign_posn: u8,
+    pub int_p_cs_precedes: u8,
+    pub int_n_cs_precedes: u8,
+    pub int_p_sep_by_space: u8,
+    pub int_n_sep_by_space: u8,
+    pub int_p_sign_posn: u8,
+    pub int_n_sign_posn: u8,
+}
+
 /// What stands for a value that the locale does not tell: `CHAR_MAX`.
 const UNKNOWN: u8 = 127;
 
@@ -53,17 +84,56 @@ pub fn localeconv(
 ) -> Result<Lconv, AllocError>
     ensures { IfOk result (λ l. l ≡ conv numeric.now monetary.now) }
 {
+    owned(alloc, &lent_conv(numeric, monetary))
+}
+
+/// The fields with their own texts.
+fn owned(alloc: Global, lent: &LentConv<'_>) -> Result<Lconv, AllocError>
+    ensures { IfOk result (λ l. l ≡ lconv_of lent.now) }
+{
     Ok(Lconv {
-        decimal_point: ByteText::of(alloc, numeric.decimal_point())?,
-        thousands_sep: ByteText::of(alloc, numeric.thousands_sep())?,
-        grouping: groups(alloc, numeric.grouping())?,
-        int_curr_symbol: text(alloc, monetary, MonText::IntCurrSymbol)?,
-        currency_symbol: text(alloc, monetary, MonText::CurrencySymbol)?,
-        mon_decimal_point: text(alloc, monetary, MonText::MonDecimalPoint)?,
-        mon_thousands_sep: text(alloc, monetary, MonText::MonThousandsSep)?,
-        mon_grouping: groups(alloc, monetary.grouping())?,
-        positive_sign: text(alloc, monetary, MonText::PositiveSign)?,
-        negative_sign: text(alloc, monetary, MonText::NegativeSign)?,
+        decimal_point: ByteText::of(alloc, lent.decimal_point)?,
+        thousands_sep: ByteText::of(alloc, lent.thousands_sep)?,
+        grouping: chars(alloc, lent.grouping)?,
+        int_curr_symbol: ByteText::of(alloc, lent.int_curr_symbol)?,
+        currency_symbol: ByteText::of(alloc, lent.currency_symbol)?,
+        mon_decimal_point: ByteText::of(alloc, lent.mon_decimal_point)?,
+        mon_thousands_sep: ByteText::of(alloc, lent.mon_thousands_sep)?,
+        mon_grouping: chars(alloc, lent.mon_grouping)?,
+        positive_sign: ByteText::of(alloc, lent.positive_sign)?,
+        negative_sign: ByteText::of(alloc, lent.negative_sign)?,
+        int_frac_digits: lent.int_frac_digits,
+        frac_digits: lent.frac_digits,
+        p_cs_precedes: lent.p_cs_precedes,
+        p_sep_by_space: lent.p_sep_by_space,
+        n_cs_precedes: lent.n_cs_precedes,
+        n_sep_by_space: lent.n_sep_by_space,
+        p_sign_posn: lent.p_sign_posn,
+        n_sign_posn: lent.n_sign_posn,
+        int_p_cs_precedes: lent.int_p_cs_precedes,
+        int_n_cs_precedes: lent.int_n_cs_precedes,
+        int_p_sep_by_space: lent.int_p_sep_by_space,
+        int_n_sep_by_space: lent.int_n_sep_by_space,
+        int_p_sign_posn: lent.int_p_sign_posn,
+        int_n_sign_posn: lent.int_n_sign_posn,
+    })
+}
+
+/// The fields of localeconv in the locale that has these categories, which lend them.
+pub fn lent_conv<'a>(numeric: &'a Numeric, monetary: &'a Monetary) -> LentConv<'a>
+    ensures { lconv_of result ≡ conv numeric.now monetary.now }
+{
+    LentConv {
+        decimal_point: numeric.decimal_point(),
+        thousands_sep: numeric.thousands_sep(),
+        grouping: groups(numeric.grouping()),
+        int_curr_symbol: monetary.text(MonText::IntCurrSymbol),
+        currency_symbol: monetary.text(MonText::CurrencySymbol),
+        mon_decimal_point: monetary.text(MonText::MonDecimalPoint),
+        mon_thousands_sep: monetary.text(MonText::MonThousandsSep),
+        mon_grouping: groups(monetary.grouping()),
+        positive_sign: monetary.text(MonText::PositiveSign),
+        negative_sign: monetary.text(MonText::NegativeSign),
         int_frac_digits: number(monetary, MonNumber::IntFracDigits),
         frac_digits: number(monetary, MonNumber::FracDigits),
         p_cs_precedes: number(monetary, MonNumber::PCsPrecedes),
@@ -78,14 +148,7 @@ pub fn localeconv(
         int_n_sep_by_space: number(monetary, MonNumber::IntNSepBySpace),
         int_p_sign_posn: number(monetary, MonNumber::IntPSignPosn),
         int_n_sign_posn: number(monetary, MonNumber::IntNSignPosn),
-    })
-}
-
-/// The text of a keyword.
-fn text(alloc: Global, monetary: &Monetary, key: MonText) -> Result<ByteText, AllocError>
-    ensures { IfOk result (λ t. t ≡ text_of monetary.now key) }
-{
-    ByteText::of(alloc, monetary.text(key))
+    }
 }
 
 /// The number of a keyword.
@@ -96,7 +159,7 @@ fn number(monetary: &Monetary, key: MonNumber) -> u8
 }
 
 /// A number of a locale as a char.
-fn encoded(n: i32) -> u8
+pub fn encoded(n: i32) -> u8
     ensures { result ≡ encoded n }
 {
     match u8::try_from(n) {
@@ -105,30 +168,39 @@ fn encoded(n: i32) -> u8
     }
 }
 
-/// The sizes of groups as chars; none where nothing is grouped.
-fn groups(alloc: Global, sizes: &[i32]) -> Result<ByteText, AllocError>
-    ensures { IfOk result (λ t. t ≡ groups sizes.now) }
+/// The sizes of groups that count; none where nothing is grouped.
+fn groups(sizes: &[i32]) -> &[i32]
+    ensures { map encoded result.now ≡ groups sizes.now }
 {
     match sizes {
-        [first, ..] if encoded(*first) != UNKNOWN => sizes_of(alloc, sizes),
-        _ => ByteText::of(alloc, b""),
+        [first, ..] if encoded(*first) != UNKNOWN => sizes_of(sizes),
+        _ => &[],
     }
 }
 
-/// The sizes of groups as chars, up to a 0 and no further than 127.
-fn sizes_of(alloc: Global, sizes: &[i32]) -> Result<ByteText, AllocError>
-    ensures { IfOk result (λ t. t ≡ sizes_of sizes.now) }
+/// The sizes of groups up to a 0 and no further than 127.
+fn sizes_of(sizes: &[i32]) -> &[i32]
+    ensures { map encoded result.now ≡ sizes_of sizes.now }
+{
+    for (i, size) in sizes.iter().enumerate() {
+        let size = encoded(*size);
+        if size == 0 {
+            return &sizes[..i];
+        }
+        if size == UNKNOWN {
+            return &sizes[..i + 1];
+        }
+    }
+    sizes
+}
+
+/// Sizes of groups as chars.
+fn chars(alloc: Global, sizes: &[i32]) -> Result<ByteText, AllocError>
+    ensures { IfOk result (λ t. t ≡ map encoded sizes.now) }
 {
     let mut chars = Vec::with_capacity(alloc, sizes.len())?;
     for size in sizes {
-        let size = encoded(*size);
-        if size == 0 {
-            return Ok(ByteText::from_vec(chars));
-        }
-        chars.push(size)?;
-        if size == UNKNOWN {
-            return Ok(ByteText::from_vec(chars));
-        }
+        chars.push(encoded(*size))?;
     }
     Ok(ByteText::from_vec(chars))
 }

@@ -7,5 +7,5 @@ mod items;
 mod keyword;
 
 pub use categories::Categories;
-pub use conv::{Lconv, localeconv};
+pub use conv::{Lconv, LentConv, encoded, lent_conv, localeconv};
 pub use items::{item_text, nl_langinfo};

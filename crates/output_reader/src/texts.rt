@@ -9,6 +9,7 @@ ghost use Rattle.output_reader.specs.declared.unread.Unread.TheVariants.{Memory}
 use crate::pieces::{behind, byte_number, first_word};
 use crate::unread::Unread;
 use lc_base::{ByteText, List};
+use script_out::Texts;
 use std::alloc::Global;
 
 /// The text in quotes.
@@ -23,17 +24,17 @@ pub fn quoted_text(alloc: Global, bytes: &[u8]) -> Result<ByteText, Unread>
 }
 
 /// The texts, each behind a space, and what follows them.
-pub fn texts(alloc: Global, bytes: &[u8]) -> Result<(List<ByteText>, &[u8]), Unread>
+pub fn texts(alloc: Global, bytes: &[u8]) -> Result<(Texts, &[u8]), Unread>
     ensures { (all : List (List ℕ)) (rest : List ℕ) → EndsTexts rest → bytes.now ≡ texts_text all ++ rest → MatchResult result (λ r. (r.0 ≡ all) × (r.1.now ≡ rest)) (λ e. e ≡ Memory) }
 {
-    let mut found = Vec::new(alloc);
+    let mut found = Texts::new(alloc);
     let mut left = bytes;
     while let Some(body) = behind(left, b" \"") {
         let (text, rest) = unquoted(alloc, body)?;
-        found.push(text)?;
+        found.push(text.as_bytes())?;
         left = rest;
     }
-    Ok((List::of(found), left))
+    Ok((found, left))
 }
 
 /// The numbers, each behind a space.

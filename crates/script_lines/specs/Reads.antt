@@ -102,9 +102,12 @@ class_said (Some is) = said.Class is
 
 -- ---- strfmon
 
--- amounts, as strfmon takes them
+-- an amount, as strfmon takes it, and several
+abbrev pub amount_given : Amount → MoneyAmount
+amount_given a = record { units = a.units; scale = a.scale }
+
 abbrev pub amounts_given : List Amount → List MoneyAmount
-amounts_given amounts = map (λ (a : Amount). record { units = a.units; scale = a.scale }) amounts
+amounts_given amounts = map (λ (a : Amount). amount_given a) amounts
 
 -- why there is no text of money; a call that lacks memory has no reply
 abbrev pub money_refused : MoneyRefusal → Said

@@ -211,6 +211,7 @@ fn read_of_line<B: Board>(
 }
 
 /// The line of a read between a Hold and a Release, or of a Hold that is refused.
+#[inline(never)]
 fn read_between<B: Board>(
     alloc: Global,
     library: &Library,

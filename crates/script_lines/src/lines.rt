@@ -22,6 +22,7 @@ pub struct Caller {
 }
 
 /// A line.
+#[inline(always)]
 pub fn line(at: Caller, places: Places, global: Option<u32>, reply: Said) -> OutLine
     ensures { result ≡ line (caller at) places global reply }
 {
@@ -36,6 +37,7 @@ pub fn line(at: Caller, places: Places, global: Option<u32>, reply: Said) -> Out
 }
 
 /// A line that makes no entry.
+#[inline(always)]
 pub fn plain_line(at: Caller, reply: Said) -> OutLine
     ensures { result ≡ plain_line (caller at) reply }
 {
@@ -43,6 +45,7 @@ pub fn plain_line(at: Caller, reply: Said) -> OutLine
 }
 
 /// The line of an entry with this place.
+#[inline(always)]
 pub fn placed_line(
     alloc: Global,
     library: &Library,
@@ -58,6 +61,7 @@ pub fn placed_line(
 }
 
 /// The printed form of a reply of the table.
+#[inline(always)]
 fn shown(
     alloc: Global,
     library: &Library,
@@ -84,6 +88,7 @@ fn shown(
 }
 
 /// The version that a reply prints.
+#[inline(always)]
 fn version_made(reply: &Reply<Share>) -> Option<u32>
     ensures { result ≡ version_made (reply_of reply.now) }
 {

@@ -1,21 +1,24 @@
 //! What reads of an object reply.
 
-ghost use Rattle.std.specs.Prelude.{◌≡◌, ◌++◌, true, IfOk, OnOk};
+ghost use Rattle.std.specs.Prelude.{◌≡◌, ◌++◌, ◌∷◌, [], map, true, IfOk, OnOk};
 ghost use Rattle.std.specs.List.{list_all};
 ghost use Rattle.int_format.specs.Ints.{is_number};
-ghost use Rattle.script_lines.specs.Reads.{ctype_in, numeric_in, monetary_in, time_in, messages_in, info_said, more_sizes, sizes_text, conv_texts, conv_numbers, fields_said, conv_said, class_said, amounts_given, money_said, time_given, time_said, number_said, scanned_said, parse_said, local};
+ghost use Rattle.langinfo.specs.Conv.{encoded};
+ghost use Rattle.langinfo.specs.Lent.{lconv_of};
+ghost use Rattle.strfmon.specs.Money.{money};
+ghost use Rattle.script_lines.specs.Reads.{ctype_in, numeric_in, monetary_in, time_in, messages_in, info_said, more_sizes, sizes_text, conv_texts, conv_numbers, fields_said, conv_said, class_said, amount_given, amounts_given, money_text_said, money_said, time_given, time_said, number_said, scanned_said, parse_said, local};
 
 use category_store::{Library, Share};
 use ctype_classes::Ctype;
 use int_format::{IntFault, int_format};
-use langinfo::{Lconv, localeconv, nl_langinfo};
+use langinfo::{LentConv, encoded, lent_conv, nl_langinfo};
 use lc_base::{ByteText, Category, Item, List};
 use mask_compose::Object;
 use messages_cat::Messages;
 use monetary_cat::Monetary;
 use numeric_cat::Numeric;
 use script_commands::Read;
-use script_out::{Said, Why, push_number};
+use script_out::{Said, Texts, Why, push_number};
 use script_words::{CommandText, Format, WrittenAmount, WrittenNumber, WrittenTime};
 use std::alloc::{AllocError, Global};
 use strfmon::{Amount, MoneyFault, strfmon};
@@ -120,95 +123,99 @@ fn info_said(
 fn conv_said(alloc: Global, library: &Library, object: &Object<Share>) -> Result<Said, AllocError>
     ensures { IfOk result (λ said. said ≡ conv_said library.now object.now) }
 {
-    let fields = localeconv(
-        alloc,
-        numeric_in(library, object),
-        monetary_in(library, object),
-    )?;
-    fields_said(alloc, fields)
+    let fields = lent_conv(numeric_in(library, object), monetary_in(library, object));
+    fields_said(alloc, &fields)
 }
 
-/// The fields of localeconv, as they are printed.
-fn fields_said(alloc: Global, fields: Lconv) -> Result<Said, AllocError>
-    ensures { IfOk result (λ said. said ≡ fields_said fields) }
+/// The fields of localeconv, as they are printed. The block of the numbers is first where the sizes
+/// of groups are written.
+fn fields_said(alloc: Global, fields: &LentConv<'_>) -> Result<Said, AllocError>
+    ensures { IfOk result (λ said. said ≡ fields_said (lconv_of fields.now)) }
 {
-    let numbers = conv_numbers(alloc, &fields)?;
-    let texts = conv_texts(alloc, fields)?;
+    let mut block = Vec::with_capacity(alloc, 14)?;
+    let texts = conv_texts(alloc, &mut block, fields)?;
+    let numbers = conv_numbers(block, fields)?;
     Ok(Said::Conv(texts, numbers))
 }
 
+/// What ten texts of a few bytes take.
+const ROOM: usize = 128;
+
 /// The fields that are texts, in the order in which they are printed.
-fn conv_texts(alloc: Global, fields: Lconv) -> Result<List<ByteText>, AllocError>
-    ensures { IfOk result (λ texts. texts ≡ conv_texts fields) }
+fn conv_texts(
+    alloc: Global,
+    block: &mut Vec<u8>,
+    fields: &LentConv<'_>,
+) -> Result<Texts, AllocError>
+    ensures { IfOk result (λ texts. texts ≡ conv_texts (lconv_of fields.now)) }
 {
-    let grouping = sizes_text(alloc, fields.grouping.as_bytes())?;
-    let mon_grouping = sizes_text(alloc, fields.mon_grouping.as_bytes())?;
-    let texts = Vec::from_array(
-        alloc,
-        [
-            fields.decimal_point,
-            fields.thousands_sep,
-            grouping,
-            fields.int_curr_symbol,
-            fields.currency_symbol,
-            fields.mon_decimal_point,
-            fields.mon_thousands_sep,
-            mon_grouping,
-            fields.positive_sign,
-            fields.negative_sign,
-        ],
-    )?;
-    Ok(List::of(texts))
+    let mut texts = Texts::with_room(alloc, ROOM)?;
+    texts.push(fields.decimal_point)?;
+    texts.push(fields.thousands_sep)?;
+    push_sizes(&mut texts, block, fields.grouping)?;
+    texts.push(fields.int_curr_symbol)?;
+    texts.push(fields.currency_symbol)?;
+    texts.push(fields.mon_decimal_point)?;
+    texts.push(fields.mon_thousands_sep)?;
+    push_sizes(&mut texts, block, fields.mon_grouping)?;
+    texts.push(fields.positive_sign)?;
+    texts.push(fields.negative_sign)?;
+    Ok(texts)
 }
 
 /// The fields that are numbers, in the order in which they are printed.
-fn conv_numbers(alloc: Global, fields: &Lconv) -> Result<List<u8>, AllocError>
-    ensures { IfOk result (λ numbers. numbers ≡ conv_numbers fields.now) }
+fn conv_numbers(mut block: Vec<u8>, fields: &LentConv<'_>) -> Result<List<u8>, AllocError>
+    ensures { IfOk result (λ numbers. numbers ≡ conv_numbers (lconv_of fields.now)) }
 {
-    let numbers = Vec::from_slice(
-        alloc,
-        &[
-            fields.int_frac_digits,
-            fields.frac_digits,
-            fields.p_cs_precedes,
-            fields.p_sep_by_space,
-            fields.n_cs_precedes,
-            fields.n_sep_by_space,
-            fields.p_sign_posn,
-            fields.n_sign_posn,
-            fields.int_p_cs_precedes,
-            fields.int_n_cs_precedes,
-            fields.int_p_sep_by_space,
-            fields.int_n_sep_by_space,
-            fields.int_p_sign_posn,
-            fields.int_n_sign_posn,
-        ],
-    )?;
-    Ok(List::of(numbers))
+    block.clear();
+    block.extend_from_slice(&[
+        fields.int_frac_digits,
+        fields.frac_digits,
+        fields.p_cs_precedes,
+        fields.p_sep_by_space,
+        fields.n_cs_precedes,
+        fields.n_sep_by_space,
+        fields.p_sign_posn,
+        fields.n_sign_posn,
+        fields.int_p_cs_precedes,
+        fields.int_n_cs_precedes,
+        fields.int_p_sep_by_space,
+        fields.int_n_sep_by_space,
+        fields.int_p_sign_posn,
+        fields.int_n_sign_posn,
+    ])?;
+    Ok(List::of(block))
 }
 
-/// The sizes of groups, with `;` between them.
-fn sizes_text(alloc: Global, sizes: &[u8]) -> Result<ByteText, AllocError>
-    ensures { IfOk result (λ text. text ≡ sizes_text sizes.now) }
+/// Adds the text of the sizes of groups, which is written in a block.
+fn push_sizes(texts: &mut Texts, block: &mut Vec<u8>, sizes: &[i32]) -> Result<(), AllocError>
+    ensures { OnOk result (texts.new ≡ texts.old ++ sizes_text (map encoded sizes.now) ∷ []) }
+{
+    block.clear();
+    push_sizes_text(block, sizes)?;
+    texts.push(block.as_slice())
+}
+
+/// Adds the sizes of groups, with `;` between them.
+fn push_sizes_text(out: &mut Vec<u8>, sizes: &[i32]) -> Result<(), AllocError>
+    ensures { OnOk result (out.new.items ≡ out.old.items ++ sizes_text (map encoded sizes.now)) }
 {
     match sizes {
-        [] => ByteText::of(alloc, b""),
+        [] => Ok(()),
         [first, rest @ ..] => {
-            let mut text = Vec::new(alloc);
-            push_number(&mut text, u64::from(*first))?;
-            push_more_sizes(&mut text, rest)?;
-            Ok(ByteText::from_vec(text))
+            push_number(out, u64::from(encoded(*first)))?;
+            push_more_sizes(out, rest)
         }
     }
 }
 
 /// Adds sizes of groups, each behind a `;`.
-fn push_more_sizes(out: &mut Vec<u8>, sizes: &[u8]) -> Result<(), AllocError>
-    ensures { OnOk result (out.new.items ≡ out.old.items ++ more_sizes sizes.now) }
+fn push_more_sizes(out: &mut Vec<u8>, sizes: &[i32]) -> Result<(), AllocError>
+    ensures { OnOk result (out.new.items ≡ out.old.items ++ more_sizes (map encoded sizes.now)) }
 {
     for size in sizes {
         out.push(b';')?;
-        push_number(out, u64::from(*size))?;
+        push_number(out, u64::from(encoded(*size)))?;
     }
     Ok(())
 }
@@ -223,21 +230,47 @@ fn class_said(is: Option<bool>) -> Said
     }
 }
 
+/// An amount, as strfmon takes it.
+fn amount_given(amount: WrittenAmount) -> Amount
+    ensures { result ≡ amount_given amount }
+{
+    match Amount::new(amount.units(), amount.scale()) {
+        Some(amount) => amount,
+        None => unreachable!(),
+    }
+}
+
 /// The amounts, as strfmon takes them.
 fn amounts_given(alloc: Global, amounts: &[WrittenAmount]) -> Result<Vec<Amount>, AllocError>
     ensures { IfOk result (λ given. given.items ≡ amounts_given amounts.now) }
 {
-    let mut given = Vec::new(alloc);
+    let mut given = Vec::with_capacity(alloc, amounts.len())?;
     for amount in amounts {
-        match Amount::new(amount.units(), amount.scale()) {
-            Some(amount) => given.push(amount)?,
-            None => unreachable!(),
-        }
+        given.push(amount_given(*amount))?;
     }
     Ok(given)
 }
 
 /// The text of amounts of money, or why there is none.
+fn money_text(
+    alloc: Global,
+    values: &Monetary,
+    max: u32,
+    format: &Format,
+    amounts: &[Amount],
+) -> Result<Said, AllocError>
+    ensures { IfOk result (λ said. said ≡ money_text_said (money values.now format.now amounts.now max)) }
+{
+    match strfmon(alloc, values, format.as_bytes(), amounts, max as usize) {
+        Ok(text) => Ok(Said::Text(text)),
+        Err(MoneyFault::BadFormat { at }) => Ok(Said::Refused(Why::BadFormat(at))),
+        Err(MoneyFault::MissingAmount { at }) => Ok(Said::Refused(Why::MissingAmount(at))),
+        Err(MoneyFault::TooBig) => Ok(Said::Refused(Why::TooBig)),
+        Err(MoneyFault::Memory) => Err(AllocError),
+    }
+}
+
+/// What the amounts of a command reply. A single one takes no memory for its list.
 fn money_said(
     alloc: Global,
     library: &Library,
@@ -248,20 +281,13 @@ fn money_said(
 ) -> Result<Said, AllocError>
     ensures { IfOk result (λ said. said ≡ money_said library.now object.now max format.now amounts.now) }
 {
-    let amounts = amounts_given(alloc, amounts.as_slice())?;
     let values = monetary_in(library, object);
-    match strfmon(
-        alloc,
-        values,
-        format.as_bytes(),
-        amounts.as_slice(),
-        max as usize,
-    ) {
-        Ok(text) => Ok(Said::Text(text)),
-        Err(MoneyFault::BadFormat { at }) => Ok(Said::Refused(Why::BadFormat(at))),
-        Err(MoneyFault::MissingAmount { at }) => Ok(Said::Refused(Why::MissingAmount(at))),
-        Err(MoneyFault::TooBig) => Ok(Said::Refused(Why::TooBig)),
-        Err(MoneyFault::Memory) => Err(AllocError),
+    match amounts.as_slice() {
+        [amount] => money_text(alloc, values, max, format, &[amount_given(*amount)]),
+        amounts => {
+            let given = amounts_given(alloc, amounts)?;
+            money_text(alloc, values, max, format, given.as_slice())
+        }
     }
 }
 

@@ -38,6 +38,7 @@ pub enum Wish<'a> {
 }
 
 /// What a task of the thread asks for, or why it is refused without an entry.
+#[inline(always)]
 pub fn wish_of<'a>(
     library: &Library,
     variables: &Variables,
@@ -58,6 +59,7 @@ pub fn wish_of<'a>(
 }
 
 /// What a command of the thread asks for, or why it is refused without an entry.
+#[inline(always)]
 fn wish_of_command<'a>(
     library: &Library,
     variables: &Variables,
@@ -106,6 +108,7 @@ fn wish_of_command<'a>(
 }
 
 /// The wish of a call, with the categories whose name it prints.
+#[inline(always)]
 fn called<'a>(categories: Categories, op: Result<Op<Share>, Why>) -> Result<Wish<'a>, Why>
     ensures { wished result ≡ called categories (asked op) }
 {

@@ -2,3 +2,5 @@ mod ReplyExamples
 mod RefusalExamples
 pub mod PlainTexts
 pub mod NumberTexts
+pub mod TextBlocks
+pub mod ReplyParts

@@ -1,2 +1,3 @@
 pub mod Output
 pub mod Refusal
+pub mod Texts

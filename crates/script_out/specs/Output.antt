@@ -156,9 +156,57 @@ reply_text names said.Closed = codes "closed"
 reply_text names said.Ended = codes "ended"
 reply_text names (said.Refused why) = codes "refused " ++ why_text why
 
+-- the front of a reply: the whole of a short one, or what stands before the handle, the name, the text or the reason
+abbrev pub reply_front : Said → List ℕ
+reply_front (said.Handle h) = codes "handle "
+reply_front said.Freed = codes "freed"
+reply_front (said.Was former) = codes "was "
+reply_front (said.Is selected) = codes "is "
+reply_front said.Held = codes "held"
+reply_front said.Released = codes "released"
+reply_front (said.Name name) = codes "name "
+reply_front (said.Installed count) = codes "installed " ++ decimal count
+reply_front said.Posted = codes "posted"
+reply_front (said.Pins count) = codes "pins " ++ decimal count
+reply_front (said.Text text) = codes "text "
+reply_front (said.Parsed fields rest) = []
+reply_front (said.Conv texts numbers) = []
+reply_front (said.Class is) = class_text is
+reply_front (said.Value value) = codes "value " ++ decimal value
+reply_front (said.Opened h) = codes "opened "
+reply_front said.Closed = codes "closed"
+reply_front said.Ended = codes "ended"
+reply_front (said.Refused why) = codes "refused "
+
+-- what stands behind the front of a reply, where the threads have these names
+abbrev pub reply_rest : List (List ℕ) → Said → List ℕ
+reply_rest names (said.Handle h) = handle_text names h
+reply_rest names said.Freed = []
+reply_rest names (said.Was former) = named_text names former
+reply_rest names (said.Is selected) = named_text names selected
+reply_rest names said.Held = []
+reply_rest names said.Released = []
+reply_rest names (said.Name name) = name
+reply_rest names (said.Installed count) = []
+reply_rest names said.Posted = []
+reply_rest names (said.Pins count) = []
+reply_rest names (said.Text text) = quoted text
+reply_rest names (said.Parsed fields rest) = parsed_text fields rest
+reply_rest names (said.Conv texts numbers) = codes "conv" ++ texts_text texts ++ numbers_text numbers
+reply_rest names (said.Class is) = []
+reply_rest names (said.Value value) = []
+reply_rest names (said.Opened h) = handle_text names h
+reply_rest names said.Closed = []
+reply_rest names said.Ended = []
+reply_rest names (said.Refused why) = why_text why
+
 -- ROUND THREAD INDEX, each with a space after it
 abbrev pub caller_text : List ℕ → OutLine → List ℕ
 caller_text name l = decimal l.round ++ space ++ name ++ space ++ decimal l.index ++ space
+
+-- INDEX PLACES GLOBAL, each with a space before it, and after a space the front of the reply
+abbrev pub entry_text : OutLine → List ℕ
+entry_text l = space ++ decimal l.index ++ space ++ places_text l.places ++ space ++ version_text l.global ++ space ++ reply_front l.reply
 
 -- PLACES GLOBAL REPLY and a newline
 abbrev pub outcome_text : List (List ℕ) → OutLine → List ℕ

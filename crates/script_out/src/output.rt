@@ -1,11 +1,13 @@
 //! The printed lines.
 
-ghost use Rattle.std.specs.Prelude.{◌≡◌, ◌++◌, [], slice_index_or, codes, IfOk, OnOk};
+ghost use Rattle.std.specs.Prelude.{◌≡◌, ◌≤◌, ◌+◌, ◌++◌, [], length, drop, slice_index_or, codes, IfOk, OnOk};
 ghost use Rattle.std.specs.Fmt.{decimal};
-ghost use Rattle.script_out.specs.Output.{places_text, version_text, handle_text, named_text, refusal_text, field_text, why_text, year_text, known_text, fields_behind_year, fields_text, parsed_text, texts_text, numbers_text, class_text, reply_text, caller_text, outcome_text, line_text, printed};
+ghost use Rattle.script_out.specs.Output.{space, newline, places_text, version_text, handle_text, named_text, refusal_text, field_text, why_text, year_text, known_text, fields_behind_year, fields_text, parsed_text, texts_text, numbers_text, class_text, reply_front, reply_rest, reply_text, entry_text, outcome_text, line_text, printed};
 
-use crate::quoting::push_quoted;
-use crate::short::{push_short, push_short_number};
+use crate::before::{put_byte, put_bytes, put_count, put_name, put_number};
+use crate::quoting::{push_quoted, push_quoted_behind_space};
+use crate::short::{push_behind_space, push_digit, push_short, push_short_number};
+use crate::texts::Texts;
 use handle_table::{Handle, Named, Refusal};
 use itoa::Buffer;
 use lc_base::{ByteText, List};
@@ -82,7 +84,7 @@ pub enum Said {
     /// strptime: the fields that were read, and the index of the first byte that was not read.
     Parsed(Parsed, usize),
     /// localeconv: the ten fields that are texts, and the fourteen that are numbers.
-    Conv(List<ByteText>, List<u8>),
+    Conv(Texts, List<u8>),
     /// iswctype: whether the value is of the class.
     Class(bool),
     /// towupper and towlower.
@@ -149,63 +151,181 @@ pub fn push_line(
     push_outcome(out, line, threads)
 }
 
-/// Adds the round, the thread and the index.
+/// The length of a thread's name from which it is added apart.
+const LONG: usize = 9;
+
+/// Adds the round, the thread, the index, the places, the version and the front of the reply.
+#[inline(always)]
 fn push_caller(out: &mut Vec<u8>, line: &OutLine, thread: &[u8]) -> Result<(), AllocError>
-    ensures { OnOk result (out.new.items ≡ out.old.items ++ caller_text thread.now line.now) }
+    ensures { OnOk result (out.new.items ≡ out.old.items ++ (decimal line.now.round ++ space ++ thread.now ++ entry_text line.now)) }
 {
+    let mut buf = [0; 112];
+    if thread.len() < LONG {
+        let start = put_caller(&mut buf, line, thread);
+        return out.extend_from_slice(&buf[start..]);
+    }
     push_number(out, u64::from(line.round))?;
     out.push(b' ')?;
     push_short(out, thread)?;
-    out.push(b' ')?;
-    push_number(out, u64::from(line.index))?;
-    out.push(b' ')?;
-    Ok(())
+    push_entry(out, line)
 }
 
-/// Adds the places, the version and the reply.
+/// Puts at the end what stands before the rest of the reply.
+#[inline(always)]
+fn put_caller(buf: &mut [u8], line: &OutLine, thread: &[u8]) -> usize
+    requires short { length thread.now ≤ 8 }
+    requires room { 105 ≤ length buf.old }
+    ensures within { result ≤ length buf.old }
+    ensures text { drop result buf.new ≡ decimal line.now.round ++ space ++ thread.now ++ entry_text line.now }
+{
+    let at = put_entry(buf, line);
+    let at = put_name(buf, at, thread);
+    let at = put_byte(buf, at, b' ');
+    put_count(buf, at, line.round)
+}
+
+/// Adds the rest of the reply.
+#[inline(always)]
 fn push_outcome(
     out: &mut Vec<u8>,
     line: &OutLine,
     threads: &List<ByteText>,
 ) -> Result<(), AllocError>
-    ensures { OnOk result (out.new.items ≡ out.old.items ++ outcome_text threads.now line.now) }
+    ensures { OnOk result (out.new.items ≡ out.old.items ++ (reply_rest threads.now line.now.reply ++ newline)) }
 {
-    push_places(out, line.places)?;
-    out.push(b' ')?;
-    push_version(out, line.global)?;
-    out.push(b' ')?;
-    push_reply(out, &line.reply, threads)?;
+    push_rest(out, &line.reply, threads)?;
     out.push(b'\n')?;
     Ok(())
 }
 
-fn push_places(out: &mut Vec<u8>, places: Places) -> Result<(), AllocError>
-    ensures { OnOk result (out.new.items ≡ out.old.items ++ places_text places) }
+/// Adds the index, the places, the version and the front of the reply.
+fn push_entry(out: &mut Vec<u8>, line: &OutLine) -> Result<(), AllocError>
+    ensures { OnOk result (out.new.items ≡ out.old.items ++ entry_text line.now) }
+{
+    let mut buf = [0; 86];
+    let start = put_entry(&mut buf, line);
+    out.extend_from_slice(&buf[start..])
+}
+
+/// Puts the index, the places, the version and the front of the reply at the end.
+#[inline(always)]
+fn put_entry(buf: &mut [u8], line: &OutLine) -> usize
+    requires { 86 ≤ length buf.old }
+    ensures start { length buf.old ≤ result + 86 }
+    ensures within { result ≤ length buf.old }
+    ensures text { drop result buf.new ≡ entry_text line.now }
+{
+    let at = put_front(buf, buf.len(), &line.reply);
+    let at = put_byte(buf, at, b' ');
+    let at = put_version(buf, at, line.global);
+    let at = put_byte(buf, at, b' ');
+    let at = put_places(buf, at, line.places);
+    let at = put_byte(buf, at, b' ');
+    let at = put_count(buf, at, line.index);
+    put_byte(buf, at, b' ')
+}
+
+/// Puts the places before what stands from an index on, and gives where they begin.
+#[inline(always)]
+fn put_places(buf: &mut [u8], at: usize, places: Places) -> usize
+    requires room { 41 ≤ at }
+    requires within { at ≤ length buf.old }
+    ensures start { at ≤ result + 41 }
+    ensures end { result ≤ at }
+    ensures text { drop result buf.new ≡ places_text places ++ drop at buf.old }
 {
     match places {
-        Places::None => push_dash(out),
-        Places::One(place) => push_number(out, place),
+        Places::None => put_byte(buf, at, b'-'),
+        Places::One(place) => put_number(buf, at, place),
         Places::Two(hold, release) => {
-            push_number(out, hold)?;
-            out.push(b',')?;
-            push_number(out, release)
+            let at = put_number(buf, at, release);
+            let at = put_byte(buf, at, b',');
+            put_number(buf, at, hold)
         }
         Places::Catalog(place) => {
-            out.push(b'c')?;
-            push_number(out, place)
+            let at = put_number(buf, at, place);
+            put_byte(buf, at, b'c')
         }
     }
 }
 
-fn push_version(out: &mut Vec<u8>, version: Option<u32>) -> Result<(), AllocError>
-    ensures { OnOk result (out.new.items ≡ out.old.items ++ version_text version) }
+/// Puts the version before what stands from an index on, and gives where it begins.
+#[inline(always)]
+fn put_version(buf: &mut [u8], at: usize, version: Option<u32>) -> usize
+    requires room { 11 ≤ at }
+    requires within { at ≤ length buf.old }
+    ensures start { at ≤ result + 11 }
+    ensures end { result ≤ at }
+    ensures text { drop result buf.new ≡ version_text version ++ drop at buf.old }
 {
     match version {
-        None => push_dash(out),
+        None => put_byte(buf, at, b'-'),
         Some(version) => {
-            out.push(b'g')?;
-            push_number(out, u64::from(version))
+            let at = put_count(buf, at, version);
+            put_byte(buf, at, b'g')
         }
+    }
+}
+
+/// Puts the front of a reply before what stands from an index on, and gives where it begins.
+#[inline(always)]
+fn put_front(buf: &mut [u8], at: usize, reply: &Said) -> usize
+    requires room { 20 ≤ at }
+    requires within { at ≤ length buf.old }
+    ensures start { at ≤ result + 20 }
+    ensures end { result ≤ at }
+    ensures text { drop result buf.new ≡ reply_front reply.now ++ drop at buf.old }
+{
+    match reply {
+        Said::Handle(_) => put_bytes(buf, at, b"handle "),
+        Said::Freed => put_bytes(buf, at, b"freed"),
+        Said::Was(_) => put_bytes(buf, at, b"was "),
+        Said::Is(_) => put_bytes(buf, at, b"is "),
+        Said::Name(_) => put_bytes(buf, at, b"name "),
+        Said::Text(_) => put_bytes(buf, at, b"text "),
+        Said::Parsed(..) => at,
+        Said::Conv(..) => at,
+        Said::Class(is) => put_class(buf, at, *is),
+        Said::Value(value) => put_counted(buf, at, b"value ", *value),
+        Said::Held => put_bytes(buf, at, b"held"),
+        Said::Released => put_bytes(buf, at, b"released"),
+        Said::Installed(count) => put_counted(buf, at, b"installed ", *count),
+        Said::Posted => put_bytes(buf, at, b"posted"),
+        Said::Pins(count) => put_counted(buf, at, b"pins ", *count),
+        Said::Opened(_) => put_bytes(buf, at, b"opened "),
+        Said::Closed => put_bytes(buf, at, b"closed"),
+        Said::Ended => put_bytes(buf, at, b"ended"),
+        Said::Refused(_) => put_bytes(buf, at, b"refused "),
+    }
+}
+
+/// Puts a word with a number behind it before what stands from an index on, and gives where it begins.
+#[inline(always)]
+fn put_counted(buf: &mut [u8], at: usize, word: &[u8], count: u32) -> usize
+    requires word { length word.now ≤ 10 }
+    requires room { 20 ≤ at }
+    requires within { at ≤ length buf.old }
+    ensures start { at ≤ result + 20 }
+    ensures end { result ≤ at }
+    ensures text { drop result buf.new ≡ word.now ++ decimal count ++ drop at buf.old }
+{
+    let at = put_count(buf, at, count);
+    put_bytes(buf, at, word)
+}
+
+/// Puts whether a value is of a class before what stands from an index on, and gives where it begins.
+#[inline(always)]
+fn put_class(buf: &mut [u8], at: usize, is: bool) -> usize
+    requires room { 3 ≤ at }
+    requires within { at ≤ length buf.old }
+    ensures start { at ≤ result + 3 }
+    ensures end { result ≤ at }
+    ensures text { drop result buf.new ≡ class_text is ++ drop at buf.old }
+{
+    if is {
+        put_bytes(buf, at, b"yes")
+    } else {
+        put_bytes(buf, at, b"no")
     }
 }
 
@@ -225,70 +345,56 @@ pub fn push_reply(
 ) -> Result<(), AllocError>
     ensures { OnOk result (out.new.items ≡ out.old.items ++ reply_text threads.now reply.now) }
 {
+    push_front(out, reply)?;
+    push_rest(out, reply, threads)
+}
+
+/// Adds the front of a reply.
+fn push_front(out: &mut Vec<u8>, reply: &Said) -> Result<(), AllocError>
+    ensures { OnOk result (out.new.items ≡ out.old.items ++ reply_front reply.now) }
+{
+    let mut buf = [0; 20];
+    let start = put_front(&mut buf, 20, reply);
+    out.extend_from_slice(&buf[start..])
+}
+
+/// Adds what stands behind the front of a reply.
+#[inline(always)]
+fn push_rest(out: &mut Vec<u8>, reply: &Said, threads: &List<ByteText>) -> Result<(), AllocError>
+    ensures { OnOk result (out.new.items ≡ out.old.items ++ reply_rest threads.now reply.now) }
+{
     match reply {
-        Said::Handle(handle) => {
-            out.extend_from_slice(b"handle ")?;
-            push_handle(out, *handle, threads)
-        }
-        Said::Freed => out.extend_from_slice(b"freed"),
-        Said::Was(former) => {
-            out.extend_from_slice(b"was ")?;
-            push_named(out, *former, threads)
-        }
-        Said::Is(named) => {
-            out.extend_from_slice(b"is ")?;
-            push_named(out, *named, threads)
-        }
-        Said::Name(name) => {
-            out.extend_from_slice(b"name ")?;
-            out.extend_from_slice(name.as_bytes())
-        }
-        Said::Text(text) => {
-            out.extend_from_slice(b"text ")?;
-            push_quoted(out, text.as_bytes())
-        }
-        Said::Parsed(fields, rest) => push_parsed(out, *fields, *rest),
+        Said::Handle(handle) | Said::Opened(handle) => push_handle(out, handle, threads),
+        Said::Was(named) | Said::Is(named) => push_named(out, named, threads),
+        Said::Name(name) => out.extend_from_slice(name.as_bytes()),
+        Said::Text(text) => push_quoted(out, text.as_bytes()),
+        Said::Parsed(fields, rest) => push_parsed(out, fields, *rest),
         Said::Conv(texts, numbers) => {
             out.extend_from_slice(b"conv")?;
-            push_texts(out, texts.as_slice())?;
+            push_texts(out, texts)?;
             push_numbers(out, numbers.as_slice())
         }
-        Said::Class(is) => push_class(out, *is),
-        Said::Value(value) => {
-            out.extend_from_slice(b"value ")?;
-            push_number(out, u64::from(*value))
-        }
-        Said::Held => out.extend_from_slice(b"held"),
-        Said::Released => out.extend_from_slice(b"released"),
-        Said::Installed(count) => {
-            out.extend_from_slice(b"installed ")?;
-            push_number(out, u64::from(*count))
-        }
-        Said::Posted => out.extend_from_slice(b"posted"),
-        Said::Pins(count) => {
-            out.extend_from_slice(b"pins ")?;
-            push_number(out, u64::from(*count))
-        }
-        Said::Opened(handle) => {
-            out.extend_from_slice(b"opened ")?;
-            push_handle(out, *handle, threads)
-        }
-        Said::Closed => out.extend_from_slice(b"closed"),
-        Said::Ended => out.extend_from_slice(b"ended"),
-        Said::Refused(why) => {
-            out.extend_from_slice(b"refused ")?;
-            push_why(out, *why)
-        }
+        Said::Refused(why) => push_why(out, why),
+        Said::Class(_)
+        | Said::Value(_)
+        | Said::Freed
+        | Said::Held
+        | Said::Released
+        | Said::Installed(_)
+        | Said::Posted
+        | Said::Pins(_)
+        | Said::Closed
+        | Said::Ended => Ok(()),
     }
 }
 
 /// Adds the fields of a time and the index of the first byte that was not read.
-fn push_parsed(out: &mut Vec<u8>, fields: Parsed, rest: usize) -> Result<(), AllocError>
-    ensures { OnOk result (out.new.items ≡ out.old.items ++ parsed_text fields rest) }
+fn push_parsed(out: &mut Vec<u8>, fields: &Parsed, rest: usize) -> Result<(), AllocError>
+    ensures { OnOk result (out.new.items ≡ out.old.items ++ parsed_text fields.now rest) }
 {
     out.extend_from_slice(b"parsed ")?;
     push_year(out, fields.year)?;
-    push_fields(out, &fields_behind_year(fields))?;
+    push_fields(out, &fields_behind_year(*fields))?;
     out.push(b' ')?;
     push_number(out, rest as u64)
 }
@@ -350,12 +456,12 @@ fn push_field(out: &mut Vec<u8>, field: Option<u16>) -> Result<(), AllocError>
 }
 
 /// Adds texts in quotes, each behind a space.
-fn push_texts(out: &mut Vec<u8>, texts: &[ByteText]) -> Result<(), AllocError>
+fn push_texts(out: &mut Vec<u8>, texts: &Texts) -> Result<(), AllocError>
     ensures { OnOk result (out.new.items ≡ out.old.items ++ texts_text texts.now) }
 {
-    for text in texts {
-        out.push(b' ')?;
-        push_quoted(out, text.as_bytes())?;
+    let mut left = texts.walk();
+    while let Some(text) = left.next() {
+        push_quoted_behind_space(out, text)?;
     }
     Ok(())
 }
@@ -365,24 +471,13 @@ fn push_numbers(out: &mut Vec<u8>, numbers: &[u8]) -> Result<(), AllocError>
     ensures { OnOk result (out.new.items ≡ out.old.items ++ numbers_text numbers.now) }
 {
     for n in numbers {
-        out.push(b' ')?;
-        push_number(out, u64::from(*n))?;
+        push_behind_space(out, u64::from(*n))?;
     }
     Ok(())
 }
 
-fn push_class(out: &mut Vec<u8>, is: bool) -> Result<(), AllocError>
-    ensures { OnOk result (out.new.items ≡ out.old.items ++ class_text is) }
-{
-    if is {
-        out.extend_from_slice(b"yes")
-    } else {
-        out.extend_from_slice(b"no")
-    }
-}
-
-fn push_named(out: &mut Vec<u8>, named: Named, threads: &List<ByteText>) -> Result<(), AllocError>
-    ensures { OnOk result (out.new.items ≡ out.old.items ++ named_text threads.now named) }
+fn push_named(out: &mut Vec<u8>, named: &Named, threads: &List<ByteText>) -> Result<(), AllocError>
+    ensures { OnOk result (out.new.items ≡ out.old.items ++ named_text threads.now named.now) }
 {
     match named {
         Named::Global => out.extend_from_slice(b"GLOBAL"),
@@ -393,22 +488,24 @@ fn push_named(out: &mut Vec<u8>, named: Named, threads: &List<ByteText>) -> Resu
 /// Adds `THREAD.ROW.GENERATION`.
 fn push_handle(
     out: &mut Vec<u8>,
-    handle: Handle,
+    handle: &Handle,
     threads: &List<ByteText>,
 ) -> Result<(), AllocError>
-    ensures { OnOk result (out.new.items ≡ out.old.items ++ handle_text threads.now handle) }
+    ensures { OnOk result (out.new.items ≡ out.old.items ++ handle_text threads.now handle.now) }
 {
     push_short(out, name_of(threads, handle.owner))?;
-    out.push(b'.')?;
-    push_number(out, u64::from(handle.row))?;
-    out.push(b'.')?;
-    push_number(out, u64::from(handle.generation))
+    let mut buf = [0; 24];
+    let at = put_count(&mut buf, 24, handle.generation);
+    let at = put_byte(&mut buf, at, b'.');
+    let at = put_count(&mut buf, at, handle.row);
+    let start = put_byte(&mut buf, at, b'.');
+    out.extend_from_slice(&buf[start..])
 }
 
-fn push_why(out: &mut Vec<u8>, why: Why) -> Result<(), AllocError>
-    ensures { OnOk result (out.new.items ≡ out.old.items ++ why_text why) }
+fn push_why(out: &mut Vec<u8>, why: &Why) -> Result<(), AllocError>
+    ensures { OnOk result (out.new.items ≡ out.old.items ++ why_text why.now) }
 {
-    match why {
+    match *why {
         Why::Unset => out.extend_from_slice(b"Unset"),
         Why::BadMask => out.extend_from_slice(b"BadMask"),
         Why::Table(refusal) => push_table_refusal(out, refusal),
@@ -471,7 +568,18 @@ fn push_table_refusal(out: &mut Vec<u8>, refusal: Refusal) -> Result<(), AllocEr
 }
 
 /// Adds a number in decimal digits.
+#[inline(always)]
 pub fn push_number(out: &mut Vec<u8>, n: u64) -> Result<(), AllocError>
+    ensures { OnOk result (out.new.items ≡ out.old.items ++ decimal n) }
+{
+    if n < 10 {
+        return push_digit(out, n);
+    }
+    push_digits(out, n)
+}
+
+/// Adds a number, mostly of more than one digit.
+fn push_digits(out: &mut Vec<u8>, n: u64) -> Result<(), AllocError>
     ensures { OnOk result (out.new.items ≡ out.old.items ++ decimal n) }
 {
     if n < 1000 {

@@ -4,7 +4,7 @@ ghost use Rattle.std.specs.Prelude.{◌≡◌, ◌++◌, ◌<◌, ◌≤◌, ◌
 ghost use Rattle.std.specs.List.{flat_map};
 ghost use Rattle.script_out.specs.Output.{hex_digit, escaped, quoted};
 
-use crate::short::push_short;
+use crate::short::{LONG, push_short};
 use std::alloc::AllocError;
 
 /// Whether each byte, by its number, stands in quotes as it is.
@@ -34,11 +34,51 @@ pub fn push_quoted(out: &mut Vec<u8>, text: &[u8]) -> Result<(), AllocError>
     ensures { OnOk result (out.new.items ≡ out.old.items ++ quoted text.now) }
 {
     out.push(b'"')?;
-    push_escaped_text(out, text)?;
+    push_to_quote(out, text)
+}
+
+/// Adds a text in quotes behind a space. One of a single plain byte is added at once.
+pub fn push_quoted_behind_space(out: &mut Vec<u8>, text: &[u8]) -> Result<(), AllocError>
+    ensures { OnOk result (out.new.items ≡ out.old.items ++ 32 ∷ quoted text.now) }
+{
+    match text {
+        [] => out.extend_from_slice(b" \"\""),
+        [c] if is_plain(*c) => out.extend_from_slice(&[b' ', b'"', *c, b'"']),
+        _ => {
+            out.extend_from_slice(b" \"")?;
+            push_to_quote(out, text)
+        }
+    }
+}
+
+/// Adds a text behind its first quote, with the last one.
+fn push_to_quote(out: &mut Vec<u8>, text: &[u8]) -> Result<(), AllocError>
+    ensures { OnOk result (out.new.items ≡ out.old.items ++ flat_map escaped text.now ++ 34 ∷ []) }
+{
+    if text.len() < LONG {
+        push_each_escaped(out, text)?;
+    } else {
+        push_escaped_text(out, text)?;
+    }
     out.push(b'"')?;
     Ok(())
 }
 
+/// Adds the bytes of a text one by one.
+fn push_each_escaped(out: &mut Vec<u8>, text: &[u8]) -> Result<(), AllocError>
+    ensures { OnOk result (out.new.items ≡ out.old.items ++ flat_map escaped text.now) }
+{
+    for c in text {
+        if is_plain(*c) {
+            out.push(*c)?;
+        } else {
+            push_escaped(out, *c)?;
+        }
+    }
+    Ok(())
+}
+
+/// Adds a text, whose plain bytes are asked in eights.
 fn push_escaped_text(out: &mut Vec<u8>, text: &[u8]) -> Result<(), AllocError>
     ensures { OnOk result (out.new.items ≡ out.old.items ++ flat_map escaped text.now) }
 {

@@ -1,14 +1,15 @@
 //! Short texts and numbers, added without a call for each.
 
-ghost use Rattle.std.specs.Prelude.{◌≡◌, ◌++◌, ◌<◌, OnOk};
+ghost use Rattle.std.specs.Prelude.{◌≡◌, ◌++◌, ◌∷◌, ◌<◌, ◌≤◌, OnOk};
 ghost use Rattle.std.specs.Fmt.{decimal};
 
 use std::alloc::AllocError;
 
 /// The length from which a text is copied as a whole.
-const LONG: usize = 8;
+pub const LONG: usize = 8;
 
 /// Adds bytes, which are mostly few.
+#[inline(always)]
 pub fn push_short(out: &mut Vec<u8>, bytes: &[u8]) -> Result<(), AllocError>
     ensures { OnOk result (out.new.items ≡ out.old.items ++ bytes.now) }
 {
@@ -34,31 +35,70 @@ pub fn push_short_number(out: &mut Vec<u8>, n: u64) -> Result<(), AllocError>
     requires { n < 1000 }
     ensures { OnOk result (out.new.items ≡ out.old.items ++ decimal n) }
 {
-    if n < 100 {
-        return push_pair(out, n);
+    if n < 10 {
+        out.extend_from_slice(&one_digit(n))
+    } else if n < 100 {
+        out.extend_from_slice(&two_digits(n))
+    } else {
+        out.extend_from_slice(&three_digits(n))
     }
-    push_pair(out, n / 10)?;
-    push_digit(out, n % 10)
 }
 
-/// Adds a number of at most two digits.
-fn push_pair(out: &mut Vec<u8>, n: u64) -> Result<(), AllocError>
-    requires { n < 100 }
-    ensures { OnOk result (out.new.items ≡ out.old.items ++ decimal n) }
+/// Adds a number of at most three digits behind a space.
+pub fn push_behind_space(out: &mut Vec<u8>, n: u64) -> Result<(), AllocError>
+    requires { n < 1000 }
+    ensures { OnOk result (out.new.items ≡ out.old.items ++ 32 ∷ decimal n) }
 {
     if n < 10 {
-        return push_digit(out, n);
+        let [last] = one_digit(n);
+        out.extend_from_slice(&[b' ', last])
+    } else if n < 100 {
+        let [first, last] = two_digits(n);
+        out.extend_from_slice(&[b' ', first, last])
+    } else {
+        let [first, second, last] = three_digits(n);
+        out.extend_from_slice(&[b' ', first, second, last])
     }
-    push_digit(out, n / 10)?;
-    push_digit(out, n % 10)
 }
 
 /// Adds a number of one digit.
+#[inline(always)]
 #[tactic(auto, using(std::proofs::lemmas::Fmt::decimal_digit))]
-fn push_digit(out: &mut Vec<u8>, n: u64) -> Result<(), AllocError>
+pub fn push_digit(out: &mut Vec<u8>, n: u64) -> Result<(), AllocError>
     requires { n < 10 }
     ensures { OnOk result (out.new.items ≡ out.old.items ++ decimal n) }
 {
     out.push(b'0' + n as u8)?;
     Ok(())
+}
+
+/// The digits of a number of three.
+fn three_digits(n: u64) -> [u8; 3]
+    requires from { 100 ≤ n }
+    requires to { n < 1000 }
+    ensures { result ≡ decimal n }
+{
+    let [first, second] = two_digits(n / 10);
+    let [last] = one_digit(n % 10);
+    [first, second, last]
+}
+
+/// The digits of a number of two.
+fn two_digits(n: u64) -> [u8; 2]
+    requires from { 10 ≤ n }
+    requires to { n < 100 }
+    ensures { result ≡ decimal n }
+{
+    let [first] = one_digit(n / 10);
+    let [last] = one_digit(n % 10);
+    [first, last]
+}
+
+/// The digit of a number of one.
+#[tactic(auto, using(std::proofs::lemmas::Fmt::decimal_digit))]
+fn one_digit(n: u64) -> [u8; 1]
+    requires { n < 10 }
+    ensures { result ≡ decimal n }
+{
+    [b'0' + n as u8]
 }

@@ -168,6 +168,7 @@ impl Board for Alone {
 
     ghost fewer = { λ n b s ready. let few = ready.steps in record { number = ready.number; steps = omega arith } };
 
+    #[inline(always)]
     fn call(
         &mut self,
         side: &mut AloneSide,

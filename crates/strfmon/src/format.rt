@@ -1,6 +1,6 @@
 //! Formats of amounts (XSH strfmon).
 
-ghost use Rattle.std.specs.Prelude.{◌≡◌, ◌+◌, ◌<◌, ◌≤◌, length, IfSome};
+ghost use Rattle.std.specs.Prelude.{◌≡◌, ◌+◌, ◌<◌, ◌≤◌, length, IfSome, IsTrue};
 ghost use Rattle.strfmon.specs.Formats.{mark_of, with_mark, with_fill, with_flag, flags, number_after, is_international, conversion, behind_percent, piece, plain};
 
 use digit_groups::leading_number;
@@ -221,7 +221,7 @@ fn conversion_of(bytes: &[u8]) -> Option<(Conversion, usize)>
 
 /// The conversion of a letter with nothing before it.
 #[inline(always)]
-fn plain_conversion(international: bool) -> Conversion
+pub fn plain_conversion(international: bool) -> Conversion
     ensures { result ≡ plain international }
 {
     Conversion {
@@ -230,6 +230,29 @@ fn plain_conversion(international: bool) -> Conversion
         whole_digits: None,
         precision: None,
         international,
+    }
+}
+
+/// Whether a conversion is that of a letter with nothing before it.
+#[inline(always)]
+pub fn is_plain(c: &Conversion) -> bool
+    ensures { IsTrue result → c.now ≡ plain c.now.international }
+{
+    match *c {
+        Conversion {
+            flags: Flags {
+                fill: None,
+                no_groups: false,
+                signs: None,
+                no_symbol: false,
+                left: false,
+            },
+            width: 0,
+            whole_digits: None,
+            precision: None,
+            international: _,
+        } => true,
+        _ => false,
     }
 }
 

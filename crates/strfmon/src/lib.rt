@@ -23,7 +23,10 @@ use format::{Piece, piece_of};
 use lc_base::ByteText;
 use monetary_cat::Monetary;
 use std::alloc::Global;
-use write::add_conversion;
+use write::add_amount;
+
+/// How many bytes a text has at first room for beyond those of its format.
+const SPARE: usize = 32;
 
 /// The text of a format with its amounts, at most `max` bytes. Amounts that are left over are passed
 /// over.
@@ -107,7 +110,7 @@ fn pieces_text(
     ensures text { IfOk result (λ text. money m.now format.now amounts.now max ≡ Ok text.items) }
     ensures fault { IfErr result (λ e. refusal (pieces 0 0 format.now) (length amounts.now) ≡ None → Refuses e (within max (pieces_text m.now (good_pieces (pieces 0 0 format.now)) amounts.now))) }
 {
-    let mut out = Vec::new(alloc);
+    let mut out = Vec::with_capacity(alloc, format.len().saturating_add(SPARE).min(max))?;
     let mut at = 0;
     let mut left = amounts;
     while at < format.len() {
@@ -174,7 +177,7 @@ fn add_piece(
 {
     match (piece, amounts) {
         (Piece::Literal(byte), _) => add_byte(out, byte, room),
-        (Piece::Convert(c), [amount, ..]) => add_conversion(out, m, &c, *amount, room),
+        (Piece::Convert(c), [amount, ..]) => add_amount(out, m, &c, *amount, room),
         (Piece::Convert(_), []) => Ok(()),
     }
 }

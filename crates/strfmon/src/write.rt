@@ -10,7 +10,7 @@ ghost use Rattle.strfmon.specs.declared.fault.MoneyFault.TheVariants.{TooBig, Me
 use crate::amount::Amount;
 use crate::decimal::Decimal;
 use crate::fault::MoneyFault;
-use crate::format::Conversion;
+use crate::format::{Conversion, is_plain, plain_conversion};
 use crate::layout::{Laid, laid_out, radix_of, sizes_of};
 use crate::look::Look;
 use digit_groups::{write_before, write_digits, write_grouped};
@@ -180,7 +180,7 @@ fn spread_of(laid: &Laid) -> Spread
 
 /// Appends the text of an amount, if it has at most `room` bytes.
 #[inline(always)]
-pub fn add_conversion(
+fn add_conversion(
     out: &mut Vec<u8>,
     m: &Monetary,
     c: &Conversion,
@@ -210,4 +210,43 @@ pub fn add_conversion(
         laid.decimal,
     );
     Ok(())
+}
+
+/// The same of a conversion that is more than a letter, in code of its own.
+#[inline(never)]
+fn add_other(
+    out: &mut Vec<u8>,
+    m: &Monetary,
+    c: &Conversion,
+    amount: Amount,
+    room: usize,
+) -> Result<(), MoneyFault>
+    ensures ok { OnOk result (out.new.items ≡ out.old.items ++ conversion_text m.now c.now amount) }
+    ensures fits { OnOk result (length (conversion_text m.now c.now amount) ≤ room) }
+    ensures too_big { result ≡ Err TooBig → room < length (conversion_text m.now c.now amount) }
+    ensures only { IfErr result (λ e. (e ≡ TooBig) ⊎ (e ≡ Memory)) }
+{
+    add_conversion(out, m, c, amount, room)
+}
+
+/// Appends the text of an amount, if it has at most `room` bytes. A letter with nothing before it is
+/// told apart, since no flags, widths and digits need to be looked at then.
+#[inline(always)]
+pub fn add_amount(
+    out: &mut Vec<u8>,
+    m: &Monetary,
+    c: &Conversion,
+    amount: Amount,
+    room: usize,
+) -> Result<(), MoneyFault>
+    ensures ok { OnOk result (out.new.items ≡ out.old.items ++ conversion_text m.now c.now amount) }
+    ensures fits { OnOk result (length (conversion_text m.now c.now amount) ≤ room) }
+    ensures too_big { result ≡ Err TooBig → room < length (conversion_text m.now c.now amount) }
+    ensures only { IfErr result (λ e. (e ≡ TooBig) ⊎ (e ≡ Memory)) }
+{
+    if is_plain(c) {
+        add_conversion(out, m, &plain_conversion(c.international), amount, room)
+    } else {
+        add_other(out, m, c, amount, room)
+    }
 }

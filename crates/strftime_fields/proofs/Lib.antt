@@ -8,4 +8,5 @@ pub mod Left
 pub mod Numbers
 pub mod Offsets
 pub mod Pairs
+pub mod Pushing
 pub mod Shorts

@@ -1,5 +1,5 @@
 -- Adding to a text of limited length.
-use Rattle.std.specs.Prelude.{◌≡◌, ℕ, ◌+◌, ◌<◌, ◌≤◌, List, ◌++◌, length, Result, Ok, Err}
+use Rattle.std.specs.Prelude.{◌≡◌, ℕ, ◌+◌, ◌<◌, ◌≤◌, Bool, true, false, List, ◌++◌, length, Result, Ok, Err}
 use Rattle.strftime_fields.specs.declared.fault.TimeFault.{TimeFault}
 use Rattle.strftime_fields.specs.declared.fault.TimeFault.TheVariants as faults
 use Rattle.strftime_fields.specs.declared.output.Stop.{Stop}
@@ -21,3 +21,8 @@ CountsTo (Err Memory) wanted steps = steps ≤ wanted
 abbrev pub fault_of : Stop → TimeFault
 fault_of TooBig = faults.TooBig
 fault_of Memory = faults.Memory
+
+-- a text is added, or nothing is
+abbrev pub Adds : List ℕ → List ℕ → List ℕ → Bool → Type 0
+Adds old text new true = new ≡ old ++ text
+Adds old text new false = new ≡ old

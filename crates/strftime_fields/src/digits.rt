@@ -1,11 +1,13 @@
 //! Numbers as they are written.
 
-ghost use Rattle.std.specs.Prelude.{◌≡◌, ◌≤◌, length, decimal};
+ghost use Rattle.std.specs.Prelude.{◌≡◌, ◌≤◌, ◌<◌, ◌%◌, length, vec_capacity, decimal};
 ghost use Rattle.std.specs.Fmt.{signed_decimal};
 ghost use Rattle.time_cat.specs.Shown.{last_digit, two, three, four, laid_out, spaced};
-ghost use Rattle.strftime_fields.specs.Appending.{Appends};
+ghost use Rattle.strftime_fields.specs.Appending.{Appends, Adds};
 
-use crate::output::{Stop, put};
+use crate::output::{
+    Stop, put, put_byte_within, put_four_within, put_three_within, put_two_within,
+};
 use itoa::Buffer;
 use time_cat::Layout;
 
@@ -21,13 +23,22 @@ pub fn last_digit(n: u32) -> u8
     b'0' + (n % 10) as u8
 }
 
+/// The number of the last two digits.
+#[inline(always)]
+fn below_hundred(n: u32) -> u32
+    ensures is { result ≡ n % 100 }
+    ensures small { result < 100 }
+{
+    if n < 100 { n } else { n % 100 }
+}
+
 /// The last two digits.
 #[tactic(auto, using(crate::proofs::Pairs::two_of_pair))]
 #[inline(always)]
 pub fn two(n: u32) -> [u8; 2]
     ensures { result ≡ two n }
 {
-    let from = (n % 100) as usize * 2;
+    let from = below_hundred(n) as usize * 2;
     [PAIRS[from], PAIRS[from + 1]]
 }
 
@@ -109,17 +120,25 @@ fn put_three(out: &mut Vec<u8>, max: usize, n: u32) -> Result<(), Stop>
     put(out, max, &three(n))
 }
 
+/// A number in two places.
+#[inline(always)]
+fn spaced(n: u32) -> [u8; 2]
+    ensures { result ≡ spaced n }
+{
+    if n < 10 {
+        [b' ', last_digit(n)]
+    } else {
+        two(n)
+    }
+}
+
 /// Adds a number in two places.
 #[inline(never)]
 fn put_spaced(out: &mut Vec<u8>, max: usize, n: u32) -> Result<(), Stop>
     requires { length out.old.items ≤ max }
     ensures { Appends max out.old.items (spaced n) out.new.items result }
 {
-    if n < 10 {
-        put(out, max, &[b' ', last_digit(n)])
-    } else {
-        put_two(out, max, n)
-    }
+    put(out, max, &spaced(n))
 }
 
 /// Adds a number as it is written.
@@ -133,5 +152,42 @@ pub fn put_number(out: &mut Vec<u8>, max: usize, layout: Layout, n: u32) -> Resu
         Layout::Two => put_two(out, max, n),
         Layout::Three => put_three(out, max, n),
         Layout::Spaced => put_spaced(out, max, n),
+    }
+}
+
+/// Adds a number without padding, if it has one digit or four and if the text is then no longer
+/// than `limit`, and says whether it did. There is room for a text of that length.
+#[tactic(auto, using(crate::proofs::Numbers::one_digit, crate::proofs::Numbers::four_digits))]
+#[inline(always)]
+fn put_bare_within(out: &mut Vec<u8>, limit: usize, n: u32) -> bool
+    requires short { length out.old.items ≤ limit }
+    requires room { limit ≤ vec_capacity out.old }
+    ensures text { Adds out.old.items (decimal n) out.new.items result }
+    ensures short { length out.new.items ≤ limit }
+    ensures room { limit ≤ vec_capacity out.new }
+{
+    if 1000 <= n && n <= 9999 {
+        put_four_within(out, limit, four(n))
+    } else if n < 10 {
+        put_byte_within(out, limit, last_digit(n))
+    } else {
+        false
+    }
+}
+
+/// Adds a number as it is written, if that is so, and says whether it did.
+#[inline(always)]
+pub fn put_number_within(out: &mut Vec<u8>, limit: usize, layout: Layout, n: u32) -> bool
+    requires short { length out.old.items ≤ limit }
+    requires room { limit ≤ vec_capacity out.old }
+    ensures text { Adds out.old.items (laid_out layout n) out.new.items result }
+    ensures short { length out.new.items ≤ limit }
+    ensures room { limit ≤ vec_capacity out.new }
+{
+    match layout {
+        Layout::Bare => put_bare_within(out, limit, n),
+        Layout::Two => put_two_within(out, limit, two(n)),
+        Layout::Three => put_three_within(out, limit, three(n)),
+        Layout::Spaced => put_two_within(out, limit, spaced(n)),
     }
 }

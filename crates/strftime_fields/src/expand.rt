@@ -1,15 +1,15 @@
 //! Formats within formats.
 
-ghost use Rattle.std.specs.Prelude.{◌≡◌, ◌+◌, ◌≤◌, length, drop, IfSome, IsNone};
+ghost use Rattle.std.specs.Prelude.{◌≡◌, ◌+◌, ◌++◌, ◌≤◌, length, vec_capacity, drop, IfSome, IsNone};
 ghost use Rattle.time_cat.specs.Conversions.{conversion};
 ghost use Rattle.time_cat.specs.Formats.{step};
 ghost use Rattle.time_cat.specs.Shown.{expanded, converted};
 ghost use Rattle.strftime_fields.specs.Appending.{Appends, CountsTo};
 ghost use Rattle.strftime_fields.specs.Cost.{read_for, reads};
-ghost use Rattle.strftime_fields.specs.Reading.{IsShort, IsFormatless, width, short_text};
+ghost use Rattle.strftime_fields.specs.Reading.{IsShort, IsFormatless, short_text};
 
-use crate::digits::put_number;
-use crate::output::{Stop, put, put_byte};
+use crate::digits::put_number_within;
+use crate::output::{Stop, put_byte, put_byte_within, put_within};
 use crate::plain::{format_for, name, number, put_plain};
 use crate::read::{Short, short_at, width};
 use std::sync::ledger::Ledger;
@@ -34,15 +34,13 @@ pub fn put_format<L: Ledger>(
         return Ok(());
     }
     let mut at = 0;
+    let mut limit = out.capacity().min(max);
     'reading: loop {
-        match put_short(out, max, t, tm, format, at) {
-            Some(added) => {
+        match put_short(out, limit, t, tm, format, at) {
+            Some(short) => {
                 // The piece is known already: this counts it.
                 let _step = step_at(format, at, steps);
-                match added.outcome {
-                    Ok(()) => at = added.next,
-                    Err(stop) => return Err(stop),
-                }
+                at += width(short);
             }
             None => match step_at(format, at, steps) {
                 Step::End => return Ok(()),
@@ -50,6 +48,7 @@ pub fn put_format<L: Ledger>(
                 Step::Byte(byte) => {
                     put_byte(out, max, byte)?;
                     at += 1;
+                    limit = out.capacity().min(max);
                 }
                 Step::Conv {
                     modifier,
@@ -59,55 +58,46 @@ pub fn put_format<L: Ledger>(
                 } => {
                     put_conversion(levels - 1, t, tm, max, modifier, letter, steps, out)?;
                     at = next;
+                    limit = out.capacity().min(max);
                 }
             },
         }
     }
 }
 
-/// A piece that was added at first sight.
-#[derive(Clone, Copy, Debug, PartialEq, Eq)]
-struct Added {
-    short: Short,
-    /// Where the bytes behind it begin.
-    next: usize,
-    outcome: Result<(), Stop>,
-}
-
 /// Adds what the piece gives that stands at a place, if it is a byte, or a name or a number without a
-/// modifier.
+/// modifier, and if the text is then no longer than `limit`. There is room for a text of that length.
 #[inline(always)]
 fn put_short(
     out: &mut Vec<u8>,
-    max: usize,
+    limit: usize,
     t: &Time,
     tm: &Tm,
     format: &[u8],
     at: usize,
-) -> Option<Added>
-    requires short { length out.old.items ≤ max }
+) -> Option<Short>
+    requires short { length out.old.items ≤ limit }
+    requires room { limit ≤ vec_capacity out.old }
     requires within { at ≤ length format.now }
-    ensures piece { IfSome result (λ r. IsShort at (step at (drop at format.now)) r.short) }
-    ensures next { IfSome result (λ r. r.next ≡ at + width r.short) }
-    ensures formatless { IfSome result (λ r. IsFormatless t.now tm.now r.short) }
-    ensures text { IfSome result (λ r. Appends max out.old.items (short_text t.now tm.now r.short) out.new.items r.outcome) }
+    ensures piece { IfSome result (λ r. IsShort at (step at (drop at format.now)) r) }
+    ensures formatless { IfSome result (λ r. IsFormatless t.now tm.now r) }
+    ensures text { IfSome result (λ r. out.new.items ≡ out.old.items ++ short_text t.now tm.now r) }
     ensures unchanged { IsNone result → out.new.items ≡ out.old.items }
+    ensures short { length out.new.items ≤ limit }
+    ensures room { limit ≤ vec_capacity out.new }
 {
     let short = short_at(format, at)?;
-    let next = at + width(short);
-    let outcome = match short {
-        Short::Byte(byte) => put_byte(out, max, byte),
+    let added = match short {
+        Short::Byte(byte) => put_byte_within(out, limit, byte),
         Short::Plain { found, .. } => match found.shows {
-            Shows::Name(list) => put(out, max, name(t, tm, list)),
-            Shows::Number(quantity, layout) => put_number(out, max, layout, number(quantity, tm)),
+            Shows::Name(list) => put_within(out, limit, name(t, tm, list)),
+            Shows::Number(quantity, layout) => {
+                put_number_within(out, limit, layout, number(quantity, tm))
+            }
             _ => return None,
         },
     };
-    Some(Added {
-        short,
-        next,
-        outcome,
-    })
+    if added { Some(short) } else { None }
 }
 
 /// Adds what any conversion gives, with so many formats within one another.

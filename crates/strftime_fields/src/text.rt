@@ -8,7 +8,7 @@ ghost use Rattle.strftime_fields.specs.Cost.{cost, Counts};
 
 use crate::expand::put_format;
 use crate::fault::TimeFault;
-use crate::read::{short_at, width};
+use crate::read::{Short, short_at};
 use lc_base::ByteText;
 use std::alloc::Global;
 use std::marker::Brand;
@@ -30,10 +30,14 @@ fn bad_byte<L: Ledger>(format: &[u8], steps: &mut Steps<L>) -> Option<usize>
     let mut at = 0;
     'reading: while at < format.len() {
         match short_at(format, at) {
-            Some(short) => {
+            Some(Short::Byte(_)) => {
                 // The piece is known already: this counts it.
                 let _step = step_at(format, at, steps);
-                at += width(short);
+                at += 1;
+            }
+            Some(Short::Plain { .. }) => {
+                let _step = step_at(format, at, steps);
+                at += 2;
             }
             None => match step_at(format, at, steps) {
                 Step::End => return None,

@@ -1,7 +1,7 @@
-use Rattle.std.proofs.Common.{◌≡◌, ◌++◌, drop}
-use Rattle.langinfo.specs.Conv.{sizes_of}
+use Rattle.std.proofs.Common.{◌≡◌, ◌++◌, map, take, drop}
+use Rattle.langinfo.specs.Conv.{encoded, sizes_of}
 use Rattle.langinfo.proofs.conv.sizes_of.Given as goal
 
--- what is there, and what is to come
-abbrev pub invariant-loop-size : goal.invariant-loop-size
-invariant-loop-size l = l.chars.items ++ sizes_of (drop l.size-index l.sizes) ≡ sizes_of l.sizes
+-- those before, and what counts of those to come
+abbrev pub invariant-loop-i : goal.invariant-loop-i
+invariant-loop-i l = map encoded (take l.i l.sizes) ++ sizes_of (drop l.i l.sizes) ≡ sizes_of l.sizes

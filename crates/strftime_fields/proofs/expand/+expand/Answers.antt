@@ -3,7 +3,6 @@ use Rattle.std.proofs.lemmas.Result.{err_from_is_err_and}
 use Rattle.time_cat.specs.Conversions.{conversion}
 use Rattle.time_cat.specs.Shown.{expanded, converted}
 use Rattle.strftime_fields.proofs.Adding.{goes_on, stops, ends}
-use Rattle.time_cat.specs.Formats.{counted}
 use Rattle.strftime_fields.specs.Cost.{reads}
 use Rattle.strftime_fields.specs.Reading.{IsShort, width, short_text}
 use Rattle.strftime_fields.proofs.Left.{short_within, short_left, text_left, text_at_start, text_at_end, text_at_wrong, text_at_byte, text_at_conversion, no_levels}
@@ -21,7 +20,9 @@ put_format-reading-init g t c =
     record {
       within = omega arith;
       some = some;
-      short = c.requires;
+      most = omega arith;
+      short = omega (arith, c.requires, c.args.out.now.ok.0, c.args.out.now.ok.1);
+      room = omega arith;
       text = ap (λ x. c.args.out.now.items ++ x) (text_at_start c.args.levels c.args.t.now c.args.tm.now c.args.format.now some);
       steps = ap (λ n. c.args.steps.now + n) (reads_at_start c.args.max c.args.levels c.args.t.now c.args.tm.now (length c.args.out.now.items) c.args.format.now some);
     }
@@ -30,7 +31,7 @@ pub put_format-returns-in-End-clause-text : goal.put_format-returns-in-End-claus
 put_format-returns-in-End-clause-text g t c =
     let same : c.put_short.new.out.items ≡ c.reading.out.items = c.in-None.ensures.unchanged refl in
     let whole : c.put_short.new.out.items ++ text_left c.args.levels c.args.t.now c.args.tm.now c.args.format.now c.reading.at ≡ c.args.out.now.items ++ expanded c.args.levels c.args.t.now c.args.tm.now c.args.format.now = rw same c.reading.invariant.text in
-    let short : length c.put_short.new.out.items ≤ c.args.max = rw same c.reading.invariant.short in
+    let short : length c.put_short.new.out.items ≤ c.args.max = omega (arith, c.put_short.ensures.short, c.reading.invariant.most) in
     let none = text_at_end c.args.levels c.args.t.now c.args.tm.now c.args.format.now c.reading.at c.in-End.ensures.stands in
     ends c.args.max c.args.out.now.items (expanded c.args.levels c.args.t.now c.args.tm.now c.args.format.now) c.put_short.new.out.items (text_left c.args.levels c.args.t.now c.args.tm.now c.args.format.now c.reading.at) whole none short
 
@@ -38,7 +39,7 @@ pub put_format-returns-in-Bad-clause-text : goal.put_format-returns-in-Bad-claus
 put_format-returns-in-Bad-clause-text g t c =
     let same : c.put_short.new.out.items ≡ c.reading.out.items = c.in-None.ensures.unchanged refl in
     let whole : c.put_short.new.out.items ++ text_left c.args.levels c.args.t.now c.args.tm.now c.args.format.now c.reading.at ≡ c.args.out.now.items ++ expanded c.args.levels c.args.t.now c.args.tm.now c.args.format.now = rw same c.reading.invariant.text in
-    let short : length c.put_short.new.out.items ≤ c.args.max = rw same c.reading.invariant.short in
+    let short : length c.put_short.new.out.items ≤ c.args.max = omega (arith, c.put_short.ensures.short, c.reading.invariant.most) in
     let none = text_at_wrong c.args.levels c.args.t.now c.args.tm.now c.args.format.now c.reading.at c.in-Bad.ensures.stands in
     ends c.args.max c.args.out.now.items (expanded c.args.levels c.args.t.now c.args.tm.now c.args.format.now) c.put_short.new.out.items (text_left c.args.levels c.args.t.now c.args.tm.now c.args.format.now c.reading.at) whole none short
 
@@ -89,7 +90,7 @@ put_format-returns-in_err-put_byte-in-Byte-clause-steps g t c =
 pub put_format-returns-in_err-put_conversion-in-Conv-clause-steps : goal.put_format-returns-in_err-put_conversion-in-Conv-clause-steps
 put_format-returns-in_err-put_conversion-in-Conv-clause-steps g t c =
     let same : c.put_short.new.out.items ≡ c.reading.out.items = c.in-None.ensures.unchanged refl in
-    let short : length c.put_short.new.out.items ≤ c.args.max = rw same c.reading.invariant.short in
+    let short : length c.put_short.new.out.items ≤ c.args.max = omega (arith, c.put_short.ensures.short, c.reading.invariant.most) in
     let counts : c.reading.steps + reads_left c.args.max c.args.levels c.args.t.now c.args.tm.now (length c.put_short.new.out.items) c.args.format.now c.reading.at ≡ c.args.steps.now + reads c.args.max c.args.levels c.args.t.now c.args.tm.now (length c.args.out.now.items) c.args.format.now = rw same c.reading.invariant.steps in
     let p = err_from_is_err_and c.from_residual-in_err-put_conversion-in-Conv.result c.from_residual-in_err-put_conversion-in-Conv.ensures.1 in
     let left = reads_at_conversion c.args.max c.args.levels c.args.t.now c.args.tm.now (length c.put_short.new.out.items) c.args.format.now c.reading.at c.in-Conv.modifier c.in-Conv.letter _ c.in-Conv.next c.in-Conv.ensures.stands.2 short in
@@ -112,7 +113,9 @@ put_format-reading-preserved-in-Byte g t c =
     record {
       within = omega (arith, c.in-Byte.ensures.stands.0);
       some = c.reading.invariant.some;
-      short = c.in_ok-put_byte-in-Byte.ensures.1;
+      most = omega arith;
+      short = omega (arith, c.in_ok-put_byte-in-Byte.ensures.1, c.put_byte.new.out.ok.0, c.put_byte.new.out.ok.1);
+      room = omega arith;
       text = goes_on c.args.out.now.items (expanded c.args.levels c.args.t.now c.args.tm.now c.args.format.now) c.put_short.new.out.items c.put_byte.new.out.items (c.in-Byte.byte ∷ []) (text_left c.args.levels c.args.t.now c.args.tm.now c.args.format.now (c.reading.at + 1)) (ap (λ x. c.put_short.new.out.items ++ x) (sym left) ∙ whole) c.in_ok-put_byte-in-Byte.ensures.0;
       steps = rw longer (omega (arith, more, counts, c.in-Byte.ensures.counted));
     }
@@ -121,7 +124,7 @@ pub put_format-reading-preserved : goal.put_format-reading-preserved
 put_format-reading-preserved g t c =
     let same : c.put_short.new.out.items ≡ c.reading.out.items = c.in-None.ensures.unchanged refl in
     let whole : c.put_short.new.out.items ++ text_left c.args.levels c.args.t.now c.args.tm.now c.args.format.now c.reading.at ≡ c.args.out.now.items ++ expanded c.args.levels c.args.t.now c.args.tm.now c.args.format.now = rw same c.reading.invariant.text in
-    let short : length c.put_short.new.out.items ≤ c.args.max = rw same c.reading.invariant.short in
+    let short : length c.put_short.new.out.items ≤ c.args.max = omega (arith, c.put_short.ensures.short, c.reading.invariant.most) in
     let counts : c.reading.steps + reads_left c.args.max c.args.levels c.args.t.now c.args.tm.now (length c.put_short.new.out.items) c.args.format.now c.reading.at ≡ c.args.steps.now + reads c.args.max c.args.levels c.args.t.now c.args.tm.now (length c.args.out.now.items) c.args.format.now = rw same c.reading.invariant.steps in
     let left = text_at_conversion c.args.levels c.args.t.now c.args.tm.now c.args.format.now c.reading.at c.in-Conv.modifier c.in-Conv.letter _ c.in-Conv.next c.in-Conv.ensures.stands.2 in
     let piece = converted c.args.t.now c.args.tm.now (expanded (c.args.levels - 1) c.args.t.now c.args.tm.now) (conversion c.in-Conv.modifier c.in-Conv.letter) in
@@ -130,49 +133,31 @@ put_format-reading-preserved g t c =
     record {
       within = c.in-Conv.ensures.stands.1;
       some = c.reading.invariant.some;
-      short = c.in_ok-put_conversion-in-Conv.ensures.text.1;
+      most = omega arith;
+      short = omega (arith, c.in_ok-put_conversion-in-Conv.ensures.text.1, c.put_conversion.new.out.ok.0, c.put_conversion.new.out.ok.1);
+      room = omega arith;
       text = goes_on c.args.out.now.items (expanded c.args.levels c.args.t.now c.args.tm.now c.args.format.now) c.put_short.new.out.items c.put_conversion.new.out.items (converted c.args.t.now c.args.tm.now (expanded (c.args.levels - 1) c.args.t.now c.args.tm.now) (conversion c.in-Conv.modifier c.in-Conv.letter)) (text_left c.args.levels c.args.t.now c.args.tm.now c.args.format.now c.in-Conv.next) (ap (λ x. c.put_short.new.out.items ++ x) (sym left) ∙ whole) c.in_ok-put_conversion-in-Conv.ensures.text.0;
       steps = rw longer (omega (arith, more, counts, c.in_ok-put_conversion-in-Conv.ensures.steps, c.in-Conv.ensures.counted));
     }
 
-pub put_format-reading-preserved-in-Ok : goal.put_format-reading-preserved-in-Ok
-put_format-reading-preserved-in-Ok g t c =
+pub put_format-reading-preserved-in-Some : goal.put_format-reading-preserved-in-Some
+put_format-reading-preserved-in-Some g t c =
     let step = c.step_at-step in
-    let added = c.in-Some.added in
-    let piece : IsShort c.reading.at step.result added.short = rw step.ensures.exact c.in-Some.ensures.piece in
-    let left = short_left c.args.levels c.args.t.now c.args.tm.now c.args.format.now c.reading.at step.result added.short step.ensures.stands piece c.in-Some.ensures.formatless in
-    let more = short_reads c.args.max c.args.levels c.args.t.now c.args.tm.now (length c.reading.out.items) c.args.format.now c.reading.at step.result added.short step.ensures.stands piece c.in-Some.ensures.formatless c.reading.invariant.short in
-    let within = short_within c.args.format.now c.reading.at step.result added.short step.ensures.stands piece in
-    let grown = rw c.in-Ok.is at c.in-Some.ensures.text in
-    let longer : length c.put_short.new.out.items ≡ length c.reading.out.items + length (short_text c.args.t.now c.args.tm.now added.short) = ap length grown.0 ∙ length-append c.reading.out.items (short_text c.args.t.now c.args.tm.now added.short) in
+    let short = c.in-Some.short in
+    let text = short_text c.args.t.now c.args.tm.now short in
+    let piece : IsShort c.reading.at step.result short = rw step.ensures.exact c.in-Some.ensures.piece in
+    let left = short_left c.args.levels c.args.t.now c.args.tm.now c.args.format.now c.reading.at step.result short step.ensures.stands piece c.in-Some.ensures.formatless in
+    let fits : length c.reading.out.items ≤ c.args.max = omega (arith, c.reading.invariant.short, c.reading.invariant.most) in
+    let more = short_reads c.args.max c.args.levels c.args.t.now c.args.tm.now (length c.reading.out.items) c.args.format.now c.reading.at step.result short step.ensures.stands piece c.in-Some.ensures.formatless fits in
+    let within = short_within c.args.format.now c.reading.at step.result short step.ensures.stands piece in
+    let grown = c.in-Some.ensures.text in
+    let longer : length c.put_short.new.out.items ≡ length c.reading.out.items + length text = ap length grown ∙ length-append c.reading.out.items text in
     record {
-      within = rw c.in-Some.ensures.next within;
+      within = rw c.width-at.ensures within;
       some = c.reading.invariant.some;
-      short = grown.1;
-      text = rw c.in-Some.ensures.next (goes_on c.args.out.now.items (expanded c.args.levels c.args.t.now c.args.tm.now c.args.format.now) c.reading.out.items c.put_short.new.out.items (short_text c.args.t.now c.args.tm.now added.short) (text_left c.args.levels c.args.t.now c.args.tm.now c.args.format.now (c.reading.at + width added.short)) (ap (λ x. c.reading.out.items ++ x) (sym left) ∙ c.reading.invariant.text) grown.0);
-      steps = rw (c.in-Some.ensures.next, longer) (omega (arith, more, c.reading.invariant.steps, step.ensures.counted));
+      most = c.reading.invariant.most;
+      short = c.put_short.ensures.short;
+      room = c.put_short.ensures.room;
+      text = rw c.width-at.ensures (goes_on c.args.out.now.items (expanded c.args.levels c.args.t.now c.args.tm.now c.args.format.now) c.reading.out.items c.put_short.new.out.items text (text_left c.args.levels c.args.t.now c.args.tm.now c.args.format.now (c.reading.at + width short)) (ap (λ x. c.reading.out.items ++ x) (sym left) ∙ c.reading.invariant.text) grown);
+      steps = rw (c.width-at.ensures, longer) (omega (arith, more, c.reading.invariant.steps, step.ensures.counted));
     }
-
-pub put_format-returns-in-Err-clause-text : goal.put_format-returns-in-Err-clause-text
-put_format-returns-in-Err-clause-text g t c =
-    let step = c.step_at-step in
-    let added = c.in-Some.added in
-    let piece : IsShort c.reading.at step.result added.short = rw step.ensures.exact c.in-Some.ensures.piece in
-    let left = short_left c.args.levels c.args.t.now c.args.tm.now c.args.format.now c.reading.at step.result added.short step.ensures.stands piece c.in-Some.ensures.formatless in
-    let kept = rw c.in-Err.is at c.in-Some.ensures.text in
-    stops c.args.max c.args.out.now.items (expanded c.args.levels c.args.t.now c.args.tm.now c.args.format.now) c.reading.out.items c.put_short.new.out.items c.put_short.new.out.items (short_text c.args.t.now c.args.tm.now added.short) (text_left c.args.levels c.args.t.now c.args.tm.now c.args.format.now (c.reading.at + width added.short)) c.in-Err.stop (ap (λ x. c.reading.out.items ++ x) (sym left) ∙ c.reading.invariant.text) kept
-
-pub put_format-returns-in-Err-clause-steps : goal.put_format-returns-in-Err-clause-steps
-put_format-returns-in-Err-clause-steps g t c =
-    let step = c.step_at-step in
-    let added = c.in-Some.added in
-    let piece : IsShort c.reading.at step.result added.short = rw step.ensures.exact c.in-Some.ensures.piece in
-    let more = short_reads c.args.max c.args.levels c.args.t.now c.args.tm.now (length c.reading.out.items) c.args.format.now c.reading.at step.result added.short step.ensures.stands piece c.in-Some.ensures.formatless c.reading.invariant.short in
-    let text = short_text c.args.t.now c.args.tm.now added.short in
-    let rest = reads_left c.args.max c.args.levels c.args.t.now c.args.tm.now (length c.reading.out.items + length text) c.args.format.now (c.reading.at + width added.short) in
-    let kept = rw c.in-Err.is at c.in-Some.ensures.text in
-    counts_stop c.args.max c.reading.out.items text c.put_short.new.out.items c.in-Err.stop (c.reading.steps + counted step.result) rest _ _
-    kept
-    (counts_same (Err c.in-Err.stop) (c.reading.steps + counted step.result) _ step.ensures.counted)
-    (omega (arith, more, c.reading.invariant.steps))
-    (λ long. none_left c.args.max c.args.levels c.args.t.now c.args.tm.now (length c.reading.out.items + length text) c.args.format.now (c.reading.at + width added.short) long)

@@ -1,4 +1,5 @@
 use Rattle.std.proofs.Common.{◌≡◌, ◌+◌, ◌-◌, ◌*◌, ◌≤◌, ◌<◌, ◌++◌, length}
+use Rattle.std.specs.Vec.{vec_capacity}
 use Rattle.time_cat.specs.Shown.{expanded}
 use Rattle.strftime_fields.specs.Cost.{reads}
 use Rattle.strftime_fields.proofs.Left.{text_left}
@@ -10,7 +11,9 @@ abbrev pub invariant-put_format-reading : goal.invariant-put_format-reading
 invariant-put_format-reading g l = record {
   within : l.at ≤ length l.format;
   some : 0 < l.levels;
-  short : length l.out.items ≤ l.max;
+  most : l.limit ≤ l.max;
+  short : length l.out.items ≤ l.limit;
+  room : l.limit ≤ vec_capacity l.out;
   text : l.out.items ++ text_left l.levels l.t l.tm l.format l.at ≡ l.initial.out.items ++ expanded l.levels l.t l.tm l.format;
   steps : l.steps + reads_left l.max l.levels l.t l.tm (length l.out.items) l.format l.at ≡ l.initial.steps + reads l.max l.levels l.t l.tm (length l.initial.out.items) l.format;
 }
