@@ -23,7 +23,7 @@ pub fn are_scaled(amounts: &[LoAmount]) -> bool
 }
 
 /// An amount; a scale over 18 counts as 18.
-fn amount_of(amount: LoAmount) -> Amount
+pub fn amount_of(amount: LoAmount) -> Amount
     ensures { result ≡ amount_of amount }
 {
     match Amount::new(amount.units, amount.scale.min(18)) {
@@ -36,7 +36,7 @@ fn amount_of(amount: LoAmount) -> Amount
 pub fn amounts_given(alloc: Global, amounts: &[LoAmount]) -> Result<Vec<Amount>, AllocError>
     ensures { IfOk result (λ given. given.items ≡ map amount_of amounts.now) }
 {
-    let mut given = Vec::new(alloc);
+    let mut given = Vec::with_capacity(alloc, amounts.len())?;
     for amount in amounts {
         given.push(amount_of(*amount))?;
     }

@@ -9,7 +9,7 @@ ghost use Rattle.shared_objects.specs.Objects.{numeric_in, monetary_in, time_in}
 ghost use Rattle.locale_c.specs.Items.{item_of};
 ghost use Rattle.locale_c.specs.Answers.{UnlessOk, item_told, money_told, amounts_told, tm_given, time_told, tm_told, ints_told, numbers_told};
 
-use crate::amounts::{LoAmount, amounts_given, are_scaled};
+use crate::amounts::{LoAmount, amount_of, amounts_given, are_scaled};
 use crate::answer::{
     BAD_AMOUNT, BAD_FORMAT, LoAnswer, MISSING, NO_ITEM, TM_RANGE, TOO_SMALL, answered,
 };
@@ -64,7 +64,7 @@ fn put_money(
     }
 }
 
-/// Puts the text of amounts into a buffer.
+/// Puts the text of amounts into a buffer. A single one takes no memory for its list.
 pub fn put_amounts(
     alloc: Global,
     buffer: &mut [u8],
@@ -76,11 +76,15 @@ pub fn put_amounts(
     ensures kept { OnErr result (buffer.new ≡ buffer.old) }
     ensures untouched { IfOk result (λ a. UnlessOk a (buffer.new ≡ buffer.old)) }
 {
-    if are_scaled(amounts) {
-        let given = amounts_given(alloc, amounts)?;
-        put_money(alloc, buffer, object, format, given.as_slice())
-    } else {
-        Ok(answered(BAD_AMOUNT, 0))
+    if !are_scaled(amounts) {
+        return Ok(answered(BAD_AMOUNT, 0));
+    }
+    match amounts {
+        [amount] => put_money(alloc, buffer, object, format, &[amount_of(*amount)]),
+        amounts => {
+            let given = amounts_given(alloc, amounts)?;
+            put_money(alloc, buffer, object, format, given.as_slice())
+        }
     }
 }
 

@@ -38,7 +38,7 @@ pub fn command_turns<'a>(alloc: Global, bundle: &'a Bundle) -> Result<Vec<Turn<'
     ensures { IfOk result (λ turns. map turn_seen turns.items ≡ command_turns bundle.now) }
 {
     let threads = bundle.threads.len() as u32;
-    let mut turns = Vec::new(alloc);
+    let mut turns = Vec::with_capacity(alloc, bundle.commands.len())?;
     for i in 0..bundle.rounds {
         let commands = in_round(alloc, bundle.commands.as_slice(), i + 1)?;
         push_round(&mut turns, threads, commands.as_slice())?;
@@ -56,8 +56,8 @@ pub fn round_turns<'a>(
     ensures { IfOk result (λ turns. map turn_seen turns.items ≡ round_turns (length bundle.now.threads) bundle.now.commands round) }
 {
     let threads = bundle.threads.len() as u32;
-    let mut turns = Vec::new(alloc);
     let commands = in_round(alloc, bundle.commands.as_slice(), round)?;
+    let mut turns = Vec::with_capacity(alloc, commands.len())?;
     push_round(&mut turns, threads, commands.as_slice())?;
     Ok(turns)
 }

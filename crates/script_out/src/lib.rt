@@ -8,7 +8,9 @@ mod refusal;
 mod short;
 mod texts;
 
-pub use output::{OutLine, Places, Said, Why, print, push_line, push_number, push_reply};
+pub use output::{
+    OutLine, Places, Said, Why, print, push_line, push_number, push_reply, weight, weight_of,
+};
 pub use quoting::push_quoted;
 pub use refusal::push_refusal;
 pub use texts::{TextWalk, Texts};

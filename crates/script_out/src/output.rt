@@ -122,11 +122,32 @@ pub fn print(
 ) -> Result<ByteText, AllocError>
     ensures { IfOk result (λ text. text ≡ printed lines.now threads.now) }
 {
-    let mut out = Vec::new(alloc);
+    let mut out = Vec::with_capacity(alloc, weight_of(lines.as_slice()))?;
     for line in lines.as_slice() {
         push_line(&mut out, line, threads)?;
     }
     Ok(ByteText::from_vec(out))
+}
+
+/// About how many bytes a line has beside a text in its reply.
+const FRAME: usize = 32;
+
+/// About how many bytes of text the lines have.
+pub fn weight_of(lines: &[OutLine]) -> usize {
+    let mut sum = 0;
+    for line in lines {
+        sum = weight(line).saturating_add(sum);
+    }
+    sum
+}
+
+/// About how many bytes of text a line has.
+#[inline(always)]
+pub fn weight(line: &OutLine) -> usize {
+    match &line.reply {
+        Said::Text(text) => text.as_bytes().len().saturating_add(FRAME),
+        _ => FRAME,
+    }
 }
 
 /// The name of a thread.
@@ -493,13 +514,18 @@ fn push_handle(
 ) -> Result<(), AllocError>
     ensures { OnOk result (out.new.items ≡ out.old.items ++ handle_text threads.now handle.now) }
 {
-    push_short(out, name_of(threads, handle.owner))?;
-    let mut buf = [0; 24];
-    let at = put_count(&mut buf, 24, handle.generation);
+    let name = name_of(threads, handle.owner);
+    let mut buf = [0; 32];
+    let at = put_count(&mut buf, 32, handle.generation);
     let at = put_byte(&mut buf, at, b'.');
     let at = put_count(&mut buf, at, handle.row);
-    let start = put_byte(&mut buf, at, b'.');
-    out.extend_from_slice(&buf[start..])
+    let at = put_byte(&mut buf, at, b'.');
+    if name.len() < LONG {
+        let start = put_name(&mut buf, at, name);
+        return out.extend_from_slice(&buf[start..]);
+    }
+    push_short(out, name)?;
+    out.extend_from_slice(&buf[at..])
 }
 
 fn push_why(out: &mut Vec<u8>, why: &Why) -> Result<(), AllocError>

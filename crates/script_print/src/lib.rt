@@ -6,7 +6,7 @@ ghost use Rattle.std.specs.Thread.{IsSync};
 ghost use Rattle.script_out.specs.Output.{printed};
 
 use lc_base::{ByteText, List};
-use script_out::{OutLine, Said, push_line};
+use script_out::{OutLine, push_line, weight, weight_of};
 use std::alloc::{AllocError, Global};
 use std::thread;
 use std::thread::Threads;
@@ -16,9 +16,6 @@ const PIECE: usize = 4_194_304;
 
 /// How few lines one thread prints faster than two.
 const FEW: usize = 128;
-
-/// About how many bytes a line has beside a text in its reply.
-const FRAME: usize = 32;
 
 /// The printed text of the lines, where the threads have these names, as `print` of `script_out` gives
 /// it. Up to four threads of the machine make it.
@@ -55,23 +52,6 @@ fn front_of(lines: &[OutLine], bytes: usize) -> usize
         }
     }
     lines.len()
-}
-
-/// About how many bytes of text the lines have.
-fn weight_of(lines: &[OutLine]) -> usize {
-    let mut sum = 0;
-    for line in lines {
-        sum = weight(line).saturating_add(sum);
-    }
-    sum
-}
-
-/// About how many bytes of text a line has.
-fn weight(line: &OutLine) -> usize {
-    match &line.reply {
-        Said::Text(text) => text.as_bytes().len().saturating_add(FRAME),
-        _ => FRAME,
-    }
 }
 
 /// How many lines at the front have about half of the bytes of text.

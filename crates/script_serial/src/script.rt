@@ -119,8 +119,8 @@ fn all_lines(
     requires length { length threads.old ≡ length bundle.now.threads }
     ensures { IfOk result (λ lines. let plan : PlanData = record { bundle = bundle.now; library = library.now; books = books.now.books } in lines.items ≡ (closed alone.old.table.setting plan (commands_played alone.old.table.setting plan)).lines) }
 {
-    let mut lines = Vec::new(alloc);
     let turns = command_turns(alloc, bundle)?;
+    let mut lines = Vec::with_capacity(alloc, turns.len())?;
     play(
         alloc,
         library,
