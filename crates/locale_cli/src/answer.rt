@@ -17,6 +17,7 @@ use script_print::print_beside;
 use script_run::{Pause, run};
 use script_serial::{Counts, Plan, check, prepare, serial};
 use std::alloc::{AllocError, Global};
+use std::mem::forget;
 use std::sync::Wait;
 use std::thread::Threads;
 
@@ -184,7 +185,10 @@ fn serial_text(
     ensures { IfOk result (Outputs (Serial rows generations) plan.now) }
 {
     let lines = serial(alloc, plan, rows, generations)?;
-    print(alloc, &lines, plan.threads())
+    let text = print(alloc, &lines, plan.threads());
+    // The program ends soon, and gives all memory back at once.
+    forget(lines);
+    text
 }
 
 /// The lines of an accepted bundle's script, run with the threads of each round beside each other.
@@ -200,7 +204,10 @@ fn run_text<R: Threads + Wait + Sync, P: Pause + Sync>(
     ensures { IfOk result (Outputs (Run rows generations) plan.now) }
 {
     let lines = run(rt, alloc, plan, rows, generations, pause)?;
-    print_beside(rt, alloc, &lines, plan.threads())
+    let text = print_beside(rt, alloc, &lines, plan.threads());
+    // The program ends soon, and gives all memory back at once.
+    forget(lines);
+    text
 }
 
 /// The line of a refused bundle.

@@ -10,7 +10,7 @@ pub returns : goal.returns
 returns c =
     let lines = c.in_ok-lines.ensures.lines in
     let isolated = c.in_ok-lines.ensures.catalogs_isolated in
-    IfOk-weaker c.print.result _ _ (λ text is. (
+    IfOk-weaker c.print-text.result _ _ (λ text is. (
       is ∙ ap (λ names. printed c.in_ok-lines.lines names) c.threads.ensures ∙ ap (λ (ls : List OutLine). printed ls c.args.plan.now.bundle.threads) lines,
       subst (AreCatalogsIsolated (setting c.args.plan.now c.args.rows c.args.generations) c.args.plan.now) lines isolated,
-    )) c.print.ensures
+    )) c.print-text.ensures
