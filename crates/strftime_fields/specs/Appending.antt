@@ -26,3 +26,8 @@ fault_of Memory = faults.Memory
 abbrev pub Adds : List ℕ → List ℕ → List ℕ → Bool → Type 0
 Adds old text new true = new ≡ old ++ text
 Adds old text new false = new ≡ old
+
+-- whether a text was added, whatever more the result says of it
+abbrev pub added : {A : Type 0} → Result A Stop → Result (Unit {0}) Stop
+added (Ok a) = Ok tt
+added (Err e) = Err e

@@ -1,5 +1,8 @@
 -- Pieces of a format that are told at first sight.
-use Rattle.std.specs.Prelude.{◌≡◌, ℕ, ◌+◌, List, [], ◌∷◌, Some, None}
+use Rattle.std.specs.Prelude.{◌≡◌, ℕ, ◌+◌, List, [], ◌∷◌, Option, Some, None}
+use Rattle.time_cat.specs.declared.conversion.Conversion.{Conversion}
+use Rattle.time_cat.specs.declared.conversion.Shows.TheVariants.{Format}
+use Rattle.time_cat.specs.declared.conversion.TimeText.{TimeText}
 use Rattle.time_cat.specs.declared.step.Step.{Step}
 use Rattle.time_cat.specs.declared.step.Step.TheVariants as steps
 use Rattle.time_cat.specs.Conversions.{conversion}
@@ -28,3 +31,8 @@ IsFormatless v t (Plain letter found) = format_for v t found.shows ≡ None
 abbrev pub short_text : TimeValues → TmValues → Short → List ℕ
 short_text v t (Byte c) = c ∷ []
 short_text v t (Plain letter found) = plain_text v t found.shows
+
+-- a conversion stands for this format of the locale
+abbrev pub StandsFor : Option Conversion → TimeText → Type 0
+StandsFor None key = ⊥
+StandsFor (Some c) key = c.shows ≡ Format key

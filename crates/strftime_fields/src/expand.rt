@@ -1,21 +1,23 @@
 //! Formats within formats.
 
-ghost use Rattle.std.specs.Prelude.{◌≡◌, ◌+◌, ◌++◌, ◌≤◌, length, vec_capacity, drop, IfSome, IsNone};
+ghost use Rattle.std.specs.Prelude.{◌≡◌, ℕ, ◌+◌, ◌++◌, ◌<◌, ◌≤◌, length, vec_capacity, Some, IfOk, IfSome, IsNone};
 ghost use Rattle.time_cat.specs.Conversions.{conversion};
-ghost use Rattle.time_cat.specs.Formats.{step};
+ghost use Rattle.time_cat.specs.Formats.{pieces, bad_place, step};
 ghost use Rattle.time_cat.specs.Shown.{expanded, converted};
-ghost use Rattle.strftime_fields.specs.Appending.{Appends, CountsTo};
+ghost use Rattle.time_cat.specs.TimeValues.{format_text};
+ghost use Rattle.strftime_fields.specs.Appending.{Appends, CountsTo, added};
 ghost use Rattle.strftime_fields.specs.Cost.{read_for, reads};
-ghost use Rattle.strftime_fields.specs.Reading.{IsShort, IsFormatless, short_text};
+ghost use Rattle.strftime_fields.specs.Reading.{IsShort, IsFormatless, StandsFor, short_text};
 
 use crate::digits::put_number_within;
 use crate::output::{Stop, put_byte, put_byte_within, put_within};
 use crate::plain::{format_for, name, number, put_plain};
-use crate::read::{Short, short_at, width};
+use crate::read::{Short, short_of, width};
 use std::sync::ledger::Ledger;
-use time_cat::{Shows, Step, Steps, Time, Tm, conversion_of, step_at};
+use time_cat::{Shows, Step, Steps, Time, TimeText, Tm, conversion_of, step_at};
 
-/// Adds what a format gives, with so many formats within one another.
+/// Adds what a format gives, with so many formats within one another, up to the first `%` that begins
+/// no conversion, and says where that stands.
 #[cycle(expand)]
 pub fn put_format<L: Ledger>(
     levels: u8,
@@ -25,29 +27,34 @@ pub fn put_format<L: Ledger>(
     format: &[u8],
     steps: &mut Steps<L>,
     out: &mut Vec<u8>,
-) -> Result<(), Stop>
+) -> Result<Option<usize>, Stop>
     requires { length out.old.items ≤ max }
-    ensures text { Appends max out.old.items (expanded levels t.now tm.now format.now) out.new.items result }
-    ensures steps { CountsTo result (steps.old + reads max levels t.now tm.now (length out.old.items) format.now) steps.new }
+    ensures text { Appends max out.old.items (expanded levels t.now tm.now format.now) out.new.items (added result) }
+    ensures bad { IfOk result (λ bad. 0 < levels → bad ≡ bad_place (pieces format.now)) }
+    ensures steps { CountsTo (added result) (steps.old + reads max levels t.now tm.now (length out.old.items) format.now) steps.new }
 {
     if levels == 0 {
-        return Ok(());
+        return Ok(None);
     }
     let mut at = 0;
+    let mut rest = format;
     let mut limit = out.capacity().min(max);
     'reading: loop {
-        match put_short(out, limit, t, tm, format, at) {
+        match put_short(out, limit, t, tm, rest) {
             Some(short) => {
                 // The piece is known already: this counts it.
                 let _step = step_at(format, at, steps);
-                at += width(short);
+                let taken = width(short);
+                at += taken;
+                rest = &rest[taken..];
             }
             None => match step_at(format, at, steps) {
-                Step::End => return Ok(()),
-                Step::Bad => return Ok(()),
+                Step::End => return Ok(None),
+                Step::Bad => return Ok(Some(at)),
                 Step::Byte(byte) => {
                     put_byte(out, max, byte)?;
                     at += 1;
+                    rest = &format[at..];
                     limit = out.capacity().min(max);
                 }
                 Step::Conv {
@@ -58,6 +65,7 @@ pub fn put_format<L: Ledger>(
                 } => {
                     put_conversion(levels - 1, t, tm, max, modifier, letter, steps, out)?;
                     at = next;
+                    rest = &format[at..];
                     limit = out.capacity().min(max);
                 }
             },
@@ -65,28 +73,20 @@ pub fn put_format<L: Ledger>(
     }
 }
 
-/// Adds what the piece gives that stands at a place, if it is a byte, or a name or a number without a
+/// Adds what the piece gives that bytes begin with, if it is a byte, or a name or a number without a
 /// modifier, and if the text is then no longer than `limit`. There is room for a text of that length.
 #[inline(always)]
-fn put_short(
-    out: &mut Vec<u8>,
-    limit: usize,
-    t: &Time,
-    tm: &Tm,
-    format: &[u8],
-    at: usize,
-) -> Option<Short>
+fn put_short(out: &mut Vec<u8>, limit: usize, t: &Time, tm: &Tm, rest: &[u8]) -> Option<Short>
     requires short { length out.old.items ≤ limit }
     requires room { limit ≤ vec_capacity out.old }
-    requires within { at ≤ length format.now }
-    ensures piece { IfSome result (λ r. IsShort at (step at (drop at format.now)) r) }
+    ensures piece { IfSome result (λ r. (at : ℕ) → IsShort at (step at rest.now) r) }
     ensures formatless { IfSome result (λ r. IsFormatless t.now tm.now r) }
     ensures text { IfSome result (λ r. out.new.items ≡ out.old.items ++ short_text t.now tm.now r) }
     ensures unchanged { IsNone result → out.new.items ≡ out.old.items }
     ensures short { length out.new.items ≤ limit }
     ensures room { limit ≤ vec_capacity out.new }
 {
-    let short = short_at(format, at)?;
+    let short = short_of(rest)?;
     let added = match short {
         Short::Byte(byte) => put_byte_within(out, limit, byte),
         Short::Plain { found, .. } => match found.shows {
@@ -100,10 +100,56 @@ fn put_short(
     if added { Some(short) } else { None }
 }
 
-/// Adds what any conversion gives, with so many formats within one another.
+/// The format of the locale for which a letter stands without a modifier, if it stands for one.
+#[inline(always)]
+fn key_of(letter: u8) -> Option<TimeText>
+    ensures { IfSome result (λ key. StandsFor (conversion 0 letter) key) }
+{
+    match conversion_of(0, letter) {
+        Some(found) => match found.shows {
+            Shows::Format(key) => Some(key),
+            _ => None,
+        },
+        None => None,
+    }
+}
+
+/// A format of the locale, in code of its own: a loop would look for each of them beforehand.
+#[inline(never)]
+fn text_of(t: &Time, key: TimeText) -> &[u8]
+    ensures { result.now ≡ format_text t.now key }
+{
+    t.text(key)
+}
+
+/// Adds what any conversion gives, with so many formats within one another. A format of the locale is
+/// told apart, since it needs no second look.
+#[cycle(expand)]
+#[inline(always)]
+fn put_conversion<L: Ledger>(
+    levels: u8,
+    t: &Time,
+    tm: &Tm,
+    max: usize,
+    modifier: u8,
+    letter: u8,
+    steps: &mut Steps<L>,
+    out: &mut Vec<u8>,
+) -> Result<(), Stop>
+    requires { length out.old.items ≤ max }
+    ensures text { Appends max out.old.items (converted t.now tm.now (expanded levels t.now tm.now) (conversion modifier letter)) out.new.items result }
+    ensures steps { CountsTo result (steps.old + read_for t.now tm.now (reads max levels t.now tm.now (length out.old.items)) (conversion modifier letter)) steps.new }
+{
+    match (modifier, key_of(letter)) {
+        (0, Some(key)) => put_inner(levels, t, tm, max, text_of(t, key), steps, out),
+        _ => put_other(levels, t, tm, max, modifier, letter, steps, out),
+    }
+}
+
+/// The same, in code of its own.
 #[cycle(expand)]
 #[inline(never)]
-fn put_conversion<L: Ledger>(
+fn put_other<L: Ledger>(
     levels: u8,
     t: &Time,
     tm: &Tm,
@@ -121,7 +167,27 @@ fn put_conversion<L: Ledger>(
         None => Ok(()),
         Some(found) => match format_for(t, tm, found.shows) {
             None => put_plain(out, max, t, tm, found.shows),
-            Some(format) => put_format(levels, t, tm, max, format, steps, out),
+            Some(format) => put_inner(levels, t, tm, max, format, steps, out),
         },
     }
+}
+
+/// Adds what a format of the locale gives, each `%` of which begins a conversion.
+#[cycle(expand)]
+#[inline(always)]
+fn put_inner<L: Ledger>(
+    levels: u8,
+    t: &Time,
+    tm: &Tm,
+    max: usize,
+    format: &[u8],
+    steps: &mut Steps<L>,
+    out: &mut Vec<u8>,
+) -> Result<(), Stop>
+    requires { length out.old.items ≤ max }
+    ensures text { Appends max out.old.items (expanded levels t.now tm.now format.now) out.new.items result }
+    ensures steps { CountsTo result (steps.old + reads max levels t.now tm.now (length out.old.items) format.now) steps.new }
+{
+    put_format(levels, t, tm, max, format, steps, out)?;
+    Ok(())
 }

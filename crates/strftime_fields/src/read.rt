@@ -1,6 +1,6 @@
 //! Pieces of a format that are told at first sight.
 
-ghost use Rattle.std.specs.Prelude.{◌≡◌, ◌≤◌, length, drop, IfSome};
+ghost use Rattle.std.specs.Prelude.{◌≡◌, ◌≤◌, ℕ, length, drop, IfSome};
 ghost use Rattle.time_cat.specs.Formats.{step};
 ghost use Rattle.strftime_fields.specs.Reading.{IsShort, width};
 
@@ -15,16 +15,15 @@ pub enum Short {
     Plain { letter: u8, found: Conversion },
 }
 
-/// The piece that stands at a place, if it is a byte or a conversion without a modifier.
+/// The piece that bytes begin with, if it is a byte or a conversion without a modifier.
 #[tactic(auto, using(crate::proofs::Shorts::no_modifier))]
 #[inline(always)]
-pub fn short_at(format: &[u8], at: usize) -> Option<Short>
-    requires { at ≤ length format.now }
-    ensures { IfSome result (IsShort at (step at (drop at format.now))) }
+pub fn short_of(rest: &[u8]) -> Option<Short>
+    ensures { IfSome result (λ r. (at : ℕ) → IsShort at (step at rest.now) r) }
 {
-    match &format[at..] {
+    match rest {
         [] => None,
-        [b'%', rest @ ..] => match rest {
+        [b'%', behind @ ..] => match behind {
             [] => None,
             [letter, ..] => match conversion_of(0, *letter) {
                 None => None,
@@ -36,6 +35,15 @@ pub fn short_at(format: &[u8], at: usize) -> Option<Short>
         },
         [byte, ..] => Some(Short::Byte(*byte)),
     }
+}
+
+/// The same of the bytes from a place on.
+#[inline(always)]
+pub fn short_at(format: &[u8], at: usize) -> Option<Short>
+    requires { at ≤ length format.now }
+    ensures { IfSome result (IsShort at (step at (drop at format.now))) }
+{
+    short_of(&format[at..])
 }
 
 /// How many bytes of the format a piece takes.

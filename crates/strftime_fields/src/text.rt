@@ -1,13 +1,16 @@
 //! The text of a time (XSH strftime).
 
-ghost use Rattle.std.specs.Prelude.{◌≡◌, ◌+◌, ◌*◌, ◌≤◌, ◌<◌};
+ghost use Rattle.std.specs.Prelude.{◌≡◌, ◌+◌, ◌*◌, ◌≤◌, ◌<◌, MatchOption};
 ghost use Rattle.time_cat.specs.Formats.{pieces, bad_place};
 ghost use Rattle.time_cat.specs.Shown.{conversions_of};
 ghost use Rattle.strftime_fields.specs.Answers.{answer, Answers};
+ghost use Rattle.strftime_fields.specs.Appending.{fault_of};
 ghost use Rattle.strftime_fields.specs.Cost.{cost, Counts};
+ghost use Rattle.strftime_fields.specs.declared.fault.TimeFault.TheVariants.{BadFormat};
 
 use crate::expand::put_format;
 use crate::fault::TimeFault;
+use crate::output::Stop;
 use crate::read::{Short, short_at};
 use lc_base::ByteText;
 use std::alloc::Global;
@@ -20,6 +23,12 @@ const LEVELS: u8 = 5;
 
 /// How many bytes a text has at first room for beyond those of its format.
 const SPARE: usize = 64;
+
+/// How many bytes a text of a format has at first room for.
+#[inline(always)]
+fn first_room(format: &[u8], max: usize) -> usize {
+    format.len().saturating_add(SPARE).min(max)
+}
 
 /// Where a `%` stands that begins no conversion.
 #[tactic(auto, using(crate::proofs::Left::pieces_at_start, crate::proofs::Left::nothing_left))]
@@ -50,6 +59,18 @@ fn bad_byte<L: Ledger>(format: &[u8], steps: &mut Steps<L>) -> Option<usize>
     None
 }
 
+/// The fault of a format whose text was given up: that of its conversions, if one is wrong.
+#[cold]
+#[inline(never)]
+fn first_fault<L: Ledger>(format: &[u8], stop: Stop, steps: &mut Steps<L>) -> TimeFault
+    ensures { MatchOption (bad_place (pieces format.now)) (result ≡ fault_of stop) (λ at. result ≡ BadFormat at) }
+{
+    match bad_byte(format, steps) {
+        Some(at) => TimeFault::BadFormat { at },
+        None => TimeFault::from(stop),
+    }
+}
+
 /// The text of a time by a format, of at most `max` bytes; each conversion that is read is a step.
 ///
 /// `BadFormat` comes exactly where a `%` of the format begins no conversion, at the first one, and
@@ -71,13 +92,13 @@ pub fn strftime_counted<L: Ledger>(
     if let Some(at) = bad_byte(format, steps) {
         return Err(TimeFault::BadFormat { at });
     }
-    let room = format.len().saturating_add(SPARE).min(max);
-    let mut out = Vec::with_capacity(alloc, room)?;
+    let mut out = Vec::with_capacity(alloc, first_room(format, max))?;
     put_format(LEVELS, t, tm, max, format, steps, &mut out)?;
     Ok(ByteText::from_vec(out))
 }
 
-/// The same with a ledger that has not begun.
+/// The same with a ledger that has not begun. The whole format is looked over only where its text is
+/// given up.
 fn strftime_from<L: Ledger>(
     alloc: Global,
     t: &Time,
@@ -92,7 +113,12 @@ fn strftime_from<L: Ledger>(
     ensures { Answers result (answer t.now tm.now format.now max) }
 {
     let mut steps = Steps::<L>::new(blank);
-    strftime_counted(alloc, t, format, tm, max, &mut steps)
+    let mut out = Vec::with_capacity(alloc, first_room(format, max))?;
+    match put_format(LEVELS, t, tm, max, format, &mut steps, &mut out) {
+        Ok(None) => Ok(ByteText::from_vec(out)),
+        Ok(Some(at)) => Err(TimeFault::BadFormat { at }),
+        Err(stop) => Err(first_fault(format, stop, &mut steps)),
+    }
 }
 
 /// The text of a time by a format, of at most `max` bytes (XSH strftime).

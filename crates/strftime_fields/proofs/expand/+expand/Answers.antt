@@ -1,11 +1,12 @@
 use Rattle.std.proofs.Common.{◌≡◌, ◌+◌, ◌-◌, ◌<◌, ◌≤◌, [], ◌∷◌, ◌++◌, length, Err, refl, sym, ap, ◌∙◌, arith, length-append}
 use Rattle.std.proofs.lemmas.Result.{err_from_is_err_and}
 use Rattle.time_cat.specs.Conversions.{conversion}
+use Rattle.time_cat.specs.Formats.{bad_place}
 use Rattle.time_cat.specs.Shown.{expanded, converted}
 use Rattle.strftime_fields.proofs.Adding.{goes_on, stops, ends}
 use Rattle.strftime_fields.specs.Cost.{reads}
 use Rattle.strftime_fields.specs.Reading.{IsShort, width, short_text}
-use Rattle.strftime_fields.proofs.Left.{short_within, short_left, text_left, text_at_start, text_at_end, text_at_wrong, text_at_byte, text_at_conversion, no_levels}
+use Rattle.strftime_fields.proofs.Left.{width_some, behind, behind_piece, piece_within, short_within, short_left, short_bad, pieces_at_start, text_left, text_at_start, text_at_end, text_at_wrong, text_at_byte, text_at_conversion, no_levels}
 use Rattle.strftime_fields.proofs.Counting.{short_reads, reads_left, reads_at_start, reads_at_end, reads_at_wrong, reads_at_byte, reads_at_conversion, none_left, no_levels_read, counts_same, counts_stop}
 use Rattle.strftime_fields.proofs.expand.+expand.Goals as goal
 
@@ -19,10 +20,12 @@ put_format-reading-init g t c =
     let some : 0 < c.args.levels = omega (arith, c.if-levels-eq0.false) in
     record {
       within = omega arith;
+      rest = refl;
       some = some;
       most = omega arith;
       short = omega (arith, c.requires, c.args.out.now.ok.0, c.args.out.now.ok.1);
       room = omega arith;
+      bad = ap (λ ps. bad_place ps) (pieces_at_start c.args.format.now);
       text = ap (λ x. c.args.out.now.items ++ x) (text_at_start c.args.levels c.args.t.now c.args.tm.now c.args.format.now some);
       steps = ap (λ n. c.args.steps.now + n) (reads_at_start c.args.max c.args.levels c.args.t.now c.args.tm.now (length c.args.out.now.items) c.args.format.now some);
     }
@@ -58,6 +61,12 @@ put_format-returns-in_err-put_conversion-in-Conv-clause-text g t c =
     let p = err_from_is_err_and c.from_residual-in_err-put_conversion-in-Conv.result c.from_residual-in_err-put_conversion-in-Conv.ensures.1 in
     let left = text_at_conversion c.args.levels c.args.t.now c.args.tm.now c.args.format.now c.reading.at c.in-Conv.modifier c.in-Conv.letter _ c.in-Conv.next c.in-Conv.ensures.stands.2 in
     rw (p.1, p.2) (stops c.args.max c.args.out.now.items (expanded c.args.levels c.args.t.now c.args.tm.now c.args.format.now) c.put_short.new.out.items c.put_conversion.new.out.items c.put_conversion.new.out.items (converted c.args.t.now c.args.tm.now (expanded (c.args.levels - 1) c.args.t.now c.args.tm.now) (conversion c.in-Conv.modifier c.in-Conv.letter)) (text_left c.args.levels c.args.t.now c.args.tm.now c.args.format.now c.in-Conv.next) c.in_err-put_conversion-in-Conv.field-0.0 (ap (λ x. c.put_short.new.out.items ++ x) (sym left) ∙ whole) c.in_err-put_conversion-in-Conv.ensures.text)
+
+pub put_format-returns-in-End-clause-bad : goal.put_format-returns-in-End-clause-bad
+put_format-returns-in-End-clause-bad g t c = λ some. sym (ap (λ ps. bad_place ps) c.in-End.ensures.stands) ∙ c.reading.invariant.bad
+
+pub put_format-returns-in-Bad-clause-bad : goal.put_format-returns-in-Bad-clause-bad
+put_format-returns-in-Bad-clause-bad g t c = λ some. sym (ap (λ ps. bad_place ps) c.in-Bad.ensures.stands) ∙ c.reading.invariant.bad
 
 pub put_format-returns-then-levels-eq0-clause-steps : goal.put_format-returns-then-levels-eq0-clause-steps
 put_format-returns-then-levels-eq0-clause-steps g t c =
@@ -112,10 +121,12 @@ put_format-reading-preserved-in-Byte g t c =
     let longer : length c.put_byte.new.out.items ≡ length c.put_short.new.out.items + 1 = ap length c.in_ok-put_byte-in-Byte.ensures.0 ∙ length-append c.put_short.new.out.items (c.in-Byte.byte ∷ []) in
     record {
       within = omega (arith, c.in-Byte.ensures.stands.0);
+      rest = behind c.args.format.now (c.reading.at + 1);
       some = c.reading.invariant.some;
       most = omega arith;
       short = omega (arith, c.in_ok-put_byte-in-Byte.ensures.1, c.put_byte.new.out.ok.0, c.put_byte.new.out.ok.1);
       room = omega arith;
+      bad = sym (ap (λ ps. bad_place ps) c.in-Byte.ensures.stands.1) ∙ c.reading.invariant.bad;
       text = goes_on c.args.out.now.items (expanded c.args.levels c.args.t.now c.args.tm.now c.args.format.now) c.put_short.new.out.items c.put_byte.new.out.items (c.in-Byte.byte ∷ []) (text_left c.args.levels c.args.t.now c.args.tm.now c.args.format.now (c.reading.at + 1)) (ap (λ x. c.put_short.new.out.items ++ x) (sym left) ∙ whole) c.in_ok-put_byte-in-Byte.ensures.0;
       steps = rw longer (omega (arith, more, counts, c.in-Byte.ensures.counted));
     }
@@ -132,10 +143,12 @@ put_format-reading-preserved g t c =
     let longer : length c.put_conversion.new.out.items ≡ length c.put_short.new.out.items + length piece = ap length c.in_ok-put_conversion-in-Conv.ensures.text.0 ∙ length-append c.put_short.new.out.items piece in
     record {
       within = c.in-Conv.ensures.stands.1;
+      rest = behind c.args.format.now c.in-Conv.next;
       some = c.reading.invariant.some;
       most = omega arith;
       short = omega (arith, c.in_ok-put_conversion-in-Conv.ensures.text.1, c.put_conversion.new.out.ok.0, c.put_conversion.new.out.ok.1);
       room = omega arith;
+      bad = sym (ap (λ ps. bad_place ps) c.in-Conv.ensures.stands.2) ∙ c.reading.invariant.bad;
       text = goes_on c.args.out.now.items (expanded c.args.levels c.args.t.now c.args.tm.now c.args.format.now) c.put_short.new.out.items c.put_conversion.new.out.items (converted c.args.t.now c.args.tm.now (expanded (c.args.levels - 1) c.args.t.now c.args.tm.now) (conversion c.in-Conv.modifier c.in-Conv.letter)) (text_left c.args.levels c.args.t.now c.args.tm.now c.args.format.now c.in-Conv.next) (ap (λ x. c.put_short.new.out.items ++ x) (sym left) ∙ whole) c.in_ok-put_conversion-in-Conv.ensures.text.0;
       steps = rw longer (omega (arith, more, counts, c.in_ok-put_conversion-in-Conv.ensures.steps, c.in-Conv.ensures.counted));
     }
@@ -145,7 +158,7 @@ put_format-reading-preserved-in-Some g t c =
     let step = c.step_at-step in
     let short = c.in-Some.short in
     let text = short_text c.args.t.now c.args.tm.now short in
-    let piece : IsShort c.reading.at step.result short = rw step.ensures.exact c.in-Some.ensures.piece in
+    let piece : IsShort c.reading.at step.result short = rw (step.ensures.exact, sym c.reading.invariant.rest) (c.in-Some.ensures.piece c.reading.at) in
     let left = short_left c.args.levels c.args.t.now c.args.tm.now c.args.format.now c.reading.at step.result short step.ensures.stands piece c.in-Some.ensures.formatless in
     let fits : length c.reading.out.items ≤ c.args.max = omega (arith, c.reading.invariant.short, c.reading.invariant.most) in
     let more = short_reads c.args.max c.args.levels c.args.t.now c.args.tm.now (length c.reading.out.items) c.args.format.now c.reading.at step.result short step.ensures.stands piece c.in-Some.ensures.formatless fits in
@@ -153,11 +166,37 @@ put_format-reading-preserved-in-Some g t c =
     let grown = c.in-Some.ensures.text in
     let longer : length c.put_short.new.out.items ≡ length c.reading.out.items + length text = ap length grown ∙ length-append c.reading.out.items text in
     record {
-      within = rw c.width-at.ensures within;
+      within = rw c.width-taken.ensures within;
+      rest = behind_piece c.args.format.now c.reading.rest.now c.reading.at c.width-taken.result c.reading.invariant.rest;
       some = c.reading.invariant.some;
       most = c.reading.invariant.most;
       short = c.put_short.ensures.short;
       room = c.put_short.ensures.room;
-      text = rw c.width-at.ensures (goes_on c.args.out.now.items (expanded c.args.levels c.args.t.now c.args.tm.now c.args.format.now) c.reading.out.items c.put_short.new.out.items text (text_left c.args.levels c.args.t.now c.args.tm.now c.args.format.now (c.reading.at + width short)) (ap (λ x. c.reading.out.items ++ x) (sym left) ∙ c.reading.invariant.text) grown);
-      steps = rw (c.width-at.ensures, longer) (omega (arith, more, c.reading.invariant.steps, step.ensures.counted));
+      bad = rw c.width-taken.ensures (sym (short_bad c.args.format.now c.reading.at step.result short step.ensures.stands piece) ∙ c.reading.invariant.bad);
+      text = rw c.width-taken.ensures (goes_on c.args.out.now.items (expanded c.args.levels c.args.t.now c.args.tm.now c.args.format.now) c.reading.out.items c.put_short.new.out.items text (text_left c.args.levels c.args.t.now c.args.tm.now c.args.format.now (c.reading.at + width short)) (ap (λ x. c.reading.out.items ++ x) (sym left) ∙ c.reading.invariant.text) grown);
+      steps = rw (c.width-taken.ensures, longer) (omega (arith, more, c.reading.invariant.steps, step.ensures.counted));
     }
+
+pub put_format-slice_bounds-rest-start : goal.put_format-slice_bounds-rest-start
+put_format-slice_bounds-rest-start g t c =
+    let step = c.step_at-step in
+    let short = c.in-Some.short in
+    let piece : IsShort c.reading.at step.result short = rw (step.ensures.exact, sym c.reading.invariant.rest) (c.in-Some.ensures.piece c.reading.at) in
+    let within = short_within c.args.format.now c.reading.at step.result short step.ensures.stands piece in
+    omega (arith, c.width-taken.ensures, piece_within c.args.format.now c.reading.rest.now c.reading.at short c.reading.invariant.rest within)
+
+pub put_format-slice_bounds-rest-count : goal.put_format-slice_bounds-rest-count
+put_format-slice_bounds-rest-count g t c =
+    let step = c.step_at-step in
+    let short = c.in-Some.short in
+    let piece : IsShort c.reading.at step.result short = rw (step.ensures.exact, sym c.reading.invariant.rest) (c.in-Some.ensures.piece c.reading.at) in
+    let within = short_within c.args.format.now c.reading.at step.result short step.ensures.stands piece in
+    omega (arith, c.width-taken.ensures, piece_within c.args.format.now c.reading.rest.now c.reading.at short c.reading.invariant.rest within)
+
+pub put_format-reading-smaller-in-Some : goal.put_format-reading-smaller-in-Some
+put_format-reading-smaller-in-Some g t c =
+    let step = c.step_at-step in
+    let short = c.in-Some.short in
+    let piece : IsShort c.reading.at step.result short = rw (step.ensures.exact, sym c.reading.invariant.rest) (c.in-Some.ensures.piece c.reading.at) in
+    let within = short_within c.args.format.now c.reading.at step.result short step.ensures.stands piece in
+    omega (arith, c.width-taken.ensures, within, width_some short)

@@ -1,5 +1,6 @@
-use Rattle.std.proofs.Common.{◌≡◌, ◌+◌, ◌-◌, ◌*◌, ◌≤◌, ◌<◌, ◌++◌, length}
+use Rattle.std.proofs.Common.{◌≡◌, ◌+◌, ◌-◌, ◌*◌, ◌≤◌, ◌<◌, ◌++◌, length, drop}
 use Rattle.std.specs.Vec.{vec_capacity}
+use Rattle.time_cat.specs.Formats.{pieces, rest_of, bad_place}
 use Rattle.time_cat.specs.Shown.{expanded}
 use Rattle.strftime_fields.specs.Cost.{reads}
 use Rattle.strftime_fields.proofs.Left.{text_left}
@@ -10,10 +11,12 @@ use Rattle.strftime_fields.proofs.expand.+expand.Given as goal
 abbrev pub invariant-put_format-reading : goal.invariant-put_format-reading
 invariant-put_format-reading g l = record {
   within : l.at ≤ length l.format;
+  rest : l.rest ≡ drop l.at l.format;
   some : 0 < l.levels;
   most : l.limit ≤ l.max;
   short : length l.out.items ≤ l.limit;
   room : l.limit ≤ vec_capacity l.out;
+  bad : bad_place (rest_of l.format l.at) ≡ bad_place (pieces l.format);
   text : l.out.items ++ text_left l.levels l.t l.tm l.format l.at ≡ l.initial.out.items ++ expanded l.levels l.t l.tm l.format;
   steps : l.steps + reads_left l.max l.levels l.t l.tm (length l.out.items) l.format l.at ≡ l.initial.steps + reads l.max l.levels l.t l.tm (length l.initial.out.items) l.format;
 }
@@ -22,7 +25,13 @@ abbrev pub decreases-put_format-reading : goal.decreases-put_format-reading
 decreases-put_format-reading g l = length l.format - l.at
 
 abbrev pub decreases-put_format : goal.decreases-put_format
-decreases-put_format g l = 2 * l.levels
+decreases-put_format g l = 4 * l.levels
+
+abbrev pub decreases-put_inner : goal.decreases-put_inner
+decreases-put_inner g l = 4 * l.levels + 1
+
+abbrev pub decreases-put_other : goal.decreases-put_other
+decreases-put_other g l = 4 * l.levels + 2
 
 abbrev pub decreases-put_conversion : goal.decreases-put_conversion
-decreases-put_conversion g l = 2 * l.levels + 1
+decreases-put_conversion g l = 4 * l.levels + 3
