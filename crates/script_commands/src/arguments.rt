@@ -6,7 +6,6 @@ ghost use Rattle.lc_base.specs.declared.fault.TextFault.TheVariants.{At};
 ghost use Rattle.lc_base.specs.declared.reason.Reason.TheVariants.{BadLine};
 ghost use Rattle.lc_base.specs.declared.reason.LinePart.TheVariants.{Argument};
 ghost use Rattle.lc_base.specs.Reading.{Gives};
-ghost use Rattle.script_words.specs.Seen.{seen_handle, seen_cell};
 ghost use Rattle.script_commands.specs.InRange.{IsOwned, IsCatalogOwned};
 ghost use Rattle.script_words.specs.Spans.{span, spans};
 ghost use Rattle.byte_words.specs.Numbers.{decimal_number};
@@ -14,7 +13,7 @@ ghost use Rattle.script_words.specs.Words.{text_of_word, categories_of_word, mas
 ghost use Rattle.script_words.specs.Numbers.{short_number, three_numbers};
 ghost use Rattle.byte_words.specs.Tables.{first_named};
 ghost use Rattle.script_words.specs.Tables.{items_table};
-ghost use Rattle.script_commands.specs.Commands.{argument, read_as, no_more, is_over, handle, handle_word, target, target_word, lone_target, catalog, catalog_word, thread_cell, cell, key, max_bytes, format, command_text, amounts, whole_numbers, offset, zone, moment};
+ghost use Rattle.script_commands.specs.Commands.{argument, read_as, no_more, is_over, handle_word, target, target_word, lone_target, catalog, catalog_word, cell, key, max_bytes, format, command_text, amounts, whole_numbers, offset, zone, moment};
 
 use crate::command::{OpenCatalog, Target};
 use crate::known::{Known, lacks_key, thread_number};
@@ -24,11 +23,10 @@ use handle_table::Handle;
 use lc_base::{ByteText, CELLS, Item, Limit, LinePart, List, Place, Reason, TextFault};
 use script_words::{
     AMOUNT_LIMIT, Categories, CommandText, DEFAULT_MAX, Format, NUMBER_LIMIT, Stretch,
-    WrittenAmount, WrittenCell, WrittenHandle, WrittenNumber, WrittenTime, amount_of_word,
-    behind_front, categories_of_word, cell_number, cell_of_word, class_of_word, handle_of_word,
-    is_thread_name, item_named, key_of_word, mask_of_word, max_number, number_of_word,
-    offset_of_word, quoted_of_word, short_number, text_of_word, three_numbers, variable_of_word,
-    zone_of_word,
+    WrittenAmount, WrittenNumber, WrittenTime, amount_of_word, behind_front, categories_of_word,
+    cell_number, cell_of_word, class_of_word, handle_of_word, is_thread_name, item_named,
+    key_of_word, mask_of_word, max_number, number_of_word, offset_of_word, quoted_of_word,
+    short_number, text_of_word, three_numbers, variable_of_word, zone_of_word,
 };
 use std::alloc::Global;
 
@@ -114,15 +112,14 @@ pub fn categories(rest: Stretch<'_>) -> Result<(Categories, Stretch<'_>), TextFa
     }
 }
 
-/// The handle that is written so.
-fn handle(
-    scope: Scope<'_>,
-    word: Stretch<'_>,
-    written: WrittenHandle<'_>,
-) -> Result<Handle, TextFault>
-    ensures is { Gives (λ x. x) result (handle (option_copied scope.entry.known) scope.entry.threads.now (span word.entry) (seen_handle written.entry)) }
+/// The handle that a word is.
+fn handle_word(scope: Scope<'_>, word: Stretch<'_>) -> Result<Handle, TextFault>
+    ensures is { Gives (λ x. x) result (handle_word (option_copied scope.entry.known) scope.entry.threads.now (span word.entry)) }
     ensures owned { IfOk result (λ h. h.owner < length scope.entry.threads.now) }
 {
+    let Some(written) = handle_of_word(word.bytes) else {
+        return Err(wrong_word(word.place));
+    };
     let Some(owner) = thread_number(scope, written.thread) else {
         return Err(TextFault::At(word.place, Reason::NoThread));
     };
@@ -131,17 +128,6 @@ fn handle(
         row: written.row,
         generation: written.generation,
     })
-}
-
-/// The handle that a word is.
-fn handle_word(scope: Scope<'_>, word: Stretch<'_>) -> Result<Handle, TextFault>
-    ensures is { Gives (λ x. x) result (handle_word (option_copied scope.entry.known) scope.entry.threads.now (span word.entry)) }
-    ensures owned { IfOk result (λ h. h.owner < length scope.entry.threads.now) }
-{
-    match handle_of_word(word.bytes) {
-        Some(written) => handle(scope, word, written),
-        None => Err(wrong_word(word.place)),
-    }
 }
 
 /// What a word names: `GLOBAL`, a variable or a handle.
@@ -224,31 +210,18 @@ pub fn catalog_name(alloc: Global, rest: Stretch<'_>) -> Result<(ByteText, Stret
     }
 }
 
-/// The numbers of a thread and of its cell.
-fn thread_cell(
-    scope: Scope<'_>,
-    word: Stretch<'_>,
-    written: WrittenCell<'_>,
-) -> Result<(u32, u32), TextFault>
-    requires cell { written.cell < CELLS }
-    ensures is { Gives (λ x. x) result (thread_cell (option_copied scope.entry.known) scope.entry.threads.now (span word.entry) (seen_cell written.entry)) }
-    ensures in_range { IfOk result (λ x. (x.0 < length scope.entry.threads.now) × (x.1 < CELLS)) }
-{
-    match thread_number(scope, written.thread) {
-        Some(owner) => Ok((owner, written.cell)),
-        None => Err(TextFault::At(word.place, Reason::NoThread)),
-    }
-}
-
 /// The cell that a word names: the numbers of its thread and of the cell.
 #[tactic(auto, unfolding(crate::specs::Commands::cell))]
 pub fn cell(scope: Scope<'_>, word: Stretch<'_>) -> Result<(u32, u32), TextFault>
     ensures is { Gives (λ x. x) result (cell (option_copied scope.entry.known) scope.entry.threads.now (span word.entry)) }
     ensures in_range { IfOk result (λ x. (x.0 < length scope.entry.threads.now) × (x.1 < CELLS)) }
 {
-    match cell_of_word(word.bytes) {
-        Some(written) => thread_cell(scope, word, written),
-        None => Err(wrong_word(word.place)),
+    let Some(written) = cell_of_word(word.bytes) else {
+        return Err(wrong_word(word.place));
+    };
+    match thread_number(scope, written.thread) {
+        Some(owner) => Ok((owner, written.cell)),
+        None => Err(TextFault::At(word.place, Reason::NoThread)),
     }
 }
 

@@ -6,7 +6,7 @@ ghost use Rattle.lc_base.specs.Reading.{Gives, Reads};
 ghost use Rattle.script_commands.specs.InRange.{IsBaseOwned, IsInRange};
 ghost use Rattle.script_words.specs.Spans.{Span, span};
 ghost use Rattle.script_commands.specs.declared.command.Read.{Read};
-ghost use Rattle.script_commands.specs.Commands.{info_words, conv_words, class_words, lone_value, money_words, time_words, number_words, parse_words, upper_words, lower_words, base, new_command, dup_command, selection, use_command, setlocale_command, install_command, post_command, fetch_command, read_of_command, catopen_command, catgets_command, catclose_command, handle_read_command, own_read_command, catalog_command, shared_command, command};
+ghost use Rattle.script_commands.specs.Commands.{info_words, conv_words, class_words, lone_value, money_words, time_words, number_words, parse_words, upper_words, lower_words, base, new_command, dup_command, selection, use_command, setlocale_command, install_command, post_command, fetch_command, read_of_command, catopen_command, catgets_command, catclose_command, read_command, handle_read_command, own_read_command, catalog_command, shared_command, command};
 
 use crate::arguments::{
     amounts, argument, catalog_name, catalog_word, categories, cell, cell_word, class,
@@ -348,6 +348,14 @@ fn handle_read_command(
     }
 }
 
+/// The command that reads what these words say, where they say anything.
+fn read_command(words: Result<Read, TextFault>) -> Result<Command, TextFault>
+    ensures is { (said : Reads Read) → Gives (λ x. x) words said → Gives (λ x. x) result (read_command said) }
+    ensures in_range { (n : ℕ) → IfOk result (IsInRange n) }
+{
+    Ok(Command::Read(words?))
+}
+
 /// The command with this first word, where it can only be a read.
 #[tactic(auto, unfolding(crate::specs::Commands::own_read_command))]
 fn own_read_command(
@@ -360,23 +368,23 @@ fn own_read_command(
     ensures in_range { IfOk result (IsInRange (length scope.entry.threads.now)) }
 {
     if b"info".as_slice() == word.bytes {
-        Ok(Command::Read(info_words(rest)?))
+        read_command(info_words(rest))
     } else if b"conv".as_slice() == word.bytes {
-        Ok(Command::Read(conv_words(rest)?))
+        read_command(conv_words(rest))
     } else if b"class".as_slice() == word.bytes {
-        Ok(Command::Read(class_words(alloc, rest)?))
+        read_command(class_words(alloc, rest))
     } else if b"upper".as_slice() == word.bytes {
-        Ok(Command::Read(upper_words(rest)?))
+        read_command(upper_words(rest))
     } else if b"lower".as_slice() == word.bytes {
-        Ok(Command::Read(lower_words(rest)?))
+        read_command(lower_words(rest))
     } else if b"money".as_slice() == word.bytes {
-        Ok(Command::Read(money_words(alloc, rest)?))
+        read_command(money_words(alloc, rest))
     } else if b"time".as_slice() == word.bytes {
-        Ok(Command::Read(time_words(alloc, rest)?))
+        read_command(time_words(alloc, rest))
     } else if b"number".as_slice() == word.bytes {
-        Ok(Command::Read(number_words(alloc, rest)?))
+        read_command(number_words(alloc, rest))
     } else if b"parse".as_slice() == word.bytes {
-        Ok(Command::Read(parse_words(alloc, rest)?))
+        read_command(parse_words(alloc, rest))
     } else {
         handle_read_command(alloc, scope, word, rest)
     }
