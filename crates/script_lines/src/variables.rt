@@ -75,7 +75,10 @@ impl Names {
     fn get(&self, name: &[u8]) -> Option<Handle>
         ensures { result ≡ bound_name self.now name.now }
     {
-        self.handles.get(name).copied()
+        match self.handles.get(name) {
+            Some(handle) => Some(*handle),
+            None => None,
+        }
     }
 
     /// Binds a name to a handle; an older binding of it is dropped. A name that is bound is not copied
