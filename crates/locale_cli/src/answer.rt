@@ -13,7 +13,7 @@ use crate::words::Mode;
 use itoa::Buffer;
 use lc_base::{ByteText, Place, Reason, TextFault};
 use script_out::{print, push_refusal};
-use script_print::print_beside;
+use script_print::{Pieces, print_beside};
 use script_run::{Pause, run};
 use script_serial::{Counts, Plan, check, prepare, serial};
 use std::alloc::{AllocError, Global};
@@ -61,7 +61,7 @@ impl Status {
 #[derive(Debug, Drop)]
 pub struct Answer {
     pub status: Status,
-    pub text: ByteText,
+    pub text: Pieces,
 }
 
 /// The answer to an input.
@@ -85,7 +85,7 @@ pub fn answer_to<R: Threads + Wait + Sync, P: Pause + Sync>(
             let text = refusal(alloc, place, reason)?;
             Ok(Answer {
                 status: Status::Refused,
-                text,
+                text: Pieces::of(alloc, text),
             })
         }
         Err(TextFault::Memory) => Err(AllocError),
@@ -99,7 +99,7 @@ fn printed<R: Threads + Wait + Sync, P: Pause + Sync>(
     mode: Mode,
     input: &[u8],
     pause: &P,
-) -> Result<ByteText, TextFault>
+) -> Result<Pieces, TextFault>
     requires length { length input.now < 2 ^ 31 }
     requires sized { IsSized mode }
     ensures { MayPrint mode input.now result }
@@ -112,24 +112,25 @@ fn printed<R: Threads + Wait + Sync, P: Pause + Sync>(
 }
 
 /// The line of counts of a bundle.
-fn checked(alloc: Global, input: &[u8]) -> Result<ByteText, TextFault>
+fn checked(alloc: Global, input: &[u8]) -> Result<Pieces, TextFault>
     requires { length input.now < 2 ^ 31 }
     ensures { Gives (λ text. text) result (counts_text input.now) }
 {
     let counts = check(alloc, input)?;
-    Ok(counts_line(alloc, &counts)?)
+    Ok(Pieces::of(alloc, counts_line(alloc, &counts)?))
 }
 
 /// The lines of a bundle's script, run on one thread.
-fn alone(alloc: Global, input: &[u8], rows: u32, generations: u32) -> Result<ByteText, TextFault>
+fn alone(alloc: Global, input: &[u8], rows: u32, generations: u32) -> Result<Pieces, TextFault>
     requires length { length input.now < 2 ^ 31 }
     requires sized { IsSized (Serial rows generations) }
     ensures { MayPrint (Serial rows generations) input.now result }
 {
     let plan = prepare(alloc, input)?;
     let text = serial_text(alloc, &plan, rows, generations);
-    drop(plan);
-    Ok(text?)
+    // The program ends soon, and gives all memory back at once.
+    forget(plan);
+    Ok(Pieces::of(alloc, text?))
 }
 
 /// The lines of a bundle's script, run with the threads of each round beside each other.
@@ -140,14 +141,15 @@ fn beside<R: Threads + Wait + Sync, P: Pause + Sync>(
     rows: u32,
     generations: u32,
     pause: &P,
-) -> Result<ByteText, TextFault>
+) -> Result<Pieces, TextFault>
     requires length { length input.now < 2 ^ 31 }
     requires sized { IsSized (Run rows generations) }
     ensures { MayPrint (Run rows generations) input.now result }
 {
     let plan = prepare(alloc, input)?;
     let text = run_text(rt, alloc, &plan, rows, generations, pause);
-    drop(plan);
+    // The program ends soon, and gives all memory back at once.
+    forget(plan);
     Ok(text?)
 }
 
@@ -199,7 +201,7 @@ fn run_text<R: Threads + Wait + Sync, P: Pause + Sync>(
     rows: u32,
     generations: u32,
     pause: &P,
-) -> Result<ByteText, AllocError>
+) -> Result<Pieces, AllocError>
     requires { IsSized (Run rows generations) }
     ensures { IfOk result (Outputs (Run rows generations) plan.now) }
 {

@@ -16,6 +16,7 @@ use bundle_maker::{generate, summary};
 use lc_base::{ByteText, List, TextFault};
 use private_threads::{keep_to_themselves, print_alike};
 use script_out::OutLine;
+use script_print::Pieces;
 use script_run::{Pause, run};
 use script_serial::{Plan, prepare, serial};
 use std::alloc::{AllocError, Global};
@@ -36,13 +37,13 @@ pub fn made_answer<R: Threads + Wait + Sync, P: Pause + Sync>(
     match made_text(rt, alloc, seed, commands, pause) {
         Ok(text) => Ok(Answer {
             status: Status::Done,
-            text,
+            text: Pieces::of(alloc, text),
         }),
         Err(TextFault::At(place, reason)) => {
             let text = refusal(alloc, place, reason)?;
             Ok(Answer {
                 status: Status::Refused,
-                text,
+                text: Pieces::of(alloc, text),
             })
         }
         Err(TextFault::Memory) => Err(AllocError),

@@ -14,7 +14,7 @@ ghost use Rattle.locale_cli.specs.Made.{made_status, IsMade, IsMadeRefused, IsMa
 ghost use Rattle.locale_cli.specs.Run.{Wrote, Ran};
 ghost use Rattle.locale_cli.specs.Status.{usage_line, IsDone, IsChecked, IsRefused, IsTooLarge, IsCutShort, due_status, IsDue, StayedSound};
 
-use crate::answer::{Status, answer_to};
+use crate::answer::{Answer, Status, answer_to};
 use crate::made::made_answer;
 use crate::request::{Request, request_of};
 use crate::words::Mode;
@@ -94,7 +94,7 @@ fn make<R: Threads + Wait + Sync, K: Sink, P: Pause + Sync>(
         (sink.new ≡ sink.old) result }
 {
     match made_answer(rt, alloc, seed, commands, pause) {
-        Ok(answer) => written_status(sink, answer.status, answer.text.as_bytes()),
+        Ok(answer) => written_answer(sink, &answer),
         Err(_) => Status::Memory,
     }
 }
@@ -124,8 +124,19 @@ fn run<R: Threads + Wait + Sync, S: Source, K: Sink, P: Pause + Sync>(
         Err(ReadRefusal::Memory) => return Status::Memory,
     };
     match answer_to(rt, alloc, mode, text.as_bytes(), pause) {
-        Ok(answer) => written_status(sink, answer.status, answer.text.as_bytes()),
+        Ok(answer) => written_answer(sink, &answer),
         Err(_) => Status::Memory,
+    }
+}
+
+/// Writes the text of an answer and gives its status.
+fn written_answer<K: Sink>(sink: &mut K, answer: &Answer) -> Status
+    ensures { Wrote answer.now.status answer.now.text result
+        (record { written = K.written sink.old; written' = K.written sink.new; faults = K.faults sink.old; faults' = K.faults sink.new }) }
+{
+    match answer.text.write_all(sink) {
+        Ok(()) => answer.status,
+        Err(_) => Status::WriteFault,
     }
 }
 

@@ -122,7 +122,7 @@ pub fn print(
 ) -> Result<ByteText, AllocError>
     ensures { IfOk result (λ text. text ≡ printed lines.now threads.now) }
 {
-    let mut out = Vec::with_capacity(alloc, weight_of(lines.as_slice()))?;
+    let mut out = Vec::with_capacity(alloc, lines.as_slice().len().saturating_mul(FRAME))?;
     for line in lines.as_slice() {
         push_line(&mut out, line, threads)?;
     }
@@ -131,15 +131,6 @@ pub fn print(
 
 /// About how many bytes a line has beside a text in its reply.
 const FRAME: usize = 32;
-
-/// About how many bytes of text the lines have.
-pub fn weight_of(lines: &[OutLine]) -> usize {
-    let mut sum = 0;
-    for line in lines {
-        sum = weight(line).saturating_add(sum);
-    }
-    sum
-}
 
 /// About how many bytes of text a line has.
 #[inline(always)]

@@ -5,87 +5,71 @@ ghost use Rattle.std.specs.Prelude.{◌≡◌, ◌++◌, ◌<◌, ◌≤◌, len
 ghost use Rattle.std.specs.Thread.{IsSync};
 ghost use Rattle.script_out.specs.Output.{printed};
 
+mod pieces;
+
+use crate::pieces::Halves;
 use lc_base::{ByteText, List};
-use script_out::{OutLine, push_line, weight, weight_of};
+pub use pieces::Pieces;
+use script_out::{OutLine, push_line, weight};
 use std::alloc::{AllocError, Global};
 use std::thread;
 use std::thread::Threads;
-
-/// About how many bytes of text are made before they are put behind the text so far: so much is held twice.
-const PIECE: usize = 4_194_304;
 
 /// How few lines one thread prints faster than two.
 const FEW: usize = 128;
 
 /// The printed text of the lines, where the threads have these names, as `print` of `script_out` gives
-/// it. Up to four threads of the machine make it.
+/// it. Up to four threads of the machine make it, each a piece of its own.
 pub fn print_beside<R: Threads + Sync>(
     rt: &R,
     alloc: Global,
     lines: &List<OutLine>,
     names: &List<ByteText>,
-) -> Result<ByteText, AllocError>
+) -> Result<Pieces, AllocError>
     ensures { IfOk result (λ text. text ≡ printed lines.now names.now) }
 {
     let all = lines.as_slice();
-    let (first, mut rest) = all.split_at(front_of(all, PIECE));
-    let mut text = text_by_four(rt, alloc, first, names)?;
-    while !rest.is_empty() {
-        let (piece, behind) = rest.split_at(front_of(rest, PIECE));
-        let mut more = text_by_four(rt, alloc, piece, names)?;
-        text.append(&mut more)?;
-        rest = behind;
+    if all.len() <= FEW {
+        let text = text_of(alloc, all, names)?;
+        return Ok(Pieces::of(alloc, ByteText::from_vec(text)));
     }
-    Ok(ByteText::from_vec(text))
+    let (left, right) = all.split_at(half_of(all));
+    let (front, back) = thread::join(
+        rt,
+        || -> Result<Halves, AllocError>
+            requires { IsSync R.row }
+            ensures { IfOk result (λ h. h.front.items ++ h.back.items ≡ printed left.entry.now names.entry.now) }
+        { text_by_two(rt, alloc, left, names) },
+        || -> Result<Halves, AllocError>
+            requires { IsSync R.row }
+            ensures { IfOk result (λ h. h.front.items ++ h.back.items ≡ printed right.entry.now names.entry.now) }
+        { text_by_two(rt, alloc, right, names) },
+    );
+    Ok(Pieces::new(front?, back?))
 }
 
-/// How many lines at the front have about so many bytes of text: at least one, where there is any.
-fn front_of(lines: &[OutLine], bytes: usize) -> usize
-    ensures within { result ≤ length lines.now }
-    ensures some { 0 < length lines.now → 0 < result }
-{
-    let mut reached = 0;
-    for (i, line) in lines.iter().enumerate() {
-        reached = weight(line).saturating_add(reached);
-        if bytes <= reached {
-            return i + 1;
-        }
+/// About how many bytes of text the lines have.
+fn weight_of(lines: &[OutLine]) -> usize {
+    let mut sum = 0;
+    for line in lines {
+        sum = weight(line).saturating_add(sum);
     }
-    lines.len()
+    sum
 }
 
 /// How many lines at the front have about half of the bytes of text.
 fn half_of(lines: &[OutLine]) -> usize
     ensures { result ≤ length lines.now }
 {
-    front_of(lines, weight_of(lines) / 2)
-}
-
-/// The text of lines, each half by two threads.
-fn text_by_four<R: Threads + Sync>(
-    rt: &R,
-    alloc: Global,
-    lines: &[OutLine],
-    names: &List<ByteText>,
-) -> Result<Vec<u8>, AllocError>
-    ensures { IfOk result (λ text. text.items ≡ printed lines.now names.now) }
-{
-    if lines.len() <= FEW {
-        return text_of(alloc, lines, names);
+    let half = weight_of(lines) / 2;
+    let mut reached = 0;
+    for (i, line) in lines.iter().enumerate() {
+        if half <= reached {
+            return i;
+        }
+        reached = weight(line).saturating_add(reached);
     }
-    let (left, right) = lines.split_at(half_of(lines));
-    let (front, back) = thread::join(
-        rt,
-        || -> Result<Vec<u8>, AllocError>
-            requires { IsSync R.row }
-            ensures { IfOk result (λ text. text.items ≡ printed left.entry.now names.entry.now) }
-        { text_by_two(rt, alloc, left, names) },
-        || -> Result<Vec<u8>, AllocError>
-            requires { IsSync R.row }
-            ensures { IfOk result (λ text. text.items ≡ printed right.entry.now names.entry.now) }
-        { text_by_two(rt, alloc, right, names) },
-    );
-    joined(front?, back?)
+    lines.len()
 }
 
 /// The text of lines, each half by a thread.
@@ -94,8 +78,8 @@ fn text_by_two<R: Threads + Sync>(
     alloc: Global,
     lines: &[OutLine],
     names: &List<ByteText>,
-) -> Result<Vec<u8>, AllocError>
-    ensures { IfOk result (λ text. text.items ≡ printed lines.now names.now) }
+) -> Result<Halves, AllocError>
+    ensures { IfOk result (λ h. h.front.items ++ h.back.items ≡ printed lines.now names.now) }
 {
     let (left, right) = lines.split_at(half_of(lines));
     let (front, back) = thread::join(
@@ -107,15 +91,10 @@ fn text_by_two<R: Threads + Sync>(
             ensures { IfOk result (λ text. text.items ≡ printed right.entry.now names.entry.now) }
         { text_of(alloc, right, names) },
     );
-    joined(front?, back?)
-}
-
-/// The one text behind the other.
-fn joined(mut front: Vec<u8>, mut back: Vec<u8>) -> Result<Vec<u8>, AllocError>
-    ensures { IfOk result (λ text. text.items ≡ front.items ++ back.items) }
-{
-    front.append(&mut back)?;
-    Ok(front)
+    Ok(Halves {
+        front: front?,
+        back: back?,
+    })
 }
 
 /// The text of lines.
