@@ -45,3 +45,27 @@ line_joined (Ok x) names l name text front all found is e =
     ∙ ap (λ (xs : List ℕ). text ++ ((decimal l.round ++ space ++ xs ++ entry_text l) ++ (reply_rest names l.reply ++ newline))) found
     ∙ ap (λ (xs : List ℕ). text ++ xs) (line_parts names l)
 line_joined (Err x) names l name text front all found is e = e
+
+-- a line that is added as a whole
+pub line_whole : {A E : Type 0} (r : Result A E) (names : List (List ℕ)) (l : OutLine) (name text all : List ℕ) → name ≡ slice_index_or names l.thread [] → OnOk r (all ≡ text ++ ((decimal l.round ++ space ++ name ++ entry_text l) ++ (reply_rest names l.reply ++ newline))) → OnOk r (all ≡ text ++ line_text names l)
+line_whole (Ok x) names l name text all found e =
+    e
+    ∙ ap (λ (xs : List ℕ). text ++ ((decimal l.round ++ space ++ xs ++ entry_text l) ++ (reply_rest names l.reply ++ newline))) found
+    ∙ ap (λ (xs : List ℕ). text ++ xs) (line_parts names l)
+line_whole (Err x) names l name text all found e = e
+
+-- what stands at the end of a buffer is added
+pub added_whole : {A E : Type 0} (r : Result A E) (all text piece entry tail : List ℕ) → OnOk r (all ≡ text ++ piece) → piece ≡ entry ++ tail → tail ≡ [] → OnOk r (all ≡ text ++ entry)
+added_whole (Ok x) all text piece entry tail e is none = e ∙ ap (λ (xs : List ℕ). text ++ xs) (is ∙ ap (λ (xs : List ℕ). entry ++ xs) none ∙ append-nil entry)
+added_whole (Err x) all text piece entry tail e is none = e
+
+front_whole : (round name entry tail : List ℕ) → tail ≡ [] → round ++ space ++ name ++ entry ++ tail ≡ round ++ space ++ name ++ entry
+front_whole round name entry tail none = ap (λ (xs : List ℕ). round ++ space ++ name ++ entry ++ xs) none ∙ append-nil _
+
+-- and the rest behind it
+pub added_apart : {A E : Type 0} (r : Result A E) (all front text piece round name entry tail rest : List ℕ) → front ≡ text ++ piece → piece ≡ round ++ space ++ name ++ entry ++ tail → tail ≡ [] → OnOk r (all ≡ front ++ rest) → OnOk r (all ≡ text ++ ((round ++ space ++ name ++ entry) ++ rest))
+added_apart (Ok x) all front text piece round name entry tail rest added is none e =
+    e
+    ∙ ap (λ (xs : List ℕ). xs ++ rest) (added ∙ ap (λ (xs : List ℕ). text ++ xs) (is ∙ front_whole round name entry tail none))
+    ∙ append_assoc text (round ++ space ++ name ++ entry) rest
+added_apart (Err x) all front text piece round name entry tail rest added is none e = e

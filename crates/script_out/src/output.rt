@@ -1,6 +1,6 @@
 //! The printed lines.
 
-ghost use Rattle.std.specs.Prelude.{◌≡◌, ◌≤◌, ◌+◌, ◌++◌, [], length, drop, slice_index_or, codes, IfOk, OnOk};
+ghost use Rattle.std.specs.Prelude.{◌≡◌, ◌≤◌, ◌+◌, ◌++◌, [], length, drop, slice_index_or, codes, IfSome, IfOk, OnOk};
 ghost use Rattle.std.specs.Fmt.{decimal};
 ghost use Rattle.script_out.specs.Output.{space, newline, places_text, version_text, handle_text, named_text, refusal_text, field_text, why_text, year_text, known_text, fields_behind_year, fields_text, parsed_text, texts_text, numbers_text, class_text, reply_front, reply_rest, reply_text, entry_text, outcome_text, line_text, printed};
 
@@ -159,45 +159,156 @@ pub fn push_line(
 ) -> Result<(), AllocError>
     ensures { OnOk result (out.new.items ≡ out.old.items ++ line_text threads.now line.now) }
 {
-    push_caller(out, line, name_of(threads, line.thread))?;
+    let thread = name_of(threads, line.thread);
+    if thread.len() < LONG {
+        return push_near(out, line, thread, threads);
+    }
+    push_caller(out, line, thread)?;
     push_outcome(out, line, threads)
 }
 
 /// The length of a thread's name from which it is added apart.
 const LONG: usize = 9;
 
-/// Adds the round, the thread, the index, the places, the version and the front of the reply.
+/// Adds a line of a thread with a short name: what stands before the rest of the reply, with the rest and
+/// the newline where these are short.
 #[inline(always)]
+fn push_near(
+    out: &mut Vec<u8>,
+    line: &OutLine,
+    thread: &[u8],
+    threads: &List<ByteText>,
+) -> Result<(), AllocError>
+    requires { length thread.now ≤ 8 }
+    ensures { OnOk result (out.new.items ≡ out.old.items ++ ((decimal line.now.round ++ space ++ thread.now ++ entry_text line.now) ++ (reply_rest threads.now line.now.reply ++ newline))) }
+{
+    let mut buf = [0; 136];
+    match put_end(&mut buf, &line.reply, threads) {
+        Some(at) => {
+            let start = put_caller(&mut buf, at, line, thread);
+            push_from(out, &buf, start)
+        }
+        None => {
+            let start = put_caller(&mut buf, 136, line, thread);
+            push_from(out, &buf, start)?;
+            push_outcome(out, line, threads)
+        }
+    }
+}
+
+/// Adds what stands in a buffer from an index on.
+#[inline(always)]
+fn push_from(out: &mut Vec<u8>, buf: &[u8], start: usize) -> Result<(), AllocError>
+    requires { start ≤ length buf.now }
+    ensures { OnOk result (out.new.items ≡ out.old.items ++ drop start buf.now) }
+{
+    out.extend_from_slice(&buf[start..])
+}
+
+/// Puts the rest of a short reply and the newline at the end, and gives where they begin.
+#[inline(always)]
+fn put_end(buf: &mut [u8], reply: &Said, threads: &List<ByteText>) -> Option<usize>
+    requires room { 31 ≤ length buf.old }
+    ensures start { IfSome result (λ at. length buf.old ≤ at + 31) }
+    ensures within { IfSome result (λ at. at ≤ length buf.old) }
+    ensures text { IfSome result (λ at. drop at buf.new ≡ reply_rest threads.now reply.now ++ newline) }
+{
+    let end = put_byte(buf, buf.len(), b'\n');
+    match reply {
+        Said::Handle(handle) | Said::Opened(handle) => put_handle(buf, end, handle, threads),
+        Said::Was(named) | Said::Is(named) => put_named(buf, end, named, threads),
+        Said::Class(_)
+        | Said::Value(_)
+        | Said::Freed
+        | Said::Held
+        | Said::Released
+        | Said::Installed(_)
+        | Said::Posted
+        | Said::Pins(_)
+        | Said::Closed
+        | Said::Ended => Some(end),
+        Said::Name(_) | Said::Text(_) | Said::Parsed(..) | Said::Conv(..) | Said::Refused(_) =>
+            None,
+    }
+}
+
+/// Puts what a command named before what stands from an index on, and gives where it begins, unless it is
+/// a handle of a thread with a long name.
+#[inline(always)]
+fn put_named(buf: &mut [u8], at: usize, named: &Named, threads: &List<ByteText>) -> Option<usize>
+    requires room { 30 ≤ at }
+    requires within { at ≤ length buf.old }
+    ensures start { IfSome result (λ start. at ≤ start + 30) }
+    ensures end { IfSome result (λ start. start ≤ at) }
+    ensures text { IfSome result (λ start. drop start buf.new ≡ named_text threads.now named.now ++ drop at buf.old) }
+{
+    match named {
+        Named::Global => Some(put_bytes(buf, at, b"GLOBAL")),
+        Named::Of(handle) => put_handle(buf, at, handle, threads),
+    }
+}
+
+/// Puts a handle before what stands from an index on, and gives where it begins, unless the name of its
+/// thread is long.
+#[inline(always)]
+fn put_handle(buf: &mut [u8], at: usize, handle: &Handle, threads: &List<ByteText>) -> Option<usize>
+    requires room { 30 ≤ at }
+    requires within { at ≤ length buf.old }
+    ensures start { IfSome result (λ start. at ≤ start + 30) }
+    ensures end { IfSome result (λ start. start ≤ at) }
+    ensures text { IfSome result (λ start. drop start buf.new ≡ handle_text threads.now handle.now ++ drop at buf.old) }
+{
+    let name = name_of(threads, handle.owner);
+    if name.len() < LONG {
+        let at = put_seat(buf, at, handle);
+        Some(put_name(buf, at, name))
+    } else {
+        None
+    }
+}
+
+/// Puts `.ROW.GENERATION` before what stands from an index on, and gives where it begins.
+#[inline(always)]
+fn put_seat(buf: &mut [u8], at: usize, handle: &Handle) -> usize
+    requires room { 22 ≤ at }
+    requires within { at ≤ length buf.old }
+    ensures start { at ≤ result + 22 }
+    ensures end { result ≤ at }
+    ensures text { drop result buf.new ≡ codes "." ++ decimal handle.now.row ++ codes "." ++ decimal handle.now.generation ++ drop at buf.old }
+{
+    let at = put_count(buf, at, handle.generation);
+    let at = put_byte(buf, at, b'.');
+    let at = put_count(buf, at, handle.row);
+    put_byte(buf, at, b'.')
+}
+
+/// Adds the round, the thread, the index, the places, the version and the front of the reply.
 fn push_caller(out: &mut Vec<u8>, line: &OutLine, thread: &[u8]) -> Result<(), AllocError>
     ensures { OnOk result (out.new.items ≡ out.old.items ++ (decimal line.now.round ++ space ++ thread.now ++ entry_text line.now)) }
 {
-    let mut buf = [0; 112];
-    if thread.len() < LONG {
-        let start = put_caller(&mut buf, line, thread);
-        return out.extend_from_slice(&buf[start..]);
-    }
     push_number(out, u64::from(line.round))?;
     out.push(b' ')?;
     push_short(out, thread)?;
     push_entry(out, line)
 }
 
-/// Puts at the end what stands before the rest of the reply.
+/// Puts what stands before the rest of the reply before what stands from an index on, and gives where it
+/// begins.
 #[inline(always)]
-fn put_caller(buf: &mut [u8], line: &OutLine, thread: &[u8]) -> usize
+fn put_caller(buf: &mut [u8], at: usize, line: &OutLine, thread: &[u8]) -> usize
     requires short { length thread.now ≤ 8 }
-    requires room { 105 ≤ length buf.old }
+    requires room { 105 ≤ at }
+    requires within { at ≤ length buf.old }
     ensures within { result ≤ length buf.old }
-    ensures text { drop result buf.new ≡ decimal line.now.round ++ space ++ thread.now ++ entry_text line.now }
+    ensures text { drop result buf.new ≡ decimal line.now.round ++ space ++ thread.now ++ entry_text line.now ++ drop at buf.old }
 {
-    let at = put_entry(buf, line);
+    let at = put_entry(buf, at, line);
     let at = put_name(buf, at, thread);
     let at = put_byte(buf, at, b' ');
     put_count(buf, at, line.round)
 }
 
 /// Adds the rest of the reply.
-#[inline(always)]
 fn push_outcome(
     out: &mut Vec<u8>,
     line: &OutLine,
@@ -215,19 +326,21 @@ fn push_entry(out: &mut Vec<u8>, line: &OutLine) -> Result<(), AllocError>
     ensures { OnOk result (out.new.items ≡ out.old.items ++ entry_text line.now) }
 {
     let mut buf = [0; 86];
-    let start = put_entry(&mut buf, line);
-    out.extend_from_slice(&buf[start..])
+    let start = put_entry(&mut buf, 86, line);
+    push_from(out, &buf, start)
 }
 
-/// Puts the index, the places, the version and the front of the reply at the end.
+/// Puts the index, the places, the version and the front of the reply before what stands from an index on,
+/// and gives where they begin.
 #[inline(always)]
-fn put_entry(buf: &mut [u8], line: &OutLine) -> usize
-    requires { 86 ≤ length buf.old }
-    ensures start { length buf.old ≤ result + 86 }
-    ensures within { result ≤ length buf.old }
-    ensures text { drop result buf.new ≡ entry_text line.now }
+fn put_entry(buf: &mut [u8], at: usize, line: &OutLine) -> usize
+    requires room { 86 ≤ at }
+    requires within { at ≤ length buf.old }
+    ensures start { at ≤ result + 86 }
+    ensures end { result ≤ at }
+    ensures text { drop result buf.new ≡ entry_text line.now ++ drop at buf.old }
 {
-    let at = put_front(buf, buf.len(), &line.reply);
+    let at = put_front(buf, at, &line.reply);
     let at = put_byte(buf, at, b' ');
     let at = put_version(buf, at, line.global);
     let at = put_byte(buf, at, b' ');
@@ -507,10 +620,7 @@ fn push_handle(
 {
     let name = name_of(threads, handle.owner);
     let mut buf = [0; 32];
-    let at = put_count(&mut buf, 32, handle.generation);
-    let at = put_byte(&mut buf, at, b'.');
-    let at = put_count(&mut buf, at, handle.row);
-    let at = put_byte(&mut buf, at, b'.');
+    let at = put_seat(&mut buf, 32, handle);
     if name.len() < LONG {
         let start = put_name(&mut buf, at, name);
         return out.extend_from_slice(&buf[start..]);
