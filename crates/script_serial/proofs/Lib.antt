@@ -1,6 +1,7 @@
 pub mod AloneLemmas
 pub mod AnsweredApart
 pub mod CatalogLines
+pub mod Effects
 pub mod Examples
 pub mod Fronts
 pub mod IsolationExamples

@@ -4,4 +4,5 @@ pub mod Prints
 pub mod Isolation
 pub mod Laws
 pub mod Alone
+pub mod Effect
 pub mod Session

@@ -7,7 +7,8 @@ ghost use Rattle.handle_table.specs.Entry.{is_accepted};
 ghost use Rattle.handle_table.specs.History.{selection_after};
 ghost use Rattle.handle_table.specs.Answer.{own_after};
 ghost use Rattle.handle_table.specs.Seen.{op_of, reply_of};
-ghost use Rattle.script_lines.specs.Holds.{object_held, changed};
+ghost use Rattle.script_lines.specs.Holds.{object_held, changed, hold_change};
+ghost use Rattle.script_serial.specs.Effect.{selected_by, change_by};
 
 use catalog_table::{BookShare, CatalogOp, CatalogReply, Catalogs};
 use category_store::Share;
@@ -56,9 +57,28 @@ impl AloneSide {
         self.holds.as_slice()
     }
 
+    /// Follows the reply to an op of the thread that has this effect if it is accepted.
+    #[inline(always)]
+    #[tactic(auto, using(crate::proofs::Effects::same_either), unfolding(crate::specs::Effect::selected_by, crate::specs::Effect::change_by))]
+    fn follow(&mut self, effect: Effect, reply: &Reply<Share>) -> Result<(), AllocError>
+        ensures { OnOk result (self.new ≡ record self.old {
+          own = own_after (reply_of reply.now) self.old.own;
+          selected = (if is_accepted (reply_of reply.now) then selected_by effect self.old.selected else self.old.selected);
+          holds = (if is_accepted (reply_of reply.now) then changed self.old.holds (object_held (reply_of reply.now)) (change_by effect) else self.old.holds);
+        }) }
+    {
+        match effect {
+            Effect::Neither => {
+                self.take_up(reply);
+                Ok(())
+            }
+            Effect::Changes(next, change) => self.follow_changes(next, change, reply),
+        }
+    }
+
     /// Follows the reply to an op of the thread: what it selects and how its Holds change if the op is
     /// accepted, and the object that it takes up.
-    fn follow(
+    fn follow_changes(
         &mut self,
         next: Named,
         change: HoldChange,
@@ -70,14 +90,24 @@ impl AloneSide {
           holds = (if is_accepted (reply_of reply.now) then changed self.old.holds (object_held (reply_of reply.now)) change else self.old.holds);
         }) }
     {
+        if let Reply::Refused(_) = reply {
+            return Ok(());
+        }
+        self.take_up(reply);
+        self.selected = next;
+        change_holds(&mut self.holds, object_held(reply), change)
+    }
+
+    /// Takes up the object that an accepted uselocale hands over; at its end the thread has none.
+    #[inline(always)]
+    fn take_up(&mut self, reply: &Reply<Share>)
+        ensures { self.new ≡ record self.old { own = own_after (reply_of reply.now) self.old.own } }
+    {
         match reply {
-            Reply::Refused(_) => return Ok(()),
             Reply::Was { now, .. } => self.own = now.as_ref().map(|object| object.share()),
             Reply::Ended => self.own = None,
             _ => {}
         }
-        self.selected = next;
-        change_holds(&mut self.holds, object_held(reply), change)
     }
 }
 
@@ -174,11 +204,10 @@ impl Board for Alone {
         side: &mut AloneSide,
         op: Op<Share>,
     ) -> Result<(u64, Reply<Share>), AllocError> {
-        let next = selection_after(&op, side.selected);
-        let change = hold_change(&op);
+        let effect = effect_of(&op, side.selected);
         let place = u64::from(self.table.steps());
         let reply = self.table.step(side.number, op);
-        side.follow(next, change, &reply)?;
+        side.follow(effect, &reply)?;
         Ok((place, reply))
     }
 
@@ -206,5 +235,35 @@ fn selection_after(op: &Op<Share>, before: Named) -> Named
         Op::Use { to } => *to,
         Op::End => Named::Global,
         _ => before,
+    }
+}
+
+/// What an accepted op changes of what its thread has selected and holds.
+#[derive(Clone, Copy)]
+enum Effect {
+    Neither,
+    /// What it has selected then, and what becomes of its Holds.
+    Changes(Named, HoldChange),
+}
+
+/// The effect of an op, if it is accepted, where the thread has this selected before.
+#[inline(always)]
+#[tactic(auto, unfolding(crate::specs::Effect::selected_by, crate::specs::Effect::change_by))]
+fn effect_of(op: &Op<Share>, before: Named) -> Effect
+    ensures selected { selected_by result before ≡ selection_after (op_of op.now) before }
+    ensures holds { change_by result ≡ hold_change (op_of op.now) }
+{
+    match op {
+        Op::Use { .. } | Op::Hold { .. } | Op::Release { .. } | Op::End => {
+            Effect::Changes(selection_after(op, before), hold_change(op))
+        }
+        Op::New { .. }
+        | Op::Dup { .. }
+        | Op::Free { .. }
+        | Op::SetGlobal { .. }
+        | Op::Install { .. }
+        | Op::Post { .. }
+        | Op::Fetch { .. }
+        | Op::Pins { .. } => Effect::Neither,
     }
 }
