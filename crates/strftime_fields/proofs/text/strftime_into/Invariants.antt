@@ -1,4 +1,4 @@
-use Rattle.strftime_fields.proofs.text.strftime.Given as goal
+use Rattle.strftime_fields.proofs.text.strftime_into.Given as goal
 
-abbrev pub ghosts-strftime_from : goal.ghosts-strftime_from
-ghosts-strftime_from a = record { name = a.blank.name; parts = a.blank.parts }
+abbrev pub ghosts-put_from : goal.ghosts-put_from
+ghosts-put_from a = record { name = a.blank.name; parts = a.blank.parts }
