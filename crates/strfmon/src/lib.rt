@@ -140,7 +140,10 @@ fn put_pieces(
     ensures fault { IfErr result (λ e. refusal (pieces 0 0 format.now) (length amounts.now) ≡ None → Refuses e (within max (pieces_text m.now (good_pieces (pieces 0 0 format.now)) amounts.now))) }
 {
     out.clear();
-    out.reserve(first_room(format, max))?;
+    let room = first_room(format, max);
+    if out.capacity() < room {
+        out.reserve(room)?;
+    }
     let mut at = 0;
     let mut left = amounts;
     while at < format.len() {

@@ -115,7 +115,10 @@ fn put_from<L: Ledger>(
 {
     let mut steps = Steps::<L>::new(blank);
     out.clear();
-    out.reserve(first_room(format, max))?;
+    let room = first_room(format, max);
+    if out.capacity() < room {
+        out.reserve(room)?;
+    }
     match put_format(LEVELS, t, tm, max, format, &mut steps, out) {
         Ok(None) => Ok(()),
         Ok(Some(at)) => Err(TimeFault::BadFormat { at }),
