@@ -1,6 +1,6 @@
 //! What an object is asked for.
 
-ghost use Rattle.std.specs.Prelude.{◌≡◌, ℕ, true, IfOk, IfSome};
+ghost use Rattle.std.specs.Prelude.{◌≡◌, ℕ, true, [], IfOk, IfSome, OnErr};
 ghost use Rattle.std.specs.Cow.{cow_slice_items};
 ghost use Rattle.std.specs.List.{list_all};
 ghost use Rattle.ctype_classes.specs.Named.{place_of};
@@ -8,7 +8,7 @@ ghost use Rattle.ctype_classes.specs.Classes.{class_answer, numbered_answer};
 ghost use Rattle.ctype_classes.specs.Case.{image};
 ghost use Rattle.strfmon.specs.Money.{money};
 ghost use Rattle.strfmon.specs.Money as strfmon;
-ghost use Rattle.strftime_fields.specs.Answers.{answer};
+ghost use Rattle.strftime_fields.specs.Answers.{answer, with_text};
 ghost use Rattle.strftime_fields.specs.Answers as strftime;
 ghost use Rattle.int_format.specs.Ints.{is_number, at_most, ints};
 ghost use Rattle.int_format.specs.Ints as int_format;
@@ -27,8 +27,8 @@ use monetary_cat::Monetary;
 use numeric_cat::Numeric;
 use std::alloc::{AllocError, Global};
 use std::borrow::CowSlice;
-use strfmon::{Amount, MoneyFault, strfmon};
-use strftime_fields::{TimeFault, Tm, strftime};
+use strfmon::{Amount, MoneyFault, strfmon, strfmon_into};
+use strftime_fields::{TimeFault, Tm, strftime, strftime_into};
 use strptime_fields::{Parsed, ScanFault, strptime};
 use time_cat::Time;
 
@@ -148,6 +148,21 @@ impl SharedObject {
         strfmon(alloc, self.monetary(), format, amounts, max)
     }
 
+    /// Puts the same text in place of what a `Vec` holds, whose memory is used again. The `Vec` is
+    /// empty where there is no text.
+    pub fn strfmon_into(
+        &self,
+        out: &mut Vec<u8>,
+        format: &[u8],
+        amounts: &[Amount],
+        max: usize,
+    ) -> Result<(), MoneyFault>
+        ensures answer { strfmon.Answers (λ _. out.new.items) result (money (monetary_in self.now) format.now amounts.now max) }
+        ensures emptied { OnErr result (out.new.items ≡ []) }
+    {
+        strfmon_into(out, self.monetary(), format, amounts, max)
+    }
+
     /// The text of a time, at most `max` bytes (XSH strftime).
     pub fn strftime(
         &self,
@@ -159,6 +174,21 @@ impl SharedObject {
         ensures { strftime.Answers result (answer (time_in self.now) tm.now format.now max) }
     {
         strftime(alloc, self.time(), format, tm, max)
+    }
+
+    /// Puts the same text in place of what a `Vec` holds, whose memory is used again. The `Vec` is
+    /// empty where there is no text.
+    pub fn strftime_into(
+        &self,
+        out: &mut Vec<u8>,
+        format: &[u8],
+        tm: &Tm,
+        max: usize,
+    ) -> Result<(), TimeFault>
+        ensures answer { strftime.Answers (with_text out.new.items result) (answer (time_in self.now) tm.now format.now max) }
+        ensures emptied { OnErr result (out.new.items ≡ []) }
+    {
+        strftime_into(out, self.time(), format, tm, max)
     }
 
     /// The text of whole numbers, at most `max` bytes (XSH fprintf).

@@ -1,7 +1,7 @@
 //! Amounts of money as text (XSH strfmon).
 #![tactic(auto)]
 
-ghost use Rattle.std.specs.Prelude.{◌≡◌, ◌≢◌, ◌+◌, ◌<◌, ◌≤◌, ◌++◌, ◌⊎◌, length, drop, List, [], ◌∷◌, ℕ, Result, Ok, Err, None, option_map, OnOk, IfOk, IfErr, IfSome};
+ghost use Rattle.std.specs.Prelude.{◌≡◌, ◌≢◌, ◌+◌, ◌<◌, ◌≤◌, ◌++◌, ◌⊎◌, length, drop, List, [], ◌∷◌, ℕ, Result, Ok, Err, None, option_map, OnOk, OnErr, IfErr, IfSome};
 ghost use Rattle.strfmon.specs.Formats.{pieces, followed};
 ghost use Rattle.strfmon.specs.Money.{money, refusal, refusal_behind, fault_of, good_pieces, pieces_text, piece_text, amounts_behind, within, unless_refused, Refuses, Answers};
 ghost use Rattle.strfmon.specs.Refusals.{MoneyRefusal};
@@ -43,10 +43,38 @@ pub fn strfmon(
 ) -> Result<ByteText, MoneyFault>
     ensures { Answers (λ text. text) result (money m.now format.now amounts.now max) }
 {
-    match pieces_text(alloc, m, format, amounts, max) {
-        Ok(text) => Ok(ByteText::from_vec(text)),
-        Err(fault) => Err(first_fault(format, amounts.len(), fault)),
+    let mut text = Vec::with_capacity(alloc, first_room(format, max))?;
+    match strfmon_into(&mut text, m, format, amounts, max) {
+        Ok(()) => Ok(ByteText::from_vec(text)),
+        Err(fault) => Err(fault),
     }
+}
+
+/// Puts the same text in place of what a `Vec` holds, whose memory is used again. The `Vec` is empty
+/// where there is no text.
+pub fn strfmon_into(
+    out: &mut Vec<u8>,
+    m: &Monetary,
+    format: &[u8],
+    amounts: &[Amount],
+    max: usize,
+) -> Result<(), MoneyFault>
+    ensures answer { Answers (λ _. out.new.items) result (money m.now format.now amounts.now max) }
+    ensures emptied { OnErr result (out.new.items ≡ []) }
+{
+    match put_pieces(out, m, format, amounts, max) {
+        Ok(()) => Ok(()),
+        Err(fault) => {
+            out.clear();
+            Err(first_fault(format, amounts.len(), fault))
+        }
+    }
+}
+
+/// How many bytes a text of a format has at first room for.
+#[inline(always)]
+fn first_room(format: &[u8], max: usize) -> usize {
+    format.len().saturating_add(SPARE).min(max)
 }
 
 /// The fault of a format with so many amounts, which is that of its text where nothing is wrong.
@@ -98,19 +126,24 @@ fn behind_piece(
     }
 }
 
-/// The text of a format. A fault counts where no conversion is bad and no amount is missing.
-#[inline]
-fn pieces_text(
-    alloc: Global,
+/// Puts the text of a format in place of what a `Vec` holds. A fault counts where no conversion is bad
+/// and no amount is missing.
+#[inline(always)]
+fn put_pieces(
+    out: &mut Vec<u8>,
     m: &Monetary,
     format: &[u8],
     amounts: &[Amount],
     max: usize,
-) -> Result<Vec<u8>, MoneyFault>
-    ensures text { IfOk result (λ text. money m.now format.now amounts.now max ≡ Ok text.items) }
+) -> Result<(), MoneyFault>
+    ensures text { OnOk result (money m.now format.now amounts.now max ≡ Ok out.new.items) }
     ensures fault { IfErr result (λ e. refusal (pieces 0 0 format.now) (length amounts.now) ≡ None → Refuses e (within max (pieces_text m.now (good_pieces (pieces 0 0 format.now)) amounts.now))) }
 {
-    let mut out = Vec::with_capacity(alloc, format.len().saturating_add(SPARE).min(max))?;
+    out.clear();
+    let room = first_room(format, max);
+    if out.capacity() < room {
+        out.reserve(room)?;
+    }
     let mut at = 0;
     let mut left = amounts;
     while at < format.len() {
@@ -118,13 +151,13 @@ fn pieces_text(
             return Err(MoneyFault::BadFormat { at });
         };
         let room = max - out.len();
-        if let Err(fault) = add_piece(&mut out, m, piece, left, room) {
+        if let Err(fault) = add_piece(out, m, piece, left, room) {
             return Err(fault);
         }
         left = behind;
         at += 1 + used;
     }
-    Ok(out)
+    Ok(())
 }
 
 /// The piece at a place, how many bytes behind that place belong to it, and the amounts that it

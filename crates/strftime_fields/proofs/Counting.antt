@@ -2,12 +2,14 @@
 use Rattle.std.proofs.Common.{◌≡◌, ℕ, zero, suc, ◌+◌, ◌-◌, ◌<◌, ◌≤◌, true, false, cond, leb, List, [], ◌∷◌, length, Option, Some, None, Result, Ok, Err, refl, ap, subst, arith}
 use Rattle.std.proofs.lemmas.Bool.{le-leb, lt-leb}
 use Rattle.time_cat.specs.declared.conversion.Conversion.{Conversion}
+use Rattle.time_cat.specs.declared.conversion.Shows.TheVariants.{Format}
+use Rattle.time_cat.specs.declared.conversion.TimeText.{TimeText}
 use Rattle.time_cat.specs.Conversions.{conversion}
 use Rattle.time_cat.specs.declared.step.Step.{Step}
 use Rattle.time_cat.specs.declared.step.Step.TheVariants as steps
 use Rattle.time_cat.specs.Formats.{Piece, Literal, Converted, Wrong, pieces, rest_of, bad_place, counted, IsStep}
 use Rattle.time_cat.specs.Times.{TmValues}
-use Rattle.time_cat.specs.TimeValues.{TimeValues}
+use Rattle.time_cat.specs.TimeValues.{TimeValues, format_text}
 use Rattle.time_cat.specs.Shown.{expanded, converted, piece_text, format_for, conversions_of}
 use Rattle.strftime_fields.specs.declared.output.Stop.{Stop}
 use Rattle.strftime_fields.specs.declared.output.Stop.TheVariants as stops
@@ -15,8 +17,9 @@ use Rattle.strftime_fields.specs.declared.read.Short.{Short}
 use Rattle.strftime_fields.specs.declared.read.Short.TheVariants.{Byte, Plain}
 use Rattle.strftime_fields.specs.Appending.{Appends, CountsTo, fault_of}
 use Rattle.strftime_fields.specs.Cost.{read_for, piece_reads, pieces_read, reads, cost, Counts}
-use Rattle.strftime_fields.specs.Reading.{IsShort, IsFormatless, width, short_text}
-use Rattle.strftime_fields.proofs.Left.{plain_conversion}
+use Rattle.strftime_fields.specs.declared.read.Seen.TheVariants.{Inner}
+use Rattle.strftime_fields.specs.Reading.{IsShort, IsFormatless, IsSeen, width, short_text}
+use Rattle.strftime_fields.proofs.Left.{plain_conversion, format_conversion}
 
 -- of what is left at a place, behind so many bytes of the text
 unfoldable pub reads_left : ℕ → ℕ → TimeValues → TmValues → ℕ → List ℕ → ℕ → ℕ
@@ -123,3 +126,15 @@ short_reads max levels v t before format at s (Plain letter found) stands is non
     let more = plain_read v t (reads max (levels - 1) v t before) (conversion 0 letter) found is.1 none in
     let left' = rw gives at left in
     rw is.0 (omega (arith, left', more))
+
+-- ---- a conversion without a modifier that stands for a format of the locale
+
+pub inner_reads : (max levels : ℕ) (v : TimeValues) (t : TmValues) (before : ℕ) (format : List ℕ) (at : ℕ) (s : Step) (key : TimeText) → IsStep format at s → IsSeen at s (Inner key) → before ≤ max
+    → reads_left max levels v t before format at ≡ counted s + reads max (levels - 1) v t before (format_text v key) + reads_left max levels v t (before + length (expanded (levels - 1) v t (format_text v key))) format (at + 2)
+inner_reads max levels v t before format at s key stands is fits =
+    let here : IsStep format at (steps.Conv 0 is.0 is.1 (at + 2)) = subst (λ (x : Step). IsStep format at x) is.2 stands in
+    let left = reads_at_conversion max levels v t before format at 0 is.0 is.1 (at + 2) here.2 fits in
+    let gives = format_conversion v t (expanded (levels - 1) v t) (conversion 0 is.0) (record { rank = is.1; shows = Format key }) (format_text v key) is.3 refl in
+    let more = format_read v t (reads max (levels - 1) v t before) (conversion 0 is.0) (record { rank = is.1; shows = Format key }) (format_text v key) is.3 refl in
+    let left' = rw gives at left in
+    rw is.2 (omega (arith, left', more))

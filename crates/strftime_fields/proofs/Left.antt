@@ -3,16 +3,19 @@ use Rattle.std.proofs.Common.{◌≡◌, ℕ, zero, suc, ◌+◌, ◌-◌, ◌<�
 use Rattle.std.proofs.lemmas.List.{drop_all, take_all, drop-drop}
 use Rattle.std.proofs.lemmas.List.Sums.{sum_by-cons}
 use Rattle.time_cat.specs.declared.conversion.Conversion.{Conversion}
+use Rattle.time_cat.specs.declared.conversion.Shows.TheVariants.{Format}
+use Rattle.time_cat.specs.declared.conversion.TimeText.{TimeText}
 use Rattle.time_cat.specs.Conversions.{conversion}
 use Rattle.time_cat.specs.declared.step.Step.{Step}
 use Rattle.time_cat.specs.declared.step.Step.TheVariants as steps
 use Rattle.time_cat.specs.Formats.{Piece, Literal, Converted, Wrong, pieces, rest_of, is_conversion, bad_place, counted, IsStep}
 use Rattle.time_cat.specs.Times.{TmValues}
-use Rattle.time_cat.specs.TimeValues.{TimeValues}
+use Rattle.time_cat.specs.TimeValues.{TimeValues, format_text}
 use Rattle.time_cat.specs.Shown.{expanded, converted, piece_text, format_for, plain_text, conversions_of}
 use Rattle.strftime_fields.specs.declared.read.Short.{Short}
 use Rattle.strftime_fields.specs.declared.read.Short.TheVariants.{Byte, Plain}
-use Rattle.strftime_fields.specs.Reading.{IsShort, IsFormatless, width, short_text}
+use Rattle.strftime_fields.specs.declared.read.Seen.TheVariants.{Inner}
+use Rattle.strftime_fields.specs.Reading.{IsShort, IsFormatless, IsSeen, width, short_text}
 
 -- ---- texts
 
@@ -137,3 +140,24 @@ short_conversions format at s (Plain letter found) stands is =
     let here : IsStep format at (steps.Conv 0 letter found.rank (at + 2)) = subst (λ (x : Step). IsStep format at x) is.0 stands in
     let left = conversions_at_conversion format at 0 letter found.rank (at + 2) here.2 in
     rw is.0 (omega (arith, left))
+
+-- ---- a conversion without a modifier that stands for a format of the locale
+
+pub inner_within : (format : List ℕ) (at : ℕ) (s : Step) (key : TimeText) → IsStep format at s → IsSeen at s (Inner key) → at + 2 ≤ length format
+inner_within format at s key stands is =
+    let here : IsStep format at (steps.Conv 0 is.0 is.1 (at + 2)) = subst (λ (x : Step). IsStep format at x) is.2 stands in
+    here.1
+
+pub inner_rest : (format rest : List ℕ) (at : ℕ) → rest ≡ drop at format → at + 2 ≤ length format → 2 ≤ length rest
+inner_rest format rest at is within = omega (arith, ap length is, length-drop at format, within)
+
+pub inner_left : (levels : ℕ) (v : TimeValues) (t : TmValues) (format : List ℕ) (at : ℕ) (s : Step) (key : TimeText) → IsStep format at s → IsSeen at s (Inner key) → text_left levels v t format at ≡ expanded (levels - 1) v t (format_text v key) ++ text_left levels v t format (at + 2)
+inner_left levels v t format at s key stands is =
+    let here : IsStep format at (steps.Conv 0 is.0 is.1 (at + 2)) = subst (λ (x : Step). IsStep format at x) is.2 stands in
+    let gives = format_conversion v t (expanded (levels - 1) v t) (conversion 0 is.0) (record { rank = is.1; shows = Format key }) (format_text v key) is.3 refl in
+    text_at_conversion levels v t format at 0 is.0 is.1 (at + 2) here.2 ∙ ap (λ (x : List ℕ). x ++ text_left levels v t format (at + 2)) gives
+
+pub inner_bad : (format : List ℕ) (at : ℕ) (s : Step) (key : TimeText) → IsStep format at s → IsSeen at s (Inner key) → bad_place (rest_of format at) ≡ bad_place (rest_of format (at + 2))
+inner_bad format at s key stands is =
+    let here : IsStep format at (steps.Conv 0 is.0 is.1 (at + 2)) = subst (λ (x : Step). IsStep format at x) is.2 stands in
+    rw here.2 refl

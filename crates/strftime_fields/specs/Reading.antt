@@ -1,8 +1,7 @@
 -- Pieces of a format that are told at first sight.
-use Rattle.std.specs.Prelude.{◌≡◌, ℕ, ◌+◌, List, [], ◌∷◌, Option, Some, None}
+use Rattle.std.specs.Prelude.{◌≡◌, ℕ, ◌+◌, List, [], ◌∷◌, ◌++◌, Option, Some, None}
 use Rattle.time_cat.specs.declared.conversion.Conversion.{Conversion}
 use Rattle.time_cat.specs.declared.conversion.Shows.TheVariants.{Format}
-use Rattle.time_cat.specs.declared.conversion.TimeText.{TimeText}
 use Rattle.time_cat.specs.declared.step.Step.{Step}
 use Rattle.time_cat.specs.declared.step.Step.TheVariants as steps
 use Rattle.time_cat.specs.Conversions.{conversion}
@@ -11,6 +10,8 @@ use Rattle.time_cat.specs.TimeValues.{TimeValues}
 use Rattle.time_cat.specs.Shown.{plain_text, format_for}
 use Rattle.strftime_fields.specs.declared.read.Short.{Short}
 use Rattle.strftime_fields.specs.declared.read.Short.TheVariants.{Byte, Plain}
+use Rattle.strftime_fields.specs.declared.read.Seen.{Seen}
+use Rattle.strftime_fields.specs.declared.read.Seen.TheVariants.{Added, Inner, Other}
 
 -- how many bytes of the format a piece takes
 abbrev pub width : Short → ℕ
@@ -32,7 +33,20 @@ abbrev pub short_text : TimeValues → TmValues → Short → List ℕ
 short_text v t (Byte c) = c ∷ []
 short_text v t (Plain letter found) = plain_text v t found.shows
 
--- a conversion stands for this format of the locale
-abbrev pub StandsFor : Option Conversion → TimeText → Type 0
-StandsFor None key = ⊥
-StandsFor (Some c) key = c.shows ≡ Format key
+-- what a first look says of the step at a place
+abbrev pub IsSeen : ℕ → Step → Seen → Type 0
+IsSeen at s (Added short) = IsShort at s short
+IsSeen at s (Inner key) = (letter : ℕ) × (rank : ℕ) × (s ≡ steps.Conv 0 letter rank (at + 2)) × (conversion 0 letter ≡ Some (record { rank = rank; shows = Format key }))
+IsSeen at s Other = Unit {0}
+
+-- a piece that it adds stands for no format
+abbrev pub SeenFormatless : TimeValues → TmValues → Seen → Type 0
+SeenFormatless v t (Added short) = IsFormatless v t short
+SeenFormatless v t (Inner key) = Unit {0}
+SeenFormatless v t Other = Unit {0}
+
+-- what it adds to a text
+abbrev pub AddsSeen : TimeValues → TmValues → List ℕ → List ℕ → Seen → Type 0
+AddsSeen v t old new (Added short) = new ≡ old ++ short_text v t short
+AddsSeen v t old new (Inner key) = new ≡ old
+AddsSeen v t old new Other = new ≡ old

@@ -1,18 +1,18 @@
 //! Formats within formats.
 
-ghost use Rattle.std.specs.Prelude.{◌≡◌, ℕ, ◌+◌, ◌++◌, ◌<◌, ◌≤◌, length, vec_capacity, Some, IfOk, IfSome, IsNone};
+ghost use Rattle.std.specs.Prelude.{◌≡◌, ℕ, ◌+◌, ◌++◌, ◌<◌, ◌≤◌, length, vec_capacity, IfOk};
 ghost use Rattle.time_cat.specs.Conversions.{conversion};
 ghost use Rattle.time_cat.specs.Formats.{pieces, bad_place, step};
 ghost use Rattle.time_cat.specs.Shown.{expanded, converted};
 ghost use Rattle.time_cat.specs.TimeValues.{format_text};
 ghost use Rattle.strftime_fields.specs.Appending.{Appends, CountsTo, added};
 ghost use Rattle.strftime_fields.specs.Cost.{read_for, reads};
-ghost use Rattle.strftime_fields.specs.Reading.{IsShort, IsFormatless, StandsFor, short_text};
+ghost use Rattle.strftime_fields.specs.Reading.{IsSeen, SeenFormatless, AddsSeen};
 
 use crate::digits::put_number_within;
 use crate::output::{Stop, put_byte, put_byte_within, put_within};
 use crate::plain::{format_for, name, number, put_plain};
-use crate::read::{Short, short_of, width};
+use crate::read::{Seen, Short, short_of, width};
 use std::sync::ledger::Ledger;
 use time_cat::{Shows, Step, Steps, Time, TimeText, Tm, conversion_of, step_at};
 
@@ -41,14 +41,21 @@ pub fn put_format<L: Ledger>(
     let mut limit = out.capacity().min(max);
     'reading: loop {
         match put_short(out, limit, t, tm, rest) {
-            Some(short) => {
+            Seen::Added(short) => {
                 // The piece is known already: this counts it.
                 let _step = step_at(format, at, steps);
                 let taken = width(short);
                 at += taken;
                 rest = &rest[taken..];
             }
-            None => match step_at(format, at, steps) {
+            Seen::Inner(key) => {
+                let _step = step_at(format, at, steps);
+                put_inner(levels - 1, t, tm, max, text_of(t, key), steps, out)?;
+                at += 2;
+                rest = &rest[2..];
+                limit = out.capacity().min(max);
+            }
+            Seen::Other => match step_at(format, at, steps) {
                 Step::End => return Ok(None),
                 Step::Bad => return Ok(Some(at)),
                 Step::Byte(byte) => {
@@ -63,7 +70,7 @@ pub fn put_format<L: Ledger>(
                     next,
                     ..
                 } => {
-                    put_conversion(levels - 1, t, tm, max, modifier, letter, steps, out)?;
+                    put_other(levels - 1, t, tm, max, modifier, letter, steps, out)?;
                     at = next;
                     rest = &format[at..];
                     limit = out.capacity().min(max);
@@ -76,17 +83,18 @@ pub fn put_format<L: Ledger>(
 /// Adds what the piece gives that bytes begin with, if it is a byte, or a name or a number without a
 /// modifier, and if the text is then no longer than `limit`. There is room for a text of that length.
 #[inline(always)]
-fn put_short(out: &mut Vec<u8>, limit: usize, t: &Time, tm: &Tm, rest: &[u8]) -> Option<Short>
+fn put_short(out: &mut Vec<u8>, limit: usize, t: &Time, tm: &Tm, rest: &[u8]) -> Seen
     requires short { length out.old.items ≤ limit }
     requires room { limit ≤ vec_capacity out.old }
-    ensures piece { IfSome result (λ r. (at : ℕ) → IsShort at (step at rest.now) r) }
-    ensures formatless { IfSome result (λ r. IsFormatless t.now tm.now r) }
-    ensures text { IfSome result (λ r. out.new.items ≡ out.old.items ++ short_text t.now tm.now r) }
-    ensures unchanged { IsNone result → out.new.items ≡ out.old.items }
+    ensures piece { (at : ℕ) → IsSeen at (step at rest.now) result }
+    ensures formatless { SeenFormatless t.now tm.now result }
+    ensures text { AddsSeen t.now tm.now out.old.items out.new.items result }
     ensures short { length out.new.items ≤ limit }
     ensures room { limit ≤ vec_capacity out.new }
 {
-    let short = short_of(rest)?;
+    let Some(short) = short_of(rest) else {
+        return Seen::Other;
+    };
     let added = match short {
         Short::Byte(byte) => put_byte_within(out, limit, byte),
         Short::Plain { found, .. } => match found.shows {
@@ -94,23 +102,14 @@ fn put_short(out: &mut Vec<u8>, limit: usize, t: &Time, tm: &Tm, rest: &[u8]) ->
             Shows::Number(quantity, layout) => {
                 put_number_within(out, limit, layout, number(quantity, tm))
             }
-            _ => return None,
+            Shows::Format(key) => return Seen::Inner(key),
+            _ => return Seen::Other,
         },
     };
-    if added { Some(short) } else { None }
-}
-
-/// The format of the locale for which a letter stands without a modifier, if it stands for one.
-#[inline(always)]
-fn key_of(letter: u8) -> Option<TimeText>
-    ensures { IfSome result (λ key. StandsFor (conversion 0 letter) key) }
-{
-    match conversion_of(0, letter) {
-        Some(found) => match found.shows {
-            Shows::Format(key) => Some(key),
-            _ => None,
-        },
-        None => None,
+    if added {
+        Seen::Added(short)
+    } else {
+        Seen::Other
     }
 }
 
@@ -122,31 +121,7 @@ fn text_of(t: &Time, key: TimeText) -> &[u8]
     t.text(key)
 }
 
-/// Adds what any conversion gives, with so many formats within one another. A format of the locale is
-/// told apart, since it needs no second look.
-#[cycle(expand)]
-#[inline(always)]
-fn put_conversion<L: Ledger>(
-    levels: u8,
-    t: &Time,
-    tm: &Tm,
-    max: usize,
-    modifier: u8,
-    letter: u8,
-    steps: &mut Steps<L>,
-    out: &mut Vec<u8>,
-) -> Result<(), Stop>
-    requires { length out.old.items ≤ max }
-    ensures text { Appends max out.old.items (converted t.now tm.now (expanded levels t.now tm.now) (conversion modifier letter)) out.new.items result }
-    ensures steps { CountsTo result (steps.old + read_for t.now tm.now (reads max levels t.now tm.now (length out.old.items)) (conversion modifier letter)) steps.new }
-{
-    match (modifier, key_of(letter)) {
-        (0, Some(key)) => put_inner(levels, t, tm, max, text_of(t, key), steps, out),
-        _ => put_other(levels, t, tm, max, modifier, letter, steps, out),
-    }
-}
-
-/// The same, in code of its own.
+/// Adds what any conversion gives, with so many formats within one another, in code of its own.
 #[cycle(expand)]
 #[inline(never)]
 fn put_other<L: Ledger>(

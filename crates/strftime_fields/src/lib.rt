@@ -11,6 +11,6 @@ mod text;
 mod weeks;
 
 pub use fault::TimeFault;
-pub use text::{strftime, strftime_counted};
+pub use text::{strftime, strftime_counted, strftime_into};
 pub use time_cat::{Tm, TmField, TmRange};
 pub use weeks::{WeekOfYear, iso_week, weeks_hold};

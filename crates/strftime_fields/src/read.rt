@@ -4,7 +4,7 @@ ghost use Rattle.std.specs.Prelude.{◌≡◌, ◌≤◌, ℕ, length, drop, IfS
 ghost use Rattle.time_cat.specs.Formats.{step};
 ghost use Rattle.strftime_fields.specs.Reading.{IsShort, width};
 
-use time_cat::{Conversion, conversion_of};
+use time_cat::{Conversion, TimeText, conversion_of};
 
 /// A piece of a format that needs no second look.
 #[derive(Clone, Copy, Debug, PartialEq, Eq)]
@@ -13,6 +13,18 @@ pub enum Short {
     Byte(u8),
     /// A conversion without a modifier.
     Plain { letter: u8, found: Conversion },
+}
+
+/// What a first look at the piece did that bytes begin with.
+#[derive(Clone, Copy, Debug, PartialEq, Eq)]
+pub enum Seen {
+    /// It is this piece, and its text is added.
+    Added(Short),
+    /// It is a conversion without a modifier that stands for this format of the locale. Nothing is
+    /// added.
+    Inner(TimeText),
+    /// It needs a second look. Nothing is added.
+    Other,
 }
 
 /// The piece that bytes begin with, if it is a byte or a conversion without a modifier.

@@ -1,9 +1,9 @@
 //! The text of a time (XSH strftime).
 
-ghost use Rattle.std.specs.Prelude.{◌≡◌, ◌+◌, ◌*◌, ◌≤◌, ◌<◌, MatchOption};
+ghost use Rattle.std.specs.Prelude.{◌≡◌, ◌+◌, ◌*◌, ◌≤◌, ◌<◌, [], MatchOption, OnErr};
 ghost use Rattle.time_cat.specs.Formats.{pieces, bad_place};
 ghost use Rattle.time_cat.specs.Shown.{conversions_of};
-ghost use Rattle.strftime_fields.specs.Answers.{answer, Answers};
+ghost use Rattle.strftime_fields.specs.Answers.{answer, Answers, with_text};
 ghost use Rattle.strftime_fields.specs.Appending.{fault_of};
 ghost use Rattle.strftime_fields.specs.Cost.{cost, Counts};
 ghost use Rattle.strftime_fields.specs.declared.fault.TimeFault.TheVariants.{BadFormat};
@@ -97,25 +97,30 @@ pub fn strftime_counted<L: Ledger>(
     Ok(ByteText::from_vec(out))
 }
 
-/// The same with a ledger that has not begun. The whole format is looked over only where its text is
-/// given up.
-fn strftime_from<L: Ledger>(
-    alloc: Global,
+/// Puts the text of a time in place of what a `Vec` holds, with a ledger that has not begun. The whole
+/// format is looked over only where its text is given up.
+#[inline(always)]
+fn put_from<L: Ledger>(
+    out: &mut Vec<u8>,
     t: &Time,
     format: &[u8],
     tm: &Tm,
     max: usize,
     blank: Blank,
-) -> Result<ByteText, TimeFault>
+) -> Result<(), TimeFault>
     requires name { blank.name ≡ L.name }
     requires parts { blank.parts ≡ L.parts }
     requires some { 0 < blank.parts }
-    ensures { Answers result (answer t.now tm.now format.now max) }
+    ensures { Answers (with_text out.new.items result) (answer t.now tm.now format.now max) }
 {
     let mut steps = Steps::<L>::new(blank);
-    let mut out = Vec::with_capacity(alloc, first_room(format, max))?;
-    match put_format(LEVELS, t, tm, max, format, &mut steps, &mut out) {
-        Ok(None) => Ok(ByteText::from_vec(out)),
+    out.clear();
+    let room = first_room(format, max);
+    if out.capacity() < room {
+        out.reserve(room)?;
+    }
+    match put_format(LEVELS, t, tm, max, format, &mut steps, out) {
+        Ok(None) => Ok(()),
         Ok(Some(at)) => Err(TimeFault::BadFormat { at }),
         Err(stop) => Err(first_fault(format, stop, &mut steps)),
     }
@@ -134,5 +139,30 @@ pub fn strftime(
 ) -> Result<ByteText, TimeFault>
     ensures { Answers result (answer t.now tm.now format.now max) }
 {
-    strftime_from::<Brand>(alloc, t, format, tm, max, Blank::new(1))
+    let mut text = Vec::with_capacity(alloc, first_room(format, max))?;
+    match strftime_into(&mut text, t, format, tm, max) {
+        Ok(()) => Ok(ByteText::from_vec(text)),
+        Err(fault) => Err(fault),
+    }
+}
+
+/// Puts the same text in place of what a `Vec` holds, whose memory is used again. The `Vec` is empty
+/// where there is no text.
+pub fn strftime_into(
+    out: &mut Vec<u8>,
+    t: &Time,
+    format: &[u8],
+    tm: &Tm,
+    max: usize,
+) -> Result<(), TimeFault>
+    ensures answer { Answers (with_text out.new.items result) (answer t.now tm.now format.now max) }
+    ensures emptied { OnErr result (out.new.items ≡ []) }
+{
+    match put_from::<Brand>(out, t, format, tm, max, Blank::new(1)) {
+        Ok(()) => Ok(()),
+        Err(fault) => {
+            out.clear();
+            Err(fault)
+        }
+    }
 }

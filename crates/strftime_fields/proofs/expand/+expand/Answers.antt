@@ -5,9 +5,10 @@ use Rattle.time_cat.specs.Formats.{bad_place}
 use Rattle.time_cat.specs.Shown.{expanded, converted}
 use Rattle.strftime_fields.proofs.Adding.{goes_on, stops, ends}
 use Rattle.strftime_fields.specs.Cost.{reads}
-use Rattle.strftime_fields.specs.Reading.{IsShort, width, short_text}
-use Rattle.strftime_fields.proofs.Left.{width_some, behind, behind_piece, piece_within, short_within, short_left, short_bad, pieces_at_start, text_left, text_at_start, text_at_end, text_at_wrong, text_at_byte, text_at_conversion, no_levels}
-use Rattle.strftime_fields.proofs.Counting.{short_reads, reads_left, reads_at_start, reads_at_end, reads_at_wrong, reads_at_byte, reads_at_conversion, none_left, no_levels_read, counts_same, counts_stop}
+use Rattle.strftime_fields.specs.declared.read.Seen.TheVariants.{Inner}
+use Rattle.strftime_fields.specs.Reading.{IsShort, IsSeen, width, short_text}
+use Rattle.strftime_fields.proofs.Left.{width_some, behind, behind_piece, piece_within, short_within, short_left, short_bad, inner_within, inner_rest, inner_left, inner_bad, pieces_at_start, text_left, text_at_start, text_at_end, text_at_wrong, text_at_byte, text_at_conversion, no_levels}
+use Rattle.strftime_fields.proofs.Counting.{short_reads, inner_reads, reads_left, reads_at_start, reads_at_end, reads_at_wrong, reads_at_byte, reads_at_conversion, none_left, no_levels_read, counts_same, counts_stop}
 use Rattle.strftime_fields.proofs.expand.+expand.Goals as goal
 
 pub put_format-returns-then-levels-eq0-clause-text : goal.put_format-returns-then-levels-eq0-clause-text
@@ -32,7 +33,7 @@ put_format-reading-init g t c =
 
 pub put_format-returns-in-End-clause-text : goal.put_format-returns-in-End-clause-text
 put_format-returns-in-End-clause-text g t c =
-    let same : c.put_short.new.out.items ≡ c.reading.out.items = c.in-None.ensures.unchanged refl in
+    let same : c.put_short.new.out.items ≡ c.reading.out.items = c.in-Other.ensures.text in
     let whole : c.put_short.new.out.items ++ text_left c.args.levels c.args.t.now c.args.tm.now c.args.format.now c.reading.at ≡ c.args.out.now.items ++ expanded c.args.levels c.args.t.now c.args.tm.now c.args.format.now = rw same c.reading.invariant.text in
     let short : length c.put_short.new.out.items ≤ c.args.max = omega (arith, c.put_short.ensures.short, c.reading.invariant.most) in
     let none = text_at_end c.args.levels c.args.t.now c.args.tm.now c.args.format.now c.reading.at c.in-End.ensures.stands in
@@ -40,7 +41,7 @@ put_format-returns-in-End-clause-text g t c =
 
 pub put_format-returns-in-Bad-clause-text : goal.put_format-returns-in-Bad-clause-text
 put_format-returns-in-Bad-clause-text g t c =
-    let same : c.put_short.new.out.items ≡ c.reading.out.items = c.in-None.ensures.unchanged refl in
+    let same : c.put_short.new.out.items ≡ c.reading.out.items = c.in-Other.ensures.text in
     let whole : c.put_short.new.out.items ++ text_left c.args.levels c.args.t.now c.args.tm.now c.args.format.now c.reading.at ≡ c.args.out.now.items ++ expanded c.args.levels c.args.t.now c.args.tm.now c.args.format.now = rw same c.reading.invariant.text in
     let short : length c.put_short.new.out.items ≤ c.args.max = omega (arith, c.put_short.ensures.short, c.reading.invariant.most) in
     let none = text_at_wrong c.args.levels c.args.t.now c.args.tm.now c.args.format.now c.reading.at c.in-Bad.ensures.stands in
@@ -48,19 +49,19 @@ put_format-returns-in-Bad-clause-text g t c =
 
 pub put_format-returns-in_err-put_byte-in-Byte-clause-text : goal.put_format-returns-in_err-put_byte-in-Byte-clause-text
 put_format-returns-in_err-put_byte-in-Byte-clause-text g t c =
-    let same : c.put_short.new.out.items ≡ c.reading.out.items = c.in-None.ensures.unchanged refl in
+    let same : c.put_short.new.out.items ≡ c.reading.out.items = c.in-Other.ensures.text in
     let whole : c.put_short.new.out.items ++ text_left c.args.levels c.args.t.now c.args.tm.now c.args.format.now c.reading.at ≡ c.args.out.now.items ++ expanded c.args.levels c.args.t.now c.args.tm.now c.args.format.now = rw same c.reading.invariant.text in
-    let p = err_from_is_err_and c.from_residual.result c.from_residual.ensures.1 in
+    let p = err_from_is_err_and c.from_residual-in_err-put_byte-in-Byte.result c.from_residual-in_err-put_byte-in-Byte.ensures.1 in
     let left = text_at_byte c.args.levels c.args.t.now c.args.tm.now c.args.format.now c.reading.at c.in-Byte.byte (c.reading.at + 1) c.in-Byte.ensures.stands.1 in
     rw (p.1, p.2) (stops c.args.max c.args.out.now.items (expanded c.args.levels c.args.t.now c.args.tm.now c.args.format.now) c.put_short.new.out.items c.put_byte.new.out.items c.put_byte.new.out.items (c.in-Byte.byte ∷ []) (text_left c.args.levels c.args.t.now c.args.tm.now c.args.format.now (c.reading.at + 1)) c.in_err-put_byte-in-Byte.field-0.0 (ap (λ x. c.put_short.new.out.items ++ x) (sym left) ∙ whole) c.in_err-put_byte-in-Byte.ensures)
 
-pub put_format-returns-in_err-put_conversion-in-Conv-clause-text : goal.put_format-returns-in_err-put_conversion-in-Conv-clause-text
-put_format-returns-in_err-put_conversion-in-Conv-clause-text g t c =
-    let same : c.put_short.new.out.items ≡ c.reading.out.items = c.in-None.ensures.unchanged refl in
+pub put_format-returns-in_err-put_other-in-Conv-clause-text : goal.put_format-returns-in_err-put_other-in-Conv-clause-text
+put_format-returns-in_err-put_other-in-Conv-clause-text g t c =
+    let same : c.put_short.new.out.items ≡ c.reading.out.items = c.in-Other.ensures.text in
     let whole : c.put_short.new.out.items ++ text_left c.args.levels c.args.t.now c.args.tm.now c.args.format.now c.reading.at ≡ c.args.out.now.items ++ expanded c.args.levels c.args.t.now c.args.tm.now c.args.format.now = rw same c.reading.invariant.text in
-    let p = err_from_is_err_and c.from_residual-in_err-put_conversion-in-Conv.result c.from_residual-in_err-put_conversion-in-Conv.ensures.1 in
+    let p = err_from_is_err_and c.from_residual-in_err-put_other-in-Conv.result c.from_residual-in_err-put_other-in-Conv.ensures.1 in
     let left = text_at_conversion c.args.levels c.args.t.now c.args.tm.now c.args.format.now c.reading.at c.in-Conv.modifier c.in-Conv.letter _ c.in-Conv.next c.in-Conv.ensures.stands.2 in
-    rw (p.1, p.2) (stops c.args.max c.args.out.now.items (expanded c.args.levels c.args.t.now c.args.tm.now c.args.format.now) c.put_short.new.out.items c.put_conversion.new.out.items c.put_conversion.new.out.items (converted c.args.t.now c.args.tm.now (expanded (c.args.levels - 1) c.args.t.now c.args.tm.now) (conversion c.in-Conv.modifier c.in-Conv.letter)) (text_left c.args.levels c.args.t.now c.args.tm.now c.args.format.now c.in-Conv.next) c.in_err-put_conversion-in-Conv.field-0.0 (ap (λ x. c.put_short.new.out.items ++ x) (sym left) ∙ whole) c.in_err-put_conversion-in-Conv.ensures.text)
+    rw (p.1, p.2) (stops c.args.max c.args.out.now.items (expanded c.args.levels c.args.t.now c.args.tm.now c.args.format.now) c.put_short.new.out.items c.put_other.new.out.items c.put_other.new.out.items (converted c.args.t.now c.args.tm.now (expanded (c.args.levels - 1) c.args.t.now c.args.tm.now) (conversion c.in-Conv.modifier c.in-Conv.letter)) (text_left c.args.levels c.args.t.now c.args.tm.now c.args.format.now c.in-Conv.next) c.in_err-put_other-in-Conv.field-0.0 (ap (λ x. c.put_short.new.out.items ++ x) (sym left) ∙ whole) c.in_err-put_other-in-Conv.ensures.text)
 
 pub put_format-returns-in-End-clause-bad : goal.put_format-returns-in-End-clause-bad
 put_format-returns-in-End-clause-bad g t c = λ some. sym (ap (λ ps. bad_place ps) c.in-End.ensures.stands) ∙ c.reading.invariant.bad
@@ -85,9 +86,9 @@ put_format-returns-in-Bad-clause-steps g t c =
 
 pub put_format-returns-in_err-put_byte-in-Byte-clause-steps : goal.put_format-returns-in_err-put_byte-in-Byte-clause-steps
 put_format-returns-in_err-put_byte-in-Byte-clause-steps g t c =
-    let same : c.put_short.new.out.items ≡ c.reading.out.items = c.in-None.ensures.unchanged refl in
+    let same : c.put_short.new.out.items ≡ c.reading.out.items = c.in-Other.ensures.text in
     let counts : c.reading.steps + reads_left c.args.max c.args.levels c.args.t.now c.args.tm.now (length c.put_short.new.out.items) c.args.format.now c.reading.at ≡ c.args.steps.now + reads c.args.max c.args.levels c.args.t.now c.args.tm.now (length c.args.out.now.items) c.args.format.now = rw same c.reading.invariant.steps in
-    let p = err_from_is_err_and c.from_residual.result c.from_residual.ensures.1 in
+    let p = err_from_is_err_and c.from_residual-in_err-put_byte-in-Byte.result c.from_residual-in_err-put_byte-in-Byte.ensures.1 in
     let left = reads_at_byte c.args.max c.args.levels c.args.t.now c.args.tm.now (length c.put_short.new.out.items) c.args.format.now c.reading.at c.in-Byte.byte (c.reading.at + 1) c.in-Byte.ensures.stands.1 in
     let rest = reads_left c.args.max c.args.levels c.args.t.now c.args.tm.now (length c.put_short.new.out.items + 1) c.args.format.now (c.reading.at + 1) in
     rw (p.1, p.2) (counts_stop c.args.max c.put_short.new.out.items (c.in-Byte.byte ∷ []) c.put_byte.new.out.items c.in_err-put_byte-in-Byte.field-0.0 c.reading.steps rest _ _
@@ -96,24 +97,24 @@ put_format-returns-in_err-put_byte-in-Byte-clause-steps g t c =
     (omega (arith, left, counts))
     (λ long. none_left c.args.max c.args.levels c.args.t.now c.args.tm.now (length c.put_short.new.out.items + 1) c.args.format.now (c.reading.at + 1) long))
 
-pub put_format-returns-in_err-put_conversion-in-Conv-clause-steps : goal.put_format-returns-in_err-put_conversion-in-Conv-clause-steps
-put_format-returns-in_err-put_conversion-in-Conv-clause-steps g t c =
-    let same : c.put_short.new.out.items ≡ c.reading.out.items = c.in-None.ensures.unchanged refl in
+pub put_format-returns-in_err-put_other-in-Conv-clause-steps : goal.put_format-returns-in_err-put_other-in-Conv-clause-steps
+put_format-returns-in_err-put_other-in-Conv-clause-steps g t c =
+    let same : c.put_short.new.out.items ≡ c.reading.out.items = c.in-Other.ensures.text in
     let short : length c.put_short.new.out.items ≤ c.args.max = omega (arith, c.put_short.ensures.short, c.reading.invariant.most) in
     let counts : c.reading.steps + reads_left c.args.max c.args.levels c.args.t.now c.args.tm.now (length c.put_short.new.out.items) c.args.format.now c.reading.at ≡ c.args.steps.now + reads c.args.max c.args.levels c.args.t.now c.args.tm.now (length c.args.out.now.items) c.args.format.now = rw same c.reading.invariant.steps in
-    let p = err_from_is_err_and c.from_residual-in_err-put_conversion-in-Conv.result c.from_residual-in_err-put_conversion-in-Conv.ensures.1 in
+    let p = err_from_is_err_and c.from_residual-in_err-put_other-in-Conv.result c.from_residual-in_err-put_other-in-Conv.ensures.1 in
     let left = reads_at_conversion c.args.max c.args.levels c.args.t.now c.args.tm.now (length c.put_short.new.out.items) c.args.format.now c.reading.at c.in-Conv.modifier c.in-Conv.letter _ c.in-Conv.next c.in-Conv.ensures.stands.2 short in
     let piece = converted c.args.t.now c.args.tm.now (expanded (c.args.levels - 1) c.args.t.now c.args.tm.now) (conversion c.in-Conv.modifier c.in-Conv.letter) in
     let rest = reads_left c.args.max c.args.levels c.args.t.now c.args.tm.now (length c.put_short.new.out.items + length piece) c.args.format.now c.in-Conv.next in
-    rw (p.1, p.2) (counts_stop c.args.max c.put_short.new.out.items piece c.put_conversion.new.out.items c.in_err-put_conversion-in-Conv.field-0.0 _ rest _ _
-    c.in_err-put_conversion-in-Conv.ensures.text
-    c.in_err-put_conversion-in-Conv.ensures.steps
+    rw (p.1, p.2) (counts_stop c.args.max c.put_short.new.out.items piece c.put_other.new.out.items c.in_err-put_other-in-Conv.field-0.0 _ rest _ _
+    c.in_err-put_other-in-Conv.ensures.text
+    c.in_err-put_other-in-Conv.ensures.steps
     (omega (arith, left, counts, c.in-Conv.ensures.counted))
     (λ long. none_left c.args.max c.args.levels c.args.t.now c.args.tm.now (length c.put_short.new.out.items + length piece) c.args.format.now c.in-Conv.next long))
 
 pub put_format-reading-preserved-in-Byte : goal.put_format-reading-preserved-in-Byte
 put_format-reading-preserved-in-Byte g t c =
-    let same : c.put_short.new.out.items ≡ c.reading.out.items = c.in-None.ensures.unchanged refl in
+    let same : c.put_short.new.out.items ≡ c.reading.out.items = c.in-Other.ensures.text in
     let whole : c.put_short.new.out.items ++ text_left c.args.levels c.args.t.now c.args.tm.now c.args.format.now c.reading.at ≡ c.args.out.now.items ++ expanded c.args.levels c.args.t.now c.args.tm.now c.args.format.now = rw same c.reading.invariant.text in
     let counts : c.reading.steps + reads_left c.args.max c.args.levels c.args.t.now c.args.tm.now (length c.put_short.new.out.items) c.args.format.now c.reading.at ≡ c.args.steps.now + reads c.args.max c.args.levels c.args.t.now c.args.tm.now (length c.args.out.now.items) c.args.format.now = rw same c.reading.invariant.steps in
     let left = text_at_byte c.args.levels c.args.t.now c.args.tm.now c.args.format.now c.reading.at c.in-Byte.byte (c.reading.at + 1) c.in-Byte.ensures.stands.1 in
@@ -133,37 +134,37 @@ put_format-reading-preserved-in-Byte g t c =
 
 pub put_format-reading-preserved : goal.put_format-reading-preserved
 put_format-reading-preserved g t c =
-    let same : c.put_short.new.out.items ≡ c.reading.out.items = c.in-None.ensures.unchanged refl in
+    let same : c.put_short.new.out.items ≡ c.reading.out.items = c.in-Other.ensures.text in
     let whole : c.put_short.new.out.items ++ text_left c.args.levels c.args.t.now c.args.tm.now c.args.format.now c.reading.at ≡ c.args.out.now.items ++ expanded c.args.levels c.args.t.now c.args.tm.now c.args.format.now = rw same c.reading.invariant.text in
     let short : length c.put_short.new.out.items ≤ c.args.max = omega (arith, c.put_short.ensures.short, c.reading.invariant.most) in
     let counts : c.reading.steps + reads_left c.args.max c.args.levels c.args.t.now c.args.tm.now (length c.put_short.new.out.items) c.args.format.now c.reading.at ≡ c.args.steps.now + reads c.args.max c.args.levels c.args.t.now c.args.tm.now (length c.args.out.now.items) c.args.format.now = rw same c.reading.invariant.steps in
     let left = text_at_conversion c.args.levels c.args.t.now c.args.tm.now c.args.format.now c.reading.at c.in-Conv.modifier c.in-Conv.letter _ c.in-Conv.next c.in-Conv.ensures.stands.2 in
     let piece = converted c.args.t.now c.args.tm.now (expanded (c.args.levels - 1) c.args.t.now c.args.tm.now) (conversion c.in-Conv.modifier c.in-Conv.letter) in
     let more = reads_at_conversion c.args.max c.args.levels c.args.t.now c.args.tm.now (length c.put_short.new.out.items) c.args.format.now c.reading.at c.in-Conv.modifier c.in-Conv.letter _ c.in-Conv.next c.in-Conv.ensures.stands.2 short in
-    let longer : length c.put_conversion.new.out.items ≡ length c.put_short.new.out.items + length piece = ap length c.in_ok-put_conversion-in-Conv.ensures.text.0 ∙ length-append c.put_short.new.out.items piece in
+    let longer : length c.put_other.new.out.items ≡ length c.put_short.new.out.items + length piece = ap length c.in_ok-put_other-in-Conv.ensures.text.0 ∙ length-append c.put_short.new.out.items piece in
     record {
       within = c.in-Conv.ensures.stands.1;
       rest = behind c.args.format.now c.in-Conv.next;
       some = c.reading.invariant.some;
       most = omega arith;
-      short = omega (arith, c.in_ok-put_conversion-in-Conv.ensures.text.1, c.put_conversion.new.out.ok.0, c.put_conversion.new.out.ok.1);
+      short = omega (arith, c.in_ok-put_other-in-Conv.ensures.text.1, c.put_other.new.out.ok.0, c.put_other.new.out.ok.1);
       room = omega arith;
       bad = sym (ap (λ ps. bad_place ps) c.in-Conv.ensures.stands.2) ∙ c.reading.invariant.bad;
-      text = goes_on c.args.out.now.items (expanded c.args.levels c.args.t.now c.args.tm.now c.args.format.now) c.put_short.new.out.items c.put_conversion.new.out.items (converted c.args.t.now c.args.tm.now (expanded (c.args.levels - 1) c.args.t.now c.args.tm.now) (conversion c.in-Conv.modifier c.in-Conv.letter)) (text_left c.args.levels c.args.t.now c.args.tm.now c.args.format.now c.in-Conv.next) (ap (λ x. c.put_short.new.out.items ++ x) (sym left) ∙ whole) c.in_ok-put_conversion-in-Conv.ensures.text.0;
-      steps = rw longer (omega (arith, more, counts, c.in_ok-put_conversion-in-Conv.ensures.steps, c.in-Conv.ensures.counted));
+      text = goes_on c.args.out.now.items (expanded c.args.levels c.args.t.now c.args.tm.now c.args.format.now) c.put_short.new.out.items c.put_other.new.out.items (converted c.args.t.now c.args.tm.now (expanded (c.args.levels - 1) c.args.t.now c.args.tm.now) (conversion c.in-Conv.modifier c.in-Conv.letter)) (text_left c.args.levels c.args.t.now c.args.tm.now c.args.format.now c.in-Conv.next) (ap (λ x. c.put_short.new.out.items ++ x) (sym left) ∙ whole) c.in_ok-put_other-in-Conv.ensures.text.0;
+      steps = rw longer (omega (arith, more, counts, c.in_ok-put_other-in-Conv.ensures.steps, c.in-Conv.ensures.counted));
     }
 
-pub put_format-reading-preserved-in-Some : goal.put_format-reading-preserved-in-Some
-put_format-reading-preserved-in-Some g t c =
+pub put_format-reading-preserved-in-Added : goal.put_format-reading-preserved-in-Added
+put_format-reading-preserved-in-Added g t c =
     let step = c.step_at-step in
-    let short = c.in-Some.short in
+    let short = c.in-Added.short in
     let text = short_text c.args.t.now c.args.tm.now short in
-    let piece : IsShort c.reading.at step.result short = rw (step.ensures.exact, sym c.reading.invariant.rest) (c.in-Some.ensures.piece c.reading.at) in
-    let left = short_left c.args.levels c.args.t.now c.args.tm.now c.args.format.now c.reading.at step.result short step.ensures.stands piece c.in-Some.ensures.formatless in
+    let piece : IsShort c.reading.at step.result short = rw (step.ensures.exact, sym c.reading.invariant.rest) (c.in-Added.ensures.piece c.reading.at) in
+    let left = short_left c.args.levels c.args.t.now c.args.tm.now c.args.format.now c.reading.at step.result short step.ensures.stands piece c.in-Added.ensures.formatless in
     let fits : length c.reading.out.items ≤ c.args.max = omega (arith, c.reading.invariant.short, c.reading.invariant.most) in
-    let more = short_reads c.args.max c.args.levels c.args.t.now c.args.tm.now (length c.reading.out.items) c.args.format.now c.reading.at step.result short step.ensures.stands piece c.in-Some.ensures.formatless fits in
+    let more = short_reads c.args.max c.args.levels c.args.t.now c.args.tm.now (length c.reading.out.items) c.args.format.now c.reading.at step.result short step.ensures.stands piece c.in-Added.ensures.formatless fits in
     let within = short_within c.args.format.now c.reading.at step.result short step.ensures.stands piece in
-    let grown = c.in-Some.ensures.text in
+    let grown = c.in-Added.ensures.text in
     let longer : length c.put_short.new.out.items ≡ length c.reading.out.items + length text = ap length grown ∙ length-append c.reading.out.items text in
     record {
       within = rw c.width-taken.ensures within;
@@ -180,23 +181,93 @@ put_format-reading-preserved-in-Some g t c =
 pub put_format-slice_bounds-rest-start : goal.put_format-slice_bounds-rest-start
 put_format-slice_bounds-rest-start g t c =
     let step = c.step_at-step in
-    let short = c.in-Some.short in
-    let piece : IsShort c.reading.at step.result short = rw (step.ensures.exact, sym c.reading.invariant.rest) (c.in-Some.ensures.piece c.reading.at) in
+    let short = c.in-Added.short in
+    let piece : IsShort c.reading.at step.result short = rw (step.ensures.exact, sym c.reading.invariant.rest) (c.in-Added.ensures.piece c.reading.at) in
     let within = short_within c.args.format.now c.reading.at step.result short step.ensures.stands piece in
     omega (arith, c.width-taken.ensures, piece_within c.args.format.now c.reading.rest.now c.reading.at short c.reading.invariant.rest within)
 
 pub put_format-slice_bounds-rest-count : goal.put_format-slice_bounds-rest-count
 put_format-slice_bounds-rest-count g t c =
     let step = c.step_at-step in
-    let short = c.in-Some.short in
-    let piece : IsShort c.reading.at step.result short = rw (step.ensures.exact, sym c.reading.invariant.rest) (c.in-Some.ensures.piece c.reading.at) in
+    let short = c.in-Added.short in
+    let piece : IsShort c.reading.at step.result short = rw (step.ensures.exact, sym c.reading.invariant.rest) (c.in-Added.ensures.piece c.reading.at) in
     let within = short_within c.args.format.now c.reading.at step.result short step.ensures.stands piece in
     omega (arith, c.width-taken.ensures, piece_within c.args.format.now c.reading.rest.now c.reading.at short c.reading.invariant.rest within)
 
-pub put_format-reading-smaller-in-Some : goal.put_format-reading-smaller-in-Some
-put_format-reading-smaller-in-Some g t c =
+pub put_format-reading-smaller-in-Added : goal.put_format-reading-smaller-in-Added
+put_format-reading-smaller-in-Added g t c =
     let step = c.step_at-step in
-    let short = c.in-Some.short in
-    let piece : IsShort c.reading.at step.result short = rw (step.ensures.exact, sym c.reading.invariant.rest) (c.in-Some.ensures.piece c.reading.at) in
+    let short = c.in-Added.short in
+    let piece : IsShort c.reading.at step.result short = rw (step.ensures.exact, sym c.reading.invariant.rest) (c.in-Added.ensures.piece c.reading.at) in
     let within = short_within c.args.format.now c.reading.at step.result short step.ensures.stands piece in
     omega (arith, c.width-taken.ensures, within, width_some short)
+
+pub put_format-returns-in_err-put_inner-in-Inner-clause-text : goal.put_format-returns-in_err-put_inner-in-Inner-clause-text
+put_format-returns-in_err-put_inner-in-Inner-clause-text g t c =
+    let step = c.step_at-step-in-Inner in
+    let same : c.put_short.new.out.items ≡ c.reading.out.items = c.in-Inner.ensures.text in
+    let seen : IsSeen c.reading.at step.result (Inner c.in-Inner.key) = rw (step.ensures.exact, sym c.reading.invariant.rest) (c.in-Inner.ensures.piece c.reading.at) in
+    let whole : c.put_short.new.out.items ++ text_left c.args.levels c.args.t.now c.args.tm.now c.args.format.now c.reading.at ≡ c.args.out.now.items ++ expanded c.args.levels c.args.t.now c.args.tm.now c.args.format.now = rw same c.reading.invariant.text in
+    let p = err_from_is_err_and c.from_residual.result c.from_residual.ensures.1 in
+    let left = rw (sym c.text_of.ensures) at (inner_left c.args.levels c.args.t.now c.args.tm.now c.args.format.now c.reading.at step.result c.in-Inner.key step.ensures.stands seen) in
+    rw (p.1, p.2) (stops c.args.max c.args.out.now.items (expanded c.args.levels c.args.t.now c.args.tm.now c.args.format.now) c.put_short.new.out.items c.put_inner.new.out.items c.put_inner.new.out.items (expanded (c.args.levels - 1) c.args.t.now c.args.tm.now c.text_of.result.now) (text_left c.args.levels c.args.t.now c.args.tm.now c.args.format.now (c.reading.at + 2)) c.in_err-put_inner-in-Inner.field-0.0 (ap (λ x. c.put_short.new.out.items ++ x) (sym left) ∙ whole) c.in_err-put_inner-in-Inner.ensures.text)
+
+pub put_format-returns-in_err-put_inner-in-Inner-clause-steps : goal.put_format-returns-in_err-put_inner-in-Inner-clause-steps
+put_format-returns-in_err-put_inner-in-Inner-clause-steps g t c =
+    let step = c.step_at-step-in-Inner in
+    let same : c.put_short.new.out.items ≡ c.reading.out.items = c.in-Inner.ensures.text in
+    let seen : IsSeen c.reading.at step.result (Inner c.in-Inner.key) = rw (step.ensures.exact, sym c.reading.invariant.rest) (c.in-Inner.ensures.piece c.reading.at) in
+    let counts : c.reading.steps + reads_left c.args.max c.args.levels c.args.t.now c.args.tm.now (length c.put_short.new.out.items) c.args.format.now c.reading.at ≡ c.args.steps.now + reads c.args.max c.args.levels c.args.t.now c.args.tm.now (length c.args.out.now.items) c.args.format.now = rw same c.reading.invariant.steps in
+    let short : length c.put_short.new.out.items ≤ c.args.max = omega (arith, c.put_short.ensures.short, c.reading.invariant.most) in
+    let p = err_from_is_err_and c.from_residual.result c.from_residual.ensures.1 in
+    let more = rw (sym c.text_of.ensures) at (inner_reads c.args.max c.args.levels c.args.t.now c.args.tm.now (length c.put_short.new.out.items) c.args.format.now c.reading.at step.result c.in-Inner.key step.ensures.stands seen short) in
+    let rest = reads_left c.args.max c.args.levels c.args.t.now c.args.tm.now (length c.put_short.new.out.items + length (expanded (c.args.levels - 1) c.args.t.now c.args.tm.now c.text_of.result.now)) c.args.format.now (c.reading.at + 2) in
+    rw (p.1, p.2) (counts_stop c.args.max c.put_short.new.out.items (expanded (c.args.levels - 1) c.args.t.now c.args.tm.now c.text_of.result.now) c.put_inner.new.out.items c.in_err-put_inner-in-Inner.field-0.0 _ rest _ _
+    c.in_err-put_inner-in-Inner.ensures.text
+    c.in_err-put_inner-in-Inner.ensures.steps
+    (omega (arith, more, counts, step.ensures.counted))
+    (λ long. none_left c.args.max c.args.levels c.args.t.now c.args.tm.now (length c.put_short.new.out.items + length (expanded (c.args.levels - 1) c.args.t.now c.args.tm.now c.text_of.result.now)) c.args.format.now (c.reading.at + 2) long))
+
+pub put_format-reading-preserved-in-Inner : goal.put_format-reading-preserved-in-Inner
+put_format-reading-preserved-in-Inner g t c =
+    let step = c.step_at-step-in-Inner in
+    let same : c.put_short.new.out.items ≡ c.reading.out.items = c.in-Inner.ensures.text in
+    let seen : IsSeen c.reading.at step.result (Inner c.in-Inner.key) = rw (step.ensures.exact, sym c.reading.invariant.rest) (c.in-Inner.ensures.piece c.reading.at) in
+    let whole : c.put_short.new.out.items ++ text_left c.args.levels c.args.t.now c.args.tm.now c.args.format.now c.reading.at ≡ c.args.out.now.items ++ expanded c.args.levels c.args.t.now c.args.tm.now c.args.format.now = rw same c.reading.invariant.text in
+    let counts : c.reading.steps + reads_left c.args.max c.args.levels c.args.t.now c.args.tm.now (length c.put_short.new.out.items) c.args.format.now c.reading.at ≡ c.args.steps.now + reads c.args.max c.args.levels c.args.t.now c.args.tm.now (length c.args.out.now.items) c.args.format.now = rw same c.reading.invariant.steps in
+    let short : length c.put_short.new.out.items ≤ c.args.max = omega (arith, c.put_short.ensures.short, c.reading.invariant.most) in
+    let left = rw (sym c.text_of.ensures) at (inner_left c.args.levels c.args.t.now c.args.tm.now c.args.format.now c.reading.at step.result c.in-Inner.key step.ensures.stands seen) in
+    let more = rw (sym c.text_of.ensures) at (inner_reads c.args.max c.args.levels c.args.t.now c.args.tm.now (length c.put_short.new.out.items) c.args.format.now c.reading.at step.result c.in-Inner.key step.ensures.stands seen short) in
+    let longer : length c.put_inner.new.out.items ≡ length c.put_short.new.out.items + length (expanded (c.args.levels - 1) c.args.t.now c.args.tm.now c.text_of.result.now) = ap length c.in_ok-put_inner-in-Inner.ensures.text.0 ∙ length-append c.put_short.new.out.items (expanded (c.args.levels - 1) c.args.t.now c.args.tm.now c.text_of.result.now) in
+    record {
+      within = inner_within c.args.format.now c.reading.at step.result c.in-Inner.key step.ensures.stands seen;
+      rest = behind_piece c.args.format.now c.reading.rest.now c.reading.at 2 c.reading.invariant.rest;
+      some = c.reading.invariant.some;
+      most = omega arith;
+      short = omega (arith, c.in_ok-put_inner-in-Inner.ensures.text.1, c.put_inner.new.out.ok.0, c.put_inner.new.out.ok.1);
+      room = omega arith;
+      bad = sym (inner_bad c.args.format.now c.reading.at step.result c.in-Inner.key step.ensures.stands seen) ∙ c.reading.invariant.bad;
+      text = goes_on c.args.out.now.items (expanded c.args.levels c.args.t.now c.args.tm.now c.args.format.now) c.put_short.new.out.items c.put_inner.new.out.items (expanded (c.args.levels - 1) c.args.t.now c.args.tm.now c.text_of.result.now) (text_left c.args.levels c.args.t.now c.args.tm.now c.args.format.now (c.reading.at + 2)) (ap (λ x. c.put_short.new.out.items ++ x) (sym left) ∙ whole) c.in_ok-put_inner-in-Inner.ensures.text.0;
+      steps = rw longer (omega (arith, more, counts, c.in_ok-put_inner-in-Inner.ensures.steps, step.ensures.counted));
+    }
+
+pub put_format-slice_bounds-rest-start-in-Inner : goal.put_format-slice_bounds-rest-start-in-Inner
+put_format-slice_bounds-rest-start-in-Inner g t c =
+    let step = c.step_at-step-in-Inner in
+    let seen : IsSeen c.reading.at step.result (Inner c.in-Inner.key) = rw (step.ensures.exact, sym c.reading.invariant.rest) (c.in-Inner.ensures.piece c.reading.at) in
+    let within = inner_within c.args.format.now c.reading.at step.result c.in-Inner.key step.ensures.stands seen in
+    omega (arith, inner_rest c.args.format.now c.reading.rest.now c.reading.at c.reading.invariant.rest within)
+
+pub put_format-slice_bounds-rest-count-in-Inner : goal.put_format-slice_bounds-rest-count-in-Inner
+put_format-slice_bounds-rest-count-in-Inner g t c =
+    let step = c.step_at-step-in-Inner in
+    let seen : IsSeen c.reading.at step.result (Inner c.in-Inner.key) = rw (step.ensures.exact, sym c.reading.invariant.rest) (c.in-Inner.ensures.piece c.reading.at) in
+    let within = inner_within c.args.format.now c.reading.at step.result c.in-Inner.key step.ensures.stands seen in
+    omega (arith, inner_rest c.args.format.now c.reading.rest.now c.reading.at c.reading.invariant.rest within)
+
+pub put_format-reading-smaller-in-Inner : goal.put_format-reading-smaller-in-Inner
+put_format-reading-smaller-in-Inner g t c =
+    let step = c.step_at-step-in-Inner in
+    let seen : IsSeen c.reading.at step.result (Inner c.in-Inner.key) = rw (step.ensures.exact, sym c.reading.invariant.rest) (c.in-Inner.ensures.piece c.reading.at) in
+    let within = inner_within c.args.format.now c.reading.at step.result c.in-Inner.key step.ensures.stands seen in
+    omega (arith, within)

@@ -32,6 +32,3 @@ decreases-put_inner g l = 4 * l.levels + 1
 
 abbrev pub decreases-put_other : goal.decreases-put_other
 decreases-put_other g l = 4 * l.levels + 2
-
-abbrev pub decreases-put_conversion : goal.decreases-put_conversion
-decreases-put_conversion g l = 4 * l.levels + 3

@@ -1,7 +1,7 @@
 use Rattle.std.proofs.Common.{◌≡◌, ◌-◌, ◌≤◌, ◌++◌, length, drop, None}
 use Rattle.strfmon.specs.Formats.{pieces}
 use Rattle.strfmon.specs.Money.{refusal, good_pieces, pieces_text}
-use Rattle.strfmon.proofs.pieces_text.Given as goal
+use Rattle.strfmon.proofs.put_pieces.Given as goal
 
 abbrev pub invariant-loop-at : goal.invariant-loop-at
 invariant-loop-at l = record {

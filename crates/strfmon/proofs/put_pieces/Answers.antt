@@ -5,7 +5,7 @@ use Rattle.strfmon.specs.Formats.{pieces, followed}
 use Rattle.strfmon.specs.Money.{refusal, good_pieces, pieces_text, piece_text, amounts_behind, within, unless_refused}
 use Rattle.strfmon.proofs.FormatLemmas.{pieces_over}
 use Rattle.strfmon.proofs.MoneyLemmas.{text_of_piece, refusal_at_end, refuses, too_long, all_written, nothing_behind}
-use Rattle.strfmon.proofs.pieces_text.Goals as goal
+use Rattle.strfmon.proofs.put_pieces.Goals as goal
 
 pub returns-in-Err-clause-fault : goal.returns-in-Err-clause-fault
 returns-in-Err-clause-fault c = λ good.
