@@ -33,19 +33,21 @@ pub fn print_beside<R: Threads + Sync>(
         let text = text_of(alloc, all, names)?;
         return Ok(Pieces::of(alloc, ByteText::from_vec(text)));
     }
-    let (left, right) = all.split_at(half_of(all));
-    let (front, back) = thread::join(
+    let quarter = weight_of(all) / 4;
+    let (first, others) = all.split_at(front_of(all, quarter));
+    let (one, three) = thread::join(
         rt,
-        || -> Result<Halves, AllocError>
+        || -> Result<Vec<u8>, AllocError>
+            ensures { IfOk result (λ text. text.items ≡ printed first.entry.now names.entry.now) }
+        { text_of(alloc, first, names) },
+        || -> Result<(Vec<u8>, Halves), AllocError>
             requires { IsSync R.row }
-            ensures { IfOk result (λ h. h.front.items ++ h.back.items ≡ printed left.entry.now names.entry.now) }
-        { text_by_two(rt, alloc, left, names) },
-        || -> Result<Halves, AllocError>
-            requires { IsSync R.row }
-            ensures { IfOk result (λ h. h.front.items ++ h.back.items ≡ printed right.entry.now names.entry.now) }
-        { text_by_two(rt, alloc, right, names) },
+            ensures { IfOk result (λ t. t.0.items ++ (t.1.front.items ++ t.1.back.items) ≡ printed others.entry.now names.entry.now) }
+        { text_by_three(rt, alloc, others, names, quarter) },
     );
-    Ok(Pieces::new(front?, back?))
+    let front = one?;
+    let (back, rest) = three?;
+    Ok(Pieces::new(Halves { front, back }, rest))
 }
 
 /// About how many bytes of text the lines have.
@@ -57,14 +59,13 @@ fn weight_of(lines: &[OutLine]) -> usize {
     sum
 }
 
-/// How many lines at the front have about half of the bytes of text.
-fn half_of(lines: &[OutLine]) -> usize
+/// How many lines at the front have about so many bytes of text.
+fn front_of(lines: &[OutLine], bytes: usize) -> usize
     ensures { result ≤ length lines.now }
 {
-    let half = weight_of(lines) / 2;
     let mut reached = 0;
     for (i, line) in lines.iter().enumerate() {
-        if half <= reached {
+        if bytes <= reached {
             return i;
         }
         reached = weight(line).saturating_add(reached);
@@ -72,16 +73,42 @@ fn half_of(lines: &[OutLine]) -> usize
     lines.len()
 }
 
-/// The text of lines, each half by a thread.
+/// The text of lines by three threads, of which this one starts the others: one that just began may have
+/// to share its processor with one that it starts. Each but the last makes about so many bytes.
+fn text_by_three<R: Threads + Sync>(
+    rt: &R,
+    alloc: Global,
+    lines: &[OutLine],
+    names: &List<ByteText>,
+    bytes: usize,
+) -> Result<(Vec<u8>, Halves), AllocError>
+    ensures { IfOk result (λ t. t.0.items ++ (t.1.front.items ++ t.1.back.items) ≡ printed lines.now names.now) }
+{
+    let (first, others) = lines.split_at(front_of(lines, bytes));
+    let (one, two) = thread::join(
+        rt,
+        || -> Result<Vec<u8>, AllocError>
+            ensures { IfOk result (λ text. text.items ≡ printed first.entry.now names.entry.now) }
+        { text_of(alloc, first, names) },
+        || -> Result<Halves, AllocError>
+            requires { IsSync R.row }
+            ensures { IfOk result (λ h. h.front.items ++ h.back.items ≡ printed others.entry.now names.entry.now) }
+        { text_by_two(rt, alloc, others, names, bytes) },
+    );
+    Ok((one?, two?))
+}
+
+/// The text of lines by two threads, the one of about so many bytes.
 fn text_by_two<R: Threads + Sync>(
     rt: &R,
     alloc: Global,
     lines: &[OutLine],
     names: &List<ByteText>,
+    bytes: usize,
 ) -> Result<Halves, AllocError>
     ensures { IfOk result (λ h. h.front.items ++ h.back.items ≡ printed lines.now names.now) }
 {
-    let (left, right) = lines.split_at(half_of(lines));
+    let (left, right) = lines.split_at(front_of(lines, bytes));
     let (front, back) = thread::join(
         rt,
         || -> Result<Vec<u8>, AllocError>
