@@ -8,6 +8,7 @@ pub mod Beginning
 pub mod Closing
 pub mod Counted
 pub mod Counting
+pub mod EachPlace
 pub mod Growth
 pub mod History
 pub mod HoldLists

@@ -3,3 +3,4 @@ pub mod SeatLaws
 pub mod Timed
 pub mod Beside
 pub mod Rounds
+pub mod Places

@@ -1,6 +1,7 @@
 //! The script of a bundle, run with the threads of each round beside each other.
 #![tactic(auto)]
 
+mod each;
 mod pause;
 mod rounds;
 mod seated;

@@ -15,6 +15,7 @@ ghost use Rattle.script_run.specs.Seated.{gates};
 ghost use Rattle.script_run.specs.Beside.{stock};
 ghost use Rattle.script_run.specs.Rounds.{Each, EachTwo, plan_made, mine_of, reader_at, IsFor, IsForAsked, IsFirst, MayWork, HasWorked, HasGiven, IsOfBoth, IsOrderly, HasSeenOf, SeesMore, HasMet, AllMet, AreBetween, SeatSeesMore, AreClosing};
 
+use crate::each::for_each_beside;
 use crate::pause::Pause;
 use crate::seated::Seated;
 use crate::worker::{Common, Worker};
@@ -29,7 +30,6 @@ use script_out::OutLine;
 use script_serial::Plan;
 use std::alloc::{AllocError, Global};
 use std::sync::Wait;
-use std::thread;
 use std::thread::Threads;
 use thread_current::{Locales, Mine, Shared};
 use turn_gate::Seat;
@@ -137,12 +137,11 @@ fn side_by_side<R: Threads + Wait + Sync, P: Pause + Sync>(
     requires { Each workers.old (λ i w. MayWork (gates common.now.shared.now common.now.catalogs.now) (stock common.now.library.now common.now.books.now) (map turn_seen turns.now) w) }
     ensures { EachTwo workers.old workers.new (λ i old new. HasWorked (gates common.now.shared.now common.now.catalogs.now) (stock common.now.library.now common.now.books.now) (map turn_seen turns.now) old new) }
 {
-    let count = workers.len().max(1);
     let work = |_: usize, worker: &mut Worker|
         requires { MayWork (gates common.now.shared.now common.now.catalogs.now) (stock common.now.library.now common.now.books.now) (map turn_seen turns.now) worker.old }
         ensures { HasWorked (gates common.entry.now.shared.now common.entry.now.catalogs.now) (stock common.entry.now.library.now common.entry.now.books.now) (map turn_seen turns.entry.now) worker.old worker.new }
     { worker.work(common, turns) };
-    thread::for_each_mut(common.rt, workers, count, &work);
+    for_each_beside(common.rt, workers, &work);
 }
 
 /// Takes the lines of the round from the workers, in order of their numbers.
