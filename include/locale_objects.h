@@ -15,6 +15,8 @@
  *
  * Who frees. An object that a call put into `out` is given back by lo_freelocale, once, in any order and on
  * any thread. Nothing else is to be freed: all other answers are numbers, or stand in the caller's memory.
+ * With an object goes the block of memory, of at most 4096 bytes, that its handle keeps from one text of amounts
+ * or of a time to the next.
  *
  * Texts are given by a pointer and a number of bytes, need no NUL, and may have any bytes. Buffers are
  * given with their size. A text that a call gives stands at the front of the buffer with a NUL behind

@@ -333,24 +333,44 @@ static lo_answer want_conventions(lo_object *object, lo_object *out, char *buffe
 static wanting_call *const wanting_calls[] = { want_library, want_object, want_duplicate, want_money,
                                                want_time, want_numbers, want_conventions };
 
-/* Each of the allocations of each call fails in turn: the call says so, and leaves all as it was. */
+/*
+ * Each of the allocations of each call fails in turn: the call says so, and leaves all as it was. Each is made
+ * of an object that has given no text yet, and keeps no block of memory for the next.
+ */
 static void run_out_of_memory(lo_object *us) {
     for (size_t i = 0; i < sizeof wanting_calls / sizeof *wanting_calls; i++) {
-        lo_object out = LO_NOTHING;
+        lo_object own = LO_NOTHING, out = LO_NOTHING;
         char buffer[64];
         lo_answer answer = { LO_NO_MEMORY, 0 };
         long given = 0;
+        CHECK(is(lo_duplocale(us, &own), LO_OK, 0));
         memset(buffer, 'x', sizeof buffer);
         for (; answer.code == LO_NO_MEMORY; given++) {
-            CHECK(answer.n == 0 && !out.full && us->full && is_untouched(buffer, buffer + sizeof buffer));
+            CHECK(answer.n == 0 && !out.full && own.full && is_untouched(buffer, buffer + sizeof buffer));
             blocks_left = given;
-            answer = wanting_calls[i](us, &out, buffer, sizeof buffer);
+            answer = wanting_calls[i](&own, &out, buffer, sizeof buffer);
             blocks_left = -1;
         }
         CHECK(is(answer, LO_OK, answer.n));
-        if (out.full) CHECK(given > 1);
+        CHECK(given > 1);
         lo_freelocale(&out);
+        lo_freelocale(&own);
     }
+}
+
+/* Amounts and times ask for no memory where the same object gave a text before that was as long. */
+static void keep_a_block(lo_object *us) {
+    lo_object own = LO_NOTHING;
+    char text[64];
+    size_t time, money;
+    CHECK(is(lo_duplocale(us, &own), LO_OK, 0));
+    time = time_text(text, sizeof text, &own, 99).n;
+    money = money_text(text, sizeof text, &own, 99).n;
+    blocks_left = 0;
+    CHECK(is(time_text(text, sizeof text, &own, 99), LO_OK, time));
+    CHECK(is(money_text(text, sizeof text, &own, 99), LO_OK, money));
+    blocks_left = -1;
+    lo_freelocale(&own);
 }
 
 enum { THREADS = 4 };
@@ -417,6 +437,7 @@ int main(int count, char **words) {
     scan_times(&us);
     for (int i = 0; i < TEXT_CALLS; i++) try_each_size(text_calls[i], &us);
     run_out_of_memory(&us);
+    keep_a_block(&us);
     run_threads(&us);
     lo_freelocale(&us);
     puts(wrong ? "calls: not as wanted" : "calls: as wanted");

@@ -6,8 +6,8 @@ use Rattle.std_alloc.proofs.BoxSteps.Form.{Bx}
 use Rattle.std_heap.specs.contracts.Global as Heap
 use Rattle.std_heap.specs.contracts.GlobalAllocator.TheImpl.{ghosts, dict}
 use Rattle.std_heap.proofs.Global.TheLaws as heap
-use Rattle.shared_objects.specs.contracts.object.SharedObject as Object
-use Rattle.shared_objects.proofs.object.SharedObject.TheLaws as object
+use Rattle.locale_c.specs.contracts.held.Held as Object
+use Rattle.locale_c.proofs.held.Held.TheLaws as object
 use Rattle.locale_c.specs.contracts.parts.Parts as Parts
 use Rattle.locale_c.specs.contracts.hold.Hold as Hold
 

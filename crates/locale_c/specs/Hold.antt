@@ -7,7 +7,7 @@ use Rattle.std.specs.Coded.{coded_option}
 use Rattle.std.specs.Box.Ownership.{box_owns}
 use Rattle.std.specs.Global.{Global}
 use Rattle.std_heap.specs.contracts.GlobalAllocator.TheImpl.{ghosts}
-use Rattle.shared_objects.specs.contracts.object.SharedObject.{the_row}
+use Rattle.locale_c.specs.contracts.held.Held.{the_row}
 
 abbrev pub hold_owns : Global → Ptr → Option the_row.Denot → Fml
 hold_owns alloc at None = ftrue

@@ -71,7 +71,7 @@ pub extern "C" fn lo_newlocale(
     match base.take(alloc) {
         None => answered(NO_OBJECT, 0),
         Some(held) => {
-            let answer = or_memory(compose_into(alloc, mask, name, &held, out));
+            let answer = or_memory(compose_into(alloc, mask, name, held.object(), out));
             base.put(held);
             answer
         }
@@ -92,7 +92,7 @@ pub extern "C" fn lo_duplocale(alloc: Global, object: &mut LoObject, out: &mut L
     match object.take(alloc) {
         None => answered(NO_OBJECT, 0),
         Some(held) => {
-            let answer = or_memory(share_into(alloc, &held, out));
+            let answer = or_memory(share_into(alloc, held.object(), out));
             object.put(held);
             answer
         }
@@ -123,8 +123,8 @@ pub extern "C" fn lo_strfmon_l(
 {
     match object.take(alloc) {
         None => answered(NO_OBJECT, 0),
-        Some(held) => {
-            let answer = or_memory(put_amounts(alloc, buffer, &held, format, amounts));
+        Some(mut held) => {
+            let answer = or_memory(put_amounts(alloc, buffer, &mut held, format, amounts));
             object.put(held);
             answer
         }
@@ -148,8 +148,8 @@ pub extern "C" fn lo_strftime_l(
 {
     match object.take(alloc) {
         None => answered(NO_OBJECT, 0),
-        Some(held) => {
-            let answer = or_memory(put_tm(alloc, buffer, &held, format, tm, zone));
+        Some(mut held) => {
+            let answer = or_memory(put_tm(alloc, buffer, &mut held, format, tm, zone));
             object.put(held);
             answer
         }
@@ -172,7 +172,7 @@ pub extern "C" fn lo_nl_langinfo_l(
     match object.take(alloc) {
         None => answered(NO_OBJECT, 0),
         Some(held) => {
-            let answer = or_memory(put_item(alloc, buffer, &held, item));
+            let answer = or_memory(put_item(alloc, buffer, held.object(), item));
             object.put(held);
             answer
         }
@@ -196,7 +196,7 @@ pub extern "C" fn lo_localeconv_l(
     match object.take(alloc) {
         None => answered(NO_OBJECT, 0),
         Some(held) => {
-            let answer = or_memory(put_conv(alloc, buffer, fields, &held));
+            let answer = or_memory(put_conv(alloc, buffer, fields, held.object()));
             object.put(held);
             answer
         }
@@ -220,7 +220,7 @@ pub extern "C" fn lo_int_format_l(
     match object.take(alloc) {
         None => answered(NO_OBJECT, 0),
         Some(held) => {
-            let answer = or_memory(put_numbers(alloc, buffer, &held, format, numbers));
+            let answer = or_memory(put_numbers(alloc, buffer, held.object(), format, numbers));
             object.put(held);
             answer
         }
@@ -241,7 +241,7 @@ pub extern "C" fn lo_iswctype_l(
     match object.take(alloc) {
         None => answered(NO_OBJECT, 0),
         Some(held) => {
-            let answer = class_told(held.is(class, value));
+            let answer = class_told(held.object().is(class, value));
             object.put(held);
             answer
         }
@@ -257,7 +257,7 @@ pub extern "C" fn lo_wctype_l(alloc: Global, class: &[u8], object: &mut LoObject
     match object.take(alloc) {
         None => answered(NO_OBJECT, 0),
         Some(held) => {
-            let answer = number_told(held.class_number(class));
+            let answer = number_told(held.object().class_number(class));
             object.put(held);
             answer
         }
@@ -278,7 +278,7 @@ pub extern "C" fn lo_isclass_l(
     match object.take(alloc) {
         None => answered(NO_OBJECT, 0),
         Some(held) => {
-            let answer = class_told(held.is_in(number, value));
+            let answer = class_told(held.object().is_in(number, value));
             object.put(held);
             answer
         }
@@ -294,7 +294,7 @@ pub extern "C" fn lo_towupper_l(alloc: Global, value: u32, object: &mut LoObject
     match object.take(alloc) {
         None => answered(NO_OBJECT, 0),
         Some(held) => {
-            let answer = answered(OK, held.upper(value) as usize);
+            let answer = answered(OK, held.object().upper(value) as usize);
             object.put(held);
             answer
         }
@@ -310,7 +310,7 @@ pub extern "C" fn lo_towlower_l(alloc: Global, value: u32, object: &mut LoObject
     match object.take(alloc) {
         None => answered(NO_OBJECT, 0),
         Some(held) => {
-            let answer = answered(OK, held.lower(value) as usize);
+            let answer = answered(OK, held.object().lower(value) as usize);
             object.put(held);
             answer
         }
@@ -332,7 +332,7 @@ pub extern "C" fn lo_strptime_l(
     match object.take(alloc) {
         None => answered(NO_OBJECT, 0),
         Some(held) => {
-            let answer = put_fields(fields, held.strptime(format, text));
+            let answer = put_fields(fields, held.object().strptime(format, text));
             object.put(held);
             answer
         }

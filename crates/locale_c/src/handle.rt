@@ -2,8 +2,8 @@
 
 ghost use Rattle.std.specs.Prelude.{◌≡◌, ◌↔◌, true, Some, None, IsSome, IsTrue, IsFalse, MatchOption};
 
+use crate::held::Held;
 use crate::hold::Hold;
-use shared_objects::SharedObject;
 use std::alloc::Global;
 use std::mem::replace;
 
@@ -28,7 +28,7 @@ impl LoObject {
     }
 
     /// A handle of an object.
-    fn of(object: Box<SharedObject>) -> LoObject
+    fn of(object: Box<Held>) -> LoObject
         ensures { result.hold.object ≡ Some object.value }
     {
         LoObject {
@@ -46,7 +46,7 @@ impl LoObject {
     }
 
     /// Takes the object out.
-    pub fn take(&mut self, alloc: Global) -> Option<Box<SharedObject>>
+    pub fn take(&mut self, alloc: Global) -> Option<Box<Held>>
         ensures taken { MatchOption result (self.old.hold.object ≡ None) (λ b. self.old.hold.object ≡ Some b.value) }
         ensures empty { self.new.hold.object ≡ None }
     {
@@ -55,7 +55,7 @@ impl LoObject {
     }
 
     /// Puts an object in.
-    pub fn put(&mut self, object: Box<SharedObject>)
+    pub fn put(&mut self, object: Box<Held>)
         requires { self.old.hold.object ≡ None }
         ensures { self.new.hold.object ≡ Some object.value }
     {

@@ -4,8 +4,8 @@ ghost use Rattle.std.specs.Prelude.{◌≡◌, Option, Some, None, IsSome};
 ghost use Rattle.shared_objects.specs.Shared.{Shared};
 ghost use Rattle.locale_c.specs.Hold.{object_coded, hold_owns};
 
+use crate::held::Held;
 use crate::parts::Parts;
-use shared_objects::SharedObject;
 use std::alloc::Global;
 use std::marker::Model;
 use std::ptr::null_mut;
@@ -31,21 +31,21 @@ impl Model for Hold {
 
 impl Hold {
     /// A hold of an object.
-    pub fn of(object: Box<SharedObject>) -> Hold
+    pub fn of(object: Box<Held>) -> Hold
         ensures { result.object ≡ Some object.value }
     {
         Hold::of_parts(Parts::of(object))
     }
 
     /// The object again.
-    pub fn into_box(self) -> Box<SharedObject>
+    pub fn into_box(self) -> Box<Held>
         requires { IsSome self.object }
         ensures { self.object ≡ Some result.value }
     {
         self.into_parts().into_box()
     }
 
-    fn of_parts(parts: Parts<SharedObject, Global>) -> Hold
+    fn of_parts(parts: Parts<Held, Global>) -> Hold
         ensures { result.object ≡ Some parts.value }
     {
         let Parts { ptr, alloc } = parts;
@@ -55,13 +55,13 @@ impl Hold {
         }
     }
 
-    fn into_parts(self) -> Parts<SharedObject, Global>
+    fn into_parts(self) -> Parts<Held, Global>
         requires { IsSome self.object }
         ensures { self.object ≡ Some result.value }
     {
         let Hold { at, alloc } = self;
         Parts {
-            ptr: at as *mut SharedObject,
+            ptr: at as *mut Held,
             alloc,
         }
     }

@@ -8,6 +8,7 @@ mod conv;
 mod exports;
 mod fault;
 mod handle;
+mod held;
 mod hold;
 mod items;
 mod numbers;

@@ -7,6 +7,7 @@ ghost use Rattle.locale_c.specs.Answers.{UnlessOk, IsRead, number_told, class_to
 use crate::answer::{BAD_MASK, LoAnswer, NO_CLASS, NO_DATA, OK, answered};
 use crate::fault::{LoPlace, place_of, put_fault};
 use crate::handle::LoObject;
+use crate::held::Held;
 use lc_base::{Mask, TextFault};
 use shared_objects::{NewFault, SharedObject};
 use std::alloc::{AllocError, Global};
@@ -18,8 +19,8 @@ fn fill(alloc: Global, out: &mut LoObject, object: SharedObject) -> Result<LoAns
     ensures kept { OnErr result (out.new.hold.object ≡ out.old.hold.object) }
     ensures refused { IfOk result (λ a. UnlessOk a (out.new.hold.object ≡ out.old.hold.object)) }
 {
-    let object = Box::new(alloc, object)?;
-    out.put(object);
+    let held = Box::new(alloc, Held::of(alloc, object))?;
+    out.put(held);
     Ok(answered(OK, 0))
 }
 

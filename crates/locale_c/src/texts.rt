@@ -3,25 +3,22 @@
 ghost use Rattle.std.specs.Prelude.{◌≡◌, IfOk, OnErr, length, true};
 ghost use Rattle.std.specs.List.{list_all};
 ghost use Rattle.int_format.specs.Ints.{is_number, at_most, ints};
-ghost use Rattle.strfmon.specs.Money.{money};
-ghost use Rattle.strftime_fields.specs.Answers.{answer};
-ghost use Rattle.shared_objects.specs.Objects.{numeric_in, monetary_in, time_in};
+ghost use Rattle.shared_objects.specs.Objects.{numeric_in};
 ghost use Rattle.locale_c.specs.Items.{item_of};
-ghost use Rattle.locale_c.specs.Answers.{UnlessOk, item_told, money_told, amounts_told, tm_given, time_told, tm_told, ints_told, numbers_told};
+ghost use Rattle.locale_c.specs.Answers.{UnlessOk, item_told, amounts_told, tm_given, tm_told, ints_told, numbers_told};
 
 use crate::amounts::{LoAmount, amount_of, amounts_given, are_scaled};
 use crate::answer::{
     BAD_AMOUNT, BAD_FORMAT, LoAnswer, MISSING, NO_ITEM, TM_RANGE, TOO_SMALL, answered,
 };
 use crate::buffer::put_text;
+use crate::held::Held;
 use crate::items::item_of;
 use crate::numbers::numbers_given;
 use crate::times::{LoTm, field_number, tm_given};
 use int_format::IntFault;
 use shared_objects::SharedObject;
 use std::alloc::{AllocError, Global};
-use strfmon::{Amount, MoneyFault};
-use strftime_fields::{TimeFault, Tm};
 
 /// Puts the text of an item into a buffer.
 pub fn put_item(
@@ -43,36 +40,16 @@ pub fn put_item(
     }
 }
 
-/// Puts the text of amounts that strfmon takes into a buffer.
-fn put_money(
-    alloc: Global,
-    buffer: &mut [u8],
-    object: &SharedObject,
-    format: &[u8],
-    amounts: &[Amount],
-) -> Result<LoAnswer, AllocError>
-    ensures told { IfOk result (λ a. (a, buffer.new) ≡ money_told buffer.old (money (monetary_in object.now) format.now amounts.now (length buffer.old))) }
-    ensures kept { OnErr result (buffer.new ≡ buffer.old) }
-    ensures untouched { IfOk result (λ a. UnlessOk a (buffer.new ≡ buffer.old)) }
-{
-    match object.strfmon(alloc, format, amounts, buffer.len()) {
-        Ok(text) => Ok(put_text(buffer, text.as_bytes())),
-        Err(MoneyFault::BadFormat { at }) => Ok(answered(BAD_FORMAT, at)),
-        Err(MoneyFault::MissingAmount { at }) => Ok(answered(MISSING, at)),
-        Err(MoneyFault::TooBig) => Ok(answered(TOO_SMALL, 0)),
-        Err(MoneyFault::Memory) => Err(AllocError),
-    }
-}
-
 /// Puts the text of amounts into a buffer. A single one takes no memory for its list.
 pub fn put_amounts(
     alloc: Global,
     buffer: &mut [u8],
-    object: &SharedObject,
+    held: &mut Held,
     format: &[u8],
     amounts: &[LoAmount],
 ) -> Result<LoAnswer, AllocError>
-    ensures told { IfOk result (λ a. (a, buffer.new) ≡ amounts_told buffer.old object.now format.now amounts.now) }
+    ensures same { held.new ≡ held.old }
+    ensures told { IfOk result (λ a. (a, buffer.new) ≡ amounts_told buffer.old held.old format.now amounts.now) }
     ensures kept { OnErr result (buffer.new ≡ buffer.old) }
     ensures untouched { IfOk result (λ a. UnlessOk a (buffer.new ≡ buffer.old)) }
 {
@@ -80,31 +57,11 @@ pub fn put_amounts(
         return Ok(answered(BAD_AMOUNT, 0));
     }
     match amounts {
-        [amount] => put_money(alloc, buffer, object, format, &[amount_of(*amount)]),
+        [amount] => held.put_money(alloc, buffer, format, &[amount_of(*amount)]),
         amounts => {
             let given = amounts_given(alloc, amounts)?;
-            put_money(alloc, buffer, object, format, given.as_slice())
+            held.put_money(alloc, buffer, format, given.as_slice())
         }
-    }
-}
-
-/// Puts the text of a time that strftime takes into a buffer.
-fn put_time(
-    alloc: Global,
-    buffer: &mut [u8],
-    object: &SharedObject,
-    format: &[u8],
-    tm: &Tm,
-) -> Result<LoAnswer, AllocError>
-    ensures told { IfOk result (λ a. (a, buffer.new) ≡ time_told buffer.old (answer (time_in object.now) tm.now format.now (length buffer.old))) }
-    ensures kept { OnErr result (buffer.new ≡ buffer.old) }
-    ensures untouched { IfOk result (λ a. UnlessOk a (buffer.new ≡ buffer.old)) }
-{
-    match object.strftime(alloc, format, tm, buffer.len()) {
-        Ok(text) => Ok(put_text(buffer, text.as_bytes())),
-        Err(TimeFault::BadFormat { at }) => Ok(answered(BAD_FORMAT, at)),
-        Err(TimeFault::TooBig) => Ok(answered(TOO_SMALL, 0)),
-        Err(TimeFault::Memory) => Err(AllocError),
     }
 }
 
@@ -112,17 +69,18 @@ fn put_time(
 pub fn put_tm(
     alloc: Global,
     buffer: &mut [u8],
-    object: &SharedObject,
+    held: &mut Held,
     format: &[u8],
     tm: &LoTm,
     zone: &[u8],
 ) -> Result<LoAnswer, AllocError>
-    ensures told { IfOk result (λ a. (a, buffer.new) ≡ tm_told buffer.old object.now format.now (tm_given tm.now zone.now)) }
+    ensures same { held.new ≡ held.old }
+    ensures told { IfOk result (λ a. (a, buffer.new) ≡ tm_told buffer.old held.old format.now (tm_given tm.now zone.now)) }
     ensures kept { OnErr result (buffer.new ≡ buffer.old) }
     ensures untouched { IfOk result (λ a. UnlessOk a (buffer.new ≡ buffer.old)) }
 {
     match tm_given(alloc, tm, zone)? {
-        Ok(tm) => put_time(alloc, buffer, object, format, &tm),
+        Ok(tm) => held.put_time(alloc, buffer, format, &tm),
         Err(range) => Ok(answered(TM_RANGE, field_number(range.field))),
     }
 }

@@ -40,11 +40,22 @@ fn offset_of(tm: &LoTm) -> Option<i32>
     if tm.has_offset { Some(tm.offset) } else { None }
 }
 
+/// A copy of the name of a zone, which is most often empty.
+#[inline(always)]
+fn zone_of(alloc: Global, zone: &[u8]) -> Result<ByteText, AllocError>
+    ensures { IfOk result (λ text. text ≡ zone.now) }
+{
+    match zone {
+        [] => Ok(ByteText::from_vec(Vec::new(alloc))),
+        [_, ..] => ByteText::of(alloc, zone),
+    }
+}
+
 /// The time with a zone, or its first field out of its range.
 pub fn tm_given(alloc: Global, tm: &LoTm, zone: &[u8]) -> Result<Result<Tm, TmRange>, AllocError>
     ensures { IfOk result (λ given. given ≡ tm_given tm.now zone.now) }
 {
-    let zone = ByteText::of(alloc, zone)?;
+    let zone = zone_of(alloc, zone)?;
     Ok(Tm::new(
         tm.year,
         tm.mon,

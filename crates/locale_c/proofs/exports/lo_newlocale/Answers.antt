@@ -11,9 +11,9 @@ returns-in-Some-clause-made c =
     let a : LoAnswer = c.or_memory-answer.result in
     let out : Option Shared = c.compose_into.new.out.hold.object in
     let empty : c.args.out.now.hold.object ≡ None = search rules in
-    let full : c.args.base.now.hold.object ≡ Some c.deref.result.now = cc (c.in-Some.ensures.taken, c.deref.ensures) in
-    let wanted : into_handle c.args.out.now.hold.object (new_made c.args.base.now.hold.object c.args.mask c.args.name.now) ≡ new_of c.deref.result.now c.args.mask c.args.name.now =
+    let full : c.args.base.now.hold.object ≡ Some c.object.result.now = cc (c.in-Some.ensures.taken, c.deref.ensures, c.object.ensures) in
+    let wanted : into_handle c.args.out.now.hold.object (new_made c.args.base.now.hold.object c.args.mask c.args.name.now) ≡ new_of c.object.result.now c.args.mask c.args.name.now =
     ap (λ (o : Option Shared). into_handle o (new_made c.args.base.now.hold.object c.args.mask c.args.name.now)) empty
     ∙ ap (λ (b : Option Shared). new_made b c.args.mask c.args.name.now) full in
     subst (λ (w : LoAnswer × Option Shared). UnlessMemory a ((a, out) ≡ w)) (sym wanted)
-    (told_unless_memory c.compose_into.result a out (new_of c.deref.result.now c.args.mask c.args.name.now) c.compose_into.ensures.made c.or_memory-answer.ensures)
+    (told_unless_memory c.compose_into.result a out (new_of c.object.result.now c.args.mask c.args.name.now) c.compose_into.ensures.made c.or_memory-answer.ensures)

@@ -11,8 +11,8 @@ use Rattle.std.specs.Global.{Global}
 use Rattle.std.proofs.Crossing as heap
 use Rattle.std_alloc.proofs.SendSync.{quiet, lies}
 use Rattle.std_heap.proofs.Global.TheSendSync as handle
-use Rattle.shared_objects.specs.contracts.object.SharedObject as Object
-use Rattle.shared_objects.proofs.object.SharedObject.TheSendSync.{the_send as object}
+use Rattle.locale_c.specs.contracts.held.Held as Object
+use Rattle.locale_c.proofs.held.Held.TheSendSync.{the_send as object}
 use Rattle.locale_c.specs.Hold.{hold_owns}
 use Rattle.locale_c.specs.contracts.hold.Hold.{the_row, the_type}
 
