@@ -2,9 +2,8 @@
 #![tactic(auto)]
 
 mod answers;
-mod many;
 mod outcome;
-mod progress;
+mod scripts;
 mod writing;
 
 use crate::outcome::outcome_of;

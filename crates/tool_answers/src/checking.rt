@@ -1,0 +1,73 @@
+//! Files that are checked one after another.
+
+use crate::gathered::Gathered;
+use crate::progress::Progress;
+use clap::ArgMatches;
+use std::alloc::Global;
+use std::rt::Files;
+use std::time::Clock;
+use tool_check::{Checking, check_file};
+use tool_commands::strs;
+use tool_words::{Answer, Problem};
+
+/// Checks files: the status is 1 where one is refused.
+pub fn check_files<R: Files + Clock + Eprint>(
+    rt: &R,
+    alloc: Global,
+    given: &ArgMatches<'_>,
+    is_watched: bool,
+) -> Result<Answer, Problem> {
+    let how = Checking {
+        charmap: given.get_str("charmap"),
+        folders: strs(given, "path"),
+        summary: given.get_flag("summary"),
+    };
+    let mut gathered = Gathered::new(alloc);
+    let mut progress = Progress::begin(rt, is_watched);
+    let paths = checked_paths(given);
+    let worked = add_checked(rt, alloc, &how, paths, &mut progress, &mut gathered);
+    progress.end(rt);
+    gathered.answer(worked)
+}
+
+/// The files that are checked: the charmap, where it stands alone.
+fn checked_paths<'a>(given: &'a ArgMatches<'_>) -> &'a [&'a str] {
+    let files = strs(given, "FILE");
+    if files.is_empty() {
+        strs(given, "charmap")
+    } else {
+        files
+    }
+}
+
+/// Checks files one after another.
+fn add_checked<R: Files + Clock + Eprint>(
+    rt: &R,
+    alloc: Global,
+    how: &Checking<'_>,
+    paths: &[&str],
+    progress: &mut Progress,
+    gathered: &mut Gathered,
+) -> Result<(), Problem> {
+    let mut done = 0usize;
+    for path in paths {
+        add_file(rt, alloc, how, path, gathered)?;
+        done = done.saturating_add(1);
+        progress.show(rt, done, paths.len());
+    }
+    Ok(())
+}
+
+fn add_file<R: Files>(
+    rt: &R,
+    alloc: Global,
+    how: &Checking<'_>,
+    path: &str,
+    gathered: &mut Gathered,
+) -> Result<(), Problem> {
+    let output = &mut gathered.output;
+    if !check_file(rt, alloc, how, path, output, &mut gathered.messages)? {
+        gathered.status = 1;
+    }
+    Ok(())
+}
