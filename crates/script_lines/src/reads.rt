@@ -150,17 +150,46 @@ fn conv_texts(
     ensures { IfOk result (λ texts. texts ≡ conv_texts (lconv_of fields.now)) }
 {
     let mut texts = Texts::with_room(alloc, ROOM)?;
+    push_number_texts(&mut texts, block, fields)?;
+    push_money_texts(&mut texts, fields)?;
+    push_sign_texts(&mut texts, block, fields)?;
+    Ok(texts)
+}
+
+/// Adds the texts of plain numbers.
+fn push_number_texts(
+    texts: &mut Texts,
+    block: &mut Vec<u8>,
+    fields: &LentConv<'_>,
+) -> Result<(), AllocError>
+    ensures { OnOk result (texts.new ≡ texts.old ++ fields.now.decimal_point.now ∷ fields.now.thousands_sep.now ∷ sizes_text (map encoded fields.now.grouping.now) ∷ []) }
+{
     texts.push(fields.decimal_point)?;
     texts.push(fields.thousands_sep)?;
-    push_sizes(&mut texts, block, fields.grouping)?;
+    push_sizes(texts, block, fields.grouping)
+}
+
+/// Adds the texts of amounts of money up to their groups.
+fn push_money_texts(texts: &mut Texts, fields: &LentConv<'_>) -> Result<(), AllocError>
+    ensures { OnOk result (texts.new ≡ texts.old ++ fields.now.int_curr_symbol.now ∷ fields.now.currency_symbol.now ∷ fields.now.mon_decimal_point.now ∷ fields.now.mon_thousands_sep.now ∷ []) }
+{
     texts.push(fields.int_curr_symbol)?;
     texts.push(fields.currency_symbol)?;
     texts.push(fields.mon_decimal_point)?;
-    texts.push(fields.mon_thousands_sep)?;
-    push_sizes(&mut texts, block, fields.mon_grouping)?;
+    texts.push(fields.mon_thousands_sep)
+}
+
+/// Adds the texts of amounts of money from their groups on.
+fn push_sign_texts(
+    texts: &mut Texts,
+    block: &mut Vec<u8>,
+    fields: &LentConv<'_>,
+) -> Result<(), AllocError>
+    ensures { OnOk result (texts.new ≡ texts.old ++ sizes_text (map encoded fields.now.mon_grouping.now) ∷ fields.now.positive_sign.now ∷ fields.now.negative_sign.now ∷ []) }
+{
+    push_sizes(texts, block, fields.mon_grouping)?;
     texts.push(fields.positive_sign)?;
-    texts.push(fields.negative_sign)?;
-    Ok(texts)
+    texts.push(fields.negative_sign)
 }
 
 /// The fields that are numbers, in the order in which they are printed.
