@@ -24,10 +24,18 @@ use std::alloc::{AllocError, Global};
 use std::marker::Model;
 
 /// The compiled locales of a bundle, with the numbers of their names.
-#[derive(Drop)]
 pub struct Library {
     locales: Locales,
     names: Names,
+}
+
+impl Drop for Library {
+    fn drop(self) {
+        let Library {
+            locales: _,
+            names: _,
+        } = self;
+    }
 }
 
 impl Model for Library {

@@ -18,10 +18,15 @@ use std::alloc::Global;
 use std::marker::Model;
 
 /// Compiled locales by their numbers. What several of them share stands once.
-#[derive(Drop)]
 pub struct Locales {
     rows: Vec<LocaleRow>,
     kept: CategoryLists,
+}
+
+impl Drop for Locales {
+    fn drop(self) {
+        let Locales { rows: _, kept: _ } = self;
+    }
 }
 
 impl Model for Locales {

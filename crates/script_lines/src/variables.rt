@@ -106,10 +106,18 @@ impl Names {
 }
 
 /// Variables, each with the handle that it was last bound to.
-#[derive(Drop)]
 pub struct Variables {
     locales: Names,
     catalogs: Names,
+}
+
+impl Drop for Variables {
+    fn drop(self) {
+        let Variables {
+            locales: _,
+            catalogs: _,
+        } = self;
+    }
 }
 
 impl Model for Variables {

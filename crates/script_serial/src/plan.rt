@@ -17,11 +17,20 @@ use std::alloc::Global;
 use std::marker::Model;
 
 /// An accepted bundle with its compiled locales and its message catalogs.
-#[derive(Drop)]
 pub struct Plan {
     bundle: Bundle,
     library: Library,
     books: List<Book>,
+}
+
+impl Drop for Plan {
+    fn drop(self) {
+        let Plan {
+            bundle: _,
+            library: _,
+            books: _,
+        } = self;
+    }
 }
 
 impl Model for Plan {
