@@ -3,8 +3,10 @@
 use bundle_maker::{generate, summary};
 use lc_base::{ByteText, TextFault};
 use script_out::print;
-use script_run::{Pause, run};
-use script_serial::{Plan, prepare, serial};
+use script_plan::{Plan, prepare};
+use script_run::run;
+use script_seats::Pause;
+use script_serial::serial;
 use std::alloc::{AllocError, Global};
 use std::sync::Wait;
 use std::sync::atomic::{AtomicU64, Ordering};

@@ -3,7 +3,7 @@ use Rattle.std.proofs.Common.{◌≡◌, ℕ, length, List, [], ◌∷◌, None,
 use Rattle.std.specs.Prelude.{codes}
 use Rattle.std.specs.Fmt.{decimal}
 use Rattle.std.proofs.lemmas.Fmt.{decimal_digit}
-use Rattle.script_serial.proofs.AnsweredApart.{catalogs_isolated}
+use Rattle.script_plan.proofs.AnsweredApart.{catalogs_isolated}
 use Rattle.locale_cli.specs.declared.words.TheConstants.{DEFAULT_ROWS, MOST_ROWS, DEFAULT_GENERATIONS, MOST_GENERATIONS}
 use Rattle.locale_cli.specs.declared.answer.Status.TheVariants.{Done, TooLarge}
 use Rattle.locale_cli.specs.declared.words.Mode.TheVariants.{Check, Serial, Run}
@@ -14,7 +14,7 @@ use Rattle.locale_cli.specs.Words.{mode_of, with_option, number_up_to}
 use Rattle.script_lang.specs.Accepted.{bundle_of, bundle_with}
 use Rattle.byte_words.specs.Numbers.{decimal_number}
 use Rattle.script_words.specs.Words.{behind_front}
-use Rattle.script_serial.specs.Plan.{plan_of}
+use Rattle.script_plan.specs.Plan.{plan_of}
 
 digit0 : decimal 0 ≡ codes "0"
 digit0 = decimal_digit 0 (lit< tt)

@@ -6,7 +6,7 @@ use Rattle.lc_base.specs.declared.place.Place.{Place}
 use Rattle.lc_base.specs.declared.reason.Reason.{Reason}
 use Rattle.lc_base.specs.Faults.{Rose}
 use Rattle.lc_base.specs.Reading.{Reads, ◌>>=◌}
-use Rattle.script_serial.specs.Plan.{PlanData, plan_of}
+use Rattle.script_plan.specs.Plan.{PlanData, plan_of}
 use Rattle.script_out.specs.Refusal.{refusal_line}
 use Rattle.bundle_maker.specs.Generated.{generated}
 use Rattle.locale_cli.specs.declared.answer.Status.{Status}

@@ -5,7 +5,7 @@ use Rattle.lc_base.specs.declared.reason.Reason.{Reason}
 use Rattle.lc_base.specs.declared.fault.TextFault.{TextFault}
 use Rattle.lc_base.specs.declared.fault.TextFault.TheVariants.{At, Memory}
 use Rattle.lc_base.specs.Reading.{Reads, ◌>>=◌, Gives, Fails}
-use Rattle.script_serial.specs.Plan.{PlanData, counts, plan_of}
+use Rattle.script_plan.specs.Plan.{PlanData, counts, plan_of}
 use Rattle.locale_cli.specs.declared.words.Mode.{Mode}
 use Rattle.locale_cli.specs.declared.words.Mode.TheVariants.{Check}
 use Rattle.script_out.specs.Refusal.{refusal_line}

@@ -17,7 +17,7 @@ use Rattle.locale_cli.specs.declared.words.Mode.{Mode}
 use Rattle.locale_cli.specs.declared.words.Mode.TheVariants.{Check}
 use Rattle.locale_cli.specs.declared.answer.Answer.{Answer}
 use Rattle.locale_cli.specs.Answer.{Outputs, OutputsOf, status_for, text_for, IsAnswer}
-use Rattle.script_serial.specs.Plan.{PlanData, counts, plan_of}
+use Rattle.script_plan.specs.Plan.{PlanData, counts, plan_of}
 use Rattle.script_out.specs.Refusal.{refusal_line}
 use Rattle.locale_cli.specs.Run.{SourceStep, SinkStep, Wrote, Ran}
 use Rattle.locale_cli.specs.Status.{too_large_line, WholeInput, IsDone, IsChecked, IsRefused, IsCutShort, status_of, due_status, IsDue, StayedSound}

@@ -5,11 +5,11 @@ use Rattle.std.specs.List.{sum_by}
 use Rattle.std.proofs.lemmas.List.Sums.{sum_by-cons}
 use Rattle.private_threads.specs.Private.{placeless, all_keep_to_themselves, PrintAlike}
 use Rattle.script_serial.proofs.SerialNewest.{serial_prints_in_order}
-use Rattle.script_serial.specs.Prints.{Prints}
+use Rattle.script_plan.specs.Prints.{Prints}
 use Rattle.script_lang.specs.declared.bundle.Bundle.{Bundle}
 use Rattle.script_out.specs.declared.output.OutLine.{OutLine}
-use Rattle.script_serial.specs.Plan.{PlanData}
-use Rattle.script_serial.specs.Serial.{serial_lines, setting}
+use Rattle.script_plan.specs.Plan.{PlanData}
+use Rattle.script_plan.specs.Serial.{serial_lines, setting}
 use Rattle.bundle_maker.specs.Summary.{is_refused, bytes_of, refused_count, reply_bytes, summary}
 use Rattle.locale_cli.specs.declared.words.TheConstants.{DEFAULT_ROWS, DEFAULT_GENERATIONS}
 use Rattle.locale_cli.specs.Made.{made_line}

@@ -5,12 +5,12 @@ use Rattle.lc_base.specs.Reading.{Reads, ◌>>=◌, Fails}
 use Rattle.lc_base.specs.declared.fault.TextFault.{TextFault}
 use Rattle.script_out.specs.Output.{newline, printed}
 use Rattle.script_out.specs.Refusal.{refusal_line}
-use Rattle.script_serial.specs.declared.plan.Counts.{Counts}
-use Rattle.script_serial.specs.Plan.{PlanData, counts, plan_of, counts_of}
+use Rattle.script_plan.specs.declared.plan.Counts.{Counts}
+use Rattle.script_plan.specs.Plan.{PlanData, counts, plan_of, counts_of}
 use Rattle.script_out.specs.declared.output.OutLine.{OutLine}
-use Rattle.script_serial.specs.Serial.{serial_lines, setting}
-use Rattle.script_serial.specs.Prints.{Prints}
-use Rattle.script_serial.specs.Isolation.{IsIsolated, AreCatalogsIsolated}
+use Rattle.script_plan.specs.Serial.{serial_lines, setting}
+use Rattle.script_plan.specs.Prints.{Prints}
+use Rattle.script_plan.specs.Isolation.{IsIsolated, AreCatalogsIsolated}
 use Rattle.locale_cli.specs.declared.words.Mode.{Mode}
 use Rattle.locale_cli.specs.declared.words.Mode.TheVariants.{Check, Serial, Run}
 use Rattle.locale_cli.specs.declared.answer.Status.{Status}

@@ -6,8 +6,8 @@ use Rattle.lc_base.specs.declared.reason.Reason.{Reason}
 use Rattle.lc_base.specs.Bytes.{AddsPrefix}
 use Rattle.lc_base.specs.Reading.{Reads, ◌>>=◌}
 use Rattle.script_out.specs.Refusal.{refusal_line}
-use Rattle.script_serial.specs.Plan.{PlanData, plan_of}
-use Rattle.script_serial.specs.Serial.{serial_lines}
+use Rattle.script_plan.specs.Plan.{PlanData, plan_of}
+use Rattle.script_plan.specs.Serial.{serial_lines}
 use Rattle.bundle_maker.specs.Generated.{generated}
 use Rattle.bundle_maker.specs.Summary.{summary}
 use Rattle.locale_cli.specs.declared.answer.Status.{Status}

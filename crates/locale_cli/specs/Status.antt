@@ -5,7 +5,7 @@ use Rattle.lc_base.specs.declared.place.Place.{Place}
 use Rattle.lc_base.specs.declared.reason.Reason.{Reason}
 use Rattle.lc_base.specs.Bytes.{CameExactly, AddsPrefix}
 use Rattle.lc_base.specs.Reading.{Reads}
-use Rattle.script_serial.specs.declared.plan.Counts.{Counts}
+use Rattle.script_plan.specs.declared.plan.Counts.{Counts}
 use Rattle.locale_cli.specs.declared.top.TheConstants.{INPUT_LIMIT}
 use Rattle.locale_cli.specs.declared.answer.Status.{Status}
 use Rattle.locale_cli.specs.declared.answer.Status.TheVariants.{Done, Usage, Refused, ReadFault, WriteFault, Memory, TooLarge}
@@ -13,7 +13,7 @@ use Rattle.locale_cli.specs.declared.words.Mode.{Mode}
 use Rattle.locale_cli.specs.declared.answer.Answer.{Answer}
 use Rattle.locale_cli.specs.Answer.{IsAnswer, Outputs, counts_line}
 use Rattle.script_out.specs.Output.{newline}
-use Rattle.script_serial.specs.Plan.{PlanData, plan_of, counts_of}
+use Rattle.script_plan.specs.Plan.{PlanData, plan_of, counts_of}
 use Rattle.script_out.specs.Refusal.{refusal_line}
 
 -- what is written for wrong words

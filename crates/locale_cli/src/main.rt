@@ -10,7 +10,7 @@ mod words;
 use crate::answer::Status;
 use crate::top::top;
 use lc_base::{ByteText, StdSink, StdSource};
-use script_run::NoPause;
+use script_seats::NoPause;
 use std::alloc::Global;
 use std::process::ExitCode;
 use std::rt::Env;

@@ -19,7 +19,7 @@ use crate::made::made_answer;
 use crate::request::{Request, request_of};
 use crate::words::Mode;
 use lc_base::{ByteText, ReadRefusal, Sink, Source, read_all, write_all};
-use script_run::Pause;
+use script_seats::Pause;
 use std::alloc::Global;
 use std::sync::Wait;
 use std::thread::Threads;

@@ -24,11 +24,11 @@ use Rattle.script_lines.specs.Turns.{Task}
 use Rattle.script_lines.specs.Variables.{Bound, bindings_of, bindings_after, variable_bound}
 use Rattle.script_lines.specs.Wishes.{Wish, Calls, ReadsOf, Reads, AsksSelection, AsksName, OpensCatalog, GetsMessage, ClosesCatalog, wish_of, ops_of}
 use Rattle.script_lines.specs.Lines.{Caller, plain_line, placed_line, object_line, global_read_line, global_name_line}
-use Rattle.script_serial.specs.Plan.{PlanData}
-use Rattle.script_serial.specs.Isolation.{SaysTheSameTo}
-use Rattle.script_serial.specs.Prints.{TaskLine, bound_by, places_in, all_places, up_to_round, PlacedCall, call_of, calls_of, calls_after, with_placed, history_below, Around, around, behind_last, or_earlier, next_place, seen, lines_of, IsVersion, global_of, IsRead, IsGranted, AreAnswered, caller_of}
-use Rattle.script_serial.proofs.Fronts.{part_says_the_same}
-use Rattle.script_serial.proofs.PlacedCalls.{place_of, AreOnce, stands_at, below_legal}
+use Rattle.script_plan.specs.Plan.{PlanData}
+use Rattle.script_plan.specs.Isolation.{SaysTheSameTo}
+use Rattle.script_plan.specs.Prints.{TaskLine, bound_by, places_in, all_places, up_to_round, PlacedCall, call_of, calls_of, calls_after, with_placed, history_below, Around, around, behind_last, or_earlier, next_place, seen, lines_of, IsVersion, global_of, IsRead, IsGranted, AreAnswered, caller_of}
+use Rattle.script_plan.proofs.Fronts.{part_says_the_same}
+use Rattle.script_plan.proofs.PlacedCalls.{place_of, AreOnce, stands_at, below_legal}
 use Rattle.private_threads.specs.Private.{placeless}
 use Rattle.private_threads.proofs.Lists.{Rise}
 use Rattle.private_threads.proofs.Parts.{IsPrivate, IsPrivateEntry, IsPrivateCall, either, its_own, private_closed, part_with, no_sets, first_global, private_below, IsOutside, same_part}

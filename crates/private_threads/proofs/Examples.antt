@@ -12,7 +12,7 @@ use Rattle.script_out.specs.declared.output.Places.{Places}
 use Rattle.script_out.specs.declared.output.Places.TheVariants as places
 use Rattle.script_out.specs.declared.output.Said.TheVariants as said
 use Rattle.script_lang.specs.declared.bundle.Bundle.{Bundle}
-use Rattle.script_serial.proofs.Examples.{plan, placed}
+use Rattle.script_plan.proofs.Examples.{plan, placed}
 use Rattle.private_threads.specs.Private.{keeps_to_itself, all_keep_to_themselves, placeless}
 
 -- a variable, and a handle that is written out: `A.0.1`

@@ -4,9 +4,9 @@ use Rattle.std.specs.Prelude.{◌==◌, filter, flat_map, All}
 use Rattle.std.specs.List.{AllPairs, list_all}
 use Rattle.std.proofs.lemmas.Bool.{eq-eqb, and_parts}
 use Rattle.std.proofs.lemmas.List.Elements.{All-nil, All-cons, All-head, All-tail, All-append, All-from_get_or}
-use Rattle.script_serial.specs.Prints.{PlacedCall}
-use Rattle.script_serial.proofs.LineLists.{GoUp}
-use Rattle.script_serial.proofs.PlacedCalls.{place_of}
+use Rattle.script_plan.specs.Prints.{PlacedCall}
+use Rattle.script_plan.proofs.LineLists.{GoUp}
+use Rattle.script_plan.proofs.PlacedCalls.{place_of}
 
 -- ---- what is found, and what all do
 

@@ -16,11 +16,11 @@ use Rattle.script_lines.specs.Wishes.{Wish, wish_of, ops_of}
 use Rattle.script_lines.specs.Lines.{Caller}
 use Rattle.script_out.specs.declared.output.OutLine.{OutLine}
 use Rattle.script_out.specs.declared.output.Why.{Why}
-use Rattle.script_serial.specs.Plan.{PlanData}
-use Rattle.script_serial.specs.Isolation.{all_task_lines, all_calls}
-use Rattle.script_serial.specs.Prints.{TaskLine, with_tasks, bound_by, places_in, all_places, of_thread, PlacedCall, call_of, calls_of, calls_after, history_below, around, lines_of, AreAnswered, caller_of, caller_after, callers_after, command_calls, all_turns, Prints}
-use Rattle.script_serial.proofs.LineLists.{GoUp}
-use Rattle.script_serial.proofs.PlacedCalls.{place_of, AreOnce, places_of_calls}
+use Rattle.script_plan.specs.Plan.{PlanData}
+use Rattle.script_plan.specs.Isolation.{all_task_lines, all_calls}
+use Rattle.script_plan.specs.Prints.{TaskLine, with_tasks, bound_by, places_in, all_places, of_thread, PlacedCall, call_of, calls_of, calls_after, history_below, around, lines_of, AreAnswered, caller_of, caller_after, callers_after, command_calls, all_turns, Prints}
+use Rattle.script_plan.proofs.LineLists.{GoUp}
+use Rattle.script_plan.proofs.PlacedCalls.{place_of, AreOnce, places_of_calls}
 use Rattle.private_threads.specs.Private.{keeps_to_itself, all_keep_to_themselves, placeless}
 use Rattle.private_threads.proofs.Lists.{each, each_flat, same_flat, all_pass, calls_by, rise_from, goes_up}
 use Rattle.private_threads.proofs.Parts.{IsPrivateCall, no_holds, private_below}

@@ -29,8 +29,8 @@ use Rattle.script_lines.specs.Turns.{Task, Runs, Releases, Ends}
 use Rattle.script_lines.specs.Variables.{Variable, locale_variable, is_same_variable, Bindings, bound, Bound, bindings_of, variable_bound, handle_said, with_binding}
 use Rattle.script_lines.specs.Wishes.{handle_or_unset, named, base_named, mask_of, named_numbers, op_on, Wish, Calls, ReadsOf, Reads, AsksSelection, AsksName, OpensCatalog, GetsMessage, ClosesCatalog, called, wish, wish_of, ops_of}
 use Rattle.script_lines.specs.Lines.{Caller, shown}
-use Rattle.script_serial.specs.Prints.{places_in, call_of, Around, past, seen, IsRead, IsGranted}
-use Rattle.script_serial.proofs.PlacedCalls.{place_of}
+use Rattle.script_plan.specs.Prints.{places_in, call_of, Around, past, seen, IsRead, IsGranted}
+use Rattle.script_plan.proofs.PlacedCalls.{place_of}
 use Rattle.private_threads.specs.Private.{is_own_target, is_own_base, keeps_to_itself}
 use Rattle.private_threads.proofs.Parts.{IsPrivate, IsPrivateCall, thread_is}
 

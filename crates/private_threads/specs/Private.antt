@@ -10,8 +10,8 @@ use Rattle.script_commands.specs.declared.command.Target.TheVariants.{Global, Va
 use Rattle.script_lang.specs.declared.bundle.Bundle.{Bundle}
 use Rattle.script_out.specs.declared.output.OutLine.{OutLine}
 use Rattle.script_out.specs.declared.output.Places.TheVariants as places
-use Rattle.script_serial.specs.Plan.{PlanData}
-use Rattle.script_serial.specs.Prints.{Prints}
+use Rattle.script_plan.specs.Plan.{PlanData}
+use Rattle.script_plan.specs.Prints.{Prints}
 
 -- ---- commands that keep to their thread
 

@@ -1,83 +1,20 @@
 -- What a thread's own calls and lines say is the same with those of others between them.
-use Rattle.std.proofs.Common.{◌≡◌, ℕ, suc, ◌+◌, ◌≤◌, Bool, true, false, ◌&&◌, List, [], ◌∷◌, ◌++◌, length, map, Option, Some, None, refl, sym, ap, subst, ◌∙◌, arith, inl, inr}
+use Rattle.std.proofs.Common.{◌≡◌, ℕ, suc, ◌+◌, ◌≤◌, Bool, true, false, List, [], ◌∷◌, ◌++◌, length, map, Option, Some, None, refl, sym, ap, subst, ◌∙◌, arith, inl, inr}
 use Rattle.std.specs.Prelude.{◌==◌, if◌then◌else◌, filter, zip, All}
 use Rattle.std.proofs.lemmas.Bool.Decides.{eqb_tells}
 use Rattle.std.proofs.lemmas.List.Elements.{All-head, All-tail}
-use Rattle.mask_compose.specs.Parts.{Parts}
 use Rattle.handle_table.specs.declared.handle.Handle.{Handle}
-use Rattle.handle_table.specs.declared.handle.Named.{Named}
-use Rattle.handle_table.specs.Entry.{Entry, History, Setting, is_accepted}
-use Rattle.handle_table.specs.History.{selection_after, selection}
-use Rattle.handle_table.specs.Answer.{own_after, own}
+use Rattle.handle_table.specs.Entry.{Entry, History, Setting}
+use Rattle.handle_table.specs.Answer.{own}
 use Rattle.thread_current.specs.Thread.{entries_by}
 use Rattle.script_out.specs.declared.output.OutLine.{OutLine}
-use Rattle.script_lines.specs.declared.holds.OpenHold.{OpenHold}
 use Rattle.catalog_table.specs.Entry as catalogs
 use Rattle.script_lines.specs.Board.{Moments, catalog_op, granted_at}
-use Rattle.script_lines.specs.Holds.{holds_after, open_holds}
 use Rattle.script_lines.specs.Variables.{Variable, Bindings, Bound, bindings_of, with_binding, variable_bound, handle_said}
 use Rattle.script_lines.specs.Wishes.{wish_of, ops_of}
-use Rattle.script_serial.specs.Plan.{PlanData, books_of}
-use Rattle.script_serial.specs.Prints.{TaskLine, PlacedCall, call_of, bound_by, caller_of, places_in, behind_last, or_earlier, next_place}
+use Rattle.script_plan.specs.Plan.{PlanData, books_of}
+use Rattle.script_plan.specs.Prints.{TaskLine, PlacedCall, call_of, bound_by, caller_of, places_in, behind_last, or_earlier, next_place}
 use Rattle.script_run.specs.Timed.{oldest, places_by, Timed, task_lines, own_lines, second_moment, IsEntryOf, IsRight, AreRight}
-
--- ---- what a thread selects, has taken up and holds is said by its own calls
-
-own_by : (t : ℕ) (H : History) → own H t ≡ own (entries_by t H) t
-own_by t [] = refl
-own_by t (e ∷ H) =
-    let ours : History = entries_by t H in
-    elim (eqb_tells e.who t) [
-      | inl here ↦
-          ap (λ (b : Bool). if b then own_after e.reply (own H t) else own H t) here.0
-          ∙ ap (λ (o : Option Parts). own_after e.reply o) (own_by t H)
-          ∙ sym (ap (λ (b : Bool). if b then own_after e.reply (own ours t) else own ours t) here.0)
-          ∙ sym (ap (λ (b : Bool). own (if b then e ∷ ours else ours) t) here.0)
-      | inr apart ↦
-          ap (λ (b : Bool). if b then own_after e.reply (own H t) else own H t) apart.0
-          ∙ own_by t H
-          ∙ sym (ap (λ (b : Bool). own (if b then e ∷ ours else ours) t) apart.0)
-    ]
-
-selection_by : (t : ℕ) (H : History) → selection H t ≡ selection (entries_by t H) t
-selection_by t [] = refl
-selection_by t (e ∷ H) =
-    let ours : History = entries_by t H in
-    let accepted : Bool = is_accepted e.reply in
-    elim (eqb_tells e.who t) [
-      | inl here ↦
-          ap (λ (n : Named). if (e.who == t && accepted) then selection_after e.op n else n) (selection_by t H)
-          ∙ sym (ap (λ (b : Bool). selection (if b then e ∷ ours else ours) t) here.0)
-      | inr apart ↦
-          ap (λ (b : Bool). if (b && accepted) then selection_after e.op (selection H t) else selection H t) apart.0
-          ∙ selection_by t H
-          ∙ sym (ap (λ (b : Bool). selection (if b then e ∷ ours else ours) t) apart.0)
-    ]
-
-holds_by : (t : ℕ) (H : History) → open_holds H t ≡ open_holds (entries_by t H) t
-holds_by t [] = refl
-holds_by t (e ∷ H) =
-    let ours : History = entries_by t H in
-    elim (eqb_tells e.who t) [
-      | inl here ↦
-          ap (λ (b : Bool). if b then holds_after (open_holds H t) e.op e.reply else open_holds H t) here.0
-          ∙ ap (λ (os : List OpenHold). holds_after os e.op e.reply) (holds_by t H)
-          ∙ sym (ap (λ (b : Bool). if b then holds_after (open_holds ours t) e.op e.reply else open_holds ours t) here.0)
-          ∙ sym (ap (λ (b : Bool). open_holds (if b then e ∷ ours else ours) t) here.0)
-      | inr apart ↦
-          ap (λ (b : Bool). if b then holds_after (open_holds H t) e.op e.reply else open_holds H t) apart.0
-          ∙ holds_by t H
-          ∙ sym (ap (λ (b : Bool). open_holds (if b then e ∷ ours else ours) t) apart.0)
-    ]
-
-pub own_says : (t : ℕ) (G H : History) → entries_by t G ≡ entries_by t H → own G t ≡ own H t
-own_says t G H same = own_by t G ∙ ap (λ (K : History). own K t) same ∙ sym (own_by t H)
-
-pub selection_says : (t : ℕ) (G H : History) → entries_by t G ≡ entries_by t H → selection G t ≡ selection H t
-selection_says t G H same = selection_by t G ∙ ap (λ (K : History). selection K t) same ∙ sym (selection_by t H)
-
-pub holds_says : (t : ℕ) (G H : History) → entries_by t G ≡ entries_by t H → open_holds G t ≡ open_holds H t
-holds_says t G H same = holds_by t G ∙ ap (λ (K : History). open_holds K t) same ∙ sym (holds_by t H)
 
 -- ---- where others alone have called, a thread's places are the same
 

@@ -33,10 +33,10 @@ use Rattle.script_lines.specs.Lines.{Caller}
 use Rattle.script_lines.specs.Turns.{Task, Runs, Releases, Ends, Turn, first_numbers, closing_turn, releases, closing, closing_turns}
 use Rattle.script_lines.specs.Variables.{Bindings, bindings_of}
 use Rattle.script_lines.specs.Wishes.{Wish, Calls, ReadsOf, Reads, AsksSelection, AsksName, OpensCatalog, GetsMessage, ClosesCatalog, wish_of}
-use Rattle.script_serial.specs.Plan.{PlanData, books_of}
-use Rattle.script_serial.specs.Prints.{TaskLine, bound_by, places_in, catalog_places_in, all_catalog_places, before_round, from_round, caller_of, AreCatalogsPlaced}
-use Rattle.script_serial.proofs.LineLists.{GoUp, increasing, bit_of, filter_none}
-use Rattle.script_serial.proofs.TurnLemmas.{flat_all}
+use Rattle.script_plan.specs.Plan.{PlanData, books_of}
+use Rattle.script_plan.specs.Prints.{TaskLine, bound_by, places_in, catalog_places_in, all_catalog_places, before_round, from_round, caller_of, AreCatalogsPlaced}
+use Rattle.script_plan.proofs.LineLists.{GoUp, increasing, bit_of, filter_none}
+use Rattle.script_plan.proofs.RoundTurns.{flat_all}
 use Rattle.script_run.specs.Timed.{places_by, catalog_places_by, Timed, lines_in, task_lines, placed_back, own_lines, asked_place, asked_in, asked_back, moments_in, IsRight, AreRight, in_rounds_before, in_rounds_to, StandsAsked, HasStanding, IsWithin, IsAskedInRound, AreAsked, IsWhole}
 use Rattle.script_run.proofs.Counted.{whole_length, once as stands_once, GoDown, down_up, all_reversed, places_down, kept_lines}
 use Rattle.script_run.proofs.Placed.{fewer_of, kept_with}

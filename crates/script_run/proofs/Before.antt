@@ -15,9 +15,9 @@ use Rattle.handle_table.specs.Answer.{answer, unless, first_reason}
 use Rattle.handle_table.specs.Kept.{AreThreads}
 use Rattle.script_lines.specs.Holds.{object_held}
 use Rattle.script_lines.specs.Outcome.{with_call}
-use Rattle.script_serial.proofs.LineLists.{all_right}
-use Rattle.script_serial.proofs.SerialCalls.{GoesOnFrom, goes_nowhere, one_entry, goes_on}
-use Rattle.script_serial.proofs.SerialSeen.{sets_on, global_on, released_after}
+use Rattle.script_plan.proofs.LineLists.{all_right}
+use Rattle.script_plan.proofs.GoingOn.{GoesOnFrom, goes_nowhere, one_entry, goes_on}
+use Rattle.script_plan.proofs.VersionLemmas.{sets_on, global_on, released_after}
 use Rattle.script_run.specs.Timed.{oldest, places_by}
 use Rattle.script_run.proofs.Counted.{GoDown, down_right, places_down}
 use Rattle.script_run.proofs.Growth.{oldest_here, oldest_below, oldest_whole, oldest_all, oldest_length}

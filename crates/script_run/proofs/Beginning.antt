@@ -16,10 +16,10 @@ use Rattle.catalog_table.specs.Entry.{History as CatalogHistory}
 use Rattle.catalog_seats.specs.Reader as readers
 use Rattle.catalog_seats.specs.Reader.{ReaderData, first_reader}
 use Rattle.script_lines.specs.Variables.{Bindings, bound}
-use Rattle.script_serial.specs.Plan.{PlanData}
-use Rattle.script_run.specs.declared.seated.Seated.{Seated}
+use Rattle.script_plan.specs.Plan.{PlanData}
+use Rattle.script_seats.specs.declared.seated.Seated.{Seated}
 use Rattle.script_run.specs.declared.worker.Worker.{Worker}
-use Rattle.script_run.specs.Seated.{held_data, Gates}
+use Rattle.script_seats.specs.Seated.{held_data, Gates}
 use Rattle.script_run.specs.Timed.{Timed, IsInRound, IsAskedInRound, HasStanding, places_by, catalog_places_by}
 use Rattle.script_run.specs.Beside.{IsWorker}
 use Rattle.script_run.specs.Rounds.{Each, mine_of, reader_at, IsFor, IsForAsked, IsFirst, AreBetween}

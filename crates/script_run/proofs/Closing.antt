@@ -23,17 +23,17 @@ use Rattle.script_lines.specs.declared.holds.OpenHold.{OpenHold}
 use Rattle.script_lines.specs.declared.thread.Thread.{Thread as ScriptThread}
 use Rattle.script_lines.specs.Holds.{open_holds, holds_after}
 use Rattle.script_lines.specs.Turns.{Turn, Ends, Releases, closing_turn, releases, closing, closing_turns}
-use Rattle.script_serial.specs.Plan.{PlanData, IsSound}
-use Rattle.script_serial.specs.Prints.{Prints}
-use Rattle.script_serial.proofs.LineLists.{all_left}
-use Rattle.script_run.specs.declared.seated.Seated.{Seated}
+use Rattle.script_plan.specs.Plan.{PlanData, IsSound}
+use Rattle.script_plan.specs.Prints.{Prints}
+use Rattle.script_plan.proofs.LineLists.{all_left}
+use Rattle.script_seats.specs.declared.seated.Seated.{Seated}
 use Rattle.script_run.specs.declared.worker.Worker.{Worker}
-use Rattle.script_run.specs.Seated.{held_data, Gates}
+use Rattle.script_seats.specs.Seated.{held_data, Gates}
 use Rattle.script_run.specs.Timed.{Timed, AreTimed, IsWhole, AreAsked, own_lines, lines_in, turns_made, turn_made, last_end, end_of, places_by, placed_back, stacked}
 use Rattle.script_run.specs.Beside.{stock_of, IsWorker, CanClose, Closes}
 use Rattle.script_run.specs.Rounds.{Each, EachTwo, IsFor, IsForAsked, mine_of, reader_at, turns_to, IsReady, AreBetween, SeatData, SeatSeesMore, IsCloser, AreClosing}
 use Rattle.script_run.proofs.Growth.{are_right_grow}
-use Rattle.script_run.proofs.Apart.{holds_says}
+use Rattle.script_seats.proofs.OwnCalls.{holds_says}
 use Rattle.script_run.proofs.Stacked.{HasAdded, stacked_onto, whole_stacked}
 use Rattle.script_run.proofs.Stacking.{IsOf, IsBefore, right_within, stacked_same, stacked_back, flat_same, and_at, at_here, at_other}
 use Rattle.script_run.proofs.Seeing.{goes_on, as_long, entries_of_both, no_entry, same_places, made_kept, thread_with}

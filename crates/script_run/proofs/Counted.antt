@@ -11,8 +11,8 @@ use Rattle.std.proofs.lemmas.List.Sums.{sum_by-cons, sum_by-append}
 use Rattle.handle_table.specs.Entry.{History}
 use Rattle.handle_table.specs.Kept.{AreThreads}
 use Rattle.script_out.specs.declared.output.OutLine.{OutLine}
-use Rattle.script_serial.specs.Prints.{places_in, all_places}
-use Rattle.script_serial.proofs.LineLists.{GoUp, up_join, is_this, bit_of, count_more, all_left}
+use Rattle.script_plan.specs.Prints.{places_in, all_places}
+use Rattle.script_plan.proofs.LineLists.{GoUp, up_join, is_this, bit_of, count_more, all_left}
 use Rattle.script_run.specs.Timed.{places_by, Timed, lines_in, placed_back, own_lines}
 
 -- ---- sums over threads

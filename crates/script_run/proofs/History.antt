@@ -22,11 +22,11 @@ use Rattle.script_lines.specs.Lines.{Caller}
 use Rattle.script_lines.specs.Outcome.{with_call}
 use Rattle.script_lines.specs.Variables.{bindings_of}
 use Rattle.script_lines.specs.Wishes.{Wish, Calls, ReadsOf, Reads, AsksSelection, AsksName, OpensCatalog, GetsMessage, ClosesCatalog, wish_of}
-use Rattle.script_serial.specs.Plan.{PlanData, books_of}
-use Rattle.script_serial.specs.Prints.{TaskLine, bound_by, places_in, PlacedCall, calls_of, calls_after, with_placed, history_below, caller_of}
-use Rattle.script_serial.proofs.LineLists.{all_left, all_right}
-use Rattle.script_serial.proofs.SerialCalls.{is_at, wished_calls}
-use Rattle.script_serial.proofs.PlacedCalls.{place_of}
+use Rattle.script_plan.specs.Plan.{PlanData, books_of}
+use Rattle.script_plan.specs.Prints.{TaskLine, bound_by, places_in, PlacedCall, calls_of, calls_after, with_placed, history_below, caller_of}
+use Rattle.script_plan.proofs.LineLists.{all_left, all_right}
+use Rattle.script_plan.proofs.GoingOn.{is_at, wished_calls}
+use Rattle.script_plan.proofs.PlacedCalls.{place_of}
 use Rattle.script_run.specs.Timed.{oldest, Timed, task_lines, placed_back, own_lines, moments_in, IsEntryOf, IsRight, AreRight, IsWhole}
 use Rattle.script_run.proofs.Before.{oldest_none, missing}
 use Rattle.script_run.proofs.Counted.{whole_length, all_reversed}

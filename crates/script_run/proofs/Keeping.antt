@@ -7,9 +7,9 @@ use Rattle.catalog_seats.specs.Reader.{ReaderData}
 use Rattle.script_lines.specs.declared.holds.OpenHold.{OpenHold}
 use Rattle.script_lines.specs.declared.thread.Thread.{Thread as ScriptThread}
 use Rattle.script_lines.specs.Holds.{open_holds}
-use Rattle.script_serial.specs.Plan.{PlanData}
-use Rattle.script_run.specs.declared.seated.Seated.{Seated}
-use Rattle.script_run.specs.Seated.{held_data, Gates}
+use Rattle.script_plan.specs.Plan.{PlanData}
+use Rattle.script_seats.specs.declared.seated.Seated.{Seated}
+use Rattle.script_seats.specs.Seated.{held_data, Gates}
 use Rattle.script_run.specs.Timed.{Timed}
 use Rattle.script_run.specs.Beside.{IsWorker}
 use Rattle.script_run.proofs.AskedSeen.{asked_kept}

@@ -8,10 +8,8 @@ pub mod Beginning
 pub mod Closing
 pub mod Counted
 pub mod Counting
-pub mod EachPlace
 pub mod Growth
 pub mod History
-pub mod HoldLists
 pub mod Keeping
 pub mod LineAnswered
 pub mod LineSteps
@@ -20,7 +18,6 @@ pub mod Meeting
 pub mod Placed
 pub mod Rounding
 pub mod Running
-pub mod SeatLemmas
 pub mod SeatLines
 pub mod Seeing
 pub mod Stacked

@@ -21,9 +21,9 @@ use Rattle.script_lines.specs.Holds.{object_held, open_holds, held_as}
 use Rattle.script_lines.specs.Lines.{plain_line, placed_line, entry_line, global_read_line, global_name_line}
 use Rattle.script_lines.specs.Variables.{bindings_of}
 use Rattle.script_lines.specs.Wishes.{Wish, Calls, ReadsOf, Reads, AsksSelection, AsksName, OpensCatalog, GetsMessage, ClosesCatalog, wish_of}
-use Rattle.script_serial.specs.Prints.{bound_by, places_in, call_of, Around, past, next_place, IsVersion, global_of, IsCall, IsReadOf, IsRead, IsOpenOf, IsOpen, IsGranted, IsAnswered, caller_of}
-use Rattle.script_serial.specs.Plan.{books_of}
-use Rattle.script_serial.proofs.SerialCalls.{wished_calls}
+use Rattle.script_plan.specs.Prints.{bound_by, places_in, call_of, Around, past, next_place, IsVersion, global_of, IsCall, IsReadOf, IsRead, IsOpenOf, IsOpen, IsGranted, IsAnswered, caller_of}
+use Rattle.script_plan.specs.Plan.{books_of}
+use Rattle.script_plan.proofs.GoingOn.{wished_calls}
 use Rattle.script_run.specs.Timed.{oldest, Timed, second_moment, moments_in, IsEntryOf, IsRight, StandsAsked, HasStanding}
 use Rattle.script_run.proofs.Before.{oldest_again, version_at, IsBetween, released_between}
 

@@ -40,12 +40,13 @@ use Rattle.script_lines.specs.Reads.{local}
 use Rattle.script_lines.specs.Outcome.{Outcome, without_entry, with_call, calls, read_line, name_line}
 use Rattle.script_lines.specs.Catalogs.{Books, Asked, object_used, book_for, open_line, handle_reply_shown, message_shown, handle_meant}
 use Rattle.script_lines.specs.Board.{Moments, reads_between, reads_of, reads, opens, catalog_op, granted_at, AreMomentsOf}
-use Rattle.script_serial.specs.Prints.{PlacedCall, call_of, caller_of, places_in, behind_last}
-use Rattle.script_run.specs.Seated.{MayFollow}
+use Rattle.script_plan.specs.Prints.{PlacedCall, call_of, caller_of, places_in, behind_last}
+use Rattle.script_seats.specs.Seated.{MayFollow}
 use Rattle.script_run.specs.Timed.{oldest, places_by, second_moment, IsEntryOf}
 use Rattle.script_run.proofs.Growth.{oldest_grows, oldest_all}
-use Rattle.script_run.proofs.HoldLists.{holds_of, or_second}
-use Rattle.script_run.proofs.Apart.{own_says, selection_says, holds_says, places_stay}
+use Rattle.script_seats.proofs.HoldLists.{holds_of, or_second}
+use Rattle.script_run.proofs.Apart.{places_stay}
+use Rattle.script_seats.proofs.OwnCalls.{own_says, selection_says, holds_says}
 
 -- ---- a step
 

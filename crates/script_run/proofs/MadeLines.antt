@@ -17,8 +17,8 @@ use Rattle.script_lines.specs.Wishes.{Wish, wish_of, ops_of}
 use Rattle.catalog_table.specs.Entry as catalogs
 use Rattle.script_lines.specs.Board.{catalog_op, granted_at}
 use Rattle.script_lines.specs.Catalogs.{Asked}
-use Rattle.script_serial.specs.Plan.{PlanData, books_of}
-use Rattle.script_serial.specs.Prints.{TaskLine, bound_by, caller_of, call_of, places_in, behind_last, or_earlier, next_place}
+use Rattle.script_plan.specs.Plan.{PlanData, books_of}
+use Rattle.script_plan.specs.Prints.{TaskLine, bound_by, caller_of, call_of, places_in, behind_last, or_earlier, next_place}
 use Rattle.script_run.specs.Timed.{oldest, places_by, Timed, last_end, AreTimed, task_lines, placed_back, IsEntryOf, IsRight, AreRight}
 use Rattle.script_run.proofs.Growth.{oldest_grows, are_right_grow}
 use Rattle.script_run.proofs.LineSteps.{IsStep, moments_by}

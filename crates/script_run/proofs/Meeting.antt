@@ -11,9 +11,9 @@ use Rattle.catalog_seats.specs.Reader as readers
 use Rattle.catalog_seats.specs.Reader.{ReaderData}
 use Rattle.catalog_seats.proofs.Meeting as reading
 use Rattle.thread_current.specs.Thread.{Thread, IsInOrder, SawMore, GoesOnFrom}
-use Rattle.script_run.specs.declared.seated.Seated.{Seated}
+use Rattle.script_seats.specs.declared.seated.Seated.{Seated}
 use Rattle.script_run.specs.declared.worker.Worker.{Worker}
-use Rattle.script_run.specs.Seated.{Gates}
+use Rattle.script_seats.specs.Seated.{Gates}
 use Rattle.script_run.specs.Rounds.{Each, EachTwo, mine_of, reader_at, IsOfBoth, IsOrderly, HasSeenOf, with_both, SeesMore, HasMet, AllMet}
 use Rattle.script_run.proofs.Seeing.{goes_on, goes_same}
 

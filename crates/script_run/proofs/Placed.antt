@@ -24,9 +24,9 @@ use Rattle.script_lines.specs.Holds.{object_held, open_holds, held_as}
 use Rattle.script_lines.specs.Lines.{Caller}
 use Rattle.script_lines.specs.Variables.{bindings_of}
 use Rattle.script_lines.specs.Wishes.{Wish, Calls, ReadsOf, Reads, AsksSelection, AsksName, OpensCatalog, GetsMessage, ClosesCatalog, wish_of}
-use Rattle.script_serial.specs.Plan.{PlanData, books_of}
-use Rattle.script_serial.specs.Prints.{TaskLine, bound_by, places_in, all_places, before_round, from_round, behind_last, caller_of, ArePlaced}
-use Rattle.script_serial.proofs.LineLists.{GoUp, increasing, bit_of, filter_all, filter_none}
+use Rattle.script_plan.specs.Plan.{PlanData, books_of}
+use Rattle.script_plan.specs.Prints.{TaskLine, bound_by, places_in, all_places, before_round, from_round, behind_last, caller_of, ArePlaced}
+use Rattle.script_plan.proofs.LineLists.{GoUp, increasing, bit_of, filter_all, filter_none}
 use Rattle.script_run.specs.Timed.{oldest, Timed, end_of, last_end, AreTimed, lines_in, task_lines, placed_back, own_lines, moments_in, IsRight, AreRight, in_rounds_before, in_rounds_to, IsInRound, IsWhole}
 use Rattle.script_run.proofs.Growth.{oldest_length}
 use Rattle.script_run.proofs.Counted.{whole_length, once as stands_once, GoDown, down_left, down_right, down_join, down_up, all_reversed, places_down, kept_places, reversed_places}

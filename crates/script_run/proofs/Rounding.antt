@@ -19,11 +19,11 @@ use Rattle.script_out.specs.declared.output.OutLine.{OutLine}
 use Rattle.script_commands.specs.declared.command.Placed.{Placed}
 use Rattle.script_lines.specs.declared.thread.Thread.{Thread as ScriptThread}
 use Rattle.script_lines.specs.Turns.{Turn, in_round, in_thread, turn_of, thread_turns, turns_of_threads, round_turns}
-use Rattle.script_serial.specs.Plan.{PlanData}
-use Rattle.script_serial.proofs.LineLists.{all_left, filter_all, filter_none}
-use Rattle.script_run.specs.declared.seated.Seated.{Seated}
+use Rattle.script_plan.specs.Plan.{PlanData}
+use Rattle.script_plan.proofs.LineLists.{all_left, filter_all, filter_none}
+use Rattle.script_seats.specs.declared.seated.Seated.{Seated}
 use Rattle.script_run.specs.declared.worker.Worker.{Worker}
-use Rattle.script_run.specs.Seated.{Gates}
+use Rattle.script_seats.specs.Seated.{Gates}
 use Rattle.script_run.specs.Timed.{Timed, IsWhole, AreAsked, HasStanding, catalog_places_by, own_lines, lines_in, turns_made, turn_made, places_by, stacked}
 use Rattle.script_run.specs.Beside.{Stock, stock_of, IsWorker, HasAskedSince, Works, turns_of}
 use Rattle.script_run.specs.Rounds.{Each, EachTwo, mine_of, reader_at, IsFor, IsForAsked, IsOfBoth, IsOrderly, HasWorked, HasGiven, SeesMore, AllMet, IsReady, AreBetween, turns_to}

@@ -1,8 +1,9 @@
 -- A plan and the table that its script runs at.
-use Rattle.std.proofs.Common.{◌≡◌, ℕ, ◌+◌, ◌*◌, ◌<◌, Bool, true, false, List, [], ◌∷◌, length, map, refl, sym, ap, subst, ◌∙◌, arith}
+use Rattle.std.proofs.Common.{◌≡◌, ℕ, ◌+◌, ◌*◌, ◌<◌, Bool, true, false, List, [], ◌∷◌, ◌++◌, length, map, refl, sym, ap, subst, ◌∙◌, arith}
 use Rattle.std.specs.Prelude.{All}
 use Rattle.std.specs.List.{range_with_len}
 use Rattle.std.proofs.lemmas.Bool.{false≢true}
+use Rattle.std.proofs.lemmas.List.Elements.{All-nil}
 use Rattle.mask_compose.specs.Offer.{Offered}
 use Rattle.category_store.specs.Catalog.{Catalog}
 use Rattle.category_store.specs.Library.{opening}
@@ -11,20 +12,21 @@ use Rattle.turn_gate.specs.Callers.{Gate}
 use Rattle.catalog_table.specs.declared.setting.CatalogSetting.{CatalogSetting}
 use Rattle.catalog_seats.specs.Reader.{ReaderData, first_reader}
 use Rattle.script_lines.specs.Catalogs.{Books, catalog_setting}
+use Rattle.script_lines.specs.Turns.{Turn, closing_turns}
 use Rattle.handle_table.specs.Entry.{History, Setting}
 use Rattle.handle_table.specs.Table.{TableData, StandsFor}
 use Rattle.thread_current.specs.Thread.{Thread, first_thread, IsPart}
 use Rattle.script_lang.specs.declared.bundle.Bundle.{Bundle}
 use Rattle.script_out.specs.declared.output.OutLine.{OutLine}
-use Rattle.script_serial.specs.Isolation.{IsIsolated, AreCatalogsIsolated}
-use Rattle.script_serial.specs.Plan.{PlanData, books_of}
-use Rattle.script_serial.specs.Prints.{Prints}
-use Rattle.script_serial.specs.Serial.{setting}
-use Rattle.script_serial.proofs.PlayLemmas.{no_lines}
-use Rattle.script_serial.proofs.SerialNewest.{printed_in_order}
-use Rattle.script_serial.proofs.AnsweredApart.{isolated, catalogs_isolated}
+use Rattle.script_plan.specs.Isolation.{IsIsolated, AreCatalogsIsolated}
+use Rattle.script_plan.specs.Plan.{PlanData, books_of}
+use Rattle.script_plan.specs.Prints.{with_tasks, calls_after, history_below, AreAnswered, callers_after, command_calls, all_turns, Prints}
+use Rattle.script_plan.specs.Serial.{setting}
+use Rattle.script_plan.proofs.LineLists.{increasing}
+use Rattle.script_plan.proofs.RoundTurns.{no_turns, no_closing_turns}
+use Rattle.script_plan.proofs.AnsweredApart.{isolated, catalogs_isolated}
 use Rattle.lc_base.specs.declared.block.Block.{Block}
-use Rattle.script_run.specs.Seated.{Gates}
+use Rattle.script_seats.specs.Seated.{Gates}
 use Rattle.script_run.specs.Beside.{stock, stock_of}
 use Rattle.script_run.specs.Rounds.{IsFor, IsForAsked, plan_made, SeatData, AreClosing}
 use Rattle.script_run.proofs.Closing.{closed_prints}
@@ -91,7 +93,29 @@ run_prints plan bundle library books gate count rows generations quota offers se
 
 -- so is no line, where there is no thread
 pub none_prints : (plan : PlanData) (rows generations : ℕ) → plan.bundle.threads ≡ [] → Prints (setting plan rows generations) plan []
-none_prints plan rows generations none = (printed_in_order plan rows generations (sym (no_lines plan rows generations none))).prints
+none_prints plan rows generations none =
+    let c : Setting = setting plan rows generations in
+    let H : History = history_below c (command_calls plan []) (length (command_calls plan [])) in
+    let nothing : all_turns c plan [] ≡ [] = ap (λ (ts : List Turn). ts ++ closing_turns plan.bundle H) (no_turns plan.bundle none) ∙ no_closing_turns plan.bundle H none in
+    record {
+      catalogs = [];
+      callers = sym (ap (callers_after []) nothing);
+      placed = record {
+        once = λ place lt. absurd (omega (arith, lt));
+        threads = λ thread. increasing [] tt;
+        rounds = λ round. All-nil (λ (p : ℕ). All (λ (q : ℕ). p < q) []);
+        closing = increasing [] tt;
+      };
+      catalogs_placed = record {
+        legal = tt;
+        callers = tt;
+        many = refl;
+        once = λ place lt. absurd (omega (arith, lt));
+        threads = λ thread. increasing [] tt;
+        rounds = λ round. All-nil (λ (p : ℕ). All (λ (q : ℕ). p < q) []);
+      };
+      answered = subst (λ (ts : List Turn). let ds = with_tasks ts [] in AreAnswered c plan [] [] (calls_after plan.library [] ds) [] ds) (sym nothing) tt;
+    }
 
 pub prints_isolated : (plan : PlanData) (rows generations : ℕ) (lines : List OutLine) → Prints (setting plan rows generations) plan lines → IsIsolated (setting plan rows generations) plan lines
 prints_isolated plan rows generations lines prints = isolated (setting plan rows generations) plan lines prints

@@ -30,15 +30,15 @@ use Rattle.catalog_table.specs.Entry.{History as CatalogHistory}
 use Rattle.catalog_seats.specs.Reader as readers
 use Rattle.catalog_seats.proofs.Meeting as meeting
 use Rattle.script_lines.specs.Catalogs.{Asked, catalog_setting}
-use Rattle.script_serial.specs.Plan.{PlanData, books_of}
-use Rattle.script_serial.specs.Prints.{bound_by}
-use Rattle.script_run.specs.declared.seated.Seated.{Seated}
-use Rattle.script_run.specs.Seated.{Gates, IsSeatedAt, IsAskingAt, MayFollow, MayFollowAsked, AreApart}
+use Rattle.script_plan.specs.Plan.{PlanData, books_of}
+use Rattle.script_plan.specs.Prints.{bound_by}
+use Rattle.script_seats.specs.declared.seated.Seated.{Seated}
+use Rattle.script_seats.specs.Seated.{Gates, IsSeatedAt, IsAskingAt, MayFollow, MayFollowAsked, AreApart}
 use Rattle.script_run.specs.Timed.{Timed, task_lines, lines_in, turn_made, turns_made, asked_in}
 use Rattle.script_run.specs.Beside.{Stock, stock_of, HasMade, IsWorker, Adds, HasAskedSince, Works, WorksOn}
 use Rattle.script_run.proofs.AskedSeen.{AsksNext, asks_next}
-use Rattle.script_run.proofs.HoldLists.{holds_of, apart_holds, kept_all}
-use Rattle.script_run.proofs.SeatLemmas.{seated_as}
+use Rattle.script_seats.proofs.HoldLists.{holds_of, apart_holds, kept_all}
+use Rattle.script_seats.proofs.SeatLemmas.{seated_as}
 use Rattle.script_run.proofs.LineSteps.{IsStep, moment_of, granted_step, longer, goes_further, follow_holds, own_entry, own_holds}
 use Rattle.script_run.proofs.MadeLines.{HasLines, made_line, more_lines}
 

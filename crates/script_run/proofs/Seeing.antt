@@ -7,12 +7,13 @@ use Rattle.handle_table.specs.Entry.{Entry, History, Setting}
 use Rattle.thread_current.specs.Thread.{Thread, IsInOrder, SawMore, GoesOnFrom, entries_by}
 use Rattle.script_lines.specs.declared.thread.Thread.{Thread as ScriptThread}
 use Rattle.script_lines.specs.Holds.{open_holds}
-use Rattle.script_serial.specs.Plan.{PlanData}
-use Rattle.script_run.specs.declared.seated.Seated.{Seated}
+use Rattle.script_plan.specs.Plan.{PlanData}
+use Rattle.script_seats.specs.declared.seated.Seated.{Seated}
 use Rattle.script_run.specs.Timed.{Timed, places_by}
 use Rattle.script_run.specs.Beside.{HasMade}
 use Rattle.script_run.proofs.Growth.{are_right_grow}
-use Rattle.script_run.proofs.Apart.{holds_says, places_stay}
+use Rattle.script_run.proofs.Apart.{places_stay}
+use Rattle.script_seats.proofs.OwnCalls.{holds_says}
 
 -- ---- histories that go on
 

@@ -11,8 +11,8 @@ use Rattle.handle_table.specs.Kept.{AreThreads}
 use Rattle.handle_table.specs.Answer.{IsLegal}
 use Rattle.thread_current.specs.Thread.{GoesOnFrom}
 use Rattle.script_lines.specs.Turns.{Turn}
-use Rattle.script_serial.specs.Plan.{PlanData}
-use Rattle.script_serial.proofs.LineLists.{filter_all, filter_none}
+use Rattle.script_plan.specs.Plan.{PlanData}
+use Rattle.script_plan.proofs.LineLists.{filter_all, filter_none}
 use Rattle.script_run.specs.Timed.{places_by, Timed, end_of, AreTimed, turn_made, turns_made, placed_back, stacked, own_lines, AreRight, in_rounds_before, in_rounds_to, IsInRound, IsWhole}
 use Rattle.script_run.proofs.Apart.{right_onto}
 use Rattle.script_run.proofs.Counted.{whole_length}

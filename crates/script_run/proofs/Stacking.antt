@@ -9,7 +9,7 @@ use Rattle.std.proofs.lemmas.List.Concat.{flat_map-append}
 use Rattle.std.proofs.lemmas.List.{map-append, reverse-append, append-nil}
 use Rattle.std.proofs.lemmas.List.Elements.{All-nil, All-cons}
 use Rattle.handle_table.specs.Entry.{History, Setting}
-use Rattle.script_serial.specs.Plan.{PlanData}
+use Rattle.script_plan.specs.Plan.{PlanData}
 use Rattle.script_run.specs.Timed.{Timed, AreRight, end_of, stacked}
 
 -- the line is of the thread, and of the round, or of one before it

@@ -17,9 +17,9 @@ use Rattle.script_out.specs.declared.output.OutLine.{OutLine}
 use Rattle.script_lines.specs.Board.{TaskMay}
 use Rattle.script_lines.specs.Turns.{Runs, Turn, in_round, in_thread, turn_of, thread_turns, round_turns}
 use Rattle.script_lines.proofs.WishLemmas.{command_may}
-use Rattle.script_serial.specs.Plan.{PlanData, IsSound}
+use Rattle.script_plan.specs.Plan.{PlanData, IsSound}
 use Rattle.script_run.specs.declared.worker.Worker.{Worker}
-use Rattle.script_run.specs.Seated.{Gates, IsNoEnd, MayCall}
+use Rattle.script_seats.specs.Seated.{Gates, IsNoEnd, MayCall}
 use Rattle.script_run.specs.Timed.{Timed, own_lines, turns_made, turn_made}
 use Rattle.script_run.specs.Beside.{stock_of, turns_of}
 use Rattle.script_run.specs.Rounds.{Each, reader_at, MayWork, IsFor, IsForAsked, IsReady, AreBetween, turns_to}

@@ -17,10 +17,10 @@ use Rattle.script_out.specs.declared.output.Said.TheVariants as said
 use Rattle.script_lines.specs.Catalogs.{not_asked}
 use Rattle.script_lines.specs.Outcome.{with_call}
 use Rattle.script_lines.specs.Turns.{Task, Runs, Ends}
-use Rattle.script_serial.specs.Prints.{PlacedCall}
-use Rattle.script_serial.specs.Serial.{setting}
-use Rattle.script_serial.proofs.Examples.{line_of, first_of}
-use Rattle.script_serial.proofs.PrintsExamples.{shared}
+use Rattle.script_plan.specs.Prints.{PlacedCall}
+use Rattle.script_plan.specs.Serial.{setting}
+use Rattle.script_plan.proofs.Examples.{line_of, first_of}
+use Rattle.script_plan.proofs.PrintsExamples.{shared}
 use Rattle.script_run.specs.Timed.{oldest, places_by, Timed, end_of, AreTimed, placed_back, own_lines, IsEntryOf, AreRight, in_rounds_before, in_rounds_to, IsInRound}
 
 -- ---- what stands before a place, and whose places they are

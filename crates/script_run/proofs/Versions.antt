@@ -25,11 +25,11 @@ use Rattle.script_lines.specs.Lines.{Caller, entry_line, version_made}
 use Rattle.script_lines.specs.Outcome.{with_call}
 use Rattle.script_lines.specs.Variables.{bindings_of}
 use Rattle.script_lines.specs.Wishes.{Wish, Calls, ReadsOf, Reads, AsksSelection, AsksName, OpensCatalog, GetsMessage, ClosesCatalog, wish_of}
-use Rattle.script_serial.specs.Plan.{PlanData, books_of}
-use Rattle.script_serial.specs.Prints.{TaskLine, PlacedCall, bound_by, places_in, call_of, all_places, of_thread, behind_last, next_place, history_below, Around, around, past, lines_of, first_of, place_behind, versions, IsUpToPlace, IsVersion, caller_of}
-use Rattle.script_serial.proofs.LineLists.{all_right}
-use Rattle.script_serial.proofs.SerialCalls.{wished_calls}
-use Rattle.script_serial.proofs.SerialSeen.{UpTo, none_up, some_up, call_version}
+use Rattle.script_plan.specs.Plan.{PlanData, books_of}
+use Rattle.script_plan.specs.Prints.{TaskLine, PlacedCall, bound_by, places_in, call_of, all_places, of_thread, behind_last, next_place, history_below, Around, around, past, lines_of, first_of, place_behind, versions, IsUpToPlace, IsVersion, caller_of}
+use Rattle.script_plan.proofs.LineLists.{all_right}
+use Rattle.script_plan.proofs.GoingOn.{wished_calls}
+use Rattle.script_plan.proofs.VersionLemmas.{UpTo, none_up, some_up, call_version}
 use Rattle.script_run.specs.Timed.{oldest, Timed, end_of, last_end, AreTimed, lines_in, task_lines, placed_back, own_lines, in_rounds_before, in_rounds_to, moments_in, IsEntryOf, IsRight, AreRight, IsInRound, IsWhole}
 use Rattle.script_run.proofs.Before.{oldest_again, sets_within}
 use Rattle.script_run.proofs.Counted.{all_reversed, kept_places}

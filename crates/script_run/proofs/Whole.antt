@@ -12,10 +12,10 @@ use Rattle.script_lines.specs.Catalogs.{catalog_setting}
 use Rattle.script_out.specs.declared.output.OutLine.{OutLine}
 use Rattle.script_lines.specs.Lines.{Caller}
 use Rattle.script_lines.specs.Turns.{Turn, command_turns, closing_turns}
-use Rattle.script_serial.specs.Plan.{PlanData}
-use Rattle.script_serial.specs.Prints.{TaskLine, with_tasks, PlacedCall, places_in, calls_after, history_below, caller_of, index_after, caller_after, callers_after, command_calls, all_turns, IsAnswered, AreAnswered, Prints}
-use Rattle.script_serial.proofs.LineLists.{all_right}
-use Rattle.script_serial.proofs.SerialPrints.{rounds_within, closing_round}
+use Rattle.script_plan.specs.Plan.{PlanData}
+use Rattle.script_plan.specs.Prints.{TaskLine, with_tasks, PlacedCall, places_in, calls_after, history_below, caller_of, index_after, caller_after, callers_after, command_calls, all_turns, IsAnswered, AreAnswered, Prints}
+use Rattle.script_plan.proofs.LineLists.{all_right}
+use Rattle.script_plan.proofs.RoundTurns.{rounds_within, closing_round}
 use Rattle.script_run.specs.Timed.{oldest, places_by, Timed, AreTimed, lines_in, task_lines, turn_made, turns_made, placed_back, own_lines, AreRight, IsRight, IsWhole, AreAsked, HasStanding}
 use Rattle.script_run.proofs.Before.{IsBetween, is_between}
 use Rattle.script_run.proofs.Counted.{all_reversed}

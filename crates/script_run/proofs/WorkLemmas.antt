@@ -27,14 +27,14 @@ use Rattle.script_lines.specs.Outcome.{with_call, calls}
 use Rattle.script_lines.specs.Seen.{turn_seen}
 use Rattle.script_lines.specs.Turns.{Releases, Ends, Turn, closing_turn, releases}
 use Rattle.script_lines.specs.Catalogs.{not_asked}
-use Rattle.script_serial.specs.Plan.{PlanData, books_of}
-use Rattle.script_run.specs.declared.seated.Seated.{Seated}
-use Rattle.script_run.specs.Seated.{held_data, handed_out, Gates, IsSeatedAt, MayFollow, MayCall, IsFirst}
+use Rattle.script_plan.specs.Plan.{PlanData, books_of}
+use Rattle.script_seats.specs.declared.seated.Seated.{Seated}
+use Rattle.script_seats.specs.Seated.{held_data, handed_out, Gates, IsSeatedAt, MayFollow, MayCall, IsFirst}
 use Rattle.script_run.specs.Timed.{Timed, lines_in, turns_made, AreTimed}
 use Rattle.script_run.specs.Beside.{Stock, stock_of, HasMade, IsWorker, CanAdd, Adds, turns_of, CanWork, WorksOn, CanClose, GivesUp, EndsSeat, Closes}
 use Rattle.script_run.proofs.AskedSeen.{asking_same, same_calls_long}
-use Rattle.script_run.proofs.HoldLists.{holds_of}
-use Rattle.script_run.proofs.SeatLemmas.{legal_before, others_between}
+use Rattle.script_seats.proofs.HoldLists.{holds_of}
+use Rattle.script_seats.proofs.SeatLemmas.{legal_before, others_between}
 use Rattle.script_run.proofs.LineSteps.{longer, goes_further, goes_one_more, call_step}
 use Rattle.script_run.proofs.MadeLines.{HasLines, made_line, more_lines}
 use Rattle.script_run.proofs.SeatLines.{lines_made, works_none, works_one_more, LeftBy, released}

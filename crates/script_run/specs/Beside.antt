@@ -20,14 +20,14 @@ use Rattle.script_lines.specs.Holds.{open_holds}
 use Rattle.script_lines.specs.Thread.{BindsAs}
 use Rattle.script_lines.specs.Turns.{Turn, releases, closing}
 use Rattle.script_lines.specs.Variables.{Bound, bindings_after}
-use Rattle.script_serial.specs.Plan.{PlanData, books_of}
-use Rattle.script_serial.specs.Prints.{bound_by}
-use Rattle.script_run.specs.declared.seated.Seated.{Seated}
+use Rattle.script_plan.specs.Plan.{PlanData, books_of}
+use Rattle.script_plan.specs.Prints.{bound_by}
+use Rattle.script_seats.specs.declared.seated.Seated.{Seated}
 use Rattle.catalog_table.specs.declared.setting.CatalogSetting.{CatalogSetting}
 use Rattle.catalog_seats.specs.Reader as readers
 use Rattle.catalog_seats.specs.Reader.{ReaderData}
 use Rattle.script_lines.specs.Catalogs.{Books, catalog_setting}
-use Rattle.script_run.specs.Seated.{Gates, IsSeatedAt, IsAskingAt, CanCall, MayCall, MayFollow, MayFollowAsked}
+use Rattle.script_seats.specs.Seated.{Gates, IsSeatedAt, IsAskingAt, CanCall, MayCall, MayFollow, MayFollowAsked}
 use Rattle.script_run.specs.Timed.{Timed, AreTimed, AreRight, HasStanding, lines_in, task_lines, turns_made, places_by, placed_back, catalog_places_by, asked_in, asked_back}
 
 -- ---- what a thread has made

@@ -16,7 +16,7 @@ use Rattle.script_out.specs.declared.output.OutLine.{OutLine}
 use Rattle.script_lines.specs.Holds.{open_holds}
 use Rattle.script_lang.specs.declared.bundle.Bundle.{Bundle}
 use Rattle.script_lines.specs.Turns.{Turn, round_turns, command_turns, closing}
-use Rattle.script_serial.specs.Plan.{PlanData}
+use Rattle.script_plan.specs.Plan.{PlanData}
 use Rattle.catalog_table.specs.declared.setting.CatalogSetting.{CatalogSetting}
 use Rattle.catalog_table.specs.Entry.{History as CatalogHistory}
 use Rattle.catalog_table.specs.Answer as catalog_answers
@@ -24,7 +24,7 @@ use Rattle.catalog_seats.specs.Reader as readers
 use Rattle.catalog_seats.specs.Reader.{ReaderData}
 use Rattle.script_lines.specs.Catalogs.{Books, catalog_setting}
 use Rattle.script_run.specs.declared.worker.Worker.{Worker}
-use Rattle.script_run.specs.Seated.{Gates}
+use Rattle.script_seats.specs.Seated.{Gates}
 use Rattle.script_run.specs.Timed.{Timed, AreTimed, IsWhole, AreAsked, lines_in, turns_made, own_lines, last_end, stacked}
 use Rattle.script_run.specs.Beside.{Stock, stock_of, HasMade, IsWorker, CanWork, Works, turns_of}
 

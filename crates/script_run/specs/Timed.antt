@@ -16,8 +16,8 @@ use Rattle.script_lines.specs.Wishes.{wish_of}
 use Rattle.script_lines.specs.Outcome.{with_call}
 use Rattle.script_lines.specs.Board.{Moments, catalog_op, granted_at}
 use Rattle.script_lines.specs.Catalogs.{Asked}
-use Rattle.script_serial.specs.Plan.{PlanData, books_of}
-use Rattle.script_serial.specs.Prints.{TaskLine, PlacedCall, bound_by, caller_of, places_in, behind_last, next_place, calls_of, IsAsked}
+use Rattle.script_plan.specs.Plan.{PlanData, books_of}
+use Rattle.script_plan.specs.Prints.{TaskLine, PlacedCall, bound_by, caller_of, places_in, behind_last, next_place, calls_of, IsAsked}
 
 -- ---- what stands before a place
 

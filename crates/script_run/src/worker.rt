@@ -3,13 +3,11 @@
 ghost use Rattle.std.specs.Prelude.{◌≡◌, [], map, IfOk, OnOk, List};
 ghost use Rattle.turn_gate.specs.Callers.{IsSeatOf};
 ghost use Rattle.script_lines.specs.Seen.{turn_seen};
-ghost use Rattle.script_serial.specs.Plan.{PlanData};
+ghost use Rattle.script_plan.specs.Plan.{PlanData};
 ghost use Rattle.script_run.specs.Timed.{Timed};
-ghost use Rattle.script_run.specs.Seated.{gates};
+ghost use Rattle.script_seats.specs.Seated.{gates};
 ghost use Rattle.script_run.specs.Beside.{stock, stock_of, CanAdd, AddsLine, Adds, CanWork, IsWorker, WorksOn, CanClose, GivesUp, EndsSeat, Closes, turns_of};
 
-use crate::pause::Pause;
-use crate::seated::{Beside, OneTable, Seated};
 use catalog_seats::SharedCatalogs;
 use catalog_table::BookShare;
 use category_store::{Library, Share};
@@ -19,6 +17,7 @@ use script_lines::lines::line;
 use script_lines::thread::Thread;
 use script_lines::turns::{Task, Turn};
 use script_out::{OutLine, Places, Said};
+use script_seats::{Beside, OneTable, Pause, Seated};
 use std::alloc::{AllocError, Global};
 use std::marker::Brand;
 use std::sync::Wait;

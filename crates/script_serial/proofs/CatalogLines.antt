@@ -13,7 +13,7 @@ use Rattle.script_out.specs.declared.output.OutLine.{OutLine}
 use Rattle.script_lines.specs.Catalogs.{Books, Asked, book_for, asked_after, catalogs_after, object_used, open_line}
 use Rattle.script_lines.specs.Lines.{Caller}
 use Rattle.script_lines.specs.Outcome.{opens_line}
-use Rattle.script_serial.specs.Prints.{places_in, catalog_places_in, caller_of}
+use Rattle.script_plan.specs.Prints.{places_in, catalog_places_in, caller_of}
 
 -- ---- the line of a catopen
 

@@ -1,20 +1,13 @@
 pub mod AloneLemmas
-pub mod AnsweredApart
 pub mod CatalogLines
 pub mod Effects
-pub mod Examples
-pub mod Fronts
-pub mod IsolationExamples
-pub mod KeyLemmas
-pub mod LineLists
 pub mod OnlySerial
 pub mod OutcomeLemmas
-pub mod PlacedCalls
 pub mod PlayLemmas
-pub mod PrintsExamples
 pub mod ReleaseLaws
 pub mod RunLemmas
 pub mod SerialAnswered
+pub mod SerialApart
 pub mod SerialCalls
 pub mod SerialCatalogs
 pub mod SerialLines
@@ -22,4 +15,3 @@ pub mod SerialNewest
 pub mod SerialPrints
 pub mod SerialSeen
 pub mod TurnLemmas
-pub mod VersionExamples

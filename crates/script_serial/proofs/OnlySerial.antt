@@ -23,19 +23,21 @@ use Rattle.script_out.specs.declared.output.Places.{Places}
 use Rattle.script_out.specs.declared.output.Places.TheVariants as places
 use Rattle.script_out.specs.declared.output.Said.TheVariants as said
 use Rattle.script_out.specs.declared.output.Why.{Why}
-use Rattle.script_serial.specs.Plan.{PlanData, books_of}
+use Rattle.script_plan.specs.Plan.{PlanData, books_of}
 use Rattle.script_lines.specs.Holds.{object_held, open_holds, held_as}
 use Rattle.script_lines.specs.Turns.{Turn, command_turns, closing_turns}
 use Rattle.script_lines.specs.Lines.{Caller, plain_line, placed_line, held_line, global_read_line, global_name_line}
 use Rattle.script_lines.specs.Variables.{Bound, bindings_of}
 use Rattle.script_lines.specs.Wishes.{Wish, Calls, ReadsOf, Reads, AsksSelection, AsksName, wish_of, OpensCatalog, GetsMessage, ClosesCatalog}
-use Rattle.script_lines.specs.Outcome.{Outcome, reads_between, reads_of, read_line, granted, opens_line, catalogs_left}
-use Rattle.script_serial.specs.Serial.{Run, next_caller, outcome, with_outcome, played, begun, commands_played, serial_lines, setting, TurnOutcome}
-use Rattle.script_serial.specs.Prints.{TaskLine, with_tasks, bound_by, places_in, all_places, PlacedCall, calls_after, with_placed, history_below, Around, around, past, next_place, seen, global_of, IsReadBetween, IsHoldRefused, IsReadOf, IsRead, IsGranted, AreAnswered, caller_of, caller_after, callers_after, command_calls, all_turns, AreNewest, PrintsInOrder, catalog_places_in, all_catalog_places, IsCatalogCall, IsOpenOf, IsOpen}
-use Rattle.script_serial.proofs.LineLists.{GoUp, is_this, bit_of, count_more}
+use Rattle.script_lines.specs.Outcome.{reads_between, reads_of, read_line, granted, opens_line, catalogs_left}
+use Rattle.script_plan.specs.Serial.{Run, next_caller, outcome, with_outcome, played, begun, commands_played, serial_lines, setting, TurnOutcome}
+use Rattle.script_plan.specs.Prints.{TaskLine, with_tasks, bound_by, places_in, all_places, PlacedCall, calls_after, with_placed, history_below, Around, around, past, next_place, seen, global_of, IsReadBetween, IsHoldRefused, IsReadOf, IsRead, IsGranted, AreAnswered, caller_of, caller_after, callers_after, command_calls, all_turns, AreNewest, PrintsInOrder, catalog_places_in, all_catalog_places, IsCatalogCall, IsOpenOf, IsOpen}
+use Rattle.script_plan.proofs.LineLists.{GoUp, is_this, bit_of, count_more}
 use Rattle.script_serial.proofs.SerialLines.{granted_caller, next_is, first_places, IsCounted, one_turn, granted_places, added, added_append}
-use Rattle.script_serial.proofs.SerialCalls.{call_at, calls_from, calls_length, is_at, find_newest, legal_before, same_entry, GoesOnFrom, goes_nowhere, one_entry, goes_on, past_is, granted_legal, granted_gains, wish_in, wished_calls, task_line_of, line_thread, bound_next, calls_here, calls_played, with_tasks_first}
-use Rattle.script_serial.proofs.SerialSeen.{own_past, next_of, own_seen, selection_seen, holds_seen, own_back, granted_next, global_on}
+use Rattle.script_serial.proofs.SerialCalls.{call_at, calls_from, calls_length, find_newest, legal_before, same_entry, past_is, granted_legal, granted_gains, wish_in, task_line_of, line_thread, bound_next, calls_here, calls_played, with_tasks_first}
+use Rattle.script_serial.proofs.SerialSeen.{own_past, next_of, own_seen, selection_seen, holds_seen, own_back, granted_next}
+use Rattle.script_plan.proofs.GoingOn.{is_at, GoesOnFrom, goes_nowhere, wished_calls, below_on}
+use Rattle.script_plan.proofs.VersionLemmas.{global_on}
 use Rattle.script_serial.proofs.SerialAnswered.{places_so_far}
 use Rattle.script_serial.proofs.SerialPrints.{serial_is}
 use Rattle.script_lines.specs.Catalogs.{Books, Asked, book_for, catalog_setting, handle_meant, object_used, asked_after, catalogs_after, open_line, message_line, close_line}
@@ -143,20 +145,6 @@ past_back c H G later legal on =
     in
     ap (λ (cs : List PlacedCall). history_below c cs (length G)) split
     ∙ past_of c G (b.rest ++ later) (legal_before c on.more G (subst (IsLegal c) on.is legal))
-
-placed_on : (c : Setting) (H : History) (call : Option PlacedCall) → GoesOnFrom H (with_placed c H call)
-placed_on c H None = goes_nowhere H
-placed_on c H (Some call) = one_entry H (entry c H call.thread call.op)
-
-pub below_on : (c : Setting) (calls : List PlacedCall) (a b : ℕ) → a ≤ b → GoesOnFrom (history_below c calls a) (history_below c calls b)
-below_on c calls a zero le = let none : a ≡ 0 = omega (arith, le) in subst (λ (n : ℕ). GoesOnFrom (history_below c calls n) []) (sym none) (goes_nowhere [])
-below_on c calls a (suc b) le =
-    elim (cases_lt a (suc b)) [
-      | inl lt ↦
-          goes_on (history_below c calls a) (history_below c calls b) (history_below c calls (suc b)) (below_on c calls a b (omega (arith, lt)))
-          (placed_on c (history_below c calls b) (find (λ (call : PlacedCall). call.place == b) calls))
-      | inr ge ↦ let same : a ≡ suc b = omega (arith, le, ge) in subst (λ (n : ℕ). GoesOnFrom (history_below c calls a) (history_below c calls n)) same (goes_nowhere (history_below c calls a))
-    ]
 
 -- ---- one line
 

@@ -16,7 +16,7 @@ use Rattle.script_out.specs.declared.output.Why.{Why}
 use Rattle.script_lines.specs.Holds.{object_held, holds_after, open_holds, held_as}
 use Rattle.script_lines.specs.Lines.{Caller}
 use Rattle.script_lines.specs.Outcome.{with_call, reads_between, reads_of, read_line, granted, asked_of}
-use Rattle.script_serial.specs.Serial.{lines_of_thread}
+use Rattle.script_plan.specs.Serial.{lines_of_thread}
 use Rattle.script_serial.specs.Alone.{AloneSideData, Knows}
 use Rattle.script_lines.specs.Wishes.{Wish, Calls, ReadsOf, Reads, AsksSelection, AsksName, OpensCatalog, GetsMessage, ClosesCatalog}
 use Rattle.script_lines.specs.Catalogs.{Books}

@@ -13,13 +13,14 @@ use Rattle.script_serial.specs.Alone.{AloneData}
 use Rattle.script_lang.specs.declared.bundle.Bundle.{Bundle}
 use Rattle.script_out.specs.declared.output.OutLine.{OutLine}
 use Rattle.script_lines.specs.declared.turns.Turn.{Turn as LentTurn}
-use Rattle.script_lines.specs.Holds.{open_holds}
-use Rattle.script_serial.specs.Plan.{PlanData, IsSound, books_of}
+use Rattle.script_plan.specs.Plan.{PlanData, IsSound, books_of}
 use Rattle.script_lines.specs.Seen.{turn_seen, TurnFits}
-use Rattle.script_serial.specs.Serial.{Run, setting, played, begun, commands_played, closed, serial_lines}
+use Rattle.script_plan.specs.Serial.{Run, setting, played, begun, commands_played, closed, serial_lines}
 use Rattle.script_serial.specs.Session.{ThreadData, AreAt, ops_answered, GoesOn, AreNumbered, CanPlay}
-use Rattle.script_lines.specs.Turns.{Turn, first_numbers, command_turns, closing, closing_turns}
-use Rattle.script_serial.proofs.TurnLemmas.{AreFrom, few_turns, turns_fit, no_turns, few_closing, closing_is, closings_fit}
+use Rattle.script_lines.specs.Turns.{Turn, command_turns, closing, closing_turns}
+use Rattle.script_serial.proofs.TurnLemmas.{AreFrom, few_turns, turns_fit, few_closing, closing_is, closings_fit}
+use Rattle.script_plan.proofs.RoundTurns.{no_turns, no_closing_turns}
+use Rattle.script_plan.proofs.PlanParts.{made_plan, plan_is}
 
 -- ---- the commands
 
@@ -131,10 +132,6 @@ closed_is plan c board threads printed turns lines done same books read is =
     ∙ ap (λ (s : Setting). (played s plan.library (books_of plan) (commands_played c plan) (map turn_seen turns)).lines) done.same
     ∙ ap (λ (ts : List Turn). (played c plan.library (books_of plan) (commands_played c plan) ts).lines) (same ∙ closings_are plan c board threads printed done)
 
--- without a thread there is nothing to close
-no_closing_turns : (b : Bundle) (H : History) → b.threads ≡ [] → closing_turns b H ≡ []
-no_closing_turns b H none = ap (λ (n : ℕ). flat_map (λ (t : ℕ). closing (b.rounds + 1) t (open_holds H t)) (first_numbers n)) (ap (λ (names : List (List ℕ)). length names) none)
-
 -- a plan without threads has no line
 pub no_lines : (plan : PlanData) (rows generations : ℕ) → plan.bundle.threads ≡ [] → serial_lines rows generations plan ≡ []
 no_lines plan rows generations none =
@@ -142,18 +139,6 @@ no_lines plan rows generations none =
     let commands : commands_played c plan ≡ begun = ap (played c plan.library (books_of plan) begun) (no_turns plan.bundle none) in
     let closes : closing_turns plan.bundle (commands_played c plan).history ≡ [] = no_closing_turns plan.bundle (commands_played c plan).history none in
     ap (λ (ts : List Turn). (played c plan.library (books_of plan) (commands_played c plan) ts).lines) closes ∙ ap (λ (r : Run). r.lines) commands
-
--- what a plan and a setting are made of
-abbrev made_plan : Bundle → Catalog → List (List Message) → PlanData
-made_plan bundle library books = record { bundle = bundle; library = library; books = books }
-
-plan_is : (plan : PlanData) (bundle : Bundle) (library : Catalog) (books : List (List Message)) → bundle ≡ plan.bundle → library ≡ plan.library → books ≡ plan.books → made_plan bundle library books ≡ plan
-plan_is plan bundle library books same of read =
-    ap (λ (b : Bundle). made_plan b library books) same ∙ ap (λ (l : Catalog). made_plan plan.bundle l books) of ∙ ap (λ (bs : List (List Message)). made_plan plan.bundle plan.library bs) read
-
-pub sound_parts : (plan : PlanData) (bundle : Bundle) (library : Catalog) (books : List (List Message)) → bundle ≡ plan.bundle → library ≡ plan.library → books ≡ plan.books → IsSound plan
-    → IsSound (record { bundle = bundle; library = library; books = books })
-sound_parts plan bundle library books same of read sound = subst IsSound (sym (plan_is plan bundle library books same of read)) sound
 
 -- the catalogs whose blocks are those of a bundle are those of a plan with it
 pub books_are : (bundle : Bundle) (library : Catalog) (books : Books) → books.blocks ≡ bundle.catalogs → books ≡ books_of (record { bundle = bundle; library = library; books = books.books })

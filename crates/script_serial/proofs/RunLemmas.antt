@@ -20,7 +20,7 @@ use Rattle.script_lines.specs.Wishes.{Wish, wish_of}
 use Rattle.script_lines.specs.Lines.{Caller}
 use Rattle.script_lines.specs.Catalogs.{Books}
 use Rattle.script_lines.specs.Outcome.{granted}
-use Rattle.script_serial.specs.Serial.{Run, TurnOutcome, lines_of_thread, next_caller, outcome, with_outcome, played}
+use Rattle.script_plan.specs.Serial.{Run, TurnOutcome, lines_of_thread, next_caller, outcome, with_outcome, played}
 use Rattle.script_lines.specs.Thread.{BindsAs}
 use Rattle.script_lines.specs.Board.{Left, LeavesTurn, turn_caller}
 use Rattle.script_serial.specs.Alone.{AloneSideData, Knows, AloneData}

@@ -10,7 +10,7 @@ use Rattle.mask_compose.specs.Parts.{Parts}
 use Rattle.category_store.specs.Catalog.{Catalog}
 use Rattle.handle_table.specs.declared.handle.Named.{Named}
 use Rattle.handle_table.specs.Entry as table
-use Rattle.handle_table.specs.Entry.{Entry, History, Setting}
+use Rattle.handle_table.specs.Entry.{History, Setting}
 use Rattle.handle_table.specs.History.{sets, global, global_at, selection}
 use Rattle.handle_table.specs.Answer.{answer, entry, own, IsLegal}
 use Rattle.script_words.specs.declared.categories.Categories.TheVariants.{All as AllCategories}
@@ -18,19 +18,21 @@ use Rattle.script_commands.specs.declared.command.Read.{Read}
 use Rattle.script_out.specs.declared.output.OutLine.{OutLine}
 use Rattle.script_out.specs.declared.output.Said.TheVariants as said
 use Rattle.script_out.specs.declared.output.Why.{Why}
-use Rattle.script_serial.specs.Plan.{PlanData, books_of}
+use Rattle.script_plan.specs.Plan.{PlanData, books_of}
 use Rattle.script_lines.specs.Holds.{object_held, open_holds, held_as}
 use Rattle.script_lines.specs.Lines.{Caller, plain_line, placed_line, global_read_line, global_name_line}
 use Rattle.script_lines.specs.Turns.{Turn}
 use Rattle.script_lines.specs.Variables.{Bound, bindings_of}
 use Rattle.script_lines.specs.Wishes.{Wish, Calls, ReadsOf, Reads, AsksSelection, AsksName, wish_of, OpensCatalog, GetsMessage, ClosesCatalog}
-use Rattle.script_lines.specs.Outcome.{Outcome, with_call, reads_between, reads_of, read_line, granted, opens_line, asked_of, catalogs_left}
-use Rattle.script_serial.specs.Serial.{Run, next_caller, outcome, with_outcome, played, TurnOutcome}
-use Rattle.script_serial.specs.Prints.{TaskLine, with_tasks, bound_by, places_in, all_places, of_thread, before_round, up_to_round, history_below, Around, around, past, next_place, seen, lines_of, first_of, versions, IsUpToPlace, IsVersion, global_of, IsReadOf, IsRead, IsGranted, IsAnswered, AreAnswered, caller_of, IsCatalogCall, IsOpenOf, IsOpen}
-use Rattle.script_serial.proofs.LineLists.{all_kept, fewer_kept, filter_all, filter_none}
+use Rattle.script_lines.specs.Outcome.{with_call, reads_between, reads_of, read_line, granted, opens_line, asked_of, catalogs_left}
+use Rattle.script_plan.specs.Serial.{Run, next_caller, outcome, with_outcome, played, TurnOutcome}
+use Rattle.script_plan.specs.Prints.{TaskLine, with_tasks, bound_by, places_in, all_places, of_thread, before_round, up_to_round, history_below, Around, around, past, next_place, seen, lines_of, first_of, versions, IsUpToPlace, IsVersion, global_of, IsReadOf, IsRead, IsGranted, IsAnswered, AreAnswered, caller_of, IsCatalogCall, IsOpenOf, IsOpen}
+use Rattle.script_plan.proofs.LineLists.{all_kept, fewer_kept, filter_all, filter_none}
 use Rattle.script_serial.proofs.SerialLines.{granted_caller, IsCounted, one_turn, added}
-use Rattle.script_serial.proofs.SerialCalls.{calls_from, calls_length, GoesOnFrom, goes_nowhere, one_entry, goes_on, past_is, granted_on, turn_on, played_on, wish_in, task_line_of, line_thread, line_round, bound_next}
-use Rattle.script_serial.proofs.SerialSeen.{own_past, next_of, own_seen, selection_seen, holds_seen, own_back, granted_next, sets_on, global_on, past_up, UpTo, granted_version, released_after}
+use Rattle.script_serial.proofs.SerialCalls.{calls_from, calls_length, past_is, granted_on, turn_on, played_on, wish_in, task_line_of, line_thread, line_round, bound_next}
+use Rattle.script_serial.proofs.SerialSeen.{own_past, next_of, own_seen, selection_seen, holds_seen, own_back, granted_next, granted_version}
+use Rattle.script_plan.proofs.GoingOn.{GoesOnFrom, goes_nowhere, one_entry, goes_on}
+use Rattle.script_plan.proofs.VersionLemmas.{sets_on, global_on, past_up, UpTo, released_after}
 use Rattle.script_lines.specs.Catalogs.{Books, Asked, book_for, catalog_setting, handle_meant, object_used, asked_after, catalogs_after, open_line, message_line, close_line}
 use Rattle.script_serial.proofs.CatalogLines.{GoOnFrom, opens_places}
 use Rattle.script_serial.proofs.SerialCatalogs.{played_catalogs_on}

@@ -1,5 +1,5 @@
 -- The calls of the lines that `serial` prints: with their places they give back its history.
-use Rattle.std.proofs.Common.{◌≡◌, ℕ, ◌≤◌, Bool, false, cond, List, [], ◌∷◌, ◌++◌, length, map, find, zip, Option, Some, None, Result, Ok, Err, refl, sym, ap, subst, ◌∙◌, arith, append_assoc, append-nil, length-append}
+use Rattle.std.proofs.Common.{◌≡◌, ℕ, ◌≤◌, Bool, false, cond, List, [], ◌∷◌, ◌++◌, length, find, Option, Some, None, Result, Ok, Err, refl, sym, ap, subst, ◌∙◌, arith, append_assoc, append-nil, length-append}
 use Rattle.std.specs.Prelude.{◌==◌}
 use Rattle.std.specs.Option.{option_or}
 use Rattle.std.proofs.lemmas.Bool.{eq-eqb, ne_eqb}
@@ -17,14 +17,15 @@ use Rattle.script_lines.specs.Holds.{object_held, open_holds, held_as}
 use Rattle.script_lines.specs.Lines.{Caller}
 use Rattle.script_lines.specs.Turns.{Turn}
 use Rattle.script_lines.specs.Variables.{Bound, bindings_of, bindings_after}
-use Rattle.script_lines.specs.Wishes.{Wish, Calls, ReadsOf, Reads, AsksSelection, AsksName, wish_of, ops_of, OpensCatalog, GetsMessage, ClosesCatalog}
+use Rattle.script_lines.specs.Wishes.{Wish, Calls, ReadsOf, Reads, AsksSelection, AsksName, wish_of, OpensCatalog, GetsMessage, ClosesCatalog}
 use Rattle.script_lines.specs.Outcome.{Outcome, with_call, reads_between, reads_of, read_line, granted, asked_of}
-use Rattle.script_serial.specs.Serial.{Run, next_caller, outcome, with_outcome, played, TurnOutcome}
-use Rattle.script_serial.specs.Prints.{TaskLine, with_tasks, bound_by, places_in, PlacedCall, call_of, calls_of, calls_after, with_placed, history_below}
+use Rattle.script_plan.specs.Serial.{Run, next_caller, outcome, with_outcome, played, TurnOutcome}
+use Rattle.script_plan.specs.Prints.{TaskLine, with_tasks, bound_by, places_in, PlacedCall, calls_of, calls_after, with_placed, history_below}
 use Rattle.script_serial.proofs.SerialLines.{granted_caller, added}
 use Rattle.script_lines.specs.Catalogs.{Books}
 use Rattle.script_serial.proofs.CatalogLines.{opens_places}
 use Rattle.catalog_table.specs.Entry.{History as CatalogHistory}
+use Rattle.script_plan.proofs.GoingOn.{is_at, GoesOnFrom, goes_nowhere, one_entry, goes_on, wished_calls}
 
 -- ---- the calls of a history, each at its place
 
@@ -38,9 +39,6 @@ calls_from (e ∷ H) = calls_from H ++ call_at H e ∷ []
 pub calls_length : (H : History) → length (calls_from H) ≡ length H
 calls_length [] = refl
 calls_length (e ∷ H) = let long = length-append (calls_from H) (call_at H e ∷ []) in let before = calls_length H in omega (arith, long, before)
-
-abbrev pub is_at : ℕ → PlacedCall → Bool
-is_at n call = call.place == n
 
 find_none : (H : History) (n : ℕ) → length H ≤ n → find (is_at n) (calls_from H) ≡ None
 find_none [] n le = refl
@@ -84,22 +82,6 @@ all_past c E (e ∷ H) legal =
     ∙ same_entry c H e here.0
 
 -- ---- histories that go on
-
-pub record GoesOnFrom (H F : History) : Type 0 where
-  pub more : History
-  pub is : F ≡ more ++ H
-
-pub goes_nowhere : (H : History) → GoesOnFrom H H
-goes_nowhere H = record { more = []; is = refl }
-
-pub one_entry : (H : History) (e : Entry) → GoesOnFrom H (e ∷ H)
-one_entry H e = record { more = e ∷ []; is = refl }
-
-pub goes_on : (H G F : History) → GoesOnFrom H G → GoesOnFrom G F → GoesOnFrom H F
-goes_on H G F first second = record {
-  more = second.more ++ first.more;
-  is = second.is ∙ ap (λ (K : History). second.more ++ K) first.is ∙ sym (append_assoc second.more first.more H);
-}
 
 pub past_is : (c : Setting) (F H : History) → IsLegal c F → GoesOnFrom H F → history_below c (calls_from F) (length H) ≡ H
 past_is c F H legal on =
@@ -170,10 +152,6 @@ played_legal c library books run (turn ∷ turns) legal =
     (granted_legal c library books run.history run.catalogs (next_caller run turn) (wish_in library run turn) legal)
 
 -- ---- the calls of a line are those that its history has gained
-
--- the calls of a thread at these places, by what it wishes
-abbrev pub wished_calls : ℕ → List ℕ → Result Wish Why → List PlacedCall
-wished_calls thread at w = map (call_of thread) (zip at (ops_of w))
 
 abbrev Gains : History → Caller → Result Wish Why → Outcome → Type 0
 Gains H at w done = calls_from done.history ≡ calls_from H ++ wished_calls at.thread (places_in done.line.places) w

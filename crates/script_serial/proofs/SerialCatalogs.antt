@@ -25,8 +25,8 @@ use Rattle.script_lines.specs.Turns.{Turn}
 use Rattle.script_lines.specs.Variables.{bindings_of}
 use Rattle.script_lines.specs.Wishes.{Wish, Calls, ReadsOf, Reads, AsksSelection, AsksName, OpensCatalog, GetsMessage, ClosesCatalog, wish_of}
 use Rattle.script_lines.specs.Outcome.{reads_between, reads_of, read_line, opens_line, catalog_op_of, granted, catalogs_left}
-use Rattle.script_serial.specs.Serial.{Run, TurnOutcome, next_caller, outcome, with_outcome, played}
-use Rattle.script_serial.specs.Prints.{catalog_places_in, all_catalog_places}
+use Rattle.script_plan.specs.Serial.{Run, TurnOutcome, next_caller, outcome, with_outcome, played}
+use Rattle.script_plan.specs.Prints.{catalog_places_in, all_catalog_places}
 use Rattle.script_serial.proofs.CatalogLines.{GoOnFrom, go_nowhere, go_on, op_on, op_legal}
 use Rattle.script_serial.proofs.SerialLines.{first_places, no_place, one_place}
 

@@ -19,8 +19,8 @@ use Rattle.script_lines.specs.Turns.{Turn}
 use Rattle.script_lines.specs.Variables.{bindings_of}
 use Rattle.script_lines.specs.Wishes.{Wish, Calls, ReadsOf, Reads, AsksSelection, AsksName, wish_of, OpensCatalog, GetsMessage, ClosesCatalog}
 use Rattle.script_lines.specs.Outcome.{Outcome, reads_between, reads_of, read_line, granted, asked_of}
-use Rattle.script_serial.specs.Serial.{Run, next_caller, outcome, with_outcome, played, TurnOutcome}
-use Rattle.script_serial.specs.Prints.{places_in, all_places, caller_of, caller_after, callers_after}
+use Rattle.script_plan.specs.Serial.{Run, next_caller, outcome, with_outcome, played, TurnOutcome}
+use Rattle.script_plan.specs.Prints.{places_in, all_places, caller_of, caller_after, callers_after}
 use Rattle.script_lines.specs.Catalogs.{Books}
 use Rattle.script_serial.proofs.CatalogLines.{opens_caller, opens_places}
 use Rattle.catalog_table.specs.Entry.{History as CatalogHistory}

@@ -3,7 +3,7 @@ use Rattle.std.proofs.Common.{◌≡◌, ℕ, zero, suc, ◌+◌, ◌<◌, ◌�
 use Rattle.std.specs.Prelude.{◌==◌, nat_lt, nat_le, count_by, All}
 use Rattle.std.specs.List.{range_with_len}
 use Rattle.std.proofs.lemmas.Bool.{cases_lt, lt-ltb, le-ltb, lt-leb, eqb-true}
-use Rattle.std.proofs.lemmas.List.Elements.{All-nil, All-cons, All-head, All-tail, All-append, All-weaker, All-filter, All-map}
+use Rattle.std.proofs.lemmas.List.Elements.{All-nil, All-cons, All-head, All-tail, All-append, All-weaker, All-map}
 use Rattle.std.proofs.lemmas.List.FromFn.{length-range_with_len}
 use Rattle.category_store.specs.Catalog.{Catalog}
 use Rattle.handle_table.specs.Entry.{History, Setting}
@@ -11,16 +11,17 @@ use Rattle.script_commands.specs.declared.command.Placed.{Placed}
 use Rattle.script_lang.specs.declared.bundle.Bundle.{Bundle}
 use Rattle.script_out.specs.declared.output.OutLine.{OutLine}
 use Rattle.script_lines.specs.declared.holds.OpenHold.{OpenHold}
-use Rattle.script_serial.specs.Plan.{PlanData, books_of}
+use Rattle.script_plan.specs.Plan.{PlanData, books_of}
 use Rattle.script_lines.specs.Holds.{open_holds}
 use Rattle.script_lines.specs.Turns.{Turn, first_numbers, in_round, in_thread, turn_of, thread_turns, round_turns, command_turns, closing_turn, releases, closing, closing_turns, Releases, Ends}
-use Rattle.script_serial.specs.Serial.{Run, outcome, with_outcome, played, begun, commands_played, serial_lines, setting}
-use Rattle.script_serial.specs.Prints.{TaskLine, with_tasks, places_in, all_places, of_thread, before_round, from_round, PlacedCall, calls_after, history_below, caller_of, callers_after, command_calls, all_turns, AreAnswered, ArePlaced, Prints, AreInOrder, catalog_places_in, all_catalog_places, AreCatalogsPlaced, AreCatalogsInOrder}
-use Rattle.script_serial.proofs.LineLists.{filter_true, filter_none, all_kept, GoUp, AreBelow, increasing, range_up, up_right, up_below, up_kept, count_once}
+use Rattle.script_plan.specs.Serial.{Run, outcome, with_outcome, played, begun, commands_played, serial_lines, setting}
+use Rattle.script_plan.specs.Prints.{TaskLine, with_tasks, places_in, all_places, of_thread, before_round, from_round, PlacedCall, calls_after, history_below, caller_of, callers_after, command_calls, all_turns, AreAnswered, ArePlaced, Prints, AreInOrder, catalog_places_in, all_catalog_places, AreCatalogsPlaced, AreCatalogsInOrder}
+use Rattle.script_plan.proofs.LineLists.{filter_true, filter_none, all_kept, GoUp, AreBelow, increasing, range_up, up_right, up_below, up_kept, count_once}
 use Rattle.script_serial.proofs.SerialLines.{first_places, all_turns_counted, callers_played, played_append, added, played_lines, added_append}
-use Rattle.script_serial.proofs.SerialCalls.{calls_from, calls_length, goes_nowhere, past_is, played_legal, calls_played, with_tasks_first, line_round}
+use Rattle.script_serial.proofs.SerialCalls.{calls_from, calls_length, past_is, played_legal, calls_played, with_tasks_first, line_round}
 use Rattle.script_serial.proofs.SerialAnswered.{AreByRound, added_rounds, IsOnItsWay, are_answered}
-use Rattle.script_serial.proofs.TurnLemmas.{flat_all}
+use Rattle.script_plan.proofs.GoingOn.{goes_nowhere}
+use Rattle.script_plan.proofs.RoundTurns.{flat_all, AreOf, round_is, rounds_within, closing_round}
 use Rattle.script_lines.specs.Catalogs.{Books, catalog_setting}
 use Rattle.script_serial.proofs.SerialCatalogs.{played_catalogs_legal, played_catalogs_threads, all_turns_entered}
 use Rattle.catalog_table.specs.Answer.{AreThreads, IsLegal as CatalogLegal}
@@ -35,38 +36,12 @@ join_rounds (x ∷ xs) ys first second below =
     let Below : Turn → Type 0 = λ (t : Turn). All (λ (u : Turn). t.round ≤ u.round) ys in
     (All-append (λ (u : Turn). x.round ≤ u.round) xs ys first.0 (All-head Below x xs below), join_rounds xs ys first.1 second (All-tail Below x xs below))
 
--- the turns of one round
-abbrev AreOf : ℕ → List Turn → Type 0
-AreOf round turns = All (λ (t : Turn). t.round ≡ round) turns
-
 one_round : (round : ℕ) (turns : List Turn) → AreOf round turns → AreByRound turns
 one_round round [] of = tt
 one_round round (turn ∷ turns) of =
     let here : turn.round ≡ round = All-head (λ (t : Turn). t.round ≡ round) turn turns of in
     let rest : AreOf round turns = All-tail (λ (t : Turn). t.round ≡ round) turn turns of in
     (All-weaker (λ (t : Turn). t.round ≡ round) (λ (u : Turn). turn.round ≤ u.round) (λ u is. omega (arith, here, is)) turns rest, one_round round turns rest)
-
-round_is : (threads : ℕ) (ps : List Placed) (round : ℕ) → AreOf round (round_turns threads ps round)
-round_is threads ps round =
-    let those : List Placed = in_round round ps in
-    flat_all (λ (t : Turn). t.round ≡ round) (thread_turns those) (first_numbers threads) (λ thread.
-    All-map (λ (t : Turn). t.round ≡ round) turn_of (in_thread those thread)
-    (All-filter (λ (p : Placed). p.thread == thread) (λ (p : Placed). p.round ≡ round) those
-    (All-weaker (λ (p : Placed). (p.round == round) ≡ true) (λ (p : Placed). p.round ≡ round) (λ p is. eqb-true p.round round is) those
-    (filter_true (λ (p : Placed). p.round == round) ps))))
-
--- turns of the rounds from one on, so many
-abbrev AreWithin : ℕ → ℕ → List Turn → Type 0
-AreWithin from n turns = All (λ (t : Turn). (from ≤ t.round) × (t.round < from + n)) turns
-
-pub rounds_within : (threads : ℕ) (ps : List Placed) (from n : ℕ) → AreWithin from n (flat_map (round_turns threads ps) (range_with_len from n))
-rounds_within threads ps from zero = All-nil (λ (t : Turn). (from ≤ t.round) × (t.round < from + 0))
-rounds_within threads ps from (suc n) =
-    let Within : Turn → Type 0 = λ (t : Turn). (from ≤ t.round) × (t.round < from + suc n) in
-    All-append Within (round_turns threads ps from) (flat_map (round_turns threads ps) (range_with_len (from + 1) n))
-    (All-weaker (λ (t : Turn). t.round ≡ from) Within (λ t is. (omega (arith, is), omega (arith, is))) (round_turns threads ps from) (round_is threads ps from))
-    (All-weaker (λ (t : Turn). (from + 1 ≤ t.round) × (t.round < from + 1 + n)) Within (λ t is. let low = is.0 in let high = is.1 in (omega (arith, low), omega (arith, high)))
-    (flat_map (round_turns threads ps) (range_with_len (from + 1) n)) (rounds_within threads ps (from + 1) n))
 
 rounds_by : (threads : ℕ) (ps : List Placed) (from n : ℕ) → AreByRound (flat_map (round_turns threads ps) (range_with_len from n))
 rounds_by threads ps from zero = tt
@@ -76,15 +51,6 @@ rounds_by threads ps from (suc n) =
     (All-weaker (λ (t : Turn). t.round ≡ from) (λ (t : Turn). All (λ (u : Turn). t.round ≤ u.round) later)
     (λ t here. All-weaker (λ (u : Turn). (from + 1 ≤ u.round) × (u.round < from + 1 + n)) (λ (u : Turn). t.round ≤ u.round) (λ u is. let low = is.0 in omega (arith, low, here)) later (rounds_within threads ps (from + 1) n))
     (round_turns threads ps from) (round_is threads ps from))
-
-closing_is_of : (round thread : ℕ) (holds : List OpenHold) → AreOf round (closing round thread holds)
-closing_is_of round thread holds =
-    All-append (λ (t : Turn). t.round ≡ round) (releases round thread holds) (closing_turn round thread Ends ∷ [])
-    (All-map (λ (t : Turn). t.round ≡ round) (λ (o : OpenHold). closing_turn round thread (Releases o.handle)) holds (λ k d l. refl))
-    (All-cons (λ (t : Turn). t.round ≡ round) (closing_turn round thread Ends) [] refl (All-nil (λ (t : Turn). t.round ≡ round)))
-
-pub closing_round : (b : Bundle) (H : History) → AreOf (b.rounds + 1) (closing_turns b H)
-closing_round b H = flat_all (λ (t : Turn). t.round ≡ b.rounds + 1) (λ (t : ℕ). closing (b.rounds + 1) t (open_holds H t)) (first_numbers (length b.threads)) (λ t. closing_is_of (b.rounds + 1) t (open_holds H t))
 
 turns_by_round : (b : Bundle) (H : History) → AreByRound (command_turns b ++ closing_turns b H)
 turns_by_round b H =

@@ -21,6 +21,7 @@ use Rattle.script_lines.specs.Holds.{object_held, with_hold, hold_change, change
 use Rattle.script_lines.specs.Seen.{TurnFits}
 use Rattle.script_lines.specs.Turns.{Turn, first_numbers, in_round, in_thread, turn_of, thread_turns, round_turns, command_turns, closing_turn, releases, closing, closing_turns, Releases, Ends}
 use Rattle.script_serial.specs.Session.{ThreadData}
+use Rattle.script_plan.proofs.RoundTurns.{flat_all}
 
 -- ---- lists of lists
 
@@ -32,14 +33,6 @@ flat_bound k f (x ∷ xs) h =
     let long = length-append (f x) (flat_map f xs) in
     let more = mul-suc k (length xs) in
     omega arith
-
-flat_none : {X A : Type 0} (f : X → List A) (xs : List X) → ((x : X) → f x ≡ []) → flat_map f xs ≡ []
-flat_none f [] h = refl
-flat_none f (x ∷ xs) h = ap (λ (ys : List _). ys ++ flat_map f xs) (h x) ∙ flat_none f xs h
-
-pub flat_all : {X A : Type 0} (P : A → Type 0) (f : X → List A) (xs : List X) → ((x : X) → All P (f x)) → All P (flat_map f xs)
-flat_all P f [] h = All-nil P
-flat_all P f (x ∷ xs) h = All-append P (f x) (flat_map f xs) (h x) (flat_all P f xs h)
 
 filter_short : {X : Type 0} (p : X → Bool) (xs : List X) → length (filter p xs) ≤ length xs
 filter_short p xs = let same = length-filter p xs in let few = count_by-le-length p xs in omega arith
@@ -87,11 +80,6 @@ pub turns_fit : (b : Bundle) → IsAccepted b → All (TurnFits (length b.thread
 turns_fit b accepted =
     flat_all (TurnFits (length b.threads)) (round_turns (length b.threads) b.commands) (range_with_len 1 b.rounds) (λ round.
     round_fits (length b.threads) b.rounds b.commands round accepted.commands)
-
--- without a thread there is no turn
-pub no_turns : (b : Bundle) → b.threads ≡ [] → command_turns b ≡ []
-no_turns b none =
-    flat_none (round_turns (length b.threads) b.commands) (range_with_len 1 b.rounds) (λ round. ap (λ (n : ℕ). round_turns n b.commands round) (ap length none))
 
 -- ---- the turns that close the threads
 

@@ -7,11 +7,11 @@ use Rattle.handle_table.specs.Entry.{History, Setting}
 use Rattle.handle_table.specs.History.{holding}
 use Rattle.handle_table.specs.Answer.{IsLegal}
 use Rattle.script_out.specs.declared.output.OutLine.{OutLine}
-use Rattle.script_serial.specs.Plan.{PlanData}
+use Rattle.script_plan.specs.Plan.{PlanData}
 use Rattle.script_lines.specs.Holds.{open_holds, held_as}
-use Rattle.script_serial.specs.Isolation.{IsIsolated, AreCatalogsIsolated}
-use Rattle.script_serial.specs.Prints.{Prints, PrintsInOrder}
-use Rattle.script_serial.specs.Serial.{serial_lines, setting}
+use Rattle.script_plan.specs.Isolation.{IsIsolated, AreCatalogsIsolated}
+use Rattle.script_plan.specs.Prints.{Prints, PrintsInOrder}
+use Rattle.script_plan.specs.Serial.{serial_lines, setting}
 
 -- lines that a script prints one after another are those of `serial`: there is one such list alone
 abbrev pub OnlySerial : Type 0

@@ -9,7 +9,7 @@ use Rattle.catalog_table.specs.Table.{StandsFor as CatalogsStandFor}
 use Rattle.script_lines.specs.declared.thread.Thread.{Thread}
 use Rattle.script_serial.specs.Alone.{AloneSideData, Knows, AloneData}
 use Rattle.script_lines.specs.Thread.{BindsAs}
-use Rattle.script_serial.specs.Serial.{Run, lines_of_thread}
+use Rattle.script_plan.specs.Serial.{Run, lines_of_thread}
 
 -- a thread of the script at a table that its runner has alone
 abbrev pub ThreadData : Type 0

@@ -136,12 +136,21 @@ impl Side for AloneSide {
 }
 
 /// A table and the catalogs of its threads, which their runner has alone.
-#[derive(Drop)]
 pub struct Alone {
     table: Table<Share>,
     catalogs: Catalogs<BookShare>,
     /// How many ops the catalogs have answered.
     asked: u32,
+}
+
+impl Drop for Alone {
+    fn drop(self) {
+        let Alone {
+            table: _,
+            catalogs: _,
+            asked: _,
+        } = self;
+    }
 }
 
 impl Model for Alone {

@@ -5,15 +5,14 @@ ghost use Rattle.category_store.specs.Library.{opening};
 ghost use Rattle.category_store.specs.Shelf.{IsNumbered, IsInstallable};
 ghost use Rattle.handle_table.specs.Table.{StandsFor};
 ghost use Rattle.script_lines.specs.Seen.{turn_seen, TurnFits};
-ghost use Rattle.script_serial.specs.Isolation.{IsIsolated, AreCatalogsIsolated};
-ghost use Rattle.script_serial.specs.Plan.{PlanData, IsSound};
-ghost use Rattle.script_serial.specs.Prints.{PrintsInOrder};
-ghost use Rattle.script_serial.specs.Serial.{Run, played, begun, closed, commands_played, serial_lines, setting};
+ghost use Rattle.script_plan.specs.Isolation.{IsIsolated, AreCatalogsIsolated};
+ghost use Rattle.script_plan.specs.Plan.{PlanData, IsSound};
+ghost use Rattle.script_plan.specs.Prints.{PrintsInOrder};
+ghost use Rattle.script_plan.specs.Serial.{Run, played, begun, closed, commands_played, serial_lines, setting};
 ghost use Rattle.script_serial.specs.Session.{Follows, AreAt, CatalogsAreAt, AreNumbered, GoesOn, CanPlay};
 
 use crate::alone::{Alone, AloneSide};
 use crate::closing::closing_turns;
-use crate::plan::Plan;
 use catalog_table::Catalogs;
 use category_store::Library;
 use handle_table::Table;
@@ -24,6 +23,7 @@ use script_lines::granted::turn_line;
 use script_lines::thread::Thread;
 use script_lines::turns::{Turn, command_turns};
 use script_out::OutLine;
+use script_plan::Plan;
 use std::alloc::{AllocError, Global};
 
 /// The lines of the script's commands, round by round and in a round thread by thread, and then the

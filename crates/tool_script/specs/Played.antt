@@ -5,9 +5,9 @@ use Rattle.lc_base.specs.declared.fault.TextFault.{TextFault}
 use Rattle.lc_base.specs.Reading.{Fails}
 use Rattle.script_out.specs.declared.output.OutLine.{OutLine}
 use Rattle.script_out.specs.Output.{printed}
-use Rattle.script_serial.specs.Plan.{PlanData, plan_of}
-use Rattle.script_serial.specs.Prints.{Prints}
-use Rattle.script_serial.specs.Serial.{serial_lines, setting}
+use Rattle.script_plan.specs.Plan.{PlanData, plan_of}
+use Rattle.script_plan.specs.Prints.{Prints}
+use Rattle.script_plan.specs.Serial.{serial_lines, setting}
 use Rattle.tool_script.specs.declared.played.TheConstants.{ROWS, GENERATIONS}
 use Rattle.tool_script.specs.declared.played.Played.{Played}
 use Rattle.tool_script.specs.declared.played.Playing.{Playing}

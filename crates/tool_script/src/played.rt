@@ -1,7 +1,7 @@
 //! A bundle whose script is run.
 
 ghost use Rattle.std.specs.Prelude.{◌≡◌, ◌^◌, ◌<◌, length, Ok, IfOk, IfErr};
-ghost use Rattle.script_serial.specs.Plan.{PlanData, plan_of};
+ghost use Rattle.script_plan.specs.Plan.{PlanData, plan_of};
 ghost use Rattle.tool_words.specs.declared.answer.Problem.TheVariants.{Memory};
 ghost use Rattle.tool_script.specs.Explained.{is_refused};
 ghost use Rattle.tool_script.specs.Played.{MayPrint, shown, has_refusal, IsPlayed, MayPlay};
@@ -9,8 +9,10 @@ ghost use Rattle.tool_script.specs.Played.{MayPrint, shown, has_refusal, IsPlaye
 use crate::explained::explained_text;
 use lc_base::{ByteText, List, TextFault};
 use script_out::{OutLine, Said, print};
-use script_run::{NoPause, run};
-use script_serial::{Plan, prepare, serial};
+use script_plan::{Plan, prepare};
+use script_run::run;
+use script_seats::NoPause;
+use script_serial::serial;
 use std::alloc::{AllocError, Global};
 use std::sync::Wait;
 use std::thread::Threads;

@@ -2,8 +2,8 @@ use Rattle.std.proofs.Common.{◌≡◌, List, ap, subst, ◌∙◌}
 use Rattle.std.proofs.lemmas.Result.{IfOk-weaker}
 use Rattle.script_out.specs.declared.output.OutLine.{OutLine}
 use Rattle.script_out.specs.Output.{printed}
-use Rattle.script_serial.specs.Isolation.{AreCatalogsIsolated}
-use Rattle.script_serial.specs.Serial.{setting}
+use Rattle.script_plan.specs.Isolation.{AreCatalogsIsolated}
+use Rattle.script_plan.specs.Serial.{setting}
 use Rattle.locale_cli.proofs.answer.serial_text.Goals as goal
 
 pub returns : goal.returns

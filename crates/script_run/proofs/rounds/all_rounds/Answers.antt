@@ -3,9 +3,9 @@ use Rattle.std.specs.Prelude.{flat_map}
 use Rattle.script_lines.specs.Seen.{turn_seen}
 use Rattle.script_lines.specs.Turns.{Turn, round_turns}
 use Rattle.script_lines.specs.declared.turns.Turn.{Turn as LentTurn}
-use Rattle.script_serial.specs.Plan.{PlanData}
+use Rattle.script_plan.specs.Plan.{PlanData}
 use Rattle.script_run.specs.declared.worker.Worker.{Worker}
-use Rattle.script_run.specs.Seated.{Gates, gates}
+use Rattle.script_seats.specs.Seated.{Gates, gates}
 use Rattle.script_run.specs.Beside.{Stock, stock, stock_of}
 use Rattle.script_run.specs.Rounds.{Each, EachTwo, plan_made, IsOfBoth, IsOrderly, MayWork, HasWorked, HasGiven, AllMet}
 use Rattle.script_run.proofs.Rounding.{between_next, in_order_at}

@@ -1,4 +1,4 @@
-use Rattle.script_run.specs.Seated.{gates}
+use Rattle.script_seats.specs.Seated.{gates}
 use Rattle.script_run.specs.Rounds.{AreBetween, plan_made}
 use Rattle.script_run.proofs.rounds.all_rounds.Given as goal
 

@@ -1,8 +1,8 @@
 use Rattle.std.proofs.Common.{◌≡◌, ◌∷◌, [], ◌++◌, List, length, take, drop, ◌+◌, sym, ap, subst, ◌∙◌, arith, rules}
 use Rattle.std.specs.Vec.Iter.{into_iter_items}
-use Rattle.script_serial.specs.Plan.{PlanData}
+use Rattle.script_plan.specs.Plan.{PlanData}
 use Rattle.script_run.specs.declared.worker.Worker.{Worker}
-use Rattle.script_run.specs.Seated.{Gates, gates}
+use Rattle.script_seats.specs.Seated.{Gates, gates}
 use Rattle.script_run.specs.Beside.{Stock, stock_of, CanClose}
 use Rattle.script_run.specs.Rounds.{Each, EachTwo, plan_made, SeatData, SeatSeesMore, AreClosing}
 use Rattle.thread_current.specs.Thread.{GoesOnFrom, thread_of}

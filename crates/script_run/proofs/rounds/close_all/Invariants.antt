@@ -1,6 +1,6 @@
 use Rattle.std.proofs.Common.{◌≡◌, length}
 use Rattle.std.specs.Vec.Iter.{into_iter_items, into_iter_len}
-use Rattle.script_run.specs.Seated.{gates}
+use Rattle.script_seats.specs.Seated.{gates}
 use Rattle.script_run.specs.Rounds.{AreClosing, plan_made}
 use Rattle.script_run.proofs.rounds.close_all.Given as goal
 

@@ -1,6 +1,6 @@
 use Rattle.std.proofs.Common.{◌≡◌, ◌++◌, ◌∷◌, [], List, length, take, drop, sym, ap, subst, ◌∙◌, arith}
 use Rattle.script_run.specs.declared.worker.Worker.{Worker}
-use Rattle.script_run.specs.Seated.{Gates, gates}
+use Rattle.script_seats.specs.Seated.{Gates, gates}
 use Rattle.script_run.specs.Rounds.{Each, EachTwo, mine_of, reader_at, IsOfBoth, IsOrderly, HasSeenOf, HasMet, AllMet}
 use Rattle.script_run.proofs.Meeting.{all_met, last_is, met_threads, others_of}
 use Rattle.script_run.proofs.Stacking.{written}

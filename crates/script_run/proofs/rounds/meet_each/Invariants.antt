@@ -1,4 +1,4 @@
-use Rattle.script_run.specs.Seated.{gates}
+use Rattle.script_seats.specs.Seated.{gates}
 use Rattle.script_run.proofs.Meeting.{MeetsTo}
 use Rattle.script_run.proofs.rounds.meet_each.Given as goal
 

@@ -3,12 +3,12 @@ use Rattle.std.specs.Prelude.{All}
 use Rattle.thread_current.specs.Thread.{IsPart}
 use Rattle.script_lang.specs.declared.bundle.Bundle.{Bundle}
 use Rattle.script_lines.specs.Catalogs.{Books}
-use Rattle.script_serial.specs.Prints.{Prints}
-use Rattle.script_serial.specs.Serial.{setting}
-use Rattle.script_serial.proofs.PlayLemmas.{sound_parts}
+use Rattle.script_plan.specs.Prints.{Prints}
+use Rattle.script_plan.specs.Serial.{setting}
+use Rattle.script_plan.proofs.PlanParts.{sound_parts}
 use Rattle.script_run.proofs.Beginning.{between_first, as_many_threads, as_many_readers}
 use Rattle.script_run.proofs.Closing.{numbers_of}
-use Rattle.script_run.specs.Seated.{gates}
+use Rattle.script_seats.specs.Seated.{gates}
 use Rattle.script_run.specs.Rounds.{plan_made}
 use Rattle.script_run.proofs.Running.{blocks_are, terms_for, asked_for, run_prints, none_prints, prints_isolated, prints_catalogs_isolated, some_of, threads_are, readers_are}
 use Rattle.script_run.proofs.rounds.run.Goals as goal

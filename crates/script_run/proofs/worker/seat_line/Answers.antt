@@ -3,7 +3,7 @@ use Rattle.turn_gate.specs.Callers.{Gate}
 use Rattle.handle_table.specs.Entry.{Setting}
 use Rattle.catalog_table.specs.declared.setting.CatalogSetting.{CatalogSetting}
 use Rattle.script_lines.specs.Seen.{turn_seen}
-use Rattle.script_run.specs.Seated.{Gates, gates}
+use Rattle.script_seats.specs.Seated.{Gates, gates}
 use Rattle.script_run.specs.Beside.{stock, CanAdd, AddsLine}
 use Rattle.script_run.proofs.worker.seat_line.Goals as goal
 

@@ -1,6 +1,6 @@
 use Rattle.std.proofs.Common.{◌≡◌, length}
 use Rattle.std.specs.Prelude.{All}
-use Rattle.script_serial.specs.Serial.{begun}
+use Rattle.script_plan.specs.Serial.{begun}
 use Rattle.script_serial.specs.Session.{ThreadData, Follows, AreNumbered}
 use Rattle.script_serial.proofs.script.new_threads.Given as goal
 

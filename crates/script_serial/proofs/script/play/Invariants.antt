@@ -1,6 +1,6 @@
 use Rattle.std.proofs.Common.{◌≡◌, ◌+◌, ◌*◌, length, map}
 use Rattle.script_lines.specs.Seen.{turn_seen}
-use Rattle.script_serial.specs.Serial.{Run}
+use Rattle.script_plan.specs.Serial.{Run}
 use Rattle.script_serial.specs.Session.{AreAt, AreNumbered, GoesOn}
 use Rattle.script_serial.proofs.RunLemmas.{PlaysOn}
 use Rattle.script_serial.proofs.script.play.Given as goal

@@ -1,10 +1,12 @@
 use Rattle.std.proofs.Common.{◌≡◌, [], sym, ap, ◌∙◌}
 use Rattle.script_lines.specs.Catalogs.{Books}
 use Rattle.script_lang.specs.declared.bundle.Bundle.{Bundle}
-use Rattle.script_serial.proofs.PlayLemmas.{no_lines, sound_parts, serial_lines_are}
-use Rattle.script_serial.specs.Serial.{setting}
+use Rattle.script_serial.proofs.PlayLemmas.{no_lines, serial_lines_are}
+use Rattle.script_plan.specs.Serial.{setting}
 use Rattle.script_serial.proofs.SerialNewest.{printed_in_order}
-use Rattle.script_serial.proofs.AnsweredApart.{printed_isolated, catalogs_isolated}
+use Rattle.script_plan.proofs.AnsweredApart.{catalogs_isolated}
+use Rattle.script_plan.proofs.PlanParts.{sound_parts}
+use Rattle.script_serial.proofs.SerialApart.{printed_isolated}
 use Rattle.script_serial.proofs.script.serial.Goals as goal
 
 pub returns-then-is_empty-clause-lines : goal.returns-then-is_empty-clause-lines

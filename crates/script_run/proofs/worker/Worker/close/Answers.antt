@@ -1,6 +1,6 @@
 use Rattle.std.proofs.lemmas.Result.{IfOk-weaker}
 use Rattle.script_run.proofs.WorkLemmas.{closes}
-use Rattle.script_run.specs.Seated.{gates}
+use Rattle.script_seats.specs.Seated.{gates}
 use Rattle.script_run.specs.Beside.{stock}
 use Rattle.script_run.proofs.worker.Worker.close.Goals as goal
 

@@ -1,9 +1,9 @@
 use Rattle.std.proofs.Common.{ap, ◌∙◌}
 use Rattle.thread_current.specs.Thread.{holds}
 use Rattle.script_lines.specs.declared.thread.Thread.{Thread}
-use Rattle.script_run.specs.declared.seated.Seated.{Seated}
+use Rattle.script_seats.specs.declared.seated.Seated.{Seated}
 use Rattle.script_run.proofs.WorkLemmas.{holds_nothing}
-use Rattle.script_run.specs.Seated.{gates}
+use Rattle.script_seats.specs.Seated.{gates}
 use Rattle.script_run.specs.Beside.{stock}
 use Rattle.script_run.proofs.worker.Worker.end.Goals as goal
 

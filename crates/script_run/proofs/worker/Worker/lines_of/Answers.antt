@@ -1,7 +1,7 @@
 use Rattle.std.proofs.Common.{◌+◌, ◌^◌, ◌<◌, map, sym, ◌∙◌, arith, ne_eqb}
 use Rattle.script_lines.specs.Seen.{turn_seen}
 use Rattle.script_run.proofs.WorkLemmas.{going_none, turn_at, turn_below, going_can, going_past, going_on}
-use Rattle.script_run.specs.Seated.{gates}
+use Rattle.script_seats.specs.Seated.{gates}
 use Rattle.script_run.specs.Beside.{stock}
 use Rattle.script_run.proofs.worker.Worker.lines_of.Goals as goal
 use Rattle.script_run.proofs.worker.Worker.lines_of.Goals.{then-turn-number+in_ok-add, else-turn-number}

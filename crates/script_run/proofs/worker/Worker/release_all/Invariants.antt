@@ -1,5 +1,5 @@
 use Rattle.std.proofs.Common.{length}
-use Rattle.script_run.specs.Seated.{gates}
+use Rattle.script_seats.specs.Seated.{gates}
 use Rattle.script_run.specs.Beside.{stock}
 use Rattle.script_run.proofs.WorkLemmas.{Releasing}
 use Rattle.script_run.proofs.worker.Worker.release_all.Given as goal

@@ -1,0 +1,13 @@
+pub mod AnsweredApart
+pub mod Examples
+pub mod Fronts
+pub mod GoingOn
+pub mod IsolationExamples
+pub mod KeyLemmas
+pub mod LineLists
+pub mod PlacedCalls
+pub mod PlanParts
+pub mod PrintsExamples
+pub mod RoundTurns
+pub mod VersionExamples
+pub mod VersionLemmas

@@ -1,0 +1,4 @@
+pub mod Plan
+pub mod Serial
+pub mod Prints
+pub mod Isolation

@@ -1,0 +1,5 @@
+pub mod AskedCalls
+pub mod EachPlace
+pub mod HoldLists
+pub mod OwnCalls
+pub mod SeatLemmas

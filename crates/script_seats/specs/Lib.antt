@@ -1,0 +1,3 @@
+pub mod Seated
+pub mod SeatLaws
+pub mod Places

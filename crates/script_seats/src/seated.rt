@@ -1,0 +1,352 @@
+//! A thread at a table and at catalogs that threads share.
+
+ghost use Rattle.std.specs.Prelude.{◌≡◌, [], find, position, IfOk, OnOk, MatchOption};
+ghost use Rattle.std.specs.Option.{option_copied};
+ghost use Rattle.handle_table.specs.Entry as table;
+ghost use Rattle.handle_table.specs.Seen.{op_of, reply_of};
+ghost use Rattle.handle_table.specs.Table.{Fits};
+ghost use Rattle.thread_current.specs.Thread.{own_object};
+ghost use Rattle.script_seats.specs.Seated.{HasCalls, MayCall, IsPlain, IsChange, AnswersSeated, is_held, IsFirst, IsTaken, IsUnheld};
+
+use catalog_seats::{Reader, SharedCatalogs};
+use catalog_table::{BookShare, CatalogOp, CatalogReply};
+use category_store::Share;
+use handle_table::{Handle, Named, Op, Refusal, Reply};
+use mask_compose::Object;
+use script_lines::board::{Board, Side};
+use script_lines::holds::is_named;
+use std::alloc::{AllocError, Global};
+use std::marker::{Brand, PhantomData};
+use std::sync::Wait;
+use thread_current::{Fault, Held, Mine, Shared};
+
+/// What a thread keeps at a shared table and at shared catalogs.
+#[derive(Drop)]
+pub struct Seated {
+    pub number: u32,
+    pub mine: Mine<Share>,
+    pub reader: Reader<BookShare>,
+    /// Its open Holds, in the order made.
+    pub holds: Vec<Held<Share>>,
+}
+
+impl Seated {
+    /// A thread before its first call.
+    pub fn new(alloc: Global, number: u32, mine: Mine<Share>, reader: Reader<BookShare>) -> Seated
+        ensures { (result.number ≡ number) × (result.mine ≡ mine) × (result.holds.items ≡ []) × (result.reader ≡ reader) }
+    {
+        Seated {
+            number,
+            mine,
+            reader,
+            holds: Vec::new(alloc),
+        }
+    }
+
+    /// The handle of the first of its open Holds.
+    pub fn first_hold(&self) -> Option<Handle>
+        ensures { MatchOption result (self.now.holds.items ≡ []) (λ h. IsFirst h self.now.holds.items) }
+    {
+        match self.holds.first() {
+            Some(held) => Some(held.handle()),
+            None => None,
+        }
+    }
+}
+
+// Where the open Hold of what is named stands.
+fn hold_at(holds: &[Held<Share>], named: Named) -> Option<usize>
+    ensures { result ≡ position (is_held named) holds.now }
+{
+    holds.iter().position(|held| is_named(named, held.handle()))
+}
+
+// The open Hold of what is named.
+fn hold_of(holds: &[Held<Share>], named: Named) -> Option<&Held<Share>>
+    ensures { option_copied result ≡ find (is_held named) holds.now }
+{
+    holds.iter().find(|held| is_named(named, held.handle()))
+}
+
+// Takes the open Hold of what is named out.
+fn take_hold(holds: &mut Vec<Held<Share>>, named: Named) -> Option<Held<Share>>
+    ensures { MatchOption result (IsUnheld named holds.old.items × (holds.new.items ≡ holds.old.items)) (λ h. IsTaken named holds.old.items holds.new.items h) }
+{
+    match hold_at(holds.as_slice(), named) {
+        Some(place) => Some(holds.remove(place)),
+        None => None,
+    }
+}
+
+impl Side for Seated {
+    ghost use Rattle.script_seats.specs.Seated.{KnowsSeated};
+
+    ghost number_of = { λ s. s.number };
+
+    ghost knows = { KnowsSeated };
+
+    fn number(&self) -> u32 {
+        self.number
+    }
+
+    fn own(&self) -> Option<&Object<Share>> {
+        self.mine.own()
+    }
+
+    fn selected(&self) -> Named {
+        self.mine.named()
+    }
+
+    fn held_as(&self, named: Named) -> Option<&Object<Share>> {
+        match hold_of(self.holds.as_slice(), named) {
+            Some(held) => Some(held.object()),
+            None => None,
+        }
+    }
+}
+
+/// Which shared table it is, and which catalogs.
+pub trait OneTable {
+    ghost use Rattle.turn_gate.specs.Callers.{Gate};
+    ghost use Rattle.handle_table.specs.Entry.{Setting};
+    ghost use Rattle.catalog_table.specs.declared.setting.CatalogSetting.{CatalogSetting};
+
+    ghost gate: { Gate Setting };
+
+    ghost desk: { Gate CatalogSetting };
+}
+
+impl OneTable for Brand {
+    ghost use Rattle.script_seats.specs.Seated.{some_gate, some_catalogs};
+
+    ghost gate = { some_gate };
+
+    ghost desk = { some_catalogs };
+}
+
+/// A table and catalogs that threads share, with the runtime value by which their calls wait for their
+/// turn.
+#[derive(Drop)]
+pub struct Beside<'a, R, G: OneTable> {
+    rt: &'a R,
+    shared: &'a Shared<Share>,
+    catalogs: &'a SharedCatalogs<BookShare>,
+    of: PhantomData<G>,
+    ghost table_is: { shared.now ≡ G.gate },
+    ghost catalogs_are: { catalogs.now ≡ G.desk },
+}
+
+impl<'a, R: Wait, G: OneTable> Board for Beside<'a, R, G> {
+    ghost use Rattle.script_seats.specs.Seated.{IsSeatedAt, IsAskingAt, MayFollow, MayFollowAsked, CanCall, MayCall, gates};
+    ghost use Rattle.script_seats.specs.SeatLaws.{seated_known, seated_stays, calls_fewer};
+
+    type Side = Seated;
+
+    ghost setting_of = { λ _. G.gate.terms.setting };
+
+    ghost at = { λ _ s H. IsSeatedAt G.gate s H };
+
+    ghost later = { MayFollow };
+
+    ghost catalogs_at = { λ _ s M. IsAskingAt G.desk s M };
+
+    ghost catalogs_later = { MayFollowAsked };
+
+    ghost ready = { λ n _ s. CanCall n (gates G.gate G.desk) s };
+
+    ghost may = { MayCall };
+
+    fn call(
+        &mut self,
+        side: &mut Seated,
+        op: Op<Share>,
+    ) -> Result<(u64, Reply<Share>), AllocError> {
+        self.answer(side, op)
+    }
+
+    fn global(&mut self, side: &mut Seated) -> (u32, Object<Share>) {
+        self.shared.global_now(self.rt, &mut side.mine)
+    }
+
+    fn catalog(
+        &mut self,
+        side: &mut Seated,
+        op: CatalogOp<BookShare>,
+    ) -> (u64, CatalogReply<BookShare>) {
+        self.catalogs.turn(self.rt, &mut side.reader, op)
+    }
+
+    ghost known = { λ _ s H. seated_known G.gate s H };
+
+    ghost stays = { λ _ s H. seated_stays G.gate s H };
+
+    ghost fewer = { λ n _ s. calls_fewer n (gates G.gate G.desk) s };
+}
+
+impl<'a, R: Wait, G: OneTable> Beside<'a, R, G> {
+    /// The table and the catalogs, for a while.
+    pub fn new(
+        rt: &'a R,
+        shared: &'a Shared<Share>,
+        catalogs: &'a SharedCatalogs<BookShare>,
+    ) -> Beside<'a, R, G>
+        requires table { shared.now ≡ G.gate }
+        requires catalogs { catalogs.now ≡ G.desk }
+    {
+        Beside {
+            rt,
+            shared,
+            catalogs,
+            of: PhantomData,
+        }
+    }
+
+    // Answers a call that does not end its thread.
+    fn answer(&self, side: &mut Seated, op: Op<Share>) -> Result<(u64, Reply<Share>), AllocError>
+        requires calls { HasCalls 1 self.now.shared.now side.old }
+        requires op { MayCall self.now.shared.now.terms.setting (op_of op) }
+        ensures answers { IfOk result (λ r. AnswersSeated self.now.shared.now side.old side.new (op_of op) r.0 (reply_of r.1)) }
+        ensures reader { OnOk result (side.new.reader ≡ side.old.reader) }
+    {
+        match op {
+            Op::Hold { h } => self.hold(side, h),
+            Op::Release { h } => Ok(self.release(side, h)),
+            Op::Use { to } => Ok(self.select(side, to)),
+            Op::SetGlobal { .. } | Op::Install { .. } => Ok(self.change(side, op)),
+            Op::New { .. }
+            | Op::Dup { .. }
+            | Op::Free { .. }
+            | Op::Post { .. }
+            | Op::Fetch { .. }
+            | Op::Pins { .. } => Ok(self.plain(side, op)),
+            Op::End => unreachable!(),
+        }
+    }
+
+    // A call that neither selects, nor holds, nor changes what all threads see.
+    fn plain(&self, side: &mut Seated, op: Op<Share>) -> (u64, Reply<Share>)
+        requires calls { HasCalls 1 self.now.shared.now side.old }
+        requires op { Fits self.now.shared.now.terms.setting (op_of op) × IsPlain (op_of op) }
+        ensures answers { AnswersSeated self.now.shared.now side.old side.new (op_of op) result.0 (reply_of result.1) }
+        ensures reader { side.new.reader ≡ side.old.reader }
+    {
+        let (rt, shared, mine) = (self.rt, self.shared, &mut side.mine);
+        match op {
+            Op::New { mask, names, base } => match shared.newlocale(rt, mine, mask, names, base) {
+                Ok((place, handle)) => (place, Reply::Made(handle)),
+                Err(fault) => refused(fault),
+            },
+            Op::Dup { from } => match shared.duplocale(rt, mine, from) {
+                Ok((place, handle)) => (place, Reply::Made(handle)),
+                Err(fault) => refused(fault),
+            },
+            Op::Free { h } => match shared.freelocale(rt, mine, h) {
+                Ok(place) => (place, Reply::Freed),
+                Err(fault) => refused(fault),
+            },
+            Op::Post { cell, h } => match shared.post(rt, mine, cell, h) {
+                Ok(place) => (place, Reply::Posted),
+                Err(fault) => refused(fault),
+            },
+            Op::Fetch { owner, cell } => match shared.fetch(rt, mine, owner, cell) {
+                Ok((place, handle)) => (place, Reply::Got(handle)),
+                Err(fault) => refused(fault),
+            },
+            Op::Pins { h } => match shared.pins(rt, mine, h) {
+                Ok((place, count)) => (place, Reply::Pins(count)),
+                Err(fault) => refused(fault),
+            },
+            _ => unreachable!(),
+        }
+    }
+
+    // A call that changes the global locale, or what a locale name stands for.
+    fn change(&self, side: &mut Seated, op: Op<Share>) -> (u64, Reply<Share>)
+        requires calls { HasCalls 1 self.now.shared.now side.old }
+        requires op { Fits self.now.shared.now.terms.setting (op_of op) × IsChange (op_of op) }
+        ensures answers { AnswersSeated self.now.shared.now side.old side.new (op_of op) result.0 (reply_of result.1) }
+        ensures reader { side.new.reader ≡ side.old.reader }
+    {
+        let (rt, shared, mine) = (self.rt, self.shared, &mut side.mine);
+        match op {
+            Op::SetGlobal { mask, names } => match shared.setlocale(rt, mine, mask, names) {
+                Ok((place, version)) => {
+                    let object = mine.newest().share();
+                    (place, Reply::Set { version, object })
+                }
+                Err(fault) => refused(fault),
+            },
+            Op::Install { name, offer } => {
+                let (place, count) = shared.install(rt, mine, name, offer);
+                (place, Reply::Installed(count))
+            }
+            _ => unreachable!(),
+        }
+    }
+
+    // Selects what is named.
+    fn select(&self, side: &mut Seated, to: Named) -> (u64, Reply<Share>)
+        requires calls { HasCalls 1 self.now.shared.now side.old }
+        ensures answers { AnswersSeated self.now.shared.now side.old side.new (table.Use to) result.0 (reply_of result.1) }
+        ensures reader { side.new.reader ≡ side.old.reader }
+    {
+        match self.shared.uselocale(self.rt, &mut side.mine, to) {
+            Ok((place, former)) => {
+                let now = taken_up(&side.mine);
+                (place, Reply::Was { former, now })
+            }
+            Err(fault) => refused(fault),
+        }
+    }
+
+    // Holds what is named.
+    fn hold(&self, side: &mut Seated, h: Named) -> Result<(u64, Reply<Share>), AllocError>
+        requires calls { HasCalls 1 self.now.shared.now side.old }
+        ensures answers { IfOk result (λ r. AnswersSeated self.now.shared.now side.old side.new (table.Hold h) r.0 (reply_of r.1)) }
+        ensures reader { OnOk result (side.new.reader ≡ side.old.reader) }
+    {
+        match self.shared.hold(self.rt, &mut side.mine, h) {
+            Ok((place, held)) => {
+                let object = held.object().share();
+                side.holds.push(held)?;
+                Ok((place, Reply::Held(object)))
+            }
+            Err(fault) => Ok(refused(fault)),
+        }
+    }
+
+    // Gives up the open Hold of what is named, or makes the refused entry where there is none.
+    fn release(&self, side: &mut Seated, h: Named) -> (u64, Reply<Share>)
+        requires calls { HasCalls 1 self.now.shared.now side.old }
+        ensures answers { AnswersSeated self.now.shared.now side.old side.new (table.Release h) result.0 (reply_of result.1) }
+        ensures reader { side.new.reader ≡ side.old.reader }
+    {
+        match take_hold(&mut side.holds, h) {
+            Some(held) => {
+                let place = self.shared.release(self.rt, &mut side.mine, held);
+                (place, Reply::Released)
+            }
+            None => {
+                let (place, refusal) = self.shared.release_unheld(self.rt, &mut side.mine, h);
+                (place, Reply::Refused(refusal))
+            }
+        }
+    }
+}
+
+// The object that a thread took up when it selected it.
+fn taken_up(mine: &Mine<Share>) -> Option<Object<Share>>
+    ensures { result ≡ own_object mine.now }
+{
+    match mine.own() {
+        Some(object) => Some(object.share()),
+        None => None,
+    }
+}
+
+// The place and the reply of a refused call.
+fn refused(fault: Fault) -> (u64, Reply<Share>)
+    ensures { (result.0 ≡ fault.place) × (reply_of result.1 ≡ table.Refused fault.refusal) }
+{
+    (fault.place, Reply::Refused(fault.refusal))
+}
