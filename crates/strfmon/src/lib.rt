@@ -25,8 +25,9 @@ use monetary_cat::Monetary;
 use std::alloc::Global;
 use write::add_amount;
 
-/// How many bytes a text has at first room for beyond those of its format.
-const SPARE: usize = 32;
+/// How many bytes a text has at first room for beyond those of its format, and once more for each
+/// amount.
+const SPARE: usize = 16;
 
 /// The text of a format with its amounts, at most `max` bytes. Amounts that are left over are passed
 /// over.
@@ -43,7 +44,7 @@ pub fn strfmon(
 ) -> Result<ByteText, MoneyFault>
     ensures { Answers (λ text. text) result (money m.now format.now amounts.now max) }
 {
-    let mut text = Vec::with_capacity(alloc, first_room(format, max))?;
+    let mut text = Vec::with_capacity(alloc, first_room(format, amounts.len(), max))?;
     match strfmon_into(&mut text, m, format, amounts, max) {
         Ok(()) => Ok(ByteText::from_vec(text)),
         Err(fault) => Err(fault),
@@ -71,10 +72,15 @@ pub fn strfmon_into(
     }
 }
 
-/// How many bytes a text of a format has at first room for.
+/// How many bytes a text of a format with so many amounts has at first room for. A conversion has two
+/// bytes at least, so more amounts than half the format's bytes are left over.
 #[inline(always)]
-fn first_room(format: &[u8], max: usize) -> usize {
-    format.len().saturating_add(SPARE).min(max)
+fn first_room(format: &[u8], amounts: usize, max: usize) -> usize {
+    let written = amounts.min(format.len() / 2).saturating_add(1);
+    format
+        .len()
+        .saturating_add(written.saturating_mul(SPARE))
+        .min(max)
 }
 
 /// The fault of a format with so many amounts, which is that of its text where nothing is wrong.
@@ -140,7 +146,7 @@ fn put_pieces(
     ensures fault { IfErr result (λ e. refusal (pieces 0 0 format.now) (length amounts.now) ≡ None → Refuses e (within max (pieces_text m.now (good_pieces (pieces 0 0 format.now)) amounts.now))) }
 {
     out.clear();
-    let room = first_room(format, max);
+    let room = first_room(format, amounts.len(), max);
     if out.capacity() < room {
         out.reserve(room)?;
     }

@@ -15,7 +15,9 @@ use Rattle.time_cat.specs.Times.{TmValues}
 use Rattle.time_cat.specs.TimeValues.{TimeValues}
 use Rattle.time_cat.specs.Values.{values_of, posix_values}
 use Rattle.time_cat.specs.Shown.{expanded}
-use Rattle.strftime_fields.specs.Answers.{answer}
+use Rattle.strftime_fields.specs.declared.fault.TimeFault.{TimeFault}
+use Rattle.strftime_fields.specs.declared.fault.TimeFault.TheVariants as stops
+use Rattle.strftime_fields.specs.Answers.{answer, with_text}
 use Rattle.strftime_fields.specs.Refusals.{TimeRefusal, BadFormat, TooBig}
 use Rattle.strftime_fields.specs.Cost.{cost, reads}
 
@@ -77,6 +79,13 @@ steps = refl
 steps_of_few : costs (codes "%d%d") 4 ∷ costs (codes "%d%d") 2 ∷ costs (codes "%d%d") 1 ∷ costs (codes "a%d%Q%d") 4096 ∷ costs (codes "ab") 4096 ∷ [] ≡ 4 ∷ 4 ∷ 3 ∷ 1 ∷ 0 ∷ []
 unfolding values_of expanded reads pieces conversion
 steps_of_few = refl
+
+-- what was put elsewhere counts where all went well, and a fault stands whatever was left there
+abbrev put_elsewhere : List ℕ → Result ℕ TimeFault → Result (List ℕ) TimeFault
+put_elsewhere text result = with_text text result
+
+texts_elsewhere : put_elsewhere (codes "Sun") (Ok 0) ∷ put_elsewhere [] (Ok 0) ∷ put_elsewhere [] (Err stops.TooBig) ∷ put_elsewhere (codes "Sun") (Err stops.TooBig) ∷ [] ≡ Ok (codes "Sun") ∷ Ok [] ∷ Err stops.TooBig ∷ Err stops.TooBig ∷ []
+texts_elsewhere = refl
 
 -- ---- eras
 

@@ -1,6 +1,6 @@
 -- What the pieces of a format give that are left at a place, and how many conversions they are.
-use Rattle.std.proofs.Common.{◌≡◌, ℕ, zero, suc, ◌+◌, ◌-◌, ◌<◌, List, [], ◌∷◌, ◌++◌, Option, Some, None, cond, refl, ap, ◌∙◌, subst, arith, count_by, flat_map, length, take, drop, ◌≤◌, length-drop}
-use Rattle.std.proofs.lemmas.List.{drop_all, take_all, drop-drop}
+use Rattle.std.proofs.Common.{◌≡◌, ℕ, zero, suc, ◌+◌, ◌-◌, ◌<◌, List, [], ◌∷◌, ◌++◌, Option, Some, None, cond, refl, ap, ◌∙◌, subst, arith, count_by, flat_map, length, drop, ◌≤◌}
+use Rattle.std.proofs.lemmas.List.{drop_all}
 use Rattle.std.proofs.lemmas.List.Sums.{sum_by-cons}
 use Rattle.time_cat.specs.declared.conversion.Conversion.{Conversion}
 use Rattle.time_cat.specs.declared.conversion.Shows.TheVariants.{Format}
@@ -103,16 +103,6 @@ pub width_some : (short : Short) → 0 < width short
 width_some (Byte c) = omega arith
 width_some (Plain letter found) = omega arith
 
--- the bytes behind a piece
-pub behind : (l : List ℕ) (n : ℕ) → take (length l - n) (drop n l) ≡ drop n l
-behind l n = take_all (length l - n) (drop n l) (omega (arith, length-drop n l))
-
-pub behind_piece : (format rest : List ℕ) (at n : ℕ) → rest ≡ drop at format → take (length rest - n) (drop n rest) ≡ drop (at + n) format
-behind_piece format rest at n is = behind rest n ∙ (ap (λ (l : List ℕ). drop n l) is ∙ drop-drop n at format)
-
-pub piece_within : (format rest : List ℕ) (at : ℕ) (short : Short) → rest ≡ drop at format → at + width short ≤ length format → width short ≤ length rest
-piece_within format rest at short is within = omega (arith, ap length is, length-drop at format, within)
-
 pub short_left : (levels : ℕ) (v : TimeValues) (t : TmValues) (format : List ℕ) (at : ℕ) (s : Step) (short : Short) → IsStep format at s → IsShort at s short → IsFormatless v t short → text_left levels v t format at ≡ short_text v t short ++ text_left levels v t format (at + width short)
 short_left levels v t format at s (Byte c) stands is none =
     let here : IsStep format at (steps.Byte c) = subst (λ (x : Step). IsStep format at x) is stands in
@@ -147,9 +137,6 @@ pub inner_within : (format : List ℕ) (at : ℕ) (s : Step) (key : TimeText) �
 inner_within format at s key stands is =
     let here : IsStep format at (steps.Conv 0 is.0 is.1 (at + 2)) = subst (λ (x : Step). IsStep format at x) is.2 stands in
     here.1
-
-pub inner_rest : (format rest : List ℕ) (at : ℕ) → rest ≡ drop at format → at + 2 ≤ length format → 2 ≤ length rest
-inner_rest format rest at is within = omega (arith, ap length is, length-drop at format, within)
 
 pub inner_left : (levels : ℕ) (v : TimeValues) (t : TmValues) (format : List ℕ) (at : ℕ) (s : Step) (key : TimeText) → IsStep format at s → IsSeen at s (Inner key) → text_left levels v t format at ≡ expanded (levels - 1) v t (format_text v key) ++ text_left levels v t format (at + 2)
 inner_left levels v t format at s key stands is =

@@ -1,6 +1,5 @@
 -- Pieces of a format that are told at first sight.
-use Rattle.std.specs.Prelude.{◌≡◌, ℕ, ◌+◌, List, [], ◌∷◌, ◌++◌, Option, Some, None}
-use Rattle.time_cat.specs.declared.conversion.Conversion.{Conversion}
+use Rattle.std.specs.Prelude.{◌≡◌, ℕ, ◌+◌, List, [], ◌∷◌, ◌++◌, Some, None}
 use Rattle.time_cat.specs.declared.conversion.Shows.TheVariants.{Format}
 use Rattle.time_cat.specs.declared.step.Step.{Step}
 use Rattle.time_cat.specs.declared.step.Step.TheVariants as steps

@@ -1,6 +1,6 @@
 //! Formats within formats.
 
-ghost use Rattle.std.specs.Prelude.{◌≡◌, ℕ, ◌+◌, ◌++◌, ◌<◌, ◌≤◌, length, vec_capacity, IfOk};
+ghost use Rattle.std.specs.Prelude.{◌≡◌, ◌+◌, ◌++◌, ◌<◌, ◌≤◌, length, drop, vec_capacity, IfOk};
 ghost use Rattle.time_cat.specs.Conversions.{conversion};
 ghost use Rattle.time_cat.specs.Formats.{pieces, bad_place, step};
 ghost use Rattle.time_cat.specs.Shown.{expanded, converted};
@@ -12,7 +12,8 @@ ghost use Rattle.strftime_fields.specs.Reading.{IsSeen, SeenFormatless, AddsSeen
 use crate::digits::put_number_within;
 use crate::output::{Stop, put_byte, put_byte_within, put_within};
 use crate::plain::{format_for, name, number, put_plain};
-use crate::read::{Seen, Short, short_of, width};
+use crate::read::{Seen, Short, short_at, width};
+use std::mem::replace;
 use std::sync::ledger::Ledger;
 use time_cat::{Shows, Step, Steps, Time, TimeText, Tm, conversion_of, step_at};
 
@@ -37,62 +38,76 @@ pub fn put_format<L: Ledger>(
         return Ok(None);
     }
     let mut at = 0;
-    let mut rest = format;
-    let mut limit = out.capacity().min(max);
+    let mut text = held(out);
+    let mut limit = text.capacity().min(max);
     'reading: loop {
-        match put_short(out, limit, t, tm, rest) {
+        match put_short(&mut text, limit, t, tm, format, at) {
             Seen::Added(short) => {
                 // The piece is known already: this counts it.
                 let _step = step_at(format, at, steps);
                 let taken = width(short);
                 at += taken;
-                rest = &rest[taken..];
             }
             Seen::Inner(key) => {
                 let _step = step_at(format, at, steps);
+                *out = text;
                 put_inner(levels - 1, t, tm, max, text_of(t, key), steps, out)?;
                 at += 2;
-                rest = &rest[2..];
-                limit = out.capacity().min(max);
+                text = held(out);
+                limit = text.capacity().min(max);
             }
-            Seen::Other => match step_at(format, at, steps) {
-                Step::End => return Ok(None),
-                Step::Bad => return Ok(Some(at)),
-                Step::Byte(byte) => {
-                    put_byte(out, max, byte)?;
-                    at += 1;
-                    rest = &format[at..];
-                    limit = out.capacity().min(max);
+            Seen::Other => {
+                *out = text;
+                match step_at(format, at, steps) {
+                    Step::End => return Ok(None),
+                    Step::Bad => return Ok(Some(at)),
+                    Step::Byte(byte) => {
+                        put_byte(out, max, byte)?;
+                        at += 1;
+                        text = held(out);
+                        limit = text.capacity().min(max);
+                    }
+                    Step::Conv {
+                        modifier,
+                        letter,
+                        next,
+                        ..
+                    } => {
+                        put_other(levels - 1, t, tm, max, modifier, letter, steps, out)?;
+                        at = next;
+                        text = held(out);
+                        limit = text.capacity().min(max);
+                    }
                 }
-                Step::Conv {
-                    modifier,
-                    letter,
-                    next,
-                    ..
-                } => {
-                    put_other(levels - 1, t, tm, max, modifier, letter, steps, out)?;
-                    at = next;
-                    rest = &format[at..];
-                    limit = out.capacity().min(max);
-                }
-            },
+            }
         }
     }
 }
 
-/// Adds what the piece gives that bytes begin with, if it is a byte, or a name or a number without a
+/// What a `Vec` holds, which no longer holds it: a loop over a `Vec` of its own keeps that in
+/// registers.
+#[inline(always)]
+fn held(out: &mut Vec<u8>) -> Vec<u8>
+    ensures { result ≡ out.old }
+{
+    let empty = Vec::new(*out.allocator());
+    replace(out, empty)
+}
+
+/// Adds what the piece gives that stands at a place, if it is a byte, or a name or a number without a
 /// modifier, and if the text is then no longer than `limit`. There is room for a text of that length.
 #[inline(always)]
-fn put_short(out: &mut Vec<u8>, limit: usize, t: &Time, tm: &Tm, rest: &[u8]) -> Seen
+fn put_short(out: &mut Vec<u8>, limit: usize, t: &Time, tm: &Tm, format: &[u8], at: usize) -> Seen
+    requires within { at ≤ length format.now }
     requires short { length out.old.items ≤ limit }
     requires room { limit ≤ vec_capacity out.old }
-    ensures piece { (at : ℕ) → IsSeen at (step at rest.now) result }
+    ensures piece { IsSeen at (step at (drop at format.now)) result }
     ensures formatless { SeenFormatless t.now tm.now result }
     ensures text { AddsSeen t.now tm.now out.old.items out.new.items result }
     ensures short { length out.new.items ≤ limit }
     ensures room { limit ≤ vec_capacity out.new }
 {
-    let Some(short) = short_of(rest) else {
+    let Some(short) = short_at(format, at) else {
         return Seen::Other;
     };
     let added = match short {

@@ -158,13 +158,13 @@ fn put_long_within(out: &mut Vec<u8>, limit: usize, bytes: &[u8]) -> bool
     if bytes.len() > limit - out.len() {
         return false;
     }
-    match out.extend_from_slice(bytes) {
-        Ok(()) => true,
-        Err(_) => false,
+    for byte in bytes {
+        out.push_reserved(*byte);
     }
+    true
 }
 
-/// The same of any bytes, where a few are added one by one.
+/// The same of any bytes, where a few are added without a loop.
 #[inline(always)]
 pub fn put_within(out: &mut Vec<u8>, limit: usize, bytes: &[u8]) -> bool
     requires short { length out.old.items ≤ limit }

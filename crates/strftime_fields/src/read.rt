@@ -30,7 +30,7 @@ pub enum Seen {
 /// The piece that bytes begin with, if it is a byte or a conversion without a modifier.
 #[tactic(auto, using(crate::proofs::Shorts::no_modifier))]
 #[inline(always)]
-pub fn short_of(rest: &[u8]) -> Option<Short>
+fn short_of(rest: &[u8]) -> Option<Short>
     ensures { IfSome result (λ r. (at : ℕ) → IsShort at (step at rest.now) r) }
 {
     match rest {

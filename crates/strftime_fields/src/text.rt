@@ -21,13 +21,17 @@ use time_cat::{Step, Steps, Time, Tm, step_at};
 /// How many formats lie within one another: the caller's, and those of the ranks 4 to 1.
 const LEVELS: u8 = 5;
 
-/// How many bytes a text has at first room for beyond those of its format.
+/// How many bytes a text has at first room for beyond one and a half times those of its format.
 const SPARE: usize = 64;
 
 /// How many bytes a text of a format has at first room for.
 #[inline(always)]
 fn first_room(format: &[u8], max: usize) -> usize {
-    format.len().saturating_add(SPARE).min(max)
+    format
+        .len()
+        .saturating_add(format.len() / 2)
+        .saturating_add(SPARE)
+        .min(max)
 }
 
 /// Where a `%` stands that begins no conversion.

@@ -7,7 +7,7 @@ use Rattle.strftime_fields.proofs.Adding.{goes_on, stops, ends}
 use Rattle.strftime_fields.specs.Cost.{reads}
 use Rattle.strftime_fields.specs.declared.read.Seen.TheVariants.{Inner}
 use Rattle.strftime_fields.specs.Reading.{IsShort, IsSeen, width, short_text}
-use Rattle.strftime_fields.proofs.Left.{width_some, behind, behind_piece, piece_within, short_within, short_left, short_bad, inner_within, inner_rest, inner_left, inner_bad, pieces_at_start, text_left, text_at_start, text_at_end, text_at_wrong, text_at_byte, text_at_conversion, no_levels}
+use Rattle.strftime_fields.proofs.Left.{width_some, short_within, short_left, short_bad, inner_within, inner_left, inner_bad, pieces_at_start, text_left, text_at_start, text_at_end, text_at_wrong, text_at_byte, text_at_conversion, no_levels}
 use Rattle.strftime_fields.proofs.Counting.{short_reads, inner_reads, reads_left, reads_at_start, reads_at_end, reads_at_wrong, reads_at_byte, reads_at_conversion, none_left, no_levels_read, counts_same, counts_stop}
 use Rattle.strftime_fields.proofs.expand.+expand.Goals as goal
 
@@ -21,19 +21,18 @@ put_format-reading-init g t c =
     let some : 0 < c.args.levels = omega (arith, c.if-levels-eq0.false) in
     record {
       within = omega arith;
-      rest = refl;
       some = some;
       most = omega arith;
-      short = omega (arith, c.requires, c.args.out.now.ok.0, c.args.out.now.ok.1);
+      short = omega (arith, c.requires, ap (λ v. length v.items) c.held-text.ensures, c.held-text.result.ok.0, c.held-text.result.ok.1);
       room = omega arith;
       bad = ap (λ ps. bad_place ps) (pieces_at_start c.args.format.now);
-      text = ap (λ x. c.args.out.now.items ++ x) (text_at_start c.args.levels c.args.t.now c.args.tm.now c.args.format.now some);
-      steps = ap (λ n. c.args.steps.now + n) (reads_at_start c.args.max c.args.levels c.args.t.now c.args.tm.now (length c.args.out.now.items) c.args.format.now some);
+      text = rw c.held-text.ensures (ap (λ x. c.args.out.now.items ++ x) (text_at_start c.args.levels c.args.t.now c.args.tm.now c.args.format.now some));
+      steps = rw c.held-text.ensures (ap (λ n. c.args.steps.now + n) (reads_at_start c.args.max c.args.levels c.args.t.now c.args.tm.now (length c.args.out.now.items) c.args.format.now some));
     }
 
 pub put_format-returns-in-End-clause-text : goal.put_format-returns-in-End-clause-text
 put_format-returns-in-End-clause-text g t c =
-    let same : c.put_short.new.out.items ≡ c.reading.out.items = c.in-Other.ensures.text in
+    let same : c.put_short.new.out.items ≡ c.reading.text.items = c.in-Other.ensures.text in
     let whole : c.put_short.new.out.items ++ text_left c.args.levels c.args.t.now c.args.tm.now c.args.format.now c.reading.at ≡ c.args.out.now.items ++ expanded c.args.levels c.args.t.now c.args.tm.now c.args.format.now = rw same c.reading.invariant.text in
     let short : length c.put_short.new.out.items ≤ c.args.max = omega (arith, c.put_short.ensures.short, c.reading.invariant.most) in
     let none = text_at_end c.args.levels c.args.t.now c.args.tm.now c.args.format.now c.reading.at c.in-End.ensures.stands in
@@ -41,7 +40,7 @@ put_format-returns-in-End-clause-text g t c =
 
 pub put_format-returns-in-Bad-clause-text : goal.put_format-returns-in-Bad-clause-text
 put_format-returns-in-Bad-clause-text g t c =
-    let same : c.put_short.new.out.items ≡ c.reading.out.items = c.in-Other.ensures.text in
+    let same : c.put_short.new.out.items ≡ c.reading.text.items = c.in-Other.ensures.text in
     let whole : c.put_short.new.out.items ++ text_left c.args.levels c.args.t.now c.args.tm.now c.args.format.now c.reading.at ≡ c.args.out.now.items ++ expanded c.args.levels c.args.t.now c.args.tm.now c.args.format.now = rw same c.reading.invariant.text in
     let short : length c.put_short.new.out.items ≤ c.args.max = omega (arith, c.put_short.ensures.short, c.reading.invariant.most) in
     let none = text_at_wrong c.args.levels c.args.t.now c.args.tm.now c.args.format.now c.reading.at c.in-Bad.ensures.stands in
@@ -49,7 +48,7 @@ put_format-returns-in-Bad-clause-text g t c =
 
 pub put_format-returns-in_err-put_byte-in-Byte-clause-text : goal.put_format-returns-in_err-put_byte-in-Byte-clause-text
 put_format-returns-in_err-put_byte-in-Byte-clause-text g t c =
-    let same : c.put_short.new.out.items ≡ c.reading.out.items = c.in-Other.ensures.text in
+    let same : c.put_short.new.out.items ≡ c.reading.text.items = c.in-Other.ensures.text in
     let whole : c.put_short.new.out.items ++ text_left c.args.levels c.args.t.now c.args.tm.now c.args.format.now c.reading.at ≡ c.args.out.now.items ++ expanded c.args.levels c.args.t.now c.args.tm.now c.args.format.now = rw same c.reading.invariant.text in
     let p = err_from_is_err_and c.from_residual-in_err-put_byte-in-Byte.result c.from_residual-in_err-put_byte-in-Byte.ensures.1 in
     let left = text_at_byte c.args.levels c.args.t.now c.args.tm.now c.args.format.now c.reading.at c.in-Byte.byte (c.reading.at + 1) c.in-Byte.ensures.stands.1 in
@@ -57,7 +56,7 @@ put_format-returns-in_err-put_byte-in-Byte-clause-text g t c =
 
 pub put_format-returns-in_err-put_other-in-Conv-clause-text : goal.put_format-returns-in_err-put_other-in-Conv-clause-text
 put_format-returns-in_err-put_other-in-Conv-clause-text g t c =
-    let same : c.put_short.new.out.items ≡ c.reading.out.items = c.in-Other.ensures.text in
+    let same : c.put_short.new.out.items ≡ c.reading.text.items = c.in-Other.ensures.text in
     let whole : c.put_short.new.out.items ++ text_left c.args.levels c.args.t.now c.args.tm.now c.args.format.now c.reading.at ≡ c.args.out.now.items ++ expanded c.args.levels c.args.t.now c.args.tm.now c.args.format.now = rw same c.reading.invariant.text in
     let p = err_from_is_err_and c.from_residual-in_err-put_other-in-Conv.result c.from_residual-in_err-put_other-in-Conv.ensures.1 in
     let left = text_at_conversion c.args.levels c.args.t.now c.args.tm.now c.args.format.now c.reading.at c.in-Conv.modifier c.in-Conv.letter _ c.in-Conv.next c.in-Conv.ensures.stands.2 in
@@ -76,17 +75,17 @@ put_format-returns-then-levels-eq0-clause-steps g t c =
 
 pub put_format-returns-in-End-clause-steps : goal.put_format-returns-in-End-clause-steps
 put_format-returns-in-End-clause-steps g t c =
-    let none = reads_at_end c.args.max c.args.levels c.args.t.now c.args.tm.now (length c.reading.out.items) c.args.format.now c.reading.at c.in-End.ensures.stands in
+    let none = reads_at_end c.args.max c.args.levels c.args.t.now c.args.tm.now (length c.reading.text.items) c.args.format.now c.reading.at c.in-End.ensures.stands in
     omega (arith, none, c.reading.invariant.steps, c.in-End.ensures.counted)
 
 pub put_format-returns-in-Bad-clause-steps : goal.put_format-returns-in-Bad-clause-steps
 put_format-returns-in-Bad-clause-steps g t c =
-    let none = reads_at_wrong c.args.max c.args.levels c.args.t.now c.args.tm.now (length c.reading.out.items) c.args.format.now c.reading.at c.in-Bad.ensures.stands in
+    let none = reads_at_wrong c.args.max c.args.levels c.args.t.now c.args.tm.now (length c.reading.text.items) c.args.format.now c.reading.at c.in-Bad.ensures.stands in
     omega (arith, none, c.reading.invariant.steps, c.in-Bad.ensures.counted)
 
 pub put_format-returns-in_err-put_byte-in-Byte-clause-steps : goal.put_format-returns-in_err-put_byte-in-Byte-clause-steps
 put_format-returns-in_err-put_byte-in-Byte-clause-steps g t c =
-    let same : c.put_short.new.out.items ≡ c.reading.out.items = c.in-Other.ensures.text in
+    let same : c.put_short.new.out.items ≡ c.reading.text.items = c.in-Other.ensures.text in
     let counts : c.reading.steps + reads_left c.args.max c.args.levels c.args.t.now c.args.tm.now (length c.put_short.new.out.items) c.args.format.now c.reading.at ≡ c.args.steps.now + reads c.args.max c.args.levels c.args.t.now c.args.tm.now (length c.args.out.now.items) c.args.format.now = rw same c.reading.invariant.steps in
     let p = err_from_is_err_and c.from_residual-in_err-put_byte-in-Byte.result c.from_residual-in_err-put_byte-in-Byte.ensures.1 in
     let left = reads_at_byte c.args.max c.args.levels c.args.t.now c.args.tm.now (length c.put_short.new.out.items) c.args.format.now c.reading.at c.in-Byte.byte (c.reading.at + 1) c.in-Byte.ensures.stands.1 in
@@ -99,7 +98,7 @@ put_format-returns-in_err-put_byte-in-Byte-clause-steps g t c =
 
 pub put_format-returns-in_err-put_other-in-Conv-clause-steps : goal.put_format-returns-in_err-put_other-in-Conv-clause-steps
 put_format-returns-in_err-put_other-in-Conv-clause-steps g t c =
-    let same : c.put_short.new.out.items ≡ c.reading.out.items = c.in-Other.ensures.text in
+    let same : c.put_short.new.out.items ≡ c.reading.text.items = c.in-Other.ensures.text in
     let short : length c.put_short.new.out.items ≤ c.args.max = omega (arith, c.put_short.ensures.short, c.reading.invariant.most) in
     let counts : c.reading.steps + reads_left c.args.max c.args.levels c.args.t.now c.args.tm.now (length c.put_short.new.out.items) c.args.format.now c.reading.at ≡ c.args.steps.now + reads c.args.max c.args.levels c.args.t.now c.args.tm.now (length c.args.out.now.items) c.args.format.now = rw same c.reading.invariant.steps in
     let p = err_from_is_err_and c.from_residual-in_err-put_other-in-Conv.result c.from_residual-in_err-put_other-in-Conv.ensures.1 in
@@ -114,7 +113,7 @@ put_format-returns-in_err-put_other-in-Conv-clause-steps g t c =
 
 pub put_format-reading-preserved-in-Byte : goal.put_format-reading-preserved-in-Byte
 put_format-reading-preserved-in-Byte g t c =
-    let same : c.put_short.new.out.items ≡ c.reading.out.items = c.in-Other.ensures.text in
+    let same : c.put_short.new.out.items ≡ c.reading.text.items = c.in-Other.ensures.text in
     let whole : c.put_short.new.out.items ++ text_left c.args.levels c.args.t.now c.args.tm.now c.args.format.now c.reading.at ≡ c.args.out.now.items ++ expanded c.args.levels c.args.t.now c.args.tm.now c.args.format.now = rw same c.reading.invariant.text in
     let counts : c.reading.steps + reads_left c.args.max c.args.levels c.args.t.now c.args.tm.now (length c.put_short.new.out.items) c.args.format.now c.reading.at ≡ c.args.steps.now + reads c.args.max c.args.levels c.args.t.now c.args.tm.now (length c.args.out.now.items) c.args.format.now = rw same c.reading.invariant.steps in
     let left = text_at_byte c.args.levels c.args.t.now c.args.tm.now c.args.format.now c.reading.at c.in-Byte.byte (c.reading.at + 1) c.in-Byte.ensures.stands.1 in
@@ -122,19 +121,18 @@ put_format-reading-preserved-in-Byte g t c =
     let longer : length c.put_byte.new.out.items ≡ length c.put_short.new.out.items + 1 = ap length c.in_ok-put_byte-in-Byte.ensures.0 ∙ length-append c.put_short.new.out.items (c.in-Byte.byte ∷ []) in
     record {
       within = omega (arith, c.in-Byte.ensures.stands.0);
-      rest = behind c.args.format.now (c.reading.at + 1);
       some = c.reading.invariant.some;
       most = omega arith;
-      short = omega (arith, c.in_ok-put_byte-in-Byte.ensures.1, c.put_byte.new.out.ok.0, c.put_byte.new.out.ok.1);
+      short = omega (arith, c.in_ok-put_byte-in-Byte.ensures.1, ap (λ v. length v.items) c.held-text-in-Byte.ensures, c.held-text-in-Byte.result.ok.0, c.held-text-in-Byte.result.ok.1);
       room = omega arith;
       bad = sym (ap (λ ps. bad_place ps) c.in-Byte.ensures.stands.1) ∙ c.reading.invariant.bad;
-      text = goes_on c.args.out.now.items (expanded c.args.levels c.args.t.now c.args.tm.now c.args.format.now) c.put_short.new.out.items c.put_byte.new.out.items (c.in-Byte.byte ∷ []) (text_left c.args.levels c.args.t.now c.args.tm.now c.args.format.now (c.reading.at + 1)) (ap (λ x. c.put_short.new.out.items ++ x) (sym left) ∙ whole) c.in_ok-put_byte-in-Byte.ensures.0;
-      steps = rw longer (omega (arith, more, counts, c.in-Byte.ensures.counted));
+      text = rw c.held-text-in-Byte.ensures (goes_on c.args.out.now.items (expanded c.args.levels c.args.t.now c.args.tm.now c.args.format.now) c.put_short.new.out.items c.put_byte.new.out.items (c.in-Byte.byte ∷ []) (text_left c.args.levels c.args.t.now c.args.tm.now c.args.format.now (c.reading.at + 1)) (ap (λ x. c.put_short.new.out.items ++ x) (sym left) ∙ whole) c.in_ok-put_byte-in-Byte.ensures.0);
+      steps = rw c.held-text-in-Byte.ensures (rw longer (omega (arith, more, counts, c.in-Byte.ensures.counted)));
     }
 
 pub put_format-reading-preserved : goal.put_format-reading-preserved
 put_format-reading-preserved g t c =
-    let same : c.put_short.new.out.items ≡ c.reading.out.items = c.in-Other.ensures.text in
+    let same : c.put_short.new.out.items ≡ c.reading.text.items = c.in-Other.ensures.text in
     let whole : c.put_short.new.out.items ++ text_left c.args.levels c.args.t.now c.args.tm.now c.args.format.now c.reading.at ≡ c.args.out.now.items ++ expanded c.args.levels c.args.t.now c.args.tm.now c.args.format.now = rw same c.reading.invariant.text in
     let short : length c.put_short.new.out.items ≤ c.args.max = omega (arith, c.put_short.ensures.short, c.reading.invariant.most) in
     let counts : c.reading.steps + reads_left c.args.max c.args.levels c.args.t.now c.args.tm.now (length c.put_short.new.out.items) c.args.format.now c.reading.at ≡ c.args.steps.now + reads c.args.max c.args.levels c.args.t.now c.args.tm.now (length c.args.out.now.items) c.args.format.now = rw same c.reading.invariant.steps in
@@ -144,14 +142,13 @@ put_format-reading-preserved g t c =
     let longer : length c.put_other.new.out.items ≡ length c.put_short.new.out.items + length piece = ap length c.in_ok-put_other-in-Conv.ensures.text.0 ∙ length-append c.put_short.new.out.items piece in
     record {
       within = c.in-Conv.ensures.stands.1;
-      rest = behind c.args.format.now c.in-Conv.next;
       some = c.reading.invariant.some;
       most = omega arith;
-      short = omega (arith, c.in_ok-put_other-in-Conv.ensures.text.1, c.put_other.new.out.ok.0, c.put_other.new.out.ok.1);
+      short = omega (arith, c.in_ok-put_other-in-Conv.ensures.text.1, ap (λ v. length v.items) c.held-text-in-Conv.ensures, c.held-text-in-Conv.result.ok.0, c.held-text-in-Conv.result.ok.1);
       room = omega arith;
       bad = sym (ap (λ ps. bad_place ps) c.in-Conv.ensures.stands.2) ∙ c.reading.invariant.bad;
-      text = goes_on c.args.out.now.items (expanded c.args.levels c.args.t.now c.args.tm.now c.args.format.now) c.put_short.new.out.items c.put_other.new.out.items (converted c.args.t.now c.args.tm.now (expanded (c.args.levels - 1) c.args.t.now c.args.tm.now) (conversion c.in-Conv.modifier c.in-Conv.letter)) (text_left c.args.levels c.args.t.now c.args.tm.now c.args.format.now c.in-Conv.next) (ap (λ x. c.put_short.new.out.items ++ x) (sym left) ∙ whole) c.in_ok-put_other-in-Conv.ensures.text.0;
-      steps = rw longer (omega (arith, more, counts, c.in_ok-put_other-in-Conv.ensures.steps, c.in-Conv.ensures.counted));
+      text = rw c.held-text-in-Conv.ensures (goes_on c.args.out.now.items (expanded c.args.levels c.args.t.now c.args.tm.now c.args.format.now) c.put_short.new.out.items c.put_other.new.out.items (converted c.args.t.now c.args.tm.now (expanded (c.args.levels - 1) c.args.t.now c.args.tm.now) (conversion c.in-Conv.modifier c.in-Conv.letter)) (text_left c.args.levels c.args.t.now c.args.tm.now c.args.format.now c.in-Conv.next) (ap (λ x. c.put_short.new.out.items ++ x) (sym left) ∙ whole) c.in_ok-put_other-in-Conv.ensures.text.0);
+      steps = rw c.held-text-in-Conv.ensures (rw longer (omega (arith, more, counts, c.in_ok-put_other-in-Conv.ensures.steps, c.in-Conv.ensures.counted)));
     }
 
 pub put_format-reading-preserved-in-Added : goal.put_format-reading-preserved-in-Added
@@ -159,54 +156,37 @@ put_format-reading-preserved-in-Added g t c =
     let step = c.step_at-step in
     let short = c.in-Added.short in
     let text = short_text c.args.t.now c.args.tm.now short in
-    let piece : IsShort c.reading.at step.result short = rw (step.ensures.exact, sym c.reading.invariant.rest) (c.in-Added.ensures.piece c.reading.at) in
+    let piece : IsShort c.reading.at step.result short = rw step.ensures.exact c.in-Added.ensures.piece in
     let left = short_left c.args.levels c.args.t.now c.args.tm.now c.args.format.now c.reading.at step.result short step.ensures.stands piece c.in-Added.ensures.formatless in
-    let fits : length c.reading.out.items ≤ c.args.max = omega (arith, c.reading.invariant.short, c.reading.invariant.most) in
-    let more = short_reads c.args.max c.args.levels c.args.t.now c.args.tm.now (length c.reading.out.items) c.args.format.now c.reading.at step.result short step.ensures.stands piece c.in-Added.ensures.formatless fits in
+    let fits : length c.reading.text.items ≤ c.args.max = omega (arith, c.reading.invariant.short, c.reading.invariant.most) in
+    let more = short_reads c.args.max c.args.levels c.args.t.now c.args.tm.now (length c.reading.text.items) c.args.format.now c.reading.at step.result short step.ensures.stands piece c.in-Added.ensures.formatless fits in
     let within = short_within c.args.format.now c.reading.at step.result short step.ensures.stands piece in
     let grown = c.in-Added.ensures.text in
-    let longer : length c.put_short.new.out.items ≡ length c.reading.out.items + length text = ap length grown ∙ length-append c.reading.out.items text in
+    let longer : length c.put_short.new.out.items ≡ length c.reading.text.items + length text = ap length grown ∙ length-append c.reading.text.items text in
     record {
       within = rw c.width-taken.ensures within;
-      rest = behind_piece c.args.format.now c.reading.rest.now c.reading.at c.width-taken.result c.reading.invariant.rest;
       some = c.reading.invariant.some;
       most = c.reading.invariant.most;
       short = c.put_short.ensures.short;
       room = c.put_short.ensures.room;
       bad = rw c.width-taken.ensures (sym (short_bad c.args.format.now c.reading.at step.result short step.ensures.stands piece) ∙ c.reading.invariant.bad);
-      text = rw c.width-taken.ensures (goes_on c.args.out.now.items (expanded c.args.levels c.args.t.now c.args.tm.now c.args.format.now) c.reading.out.items c.put_short.new.out.items text (text_left c.args.levels c.args.t.now c.args.tm.now c.args.format.now (c.reading.at + width short)) (ap (λ x. c.reading.out.items ++ x) (sym left) ∙ c.reading.invariant.text) grown);
+      text = rw c.width-taken.ensures (goes_on c.args.out.now.items (expanded c.args.levels c.args.t.now c.args.tm.now c.args.format.now) c.reading.text.items c.put_short.new.out.items text (text_left c.args.levels c.args.t.now c.args.tm.now c.args.format.now (c.reading.at + width short)) (ap (λ x. c.reading.text.items ++ x) (sym left) ∙ c.reading.invariant.text) grown);
       steps = rw (c.width-taken.ensures, longer) (omega (arith, more, c.reading.invariant.steps, step.ensures.counted));
     }
-
-pub put_format-slice_bounds-rest-start : goal.put_format-slice_bounds-rest-start
-put_format-slice_bounds-rest-start g t c =
-    let step = c.step_at-step in
-    let short = c.in-Added.short in
-    let piece : IsShort c.reading.at step.result short = rw (step.ensures.exact, sym c.reading.invariant.rest) (c.in-Added.ensures.piece c.reading.at) in
-    let within = short_within c.args.format.now c.reading.at step.result short step.ensures.stands piece in
-    omega (arith, c.width-taken.ensures, piece_within c.args.format.now c.reading.rest.now c.reading.at short c.reading.invariant.rest within)
-
-pub put_format-slice_bounds-rest-count : goal.put_format-slice_bounds-rest-count
-put_format-slice_bounds-rest-count g t c =
-    let step = c.step_at-step in
-    let short = c.in-Added.short in
-    let piece : IsShort c.reading.at step.result short = rw (step.ensures.exact, sym c.reading.invariant.rest) (c.in-Added.ensures.piece c.reading.at) in
-    let within = short_within c.args.format.now c.reading.at step.result short step.ensures.stands piece in
-    omega (arith, c.width-taken.ensures, piece_within c.args.format.now c.reading.rest.now c.reading.at short c.reading.invariant.rest within)
 
 pub put_format-reading-smaller-in-Added : goal.put_format-reading-smaller-in-Added
 put_format-reading-smaller-in-Added g t c =
     let step = c.step_at-step in
     let short = c.in-Added.short in
-    let piece : IsShort c.reading.at step.result short = rw (step.ensures.exact, sym c.reading.invariant.rest) (c.in-Added.ensures.piece c.reading.at) in
+    let piece : IsShort c.reading.at step.result short = rw step.ensures.exact c.in-Added.ensures.piece in
     let within = short_within c.args.format.now c.reading.at step.result short step.ensures.stands piece in
     omega (arith, c.width-taken.ensures, within, width_some short)
 
 pub put_format-returns-in_err-put_inner-in-Inner-clause-text : goal.put_format-returns-in_err-put_inner-in-Inner-clause-text
 put_format-returns-in_err-put_inner-in-Inner-clause-text g t c =
     let step = c.step_at-step-in-Inner in
-    let same : c.put_short.new.out.items ≡ c.reading.out.items = c.in-Inner.ensures.text in
-    let seen : IsSeen c.reading.at step.result (Inner c.in-Inner.key) = rw (step.ensures.exact, sym c.reading.invariant.rest) (c.in-Inner.ensures.piece c.reading.at) in
+    let same : c.put_short.new.out.items ≡ c.reading.text.items = c.in-Inner.ensures.text in
+    let seen : IsSeen c.reading.at step.result (Inner c.in-Inner.key) = rw step.ensures.exact c.in-Inner.ensures.piece in
     let whole : c.put_short.new.out.items ++ text_left c.args.levels c.args.t.now c.args.tm.now c.args.format.now c.reading.at ≡ c.args.out.now.items ++ expanded c.args.levels c.args.t.now c.args.tm.now c.args.format.now = rw same c.reading.invariant.text in
     let p = err_from_is_err_and c.from_residual.result c.from_residual.ensures.1 in
     let left = rw (sym c.text_of.ensures) at (inner_left c.args.levels c.args.t.now c.args.tm.now c.args.format.now c.reading.at step.result c.in-Inner.key step.ensures.stands seen) in
@@ -215,8 +195,8 @@ put_format-returns-in_err-put_inner-in-Inner-clause-text g t c =
 pub put_format-returns-in_err-put_inner-in-Inner-clause-steps : goal.put_format-returns-in_err-put_inner-in-Inner-clause-steps
 put_format-returns-in_err-put_inner-in-Inner-clause-steps g t c =
     let step = c.step_at-step-in-Inner in
-    let same : c.put_short.new.out.items ≡ c.reading.out.items = c.in-Inner.ensures.text in
-    let seen : IsSeen c.reading.at step.result (Inner c.in-Inner.key) = rw (step.ensures.exact, sym c.reading.invariant.rest) (c.in-Inner.ensures.piece c.reading.at) in
+    let same : c.put_short.new.out.items ≡ c.reading.text.items = c.in-Inner.ensures.text in
+    let seen : IsSeen c.reading.at step.result (Inner c.in-Inner.key) = rw step.ensures.exact c.in-Inner.ensures.piece in
     let counts : c.reading.steps + reads_left c.args.max c.args.levels c.args.t.now c.args.tm.now (length c.put_short.new.out.items) c.args.format.now c.reading.at ≡ c.args.steps.now + reads c.args.max c.args.levels c.args.t.now c.args.tm.now (length c.args.out.now.items) c.args.format.now = rw same c.reading.invariant.steps in
     let short : length c.put_short.new.out.items ≤ c.args.max = omega (arith, c.put_short.ensures.short, c.reading.invariant.most) in
     let p = err_from_is_err_and c.from_residual.result c.from_residual.ensures.1 in
@@ -231,8 +211,8 @@ put_format-returns-in_err-put_inner-in-Inner-clause-steps g t c =
 pub put_format-reading-preserved-in-Inner : goal.put_format-reading-preserved-in-Inner
 put_format-reading-preserved-in-Inner g t c =
     let step = c.step_at-step-in-Inner in
-    let same : c.put_short.new.out.items ≡ c.reading.out.items = c.in-Inner.ensures.text in
-    let seen : IsSeen c.reading.at step.result (Inner c.in-Inner.key) = rw (step.ensures.exact, sym c.reading.invariant.rest) (c.in-Inner.ensures.piece c.reading.at) in
+    let same : c.put_short.new.out.items ≡ c.reading.text.items = c.in-Inner.ensures.text in
+    let seen : IsSeen c.reading.at step.result (Inner c.in-Inner.key) = rw step.ensures.exact c.in-Inner.ensures.piece in
     let whole : c.put_short.new.out.items ++ text_left c.args.levels c.args.t.now c.args.tm.now c.args.format.now c.reading.at ≡ c.args.out.now.items ++ expanded c.args.levels c.args.t.now c.args.tm.now c.args.format.now = rw same c.reading.invariant.text in
     let counts : c.reading.steps + reads_left c.args.max c.args.levels c.args.t.now c.args.tm.now (length c.put_short.new.out.items) c.args.format.now c.reading.at ≡ c.args.steps.now + reads c.args.max c.args.levels c.args.t.now c.args.tm.now (length c.args.out.now.items) c.args.format.now = rw same c.reading.invariant.steps in
     let short : length c.put_short.new.out.items ≤ c.args.max = omega (arith, c.put_short.ensures.short, c.reading.invariant.most) in
@@ -241,33 +221,18 @@ put_format-reading-preserved-in-Inner g t c =
     let longer : length c.put_inner.new.out.items ≡ length c.put_short.new.out.items + length (expanded (c.args.levels - 1) c.args.t.now c.args.tm.now c.text_of.result.now) = ap length c.in_ok-put_inner-in-Inner.ensures.text.0 ∙ length-append c.put_short.new.out.items (expanded (c.args.levels - 1) c.args.t.now c.args.tm.now c.text_of.result.now) in
     record {
       within = inner_within c.args.format.now c.reading.at step.result c.in-Inner.key step.ensures.stands seen;
-      rest = behind_piece c.args.format.now c.reading.rest.now c.reading.at 2 c.reading.invariant.rest;
       some = c.reading.invariant.some;
       most = omega arith;
-      short = omega (arith, c.in_ok-put_inner-in-Inner.ensures.text.1, c.put_inner.new.out.ok.0, c.put_inner.new.out.ok.1);
+      short = omega (arith, c.in_ok-put_inner-in-Inner.ensures.text.1, ap (λ v. length v.items) c.held-text-in-Inner.ensures, c.held-text-in-Inner.result.ok.0, c.held-text-in-Inner.result.ok.1);
       room = omega arith;
       bad = sym (inner_bad c.args.format.now c.reading.at step.result c.in-Inner.key step.ensures.stands seen) ∙ c.reading.invariant.bad;
-      text = goes_on c.args.out.now.items (expanded c.args.levels c.args.t.now c.args.tm.now c.args.format.now) c.put_short.new.out.items c.put_inner.new.out.items (expanded (c.args.levels - 1) c.args.t.now c.args.tm.now c.text_of.result.now) (text_left c.args.levels c.args.t.now c.args.tm.now c.args.format.now (c.reading.at + 2)) (ap (λ x. c.put_short.new.out.items ++ x) (sym left) ∙ whole) c.in_ok-put_inner-in-Inner.ensures.text.0;
-      steps = rw longer (omega (arith, more, counts, c.in_ok-put_inner-in-Inner.ensures.steps, step.ensures.counted));
+      text = rw c.held-text-in-Inner.ensures (goes_on c.args.out.now.items (expanded c.args.levels c.args.t.now c.args.tm.now c.args.format.now) c.put_short.new.out.items c.put_inner.new.out.items (expanded (c.args.levels - 1) c.args.t.now c.args.tm.now c.text_of.result.now) (text_left c.args.levels c.args.t.now c.args.tm.now c.args.format.now (c.reading.at + 2)) (ap (λ x. c.put_short.new.out.items ++ x) (sym left) ∙ whole) c.in_ok-put_inner-in-Inner.ensures.text.0);
+      steps = rw c.held-text-in-Inner.ensures (rw longer (omega (arith, more, counts, c.in_ok-put_inner-in-Inner.ensures.steps, step.ensures.counted)));
     }
-
-pub put_format-slice_bounds-rest-start-in-Inner : goal.put_format-slice_bounds-rest-start-in-Inner
-put_format-slice_bounds-rest-start-in-Inner g t c =
-    let step = c.step_at-step-in-Inner in
-    let seen : IsSeen c.reading.at step.result (Inner c.in-Inner.key) = rw (step.ensures.exact, sym c.reading.invariant.rest) (c.in-Inner.ensures.piece c.reading.at) in
-    let within = inner_within c.args.format.now c.reading.at step.result c.in-Inner.key step.ensures.stands seen in
-    omega (arith, inner_rest c.args.format.now c.reading.rest.now c.reading.at c.reading.invariant.rest within)
-
-pub put_format-slice_bounds-rest-count-in-Inner : goal.put_format-slice_bounds-rest-count-in-Inner
-put_format-slice_bounds-rest-count-in-Inner g t c =
-    let step = c.step_at-step-in-Inner in
-    let seen : IsSeen c.reading.at step.result (Inner c.in-Inner.key) = rw (step.ensures.exact, sym c.reading.invariant.rest) (c.in-Inner.ensures.piece c.reading.at) in
-    let within = inner_within c.args.format.now c.reading.at step.result c.in-Inner.key step.ensures.stands seen in
-    omega (arith, inner_rest c.args.format.now c.reading.rest.now c.reading.at c.reading.invariant.rest within)
 
 pub put_format-reading-smaller-in-Inner : goal.put_format-reading-smaller-in-Inner
 put_format-reading-smaller-in-Inner g t c =
     let step = c.step_at-step-in-Inner in
-    let seen : IsSeen c.reading.at step.result (Inner c.in-Inner.key) = rw (step.ensures.exact, sym c.reading.invariant.rest) (c.in-Inner.ensures.piece c.reading.at) in
+    let seen : IsSeen c.reading.at step.result (Inner c.in-Inner.key) = rw step.ensures.exact c.in-Inner.ensures.piece in
     let within = inner_within c.args.format.now c.reading.at step.result c.in-Inner.key step.ensures.stands seen in
     omega (arith, within)

@@ -1,4 +1,4 @@
-use Rattle.std.proofs.Common.{◌≡◌, ◌+◌, ◌-◌, ◌*◌, ◌≤◌, ◌<◌, ◌++◌, length, drop}
+use Rattle.std.proofs.Common.{◌≡◌, ◌+◌, ◌-◌, ◌*◌, ◌≤◌, ◌<◌, ◌++◌, length}
 use Rattle.std.specs.Vec.{vec_capacity}
 use Rattle.time_cat.specs.Formats.{pieces, rest_of, bad_place}
 use Rattle.time_cat.specs.Shown.{expanded}
@@ -11,14 +11,13 @@ use Rattle.strftime_fields.proofs.expand.+expand.Given as goal
 abbrev pub invariant-put_format-reading : goal.invariant-put_format-reading
 invariant-put_format-reading g l = record {
   within : l.at ≤ length l.format;
-  rest : l.rest ≡ drop l.at l.format;
   some : 0 < l.levels;
   most : l.limit ≤ l.max;
-  short : length l.out.items ≤ l.limit;
-  room : l.limit ≤ vec_capacity l.out;
+  short : length l.text.items ≤ l.limit;
+  room : l.limit ≤ vec_capacity l.text;
   bad : bad_place (rest_of l.format l.at) ≡ bad_place (pieces l.format);
-  text : l.out.items ++ text_left l.levels l.t l.tm l.format l.at ≡ l.initial.out.items ++ expanded l.levels l.t l.tm l.format;
-  steps : l.steps + reads_left l.max l.levels l.t l.tm (length l.out.items) l.format l.at ≡ l.initial.steps + reads l.max l.levels l.t l.tm (length l.initial.out.items) l.format;
+  text : l.text.items ++ text_left l.levels l.t l.tm l.format l.at ≡ l.fn.out.items ++ expanded l.levels l.t l.tm l.format;
+  steps : l.steps + reads_left l.max l.levels l.t l.tm (length l.text.items) l.format l.at ≡ l.initial.steps + reads l.max l.levels l.t l.tm (length l.fn.out.items) l.format;
 }
 
 abbrev pub decreases-put_format-reading : goal.decreases-put_format-reading

@@ -11,6 +11,6 @@ returns-then-added-clause-piece c = elim c.match-short.branch [
 ]
 
 pub returns-in-Format-clause-piece : goal.returns-in-Format-clause-piece
-returns-in-Format-clause-piece c = λ at.
+returns-in-Format-clause-piece c =
     let piece = rw c.in-Plain.is at c.in-Some.ensures in
-    (c.in-Plain.letter, c.in-Plain.found.rank, (piece at).0, (piece at).1 ∙ ap (λ (s : Shows). Some (record { rank = c.in-Plain.found.rank; shows = s })) c.in-Format.is)
+    (c.in-Plain.letter, c.in-Plain.found.rank, piece.0, piece.1 ∙ ap (λ (s : Shows). Some (record { rank = c.in-Plain.found.rank; shows = s })) c.in-Format.is)
