@@ -9,9 +9,14 @@ use std::marker::Model;
 use turn_gate::Seat;
 
 /// A thread at shared catalogs. It goes with one thread at a time, and can be sent to another.
-#[derive(Drop)]
 pub struct Reader<B: Part> {
     pub(crate) seat: Seat<Catalogs<B>>,
+}
+
+impl<B: Part> Drop for Reader<B> {
+    fn drop(self) {
+        let Reader { seat: _ } = self;
+    }
 }
 
 impl<B: Part> Model for Reader<B> {

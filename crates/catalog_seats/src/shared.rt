@@ -18,9 +18,14 @@ use turn_gate::{Seat, Turns};
 ///
 /// Each turn makes one entry of the one history that all threads have. No call but `new` takes
 /// memory.
-#[derive(Drop)]
 pub struct SharedCatalogs<B: Part> {
     turns: Turns<Catalogs<B>>,
+}
+
+impl<B: Part> Drop for SharedCatalogs<B> {
+    fn drop(self) {
+        let SharedCatalogs { turns: _ } = self;
+    }
 }
 
 impl<B: Part> Model for SharedCatalogs<B> {

@@ -14,10 +14,18 @@ use turn_gate::Machine;
 /// The catalogs that some threads have open, under handles of rows as locale objects have them.
 ///
 /// A step takes no memory, and no longer than the rows of a thread ask for.
-#[derive(Drop)]
 pub struct Catalogs<B: Part> {
     setting: CatalogSetting,
     rows: Rows<B>,
+}
+
+impl<B: Part> Drop for Catalogs<B> {
+    fn drop(self) {
+        let Catalogs {
+            setting: _,
+            rows: _,
+        } = self;
+    }
 }
 
 impl<B: Part> Model for Catalogs<B> {

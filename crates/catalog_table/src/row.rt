@@ -8,12 +8,17 @@ use std::marker::Model;
 
 /// What is kept of a row. Of the handles that were made in it only the newest can be live, since a
 /// row is used again only when it is not.
-#[derive(Drop)]
 pub struct Row<B: Part> {
     /// How many handles were made in the row.
     pub makes: u32,
     /// The catalog of the newest, while it is live.
     pub book: Option<B>,
+}
+
+impl<B: Part> Drop for Row<B> {
+    fn drop(self) {
+        let Row { makes: _, book: _ } = self;
+    }
 }
 
 impl<B: Part> Model for Row<B> {

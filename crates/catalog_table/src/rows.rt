@@ -12,11 +12,20 @@ use std::alloc::{AllocError, Global};
 use std::marker::Model;
 
 /// So many rows of so many threads.
-#[derive(Drop)]
 pub struct Rows<B: Part> {
     threads: u32,
     width: u32,
     items: Vec<Row<B>>,
+}
+
+impl<B: Part> Drop for Rows<B> {
+    fn drop(self) {
+        let Rows {
+            threads: _,
+            width: _,
+            items: _,
+        } = self;
+    }
 }
 
 impl<B: Part> Model for Rows<B> {

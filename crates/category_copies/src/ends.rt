@@ -16,13 +16,24 @@ use locale_sources::{ByName, Source, section_at};
 use std::alloc::{AllocError, Global};
 
 /// For each category where the copies end that begin at each number.
-#[derive(Drop)]
 pub struct Ends {
     pub ctype: Vec<Option<u32>>,
     pub numeric: Vec<Option<u32>>,
     pub monetary: Vec<Option<u32>>,
     pub time: Vec<Option<u32>>,
     pub messages: Vec<Option<u32>>,
+}
+
+impl Drop for Ends {
+    fn drop(self) {
+        let Ends {
+            ctype: _,
+            numeric: _,
+            monetary: _,
+            time: _,
+            messages: _,
+        } = self;
+    }
 }
 
 impl Ends {

@@ -15,11 +15,20 @@ use locale_sources::{ByName, Source, section_at};
 use std::alloc::{AllocError, Global};
 
 /// A locale: its name, the categories that it has, and where each of them is written.
-#[derive(Drop)]
 pub struct LocaleRow {
     pub name: ByteText,
     pub available: Mask,
     pub ends: SourceNumbers,
+}
+
+impl Drop for LocaleRow {
+    fn drop(self) {
+        let LocaleRow {
+            name: _,
+            available: _,
+            ends: _,
+        } = self;
+    }
 }
 
 /// The bit of a category that a source has, else 0.

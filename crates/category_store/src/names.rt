@@ -12,7 +12,6 @@ use locale_sources::{ByName, Source, add_named, get_named, is_posix};
 use std::alloc::{AllocError, Global};
 
 /// The names of a library with their numbers.
-#[derive(Drop)]
 pub struct Names {
     /// All names, in the order in which they first appear.
     pub names: ByName<u32>,
@@ -22,6 +21,17 @@ pub struct Names {
     pub keys: ByName<u32>,
     /// The number of the native locale's name.
     pub native: u32,
+}
+
+impl Drop for Names {
+    fn drop(self) {
+        let Names {
+            names: _,
+            first: _,
+            keys: _,
+            native: _,
+        } = self;
+    }
 }
 
 impl Names {

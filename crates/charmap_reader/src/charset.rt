@@ -16,9 +16,15 @@ use std::alloc::{AllocError, Global};
 use std::marker::Model;
 
 /// A coded character set with the names of its characters (XBD 6).
-#[derive(Debug, Drop)]
+#[derive(Debug)]
 pub struct Charset {
     kind: Kind,
+}
+
+impl Drop for Charset {
+    fn drop(self) {
+        let Charset { kind: _ } = self;
+    }
 }
 
 impl Model for Charset {

@@ -10,9 +10,15 @@ use std::marker::Model;
 
 /// A set of wide values, seen as its ranges: each a first and a last value, in order, disjoint and
 /// not adjacent.
-#[derive(Debug, Drop)]
+#[derive(Debug)]
 pub struct Ranges {
     ranges: Vec<(u32, u32)>,
+}
+
+impl Drop for Ranges {
+    fn drop(self) {
+        let Ranges { ranges: _ } = self;
+    }
 }
 
 impl Model for Ranges {

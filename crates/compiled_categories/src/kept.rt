@@ -134,13 +134,24 @@ fn both<A: Drop, B: Drop>(
 }
 
 /// The categories of all sources.
-#[derive(Drop)]
 pub struct CategoryLists {
     pub ctype: Slots<Ctype>,
     pub numeric: Slots<Numeric>,
     pub monetary: Slots<Monetary>,
     pub time: Slots<Time>,
     pub messages: Slots<Messages>,
+}
+
+impl Drop for CategoryLists {
+    fn drop(self) {
+        let CategoryLists {
+            ctype: _,
+            numeric: _,
+            monetary: _,
+            time: _,
+            messages: _,
+        } = self;
+    }
 }
 
 impl CategoryLists {

@@ -22,12 +22,22 @@ use std::alloc::{AllocError, Global};
 use std::marker::Model;
 
 /// The character classes and case maps of a locale.
-#[derive(Drop)]
 pub struct Ctype {
     codeset: ByteText,
     classes: Classes,
     upper: CaseMap,
     lower: CaseMap,
+}
+
+impl Drop for Ctype {
+    fn drop(self) {
+        let Ctype {
+            codeset: _,
+            classes: _,
+            upper: _,
+            lower: _,
+        } = self;
+    }
 }
 
 impl Model for Ctype {

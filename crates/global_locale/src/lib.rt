@@ -9,10 +9,18 @@ use mask_compose::{Object, Part, compose};
 use std::marker::Model;
 
 /// The global locale (XSH setlocale).
-#[derive(Drop)]
 pub struct Global<P: Part> {
     version: u32,
     object: Object<P>,
+}
+
+impl<P: Part> Drop for Global<P> {
+    fn drop(self) {
+        let Global {
+            version: _,
+            object: _,
+        } = self;
+    }
 }
 
 impl<P: Part> Model for Global<P> {

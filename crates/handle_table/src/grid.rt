@@ -6,11 +6,20 @@ ghost use Rattle.handle_table.specs.Grid.{cell, with_cell};
 use std::marker::Model;
 
 /// So many lines of so many values.
-#[derive(Drop)]
 pub struct Grid<T> {
     lines: u32,
     width: u32,
     pub(crate) items: Vec<T>,
+}
+
+impl<T: Drop> Drop for Grid<T> {
+    fn drop(self) {
+        let Grid {
+            lines: _,
+            width: _,
+            items: _,
+        } = self;
+    }
 }
 
 impl<T> Model for Grid<T> {

@@ -19,7 +19,6 @@ use std::alloc::{AllocError, Global};
 use std::marker::Model;
 
 /// What a table keeps: as much for each row, thread, cell and locale name, however many calls came.
-#[derive(Drop)]
 pub struct Kept<P: Part> {
     rows: Grid<Row>,
     objects: Grid<Object<P>>,
@@ -28,6 +27,20 @@ pub struct Kept<P: Part> {
     installed: Vec<Option<Offer<P>>>,
     installs: u32,
     global: GlobalLocale<P>,
+}
+
+impl<P: Part> Drop for Kept<P> {
+    fn drop(self) {
+        let Kept {
+            rows: _,
+            objects: _,
+            selections: _,
+            cells: _,
+            installed: _,
+            installs: _,
+            global: _,
+        } = self;
+    }
 }
 
 impl<P: Part> Model for Kept<P> {

@@ -11,7 +11,6 @@ use std::marker::Model;
 pub const MAX_THREADS: usize = 16;
 
 /// The setting of a table, which no step changes.
-#[derive(Drop)]
 pub struct Setting<P: Part> {
     /// The number of threads.
     pub threads: u32,
@@ -21,6 +20,17 @@ pub struct Setting<P: Part> {
     pub generations: u32,
     /// What the locale names stand for at first, by number.
     pub opening: List<Offer<P>>,
+}
+
+impl<P: Part> Drop for Setting<P> {
+    fn drop(self) {
+        let Setting {
+            threads: _,
+            rows: _,
+            generations: _,
+            opening: _,
+        } = self;
+    }
 }
 
 impl<P: Part> Model for Setting<P> {

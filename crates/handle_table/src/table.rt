@@ -16,11 +16,20 @@ use std::marker::Model;
 /// global locale.
 ///
 /// A step takes no memory, and no longer than the rows and threads ask for.
-#[derive(Drop)]
 pub struct Table<P: Part> {
     setting: Setting<P>,
     kept: Kept<P>,
     steps: u32,
+}
+
+impl<P: Part> Drop for Table<P> {
+    fn drop(self) {
+        let Table {
+            setting: _,
+            kept: _,
+            steps: _,
+        } = self;
+    }
 }
 
 impl<P: Part> Model for Table<P> {

@@ -34,11 +34,21 @@ struct Cell {
 
 /// The operands of a keyword line, decoded, each with its place. A value takes 16 bytes, a pair, a
 /// range and a text of more than 65535 bytes 8 more, and a text its bytes.
-#[derive(Debug, Drop)]
+#[derive(Debug)]
 pub struct Values {
     cells: Vec<Cell>,
     pairs: Vec<(u32, u32)>,
     bytes: Vec<u8>,
+}
+
+impl Drop for Values {
+    fn drop(self) {
+        let Values {
+            cells: _,
+            pairs: _,
+            bytes: _,
+        } = self;
+    }
 }
 
 impl Model for Values {

@@ -17,13 +17,23 @@ pub enum Value {
 }
 
 /// A keyword line of a section.
-#[derive(Debug, Drop)]
+#[derive(Debug)]
 pub struct Entry {
     /// Where the keyword stands.
     pub place: Place,
     pub keyword: ByteText,
     /// The operands, each with its place.
     pub values: Values,
+}
+
+impl Drop for Entry {
+    fn drop(self) {
+        let Entry {
+            place: _,
+            keyword: _,
+            values: _,
+        } = self;
+    }
 }
 
 /// What a section says.
@@ -36,12 +46,22 @@ pub enum Body {
 }
 
 /// The section of a category.
-#[derive(Debug, Drop)]
+#[derive(Debug)]
 pub struct Section {
     pub category: Category,
     /// Where its header stands.
     pub place: Place,
     pub body: Body,
+}
+
+impl Drop for Section {
+    fn drop(self) {
+        let Section {
+            category: _,
+            place: _,
+            body: _,
+        } = self;
+    }
 }
 
 /// A whole locale source.

@@ -15,7 +15,7 @@ use std::alloc::{AllocError, Global};
 /// In a number 127 (`CHAR_MAX`) says that the locale does not tell it. The bytes of a grouping are
 /// the sizes of groups, the first next to the radix; the last counts for all that are left, or none
 /// is left to be grouped where it is 127.
-#[derive(Debug, Drop)]
+#[derive(Debug)]
 pub struct Lconv {
     pub decimal_point: ByteText,
     pub thousands_sep: ByteText,
@@ -41,6 +41,37 @@ pub struct Lconv {
     pub int_n_sep_by_space: u8,
     pub int_p_sign_posn: u8,
     pub int_n_sign_posn: u8,
+}
+
+impl Drop for Lconv {
+    fn drop(self) {
+        let Lconv {
+            decimal_point: _,
+            thousands_sep: _,
+            grouping: _,
+            int_curr_symbol: _,
+            currency_symbol: _,
+            mon_decimal_point: _,
+            mon_thousands_sep: _,
+            mon_grouping: _,
+            positive_sign: _,
+            negative_sign: _,
+            int_frac_digits: _,
+            frac_digits: _,
+            p_cs_precedes: _,
+            p_sep_by_space: _,
+            n_cs_precedes: _,
+            n_sep_by_space: _,
+            p_sign_posn: _,
+            n_sign_posn: _,
+            int_p_cs_precedes: _,
+            int_n_cs_precedes: _,
+            int_p_sep_by_space: _,
+            int_n_sep_by_space: _,
+            int_p_sign_posn: _,
+            int_n_sign_posn: _,
+        } = self;
+    }
 }
 
 /// The fields of localeconv, lent by the categories: of a grouping the sizes that count, of which

@@ -4,7 +4,7 @@ use crate::list::ByteText;
 
 /// A block of a bundle: the lines of a charmap's or a locale's source, between its directive and
 /// its `.end`.
-#[derive(Debug, Drop)]
+#[derive(Debug)]
 pub struct Block {
     /// The name of the charmap or the locale.
     pub name: ByteText,
@@ -16,11 +16,28 @@ pub struct Block {
     pub text: ByteText,
 }
 
+impl Drop for Block {
+    fn drop(self) {
+        let Block {
+            name: _,
+            charset: _,
+            first_line: _,
+            text: _,
+        } = self;
+    }
+}
+
 /// A later version of a locale, which a thread installs while others run.
-#[derive(Debug, Drop)]
+#[derive(Debug)]
 pub struct Later {
     /// The key by which a command names it.
     pub key: ByteText,
     /// The source, under the locale's name.
     pub block: Block,
+}
+
+impl Drop for Later {
+    fn drop(self) {
+        let Later { key: _, block: _ } = self;
+    }
 }

@@ -6,9 +6,15 @@ use std::alloc::{AllocError, Global};
 use std::marker::Model;
 
 /// A list of values, made from a `Vec` and given back as one without taking memory.
-#[derive(Debug, Drop)]
+#[derive(Debug)]
 pub struct List<T> {
     items: Vec<T>,
+}
+
+impl<T: Drop> Drop for List<T> {
+    fn drop(self) {
+        let List { items: _ } = self;
+    }
 }
 
 impl<T> Model for List<T> {
@@ -58,9 +64,15 @@ impl<T> List<T> {
 }
 
 /// Bytes of a text, which need not be UTF-8.
-#[derive(Debug, Drop)]
+#[derive(Debug)]
 pub struct ByteText {
     bytes: Vec<u8>,
+}
+
+impl Drop for ByteText {
+    fn drop(self) {
+        let ByteText { bytes: _ } = self;
+    }
 }
 
 impl Model for ByteText {

@@ -9,13 +9,24 @@ use lc_base::{Category, Mask};
 use std::marker::Model;
 
 /// A locale object: a part for each category (POSIX.1-2017, XBD 3.204 and XSH newlocale).
-#[derive(Drop)]
 pub struct Object<P: Part> {
     ctype: P,
     numeric: P,
     monetary: P,
     time: P,
     messages: P,
+}
+
+impl<P: Part> Drop for Object<P> {
+    fn drop(self) {
+        let Object {
+            ctype: _,
+            numeric: _,
+            monetary: _,
+            time: _,
+            messages: _,
+        } = self;
+    }
 }
 
 impl<P: Part> Model for Object<P> {

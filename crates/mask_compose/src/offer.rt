@@ -8,12 +8,20 @@ use lc_base::Mask;
 use std::marker::Model;
 
 /// What a locale name stands for: an object, and the categories that it has.
-#[derive(Drop)]
 pub struct Offer<P: Part> {
     /// The parts; in a category that is not available that of the POSIX locale.
     pub object: Object<P>,
     /// The categories that the locale has.
     pub available: Mask,
+}
+
+impl<P: Part> Drop for Offer<P> {
+    fn drop(self) {
+        let Offer {
+            object: _,
+            available: _,
+        } = self;
+    }
 }
 
 impl<P: Part> Model for Offer<P> {

@@ -12,10 +12,19 @@ use std::alloc::{AllocError, Global};
 use std::marker::Model;
 
 /// The values of the keywords of `LC_MESSAGES`, of the locale or else of the POSIX locale.
-#[derive(Debug, Drop)]
+#[derive(Debug)]
 pub struct Messages {
     yesexpr: ByteText,
     noexpr: ByteText,
+}
+
+impl Drop for Messages {
+    fn drop(self) {
+        let Messages {
+            yesexpr: _,
+            noexpr: _,
+        } = self;
+    }
 }
 
 impl Model for Messages {

@@ -18,12 +18,23 @@ pub use keys::{MonNumber, MonText};
 use values::{FormNumbers, MoneyTexts, international_of, local_of, texts_of};
 
 /// The values of the keywords of `LC_MONETARY`, of the locale or else of the POSIX locale.
-#[derive(Debug, Drop)]
+#[derive(Debug)]
 pub struct Monetary {
     texts: MoneyTexts,
     mon_grouping: List<i32>,
     local: FormNumbers,
     international: FormNumbers,
+}
+
+impl Drop for Monetary {
+    fn drop(self) {
+        let Monetary {
+            texts: _,
+            mon_grouping: _,
+            local: _,
+            international: _,
+        } = self;
+    }
 }
 
 impl Model for Monetary {

@@ -9,7 +9,7 @@ use std::alloc::{AllocError, Global};
 use std::marker::Model;
 
 /// A message of a catalog.
-#[derive(Debug, Drop)]
+#[derive(Debug)]
 pub struct Message {
     /// The number of its set, from 1 to 255.
     pub set: u32,
@@ -19,12 +19,28 @@ pub struct Message {
     pub text: ByteText,
 }
 
+impl Drop for Message {
+    fn drop(self) {
+        let Message {
+            set: _,
+            number: _,
+            text: _,
+        } = self;
+    }
+}
+
 /// The messages of a catalog, each found by its set and number (XSH catgets).
 ///
 /// Contracts see the messages in the order of their sets, and in a set of their numbers.
-#[derive(Debug, Drop)]
+#[derive(Debug)]
 pub struct Book {
     messages: Vec<Message>,
+}
+
+impl Drop for Book {
+    fn drop(self) {
+        let Book { messages: _ } = self;
+    }
 }
 
 impl Model for Book {

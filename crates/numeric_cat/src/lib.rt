@@ -12,11 +12,21 @@ use std::alloc::{AllocError, Global};
 use std::marker::Model;
 
 /// The values of the keywords of `LC_NUMERIC`, of the locale or else of the POSIX locale.
-#[derive(Debug, Drop)]
+#[derive(Debug)]
 pub struct Numeric {
     decimal_point: ByteText,
     thousands_sep: ByteText,
     grouping: List<i32>,
+}
+
+impl Drop for Numeric {
+    fn drop(self) {
+        let Numeric {
+            decimal_point: _,
+            thousands_sep: _,
+            grouping: _,
+        } = self;
+    }
 }
 
 impl Model for Numeric {

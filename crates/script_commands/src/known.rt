@@ -12,11 +12,20 @@ use lc_base::{Block, Later, List};
 pub const THREAD_LIMIT: usize = 16;
 
 /// The blocks of a whole bundle that are named.
-#[derive(Drop)]
 pub struct Known {
     pub charmaps: List<Block>,
     pub locales: List<Block>,
     pub later: List<Later>,
+}
+
+impl Drop for Known {
+    fn drop(self) {
+        let Known {
+            charmaps: _,
+            locales: _,
+            later: _,
+        } = self;
+    }
 }
 
 /// Whether a charset is neither built in nor a charmap of the bundle.

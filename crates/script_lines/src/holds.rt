@@ -12,10 +12,18 @@ use mask_compose::Object;
 use std::alloc::AllocError;
 
 /// A Hold, with the object as it was then.
-#[derive(Drop)]
 pub struct OpenHold {
     pub handle: Handle,
     pub object: Object<Share>,
+}
+
+impl Drop for OpenHold {
+    fn drop(self) {
+        let OpenHold {
+            handle: _,
+            object: _,
+        } = self;
+    }
 }
 
 /// What an accepted op does to the open Holds of its thread.

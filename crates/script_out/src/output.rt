@@ -56,7 +56,7 @@ pub enum Why {
 }
 
 /// A printed reply.
-#[derive(Debug, Drop)]
+#[derive(Debug)]
 pub enum Said {
     /// newlocale and duplocale: the handle of the object that was made or changed; fetch: the handle
     /// in the cell.
@@ -98,8 +98,34 @@ pub enum Said {
     Refused(Why),
 }
 
+impl Drop for Said {
+    fn drop(self) {
+        match self {
+            Said::Handle(_a) => {}
+            Said::Freed => {}
+            Said::Was(_a) => {}
+            Said::Is(_a) => {}
+            Said::Held => {}
+            Said::Released => {}
+            Said::Name(_a) => {}
+            Said::Installed(_a) => {}
+            Said::Posted => {}
+            Said::Pins(_a) => {}
+            Said::Text(_a) => {}
+            Said::Parsed(_a, _b) => {}
+            Said::Conv(_a, _b) => {}
+            Said::Class(_a) => {}
+            Said::Value(_a) => {}
+            Said::Opened(_a) => {}
+            Said::Closed => {}
+            Said::Ended => {}
+            Said::Refused(_a) => {}
+        }
+    }
+}
+
 /// A printed line.
-#[derive(Debug, Drop)]
+#[derive(Debug)]
 pub struct OutLine {
     /// The round, from 1.
     pub round: u32,
@@ -111,6 +137,19 @@ pub struct OutLine {
     /// The version of the global locale, where one is printed.
     pub global: Option<u32>,
     pub reply: Said,
+}
+
+impl Drop for OutLine {
+    fn drop(self) {
+        let OutLine {
+            round: _,
+            thread: _,
+            index: _,
+            places: _,
+            global: _,
+            reply: _,
+        } = self;
+    }
 }
 
 /// The printed text of the lines, where the threads have these names. A thread without a name
@@ -309,6 +348,7 @@ fn put_caller(buf: &mut [u8], at: usize, line: &OutLine, thread: &[u8]) -> usize
 }
 
 /// Adds the rest of the reply.
+#[inline(always)]
 fn push_outcome(
     out: &mut Vec<u8>,
     line: &OutLine,

@@ -8,10 +8,16 @@ use std::alloc::{AllocError, Global};
 use std::marker::Model;
 
 /// A list of texts, which takes one block of memory. Each has its length in front of it.
-#[derive(Debug, Drop)]
+#[derive(Debug)]
 pub struct Texts {
     count: usize,
     block: Vec<u8>,
+}
+
+impl Drop for Texts {
+    fn drop(self) {
+        let Texts { count: _, block: _ } = self;
+    }
 }
 
 impl Model for Texts {

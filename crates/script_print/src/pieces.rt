@@ -17,10 +17,16 @@ pub struct Halves {
 }
 
 /// A text in four pieces, one behind the other.
-#[derive(Debug, Drop)]
+#[derive(Debug)]
 pub struct Pieces {
     front: Halves,
     back: Halves,
+}
+
+impl Drop for Pieces {
+    fn drop(self) {
+        let Pieces { front: _, back: _ } = self;
+    }
 }
 
 impl Model for Pieces {

@@ -40,9 +40,15 @@ pub const TIME_DIGITS: usize = 9;
 pub const ZONE_LIMIT: usize = 32;
 
 /// A format of at most 1024 bytes.
-#[derive(Debug, Drop)]
+#[derive(Debug)]
 pub struct Format {
     text: ByteText,
+}
+
+impl Drop for Format {
+    fn drop(self) {
+        let Format { text: _ } = self;
+    }
 }
 
 impl Model for Format {
@@ -167,9 +173,15 @@ impl WrittenNumber {
 }
 
 /// A text of at most 1024 bytes that a command is given in quotes.
-#[derive(Debug, Drop)]
+#[derive(Debug)]
 pub struct CommandText {
     text: ByteText,
+}
+
+impl Drop for CommandText {
+    fn drop(self) {
+        let CommandText { text: _ } = self;
+    }
 }
 
 impl Model for CommandText {
@@ -214,7 +226,7 @@ impl CommandText {
 }
 
 /// A time as it is written, whose fields may be out of range.
-#[derive(Debug, Drop)]
+#[derive(Debug)]
 pub struct WrittenTime {
     pub year: i32,
     /// From 1.
@@ -231,4 +243,21 @@ pub struct WrittenTime {
     pub offset: Option<i32>,
     /// The name of the time zone, which may be empty.
     pub zone: ByteText,
+}
+
+impl Drop for WrittenTime {
+    fn drop(self) {
+        let WrittenTime {
+            year: _,
+            mon: _,
+            mday: _,
+            hour: _,
+            min: _,
+            sec: _,
+            wday: _,
+            yday: _,
+            offset: _,
+            zone: _,
+        } = self;
+    }
 }

@@ -18,10 +18,18 @@ use std::sync::Arc;
 /// A locale object over a library that it shares with others.
 ///
 /// It never changes, and the library lives as long as one of its objects.
-#[derive(Drop)]
 pub struct SharedObject {
     shelf: Arc<Box<Shelved>>,
     object: Object<Share>,
+}
+
+impl Drop for SharedObject {
+    fn drop(self) {
+        let SharedObject {
+            shelf: _,
+            object: _,
+        } = self;
+    }
 }
 
 impl Model for SharedObject {

@@ -13,10 +13,18 @@ use std::alloc::{AllocError, Global};
 use std::marker::Model;
 
 /// A library with what its names offer.
-#[derive(Drop)]
 pub struct Shelved {
     library: Library,
     offers: List<Offer<Share>>,
+}
+
+impl Drop for Shelved {
+    fn drop(self) {
+        let Shelved {
+            library: _,
+            offers: _,
+        } = self;
+    }
 }
 
 impl Model for Shelved {

@@ -13,11 +13,20 @@ use std::alloc::{AllocError, Global};
 use std::marker::Model;
 
 /// The built-in charsets, and those of a bundle's charmaps.
-#[derive(Drop)]
 pub struct Charsets {
     unicode: Charset,
     portable: Charset,
     listed: ByName<Charset>,
+}
+
+impl Drop for Charsets {
+    fn drop(self) {
+        let Charsets {
+            unicode: _,
+            portable: _,
+            listed: _,
+        } = self;
+    }
 }
 
 impl Model for Charsets {

@@ -14,11 +14,17 @@ use lc_base::{Place, TextFault};
 use std::alloc::Global;
 
 /// A part of a line up to a bare blank, or the line's end.
-#[derive(Debug, Drop)]
+#[derive(Debug)]
 pub struct Field {
     /// The place of its first byte. An empty field stands at the line's end.
     pub place: Place,
     pub atoms: Atoms,
+}
+
+impl Drop for Field {
+    fn drop(self) {
+        let Field { place: _, atoms: _ } = self;
+    }
 }
 
 /// The next field from a byte of a line on, and where it ends.

@@ -21,9 +21,15 @@ use std::alloc::{AllocError, Global};
 use std::marker::Model;
 
 /// The logical lines of a text: joined, without comments, blank lines and head lines.
-#[derive(Debug, Drop)]
+#[derive(Debug)]
 pub struct Lines {
     store: Store,
+}
+
+impl Drop for Lines {
+    fn drop(self) {
+        let Lines { store: _ } = self;
+    }
 }
 
 impl Model for Lines {

@@ -9,10 +9,18 @@ use std::marker::Model;
 /// An open hold of an object, with the object as it was when the hold began.
 ///
 /// It is given back by `Shared::release`. One that is dropped makes no entry, and its hold stays open.
-#[derive(Drop)]
 pub struct Held<P: Part> {
     pub(crate) handle: Handle,
     pub(crate) object: Object<P>,
+}
+
+impl<P: Part> Drop for Held<P> {
+    fn drop(self) {
+        let Held {
+            handle: _,
+            object: _,
+        } = self;
+    }
 }
 
 impl<P: Part> Model for Held<P> {

@@ -7,7 +7,7 @@ ghost use Rattle.turn_gate.specs.declared.entry.Terms.{Terms};
 ghost use Rattle.handle_table.specs.Entry.{Setting};
 ghost use Rattle.handle_table.specs.History.{sets, global_at};
 ghost use Rattle.thread_current.specs.Mine.{IsUnused};
-ghost use Rattle.thread_current.specs.Thread.{thread_of, selected, own_object};
+ghost use Rattle.thread_current.specs.Thread.{thread_of, selected, own_object, IsInOrder};
 
 use crate::locales::Locales;
 use handle_table::Named;
@@ -19,13 +19,24 @@ use turn_gate::Seat;
 /// the global object that it read last.
 ///
 /// It goes with one thread at a time, and can be sent to another. Its reads wait for nobody.
-#[derive(Drop)]
 pub struct Mine<P: Part> {
     pub(crate) seat: Seat<Locales<P>>,
     pub(crate) named: Named,
     pub(crate) own: Option<Object<P>>,
     pub(crate) version: u32,
     pub(crate) object: Object<P>,
+}
+
+impl<P: Part> Drop for Mine<P> {
+    fn drop(self) {
+        let Mine {
+            seat: _,
+            named: _,
+            own: _,
+            version: _,
+            object: _,
+        } = self;
+    }
 }
 
 impl<P: Part> Model for Mine<P> {
@@ -52,6 +63,21 @@ impl<P: Part> Mine<P> {
             version: 0,
             object: posix,
         }
+    }
+
+    // The seat alone.
+    pub(crate) fn into_seat(self) -> Seat<Locales<P>>
+        ensures thread { self ≡ thread_of self.cached result }
+        ensures in_order { (terms : Terms Setting) → self.terms ≡ Some terms → IsInOrder terms self }
+    {
+        let Mine {
+            seat,
+            named: _,
+            own: _,
+            version: _,
+            object: _,
+        } = self;
+        seat
     }
 
     // Keeps the global object that was read now, with its version.

@@ -447,7 +447,7 @@ impl<P: Part> Shared<P> {
         ensures in_order { IsInOrder self.now.terms (thread_of mine.cached result.1) }
         ensures seat { IsSeatOf self.now result.1 × (result.1.number ≡ mine.number) }
     {
-        let Mine { mut seat, .. } = mine;
+        let mut seat = mine.into_seat();
         let (place, _) = self.turns.turn(rt, &mut seat, Op::End);
         (place, seat)
     }

@@ -30,7 +30,7 @@ pub enum End {
 }
 
 /// A segment of an era.
-#[derive(Debug, Drop)]
+#[derive(Debug)]
 pub struct Segment {
     /// Whether years count up behind the start.
     pub forward: bool,
@@ -40,6 +40,19 @@ pub struct Segment {
     pub end: End,
     pub name: ByteText,
     pub format: ByteText,
+}
+
+impl Drop for Segment {
+    fn drop(self) {
+        let Segment {
+            forward: _,
+            offset: _,
+            start: _,
+            end: _,
+            name: _,
+            format: _,
+        } = self;
+    }
 }
 
 /// The parts of a segment in its text.

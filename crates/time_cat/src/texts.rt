@@ -12,7 +12,7 @@ use lc_base::{ByteText, Category, List};
 use std::alloc::{AllocError, Global};
 
 /// The names of days, months and half days.
-#[derive(Debug, Drop)]
+#[derive(Debug)]
 pub struct NameLists {
     pub abday: List<ByteText>,
     pub day: List<ByteText>,
@@ -21,8 +21,20 @@ pub struct NameLists {
     pub am_pm: List<ByteText>,
 }
 
+impl Drop for NameLists {
+    fn drop(self) {
+        let NameLists {
+            abday: _,
+            day: _,
+            abmon: _,
+            mon: _,
+            am_pm: _,
+        } = self;
+    }
+}
+
 /// The formats.
-#[derive(Debug, Drop)]
+#[derive(Debug)]
 pub struct FormatTexts {
     pub d_t_fmt: ByteText,
     pub d_fmt: ByteText,
@@ -31,6 +43,20 @@ pub struct FormatTexts {
     pub era_d_t_fmt: ByteText,
     pub era_d_fmt: ByteText,
     pub era_t_fmt: ByteText,
+}
+
+impl Drop for FormatTexts {
+    fn drop(self) {
+        let FormatTexts {
+            d_t_fmt: _,
+            d_fmt: _,
+            t_fmt: _,
+            t_fmt_ampm: _,
+            era_d_t_fmt: _,
+            era_d_fmt: _,
+            era_t_fmt: _,
+        } = self;
+    }
 }
 
 /// The names that a list defines.

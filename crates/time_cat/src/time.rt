@@ -18,7 +18,7 @@ use std::alloc::{AllocError, Global};
 use std::marker::Model;
 
 /// The values of the keywords of `LC_TIME`, of the locale or else of the POSIX locale.
-#[derive(Debug, Drop)]
+#[derive(Debug)]
 pub struct Time {
     names: NameLists,
     formats: FormatTexts,
@@ -26,6 +26,19 @@ pub struct Time {
     era_list: ByteText,
     alt_digits: List<ByteText>,
     alt_list: ByteText,
+}
+
+impl Drop for Time {
+    fn drop(self) {
+        let Time {
+            names: _,
+            formats: _,
+            era: _,
+            era_list: _,
+            alt_digits: _,
+            alt_list: _,
+        } = self;
+    }
 }
 
 impl Model for Time {

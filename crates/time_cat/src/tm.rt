@@ -37,7 +37,7 @@ pub struct TmRange {
 
 /// A time, each field in its range. The day of the week and that of the year are as given, whatever
 /// the date is.
-#[derive(Debug, Drop)]
+#[derive(Debug)]
 pub struct Tm {
     year: u32,
     mon: u32,
@@ -49,6 +49,23 @@ pub struct Tm {
     yday: u32,
     offset: Option<i32>,
     zone: ByteText,
+}
+
+impl Drop for Tm {
+    fn drop(self) {
+        let Tm {
+            year: _,
+            mon: _,
+            mday: _,
+            hour: _,
+            min: _,
+            sec: _,
+            wday: _,
+            yday: _,
+            offset: _,
+            zone: _,
+        } = self;
+    }
 }
 
 impl Model for Tm {

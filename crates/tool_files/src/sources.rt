@@ -12,13 +12,23 @@ pub struct FilePath {
 }
 
 /// The blocks of files. The lines of a file have numbers behind those of the files before it.
-#[derive(Drop)]
 pub struct Sources {
     pub charmaps: List<Block>,
     pub locales: List<Block>,
     pub paths: Vec<FilePath>,
     /// The number of the first line of the next file.
     pub next_line: u32,
+}
+
+impl Drop for Sources {
+    fn drop(self) {
+        let Sources {
+            charmaps: _,
+            locales: _,
+            paths: _,
+            next_line: _,
+        } = self;
+    }
 }
 
 impl Sources {

@@ -8,13 +8,22 @@ use lc_base::ByteText;
 use std::alloc::{AllocError, AllocFailed};
 
 /// What a command writes, and the status that it ends with.
-#[derive(Drop)]
 pub struct Answer {
     pub status: u8,
     /// What goes to standard output.
     pub output: ByteText,
     /// What goes to standard error.
     pub messages: ByteText,
+}
+
+impl Drop for Answer {
+    fn drop(self) {
+        let Answer {
+            status: _,
+            output: _,
+            messages: _,
+        } = self;
+    }
 }
 
 /// Why a command has no answer, with the message.

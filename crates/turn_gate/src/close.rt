@@ -20,11 +20,7 @@ fn gather<M: Machine>(board: &Board<M>, place: &mut Place<M>, seat: Seat<M>)
     ensures gathered { IsGathered place.new.me.0 seat }
     ensures kept { (c : _) → IsGathered place.old.me.0 c → IsGathered place.new.me.0 c }
 {
-    let Seat {
-        place: other,
-        number: _,
-    } = seat;
-    board.join_seat::<Both>(place, other);
+    board.join_seat::<Both>(place, seat.into_place());
     board.load::<Look>(place, 0);
 }
 
@@ -40,10 +36,7 @@ pub(crate) fn gather_all<M: Machine>(board: &Board<M>, seats: List<Seat<M>>) -> 
     let Some(first) = rest.pop() else {
         unreachable!()
     };
-    let Seat {
-        mut place,
-        number: _,
-    } = first;
+    let mut place = first.into_place();
     while let Some(seat) = rest.pop() {
         gather(board, &mut place, seat);
     }

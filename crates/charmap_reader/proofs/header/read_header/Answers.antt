@@ -26,7 +26,7 @@ pub returns-then-gives_count : goal.returns-then-gives_count
 returns-then-gives_count c =
     let not_named = rw c.first_words.ensures.first at (sym c.gives_name.ensures ∙ c.if-gives_name.false) in
     let counted = rw c.first_words.ensures.first at (sym c.gives_count.ensures ∙ c.if-gives_count.true) in
-    gives_rest _ c.counted_by.result _ _ _ _ (header_counted _ _ not_named counted) c.in_ok-operand_bytes-2.ensures (rw (c.place-place.ensures, c.name.view_is) at c.counted_by.ensures)
+    gives_rest _ c.counted_by.result _ _ _ _ (header_counted _ _ not_named counted) c.in_ok-operand_bytes-2.ensures (rw c.place-place.ensures at c.counted_by.ensures)
 
 pub returns : goal.returns
 returns c =
