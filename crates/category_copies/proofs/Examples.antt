@@ -4,7 +4,7 @@ use Rattle.lc_base.specs.declared.place.Place.{Place}
 use Rattle.lc_base.specs.declared.category.Category.{Category}
 use Rattle.lc_base.specs.declared.category.Category.TheVariants.{Numeric, Time}
 use Rattle.lc_base.specs.declared.reason.Reason.TheVariants.{CopyMissing, CopyCycle}
-use Rattle.charmap_reader.specs.CodedSet.{utf8}
+use Rattle.charset.specs.CodedSet.{utf8}
 use Rattle.keyword_lists.specs.declared.source.Value.TheVariants.{Text}
 use Rattle.keyword_lists.specs.declared.source.Section.{Section}
 use Rattle.keyword_lists.specs.declared.source.Body.TheVariants.{Copy, Entries}

@@ -11,7 +11,7 @@ use Rattle.lc_base.specs.declared.reason.Reason.{Reason}
 use Rattle.lc_base.specs.Reading.{Reads, ◌>>=◌}
 use Rattle.lc_base.proofs.ReadingLemmas.{value_of}
 use Rattle.byte_words.specs.Tables.{first_named}
-use Rattle.charmap_reader.specs.Portable.{Name}
+use Rattle.charset.specs.Portable.{Name}
 use Rattle.mask_compose.specs.Offer.{Offered}
 use Rattle.ctype_classes.specs.Ctype.{posix_values as posix_classes}
 use Rattle.numeric_cat.specs.Numeric.{posix_values}

@@ -6,7 +6,7 @@ use Rattle.lc_base.specs.declared.reason.Reason.{Reason}
 use Rattle.lc_base.specs.declared.fault.TextFault.{TextFault}
 use Rattle.lc_base.specs.Reading.{Reads, ◌>>=◌, Gives}
 use Rattle.byte_words.specs.Tables.{first_named}
-use Rattle.charmap_reader.specs.Portable.{Name}
+use Rattle.charset.specs.Portable.{Name}
 use Rattle.locale_sources.specs.Named.{with_named}
 use Rattle.mask_compose.specs.Offer.{Offered}
 use Rattle.std.proofs.Math.Seq.{take-nil}

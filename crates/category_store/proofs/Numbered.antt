@@ -13,7 +13,7 @@ use Rattle.lc_base.specs.Reading.{Reads}
 use Rattle.lc_base.proofs.ReadingLemmas.{value_of}
 use Rattle.mask_compose.specs.Offer.{AreOnShelf}
 use Rattle.byte_words.specs.Tables.{first_named}
-use Rattle.charmap_reader.specs.Portable.{Name}
+use Rattle.charset.specs.Portable.{Name}
 use Rattle.locale_sources.specs.Named.{with_named}
 use Rattle.locale_sources.specs.Sources.{Source}
 use Rattle.locale_sources.specs.Sections.{is_posix}

@@ -8,8 +8,9 @@ use Rattle.lc_base.specs.Reading.{Reads, ◌>>=◌}
 use Rattle.src_lines.specs.declared.signs.Kind.TheVariants.{Charmap}
 use Rattle.src_lines.specs.Places.{Logical, start, line_at}
 use Rattle.src_lines.specs.Logical.{front}
-use Rattle.charmap_reader.specs.CodedSet.{CodedSet, listed}
-use Rattle.charmap_reader.specs.Charmap.{Entry, headers, mapping, mappings, opens_body, closes_body, body_of, body, text_start, charset_of, front_charset, charmap}
+use Rattle.charset.specs.CodedSet.{CodedSet, listed}
+use Rattle.charset.specs.Entries.{Entry}
+use Rattle.charmap_reader.specs.Charmap.{headers, mapping, mappings, opens_body, closes_body, body_of, body, text_start, charset_of, front_charset, charmap}
 
 -- one more line of the body
 pub mappings_more : (given : List Entry) (ls rest : List Logical) (l : Logical) → ls ≡ l ∷ rest → mappings given ls ≡ (mapping given l >>= λ more. mappings more rest)

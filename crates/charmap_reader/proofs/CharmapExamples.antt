@@ -7,11 +7,12 @@ use Rattle.src_lines.specs.Logical.{front_from, front}
 use Rattle.src_lines.specs.Atoms.{items_from}
 use Rattle.src_lines.specs.Tokens.{tokens, operands, separated, operand, run, text}
 use Rattle.src_lines.specs.Fields.{field, fields}
-use Rattle.charmap_reader.specs.Portable.{Name, portable_code}
-use Rattle.charmap_reader.specs.CodedSet.{CodedSet, listed}
-use Rattle.charmap_reader.specs.Numbering.{stem, digits, number, padded}
+use Rattle.charset.specs.Portable.{Name, portable_code}
+use Rattle.charset.specs.CodedSet.{CodedSet, listed}
+use Rattle.charset.specs.Numbering.{stem, digits, number, padded}
 use Rattle.charmap_reader.specs.Subject.{Subject, more_names, name_at}
-use Rattle.charmap_reader.specs.Charmap.{Entry, header, mapping, charmap}
+use Rattle.charset.specs.Entries.{Entry}
+use Rattle.charmap_reader.specs.Charmap.{header, mapping, charmap}
 
 at : ℕ → ℕ → Place
 at line column = record { line = line; column = column }

@@ -1,6 +1,5 @@
--- Numbers of names, names that are given twice, runs of values and encodings, tried on small examples.
-use Rattle.std.proofs.Common.{◌≡◌, ℕ, true, false, List, [], ◌∷◌, length, map, Some, None, Ok, Err, codes, refl, arith}
-use Rattle.std.proofs.lemmas.Bool.Decides.{nat_tests}
+-- Numbers of names, and names that are given twice, tried on small examples.
+use Rattle.std.proofs.Common.{◌≡◌, ℕ, List, [], ◌∷◌, length, map, None, Ok, Err, codes, refl}
 use Rattle.lc_base.specs.declared.place.Place.{Place}
 use Rattle.lc_base.specs.declared.reason.Reason.TheVariants.{NameTwice, OverLimit}
 use Rattle.lc_base.specs.declared.reason.Limit.TheVariants.{Names}
@@ -8,12 +7,10 @@ use Rattle.lc_base.specs.Reading.{Reads}
 use Rattle.src_lines.specs.Atoms.{items_from}
 use Rattle.src_lines.specs.Tokens.{run}
 use Rattle.src_lines.specs.Fields.{field, fields}
-use Rattle.charmap_reader.specs.Portable.{portable_code}
-use Rattle.charmap_reader.specs.CodedSet.{utf8, posix, IsNextRun}
-use Rattle.std.specs.Int.{bytes_high_first}
-use Rattle.charmap_reader.specs.Encoding.{shortest}
-use Rattle.charmap_reader.specs.Numbering.{padded}
-use Rattle.charmap_reader.specs.Charmap.{Entry, counted_at, listed_at, mapping}
+use Rattle.charset.specs.Portable.{portable_code}
+use Rattle.charset.specs.Numbering.{padded}
+use Rattle.charset.specs.Entries.{Entry}
+use Rattle.charmap_reader.specs.Charmap.{counted_at, listed_at, mapping}
 
 at : ℕ → ℕ → Place
 at line column = record { line = line; column = column }
@@ -58,44 +55,3 @@ ranges : map (row ((codes "q9", 128 ∷ []) ∷ (codes "q10", 129 ∷ []) ∷ []
     ≡ Err (at 2 1, NameTwice) ∷ Err (at 2 1, NameTwice) ∷ Ok ((codes "q9", 128 ∷ []) ∷ (codes "q10", 129 ∷ []) ∷ (codes "q010", 144 ∷ []) ∷ (codes "q011", 145 ∷ []) ∷ []) ∷ []
 unfolding row mapping fields field run items_from padded portable_code at
 ranges = refl
-
--- ---- encodings
-
--- as few bytes as a number needs, and one for 0
-fewest : map shortest (0 ∷ 65 ∷ 255 ∷ 256 ∷ 65535 ∷ 65536 ∷ 16777215 ∷ 16777216 ∷ 4294967295 ∷ [])
-    ≡ (0 ∷ []) ∷ (65 ∷ []) ∷ (255 ∷ []) ∷ (1 ∷ 0 ∷ []) ∷ (255 ∷ 255 ∷ []) ∷ (1 ∷ 0 ∷ 0 ∷ []) ∷ (255 ∷ 255 ∷ 255 ∷ []) ∷ (1 ∷ 0 ∷ 0 ∷ 0 ∷ []) ∷ (255 ∷ 255 ∷ 255 ∷ 255 ∷ []) ∷ []
-fewest = refl
-
--- just so many bytes
-counted : map (bytes_high_first 2) (0 ∷ 255 ∷ 256 ∷ 33280 ∷ []) ≡ (0 ∷ 0 ∷ []) ∷ (0 ∷ 255 ∷ []) ∷ (1 ∷ 0 ∷ []) ∷ (130 ∷ 0 ∷ []) ∷ []
-counted = refl
-
--- ---- runs
-
--- from a value inside a run: to its end
-inside : IsNextRun posix 100 (Some (100, 127))
-inside = record { within = (omega arith, omega arith); least = λ v above below. absurd (omega arith); unbroken = λ v above below. grind (arith, nat_tests); whole = refl }
-
--- from a value in a gap: the run behind it, as over the surrogates
-over : IsNextRun utf8 0xD800 (Some (0xE000, 0x10FFFF))
-over = record { within = (omega arith, omega arith); least = λ v above below. grind (arith, nat_tests); unbroken = λ v above below. grind (arith, nat_tests); whole = refl }
-
--- behind the last run: none
-behind : IsNextRun posix 128 None
-behind = λ v above. grind (arith, nat_tests)
-
--- no answer that begins early or late, stops short or goes on too far, and none where there is one
-begins_early : IsNextRun posix 100 (Some (99, 127)) → ⊥
-begins_early run = omega (arith, run.within.0)
-
-begins_late : IsNextRun posix 100 (Some (101, 127)) → ⊥
-begins_late run = let none : true ≡ false = run.least 100 (omega arith) (omega arith) in cc
-
-stops_short : IsNextRun posix 100 (Some (100, 126)) → ⊥
-stops_short run = let none : true ≡ false = run.whole in cc
-
-goes_on : IsNextRun utf8 0xD700 (Some (0xD700, 0xE000)) → ⊥
-goes_on run = let none : false ≡ true = run.unbroken 0xD800 (omega arith) (omega arith) in cc
-
-says_none : IsNextRun posix 100 None → ⊥
-says_none none = let other : true ≡ false = none 100 (omega arith) in cc

@@ -10,13 +10,15 @@ use Rattle.std.proofs.lemmas.Bool.Decides.{nat_tests}
 use Rattle.std.proofs.lemmas.Grind.{common_steps}
 use Rattle.std.proofs.lemmas.Slice.Eq.{bytes_eq-Decides}
 use Rattle.byte_words.specs.Tables.{first_named}
-use Rattle.charmap_reader.specs.Portable.{Name, letter_code, portable_names, portable_code}
-use Rattle.charmap_reader.specs.CodedSet.{big_endian}
-use Rattle.charmap_reader.specs.Numbering.{stem, digits, number}
-use Rattle.charmap_reader.specs.Subject.{Subject, more_names, more_between, name_at, name_after}
+use Rattle.charset.specs.Portable.{Name, letter_code, portable_names, portable_code}
+use Rattle.charset.specs.CodedSet.{big_endian}
+use Rattle.charset.specs.Numbering.{stem, digits, number, name_after}
+use Rattle.charmap_reader.specs.Subject.{Subject, more_names, more_between, name_at}
 use Rattle.std.specs.Int.{bytes_high_first}
-use Rattle.charmap_reader.specs.Charmap.{Entry, moved_from, is_moved, entries}
-use Rattle.charmap_reader.proofs.Padding.{padded_ends}
+use Rattle.charset.specs.Entries.{Entry}
+use Rattle.charmap_reader.specs.Charmap.{moved_from, is_moved, entries}
+use Rattle.charset.proofs.Padding.{padded_ends}
+use Rattle.charset.proofs.BlockLemmas.{name_after_first}
 
 -- whether a name ends in a digit
 abbrev ends_in_digit : Name → Bool
@@ -146,3 +148,18 @@ single_long s code more own is h back named long = single_moved s code more is h
 pub single_one : (s : Subject) (code : List ℕ) (more own : ℕ) → s.last ≡ None → more_names s ≡ Some more → bytes_high_first (length code) (big_endian code) ≡ code → portable_code s.first ≡ Some own → length code ≡ 1
     → list_any is_moved (entries s code more) ≡ not (eqb (big_endian code) own)
 single_one s code more own is h back named one = single_moved s code more is h back ∙ moved_is (s.first, code) own named ∙ ap not (moved_one code own one)
+
+-- the names of a subject are those of a range from its first name on
+pub name_at_after : (s : Subject) (more k : ℕ) → more_names s ≡ Some more → k ≤ more → name_at s k ≡ name_after s.first k
+name_at_after s more k is within =
+    let P : Option Name → Type 0 = λ o. s.last ≡ o → name_at s k ≡ name_after s.first k in
+    (
+    elim (s.last) as P [
+      | None ↦ λ own.
+          let none : more ≡ 0 = single_more s more own is in
+          let place : k ≡ 0 = omega arith in
+          ap (name_at s) place ∙ single_name s own ∙ sym (name_after_first s.first) ∙ ap (name_after s.first) (sym place)
+      | Some last ↦ λ own. at_range s last k own
+    ]
+    )
+    refl

@@ -1,5 +1,5 @@
 -- Charmaps: the charset of a text, or its first broken rule (XBD 6.4).
-use Rattle.std.specs.Prelude.{ℕ, ◌+◌, ◌^◌, Bool, false, ◌==◌, ◌||◌, not, nat_lt, nat_le, List, [], ◌∷◌, ◌++◌, length, take, drop, map, codes, Option, Some, None, is_some, position, Ok, Err, if◌then◌else◌}
+use Rattle.std.specs.Prelude.{ℕ, ◌+◌, ◌^◌, Bool, false, ◌==◌, ◌||◌, not, nat_lt, nat_le, List, [], ◌∷◌, length, take, drop, map, codes, Option, Some, None, position, Ok, Err, if◌then◌else◌}
 use Rattle.std.specs.List.{list_any, range_with_len}
 use Rattle.std.specs.Int.{is_in_range, bytes_high_first}
 use Rattle.std.specs.Str.{bytes_eq}
@@ -18,16 +18,11 @@ use Rattle.src_lines.specs.Logical.{ends_head, front}
 use Rattle.src_lines.specs.Pieces.{only_bytes}
 use Rattle.src_lines.specs.Tokens.{tokens}
 use Rattle.src_lines.specs.Fields.{fields}
-use Rattle.charmap_reader.specs.declared.names.TheConstants.{NAME_LIMIT}
-use Rattle.byte_words.specs.Tables.{first_named}
-use Rattle.charmap_reader.specs.Portable.{Name, portable_code}
-use Rattle.charmap_reader.specs.CodedSet.{CodedSet, listed, big_endian}
+use Rattle.charset.specs.declared.names.TheConstants.{NAME_LIMIT}
+use Rattle.charset.specs.Portable.{portable_code}
+use Rattle.charset.specs.CodedSet.{CodedSet, listed, big_endian}
 use Rattle.charmap_reader.specs.Subject.{Subject, subject, more_names, name_at}
 use Rattle.charmap_reader.specs.Encoding.{encoding}
-
--- a name with its encoding
-abbrev pub Entry : Type 0
-Entry = Name × List ℕ
 
 -- ---- header lines
 
@@ -88,11 +83,6 @@ headers name (l ∷ ls) = header name l >>= λ next. headers next ls
 -- the encodings of a range go up by one from the first, in as many bytes
 abbrev pub entries : Subject → List ℕ → ℕ → List Entry
 entries s code more = map (λ k. (name_at s k, bytes_high_first (length code) (big_endian code + k))) (range_with_len 0 (more + 1))
-
--- entries with further ones, each of a name that was not given before
-abbrev pub added : List Entry → List Entry → Option (List Entry)
-added given [] = Some given
-added given (e ∷ es) = if is_some (first_named given e.0) then None else added (given ++ e ∷ []) es
 
 -- whether bytes are another encoding than the code of a portable name
 abbrev pub moved_from : Option ℕ → List ℕ → Bool

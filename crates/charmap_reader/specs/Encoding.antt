@@ -1,5 +1,5 @@
 -- Encodings in a charmap (XBD 6.4): one to four bytes, each written as a number.
-use Rattle.std.specs.Prelude.{ℕ, zero, suc, ◌/◌, ◌%◌, Bool, ◌==◌, ◌&&◌, not, ◌||◌, nat_lt, List, [], ◌∷◌, ◌++◌, length, slice_index, Option, Some, None, if◌then◌else◌}
+use Rattle.std.specs.Prelude.{ℕ, Bool, ◌==◌, ◌&&◌, not, ◌||◌, List, [], ◌∷◌, length, slice_index, Option, Some, None, if◌then◌else◌}
 use Rattle.std.specs.Int.{is_in_range}
 use Rattle.src_lines.specs.declared.atom.Atom.{Atom}
 use Rattle.src_lines.specs.declared.atom.Atom.TheVariants.{Number}
@@ -30,12 +30,3 @@ encoding atoms = elim (numbers atoms) [
   | None ↦ None
   | Some bs ↦ if is_encoding bs then Some bs else None
 ]
-
--- a number as bytes without zeros in front, of which there are at most so many before the last one
-abbrev pub short_bytes : ℕ → ℕ → List ℕ
-short_bytes zero n = n ∷ []
-short_bytes (suc more) n = if nat_lt n 256 then n ∷ [] else short_bytes more (n / 256) ++ n % 256 ∷ []
-
--- the one encoding that may have a wide value
-abbrev pub shortest : ℕ → List ℕ
-shortest n = short_bytes 3 n

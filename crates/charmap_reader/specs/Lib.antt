@@ -1,17 +1,5 @@
-pub mod Portable
-pub mod Hex
-pub mod CodedSet
-pub mod Code
-pub mod Numbering
 pub mod Distances
 pub mod Subject
 pub mod Seen
 pub mod Encoding
-pub mod Tails
-pub mod ByteStrings
-pub mod Fronts
-pub mod Spans
-pub mod Blocks
-pub mod CharacterNames
-pub mod Listing
 pub mod Charmap

@@ -1,12 +1,12 @@
 -- What a line of a charmap's body speaks of (XBD 6.4): a name, or a range of names.
-use Rattle.std.specs.Prelude.{ℕ, ◌+◌, ◌-◌, ◌==◌, ◌||◌, not, nat_lt, List, [], ◌∷◌, ◌++◌, length, Option, Some, None, if◌then◌else◌}
+use Rattle.std.specs.Prelude.{ℕ, ◌-◌, ◌==◌, ◌||◌, not, nat_lt, List, [], ◌∷◌, length, Option, Some, None, if◌then◌else◌}
 use Rattle.std.specs.Str.{bytes_eq}
 use Rattle.src_lines.specs.declared.line.OperandPiece.TheVariants.{Name as Named}
 use Rattle.src_lines.specs.declared.atom.Atom.{Atom}
 use Rattle.src_lines.specs.declared.atom.Atom.TheVariants.{Made}
 use Rattle.src_lines.specs.Shapes.{is_dots}
-use Rattle.charmap_reader.specs.Portable.{Name}
-use Rattle.charmap_reader.specs.Numbering.{stem, digits, number, padded}
+use Rattle.charset.specs.Portable.{Name}
+use Rattle.charset.specs.Numbering.{stem, digits, number}
 
 -- a name, or the first name of a range with its last one
 pub record Subject : Type 0 where
@@ -47,11 +47,6 @@ more_names s = elim s.last [
   | None ↦ Some 0
   | Some last ↦ more_between s.first last
 ]
-
--- the name with this place in a range from this name on, counted from 0: as many digits as the first one has, or more
--- where needed
-abbrev pub name_after : Name → ℕ → Name
-name_after first k = stem first ++ padded (length (digits first)) (number first + k)
 
 -- the names of a subject by their places; one name has just the place 0
 abbrev pub name_at : Subject → ℕ → Name

@@ -6,9 +6,8 @@ ghost use Rattle.src_lines.specs.Places.{line_at};
 ghost use Rattle.charmap_reader.specs.Charmap.{opens_body, headers, mapping, mappings, text_start, charset_of, front_charset, charmap};
 
 use crate::body::add_line;
-use crate::charset::Charset;
 use crate::header::read_header;
-use crate::names::CharacterNames;
+use charset::{CharacterNames, Charset};
 use lc_base::{ByteText, Place, Reason, TextFault};
 use src_lines::{Kind, Lines, ends_head, next_word, split_front};
 use std::alloc::Global;

@@ -1,10 +1,10 @@
 //! Encodings in a charmap (XBD 6.4).
 
 ghost use Rattle.std.specs.Prelude.{◌≡◌, ◌<◌, ◌≤◌, length, option_map, if◌then◌else◌, IfOk, Some, None};
-ghost use Rattle.charmap_reader.specs.Code.{code_bytes};
+ghost use Rattle.charset.specs.Code.{code_bytes};
 ghost use Rattle.charmap_reader.specs.Encoding.{atom_number, is_encoding, encoding};
 
-use crate::code::Code;
+use charset::Code;
 use src_lines::{Atom, Atoms};
 use std::alloc::{AllocError, Global};
 

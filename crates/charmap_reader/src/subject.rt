@@ -1,6 +1,6 @@
 //! What a line of a charmap's body speaks of (XBD 6.4).
 
-ghost use Rattle.std.specs.Prelude.{◌≡◌, ◌∷◌, [], min, MatchOption, option_map, None, Some};
+ghost use Rattle.std.specs.Prelude.{◌≡◌, ◌∷◌, [], min, option_map, None, Some};
 ghost use Rattle.std.specs.Prelude.{List as AllOf};
 ghost use Rattle.src_lines.specs.declared.atom.Atom.{Atom as AtomValue};
 ghost use Rattle.src_lines.specs.Atoms.{up_to};
@@ -8,7 +8,8 @@ ghost use Rattle.src_lines.specs.Shapes.{is_dots};
 ghost use Rattle.charmap_reader.specs.Subject.{atom_name, subject, more_between, more_names};
 ghost use Rattle.charmap_reader.specs.Seen.{seen};
 
-use crate::numbering::{distance, split_number};
+use crate::distance::distance;
+use charset::split_number;
 use lc_base::List;
 use src_lines::{Atom, OperandPiece};
 

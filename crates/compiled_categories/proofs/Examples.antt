@@ -4,7 +4,7 @@ use Rattle.lc_base.specs.declared.place.Place.{Place}
 use Rattle.lc_base.specs.declared.category.Category.{Category}
 use Rattle.lc_base.specs.declared.category.Category.TheVariants.{Ctype, Numeric, Monetary, Time, Messages}
 use Rattle.lc_base.specs.declared.reason.Reason.TheVariants.{EmptyRadix, DigitsNotTen, BadCurrency, WrongCount}
-use Rattle.charmap_reader.specs.CodedSet.{utf8, posix}
+use Rattle.charset.specs.CodedSet.{utf8, posix}
 use Rattle.keyword_lists.specs.declared.source.Value.TheVariants.{Text, Chars}
 use Rattle.keyword_lists.specs.declared.source.Entry.{Entry}
 use Rattle.keyword_lists.specs.declared.source.Section.{Section}

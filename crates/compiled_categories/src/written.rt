@@ -5,7 +5,7 @@ ghost use Rattle.locale_sources.specs.Seen.{source};
 ghost use Rattle.compiled_categories.specs.Seen.{written};
 ghost use Rattle.compiled_categories.specs.Written.{written_for};
 
-use charmap_reader::Charset;
+use charset::Charset;
 use keyword_lists::{Body, Entry};
 use lc_base::{Category, List, Place};
 use locale_sources::{Source, section_of};

@@ -8,8 +8,8 @@ use Rattle.std.proofs.lemmas.List.Elements.{All-push, All-cons}
 use Rattle.std.proofs.lemmas.List.Folds.{list_any-append}
 use Rattle.class_ranges.specs.Ranges.{Range, covers, IsApart}
 use Rattle.class_ranges.proofs.Orders.{same-ranges_of, covers-ranges_of}
-use Rattle.charmap_reader.specs.Portable.{Name, is_portable}
-use Rattle.charmap_reader.specs.CodedSet.{CodedSet, utf8, posix, listed, has, has_value, big_endian}
+use Rattle.charset.specs.Portable.{Name, is_portable}
+use Rattle.charset.specs.CodedSet.{CodedSet, utf8, posix, listed, has, has_value, big_endian}
 use Rattle.class_ranges.specs.Runs.{IsRunFrom}
 use Rattle.ctype_classes.specs.Characters.{ranges_of_set, overlap, overlap_each, overlaps, characters}
 

@@ -3,7 +3,7 @@ use Rattle.std.proofs.Common.{◌≡◌, ℕ, suc, Bool, true, false, cond, List
 use Rattle.std.specs.Prelude.{slice_get, option_map, IfSome}
 use Rattle.std.specs.Str.{bytes_eq}
 use Rattle.byte_words.specs.Tables.{first_named}
-use Rattle.charmap_reader.specs.Portable.{Name}
+use Rattle.charset.specs.Portable.{Name}
 use Rattle.class_ranges.specs.Ranges.{Range, covers}
 use Rattle.ctype_classes.specs.Named.{place_of}
 use Rattle.ctype_classes.specs.Classes.{Classes, class_answer, numbered_answer}

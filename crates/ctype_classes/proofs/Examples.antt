@@ -4,7 +4,7 @@ use Rattle.std.specs.Prelude.{codes, pos}
 use Rattle.lc_base.specs.declared.place.Place.{Place}
 use Rattle.lc_base.specs.declared.reason.Class.TheVariants.{Alpha, Space, Punct}
 use Rattle.lc_base.specs.declared.reason.Reason.TheVariants.{EmptyRadix, BadNumber, BadClassName, DigitsNotTen, NotCased, Excluded}
-use Rattle.charmap_reader.specs.CodedSet.{CodedSet, utf8, posix, listed}
+use Rattle.charset.specs.CodedSet.{CodedSet, utf8, posix, listed}
 use Rattle.keyword_lists.specs.declared.source.Value.{Value}
 use Rattle.keyword_lists.specs.declared.source.Value.TheVariants.{Text, Number, Chars, Pair}
 use Rattle.keyword_lists.specs.declared.source.Entry.{Entry}

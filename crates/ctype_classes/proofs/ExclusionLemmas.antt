@@ -9,8 +9,8 @@ use Rattle.lc_base.specs.declared.reason.Reason.{Reason}
 use Rattle.lc_base.specs.declared.reason.Reason.TheVariants.{EmptyRadix, BadCurrency, BadNumber, BadClassName, DigitsNotTen, NotCased, Excluded}
 use Rattle.lc_base.specs.Reading.{Reads, Fails, ◌>>=◌}
 use Rattle.class_ranges.specs.Ranges.{IsLeast}
-use Rattle.charmap_reader.specs.Portable.{Name}
-use Rattle.charmap_reader.specs.CodedSet.{CodedSet}
+use Rattle.charset.specs.Portable.{Name}
+use Rattle.charset.specs.CodedSet.{CodedSet}
 use Rattle.keyword_lists.specs.declared.source.Value.{Value}
 use Rattle.keyword_lists.specs.declared.source.Value.TheVariants.{Text, Number, Chars, Pair}
 use Rattle.keyword_lists.specs.declared.source.Entry.{Entry}

@@ -10,8 +10,8 @@ use Rattle.lc_base.specs.declared.reason.Reason.TheVariants.{BadClassName, Digit
 use Rattle.lc_base.specs.Reading.{Reads, ◌>>=◌}
 use Rattle.class_ranges.specs.Ranges.{Range, covers}
 use Rattle.byte_words.specs.Tables.{first_named}
-use Rattle.charmap_reader.specs.Portable.{Name}
-use Rattle.charmap_reader.specs.CodedSet.{CodedSet, has}
+use Rattle.charset.specs.Portable.{Name}
+use Rattle.charset.specs.CodedSet.{CodedSet, has}
 use Rattle.keyword_lists.specs.declared.source.Value.{Value}
 use Rattle.keyword_lists.specs.declared.source.Value.TheVariants.{Text, Number, Chars, Pair}
 use Rattle.keyword_lists.specs.declared.source.Entry.{Entry}

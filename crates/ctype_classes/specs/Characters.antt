@@ -1,8 +1,8 @@
 -- The characters of a coded character set among ranges of values.
 use Rattle.std.specs.Prelude.{ℕ, min, max, nat_le, List, [], ◌∷◌, ◌++◌, map, if◌then◌else◌}
 use Rattle.class_ranges.specs.Ranges.{Range, ranges_of}
-use Rattle.charmap_reader.specs.Portable.{Name}
-use Rattle.charmap_reader.specs.CodedSet.{CodedSet, utf8, posix, listed, big_endian}
+use Rattle.charset.specs.Portable.{Name}
+use Rattle.charset.specs.CodedSet.{CodedSet, utf8, posix, listed, big_endian}
 
 -- ranges that have just the characters of a set
 abbrev pub ranges_of_set : CodedSet → List Range

@@ -2,7 +2,7 @@
 use Rattle.std.specs.Prelude.{List, [], Ok}
 use Rattle.lc_base.specs.declared.place.Place.{Place}
 use Rattle.lc_base.specs.Reading.{Reads, ◌>>=◌}
-use Rattle.charmap_reader.specs.CodedSet.{CodedSet, posix, set_name}
+use Rattle.charset.specs.CodedSet.{CodedSet, posix, set_name}
 use Rattle.keyword_lists.specs.declared.source.Entry.{Entry}
 use Rattle.ctype_classes.specs.Classes.{Classes, twelve_classes}
 use Rattle.ctype_classes.specs.Lists.{classes_of}

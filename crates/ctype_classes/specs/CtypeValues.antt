@@ -1,7 +1,7 @@
 -- What a program can ask of LC_CTYPE (XBD 7.3.1).
 use Rattle.std.specs.Prelude.{ℕ, List}
 use Rattle.class_ranges.specs.Ranges.{Range}
-use Rattle.charmap_reader.specs.Portable.{Name}
+use Rattle.charset.specs.Portable.{Name}
 
 pub record CtypeValues : Type 0 where
   -- the name of the code set

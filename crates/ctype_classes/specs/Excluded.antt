@@ -7,7 +7,7 @@ use Rattle.lc_base.specs.declared.reason.Class.{Class}
 use Rattle.lc_base.specs.declared.reason.Class.TheVariants.{Space, Punct}
 use Rattle.lc_base.specs.declared.reason.Reason.TheVariants.{Excluded}
 use Rattle.class_ranges.specs.Ranges.{IsLeast, covers}
-use Rattle.charmap_reader.specs.CodedSet.{CodedSet}
+use Rattle.charset.specs.CodedSet.{CodedSet}
 use Rattle.keyword_lists.specs.declared.source.Entry.{Entry}
 use Rattle.ctype_classes.specs.Classes.{Classes, members_of}
 use Rattle.ctype_classes.specs.Exclusions.{class_name, exclusions}

@@ -6,7 +6,7 @@ use Rattle.lc_base.specs.declared.reason.Class.TheVariants.{Upper, Lower, Alpha,
 use Rattle.lc_base.specs.declared.reason.Reason.TheVariants.{Excluded}
 use Rattle.lc_base.specs.Reading.{Reads, ◌>>=◌}
 use Rattle.class_ranges.specs.Ranges.{covers, first_common}
-use Rattle.charmap_reader.specs.Portable.{Name}
+use Rattle.charset.specs.Portable.{Name}
 use Rattle.ctype_classes.specs.Classes.{Classes, members_of}
 
 abbrev pub class_name : Class → Name

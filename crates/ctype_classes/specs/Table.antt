@@ -1,7 +1,7 @@
 -- The character classes that each locale has, with their automatic members (XBD 7.3.1).
 use Rattle.std.specs.Prelude.{List, [], ◌∷◌, codes}
 use Rattle.class_ranges.specs.Ranges.{Range}
-use Rattle.charmap_reader.specs.Portable.{Name}
+use Rattle.charset.specs.Portable.{Name}
 use Rattle.lc_base.specs.declared.category.Category.TheVariants as categories
 use Rattle.keyword_table.specs.LookUp.{posix_ranges}
 

@@ -3,10 +3,10 @@
 ghost use Rattle.std.specs.Prelude.{◌≡◌, ℕ, ◌≤◌, ◌||◌, ◌&&◌, All, IfOk};
 ghost use Rattle.std.specs.Int.{is_in_range};
 ghost use Rattle.class_ranges.specs.Ranges.{covers};
-ghost use Rattle.charmap_reader.specs.CodedSet.{has};
+ghost use Rattle.charset.specs.CodedSet.{has};
 ghost use Rattle.ctype_classes.specs.Characters.{characters};
 
-use charmap_reader::Charset;
+use charset::Charset;
 use class_ranges::Ranges;
 use std::alloc::{AllocError, Global};
 

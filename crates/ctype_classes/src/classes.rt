@@ -10,7 +10,7 @@ use crate::characters::characters;
 use crate::first_lines::KeywordList;
 use crate::named::ByName;
 use crate::table::{AutomaticMembers, ClassRow, TABLE};
-use charmap_reader::Charset;
+use charset::Charset;
 use class_ranges::Ranges;
 use keyword_lists::Values;
 use keyword_values::ranges;

@@ -2,7 +2,7 @@
 
 ghost use Rattle.std.specs.Prelude.{◌≡◌, ℕ, List, unwrap_or, IfOk, IfSome};
 ghost use Rattle.lc_base.specs.Reading.{Gives};
-ghost use Rattle.charmap_reader.specs.CodedSet.{set_name};
+ghost use Rattle.charset.specs.CodedSet.{set_name};
 ghost use Rattle.ctype_classes.specs.Case.{image, first_image, upper_pairs, lower_pairs};
 ghost use Rattle.ctype_classes.specs.Named.{place_of};
 ghost use Rattle.ctype_classes.specs.Classes.{class_answer, numbered_answer};
@@ -15,7 +15,7 @@ use crate::classes::{Classes, twelve_classes};
 use crate::exclusions::check_exclusions;
 use crate::first_lines::KeywordList;
 use crate::lists::classes_of;
-use charmap_reader::Charset;
+use charset::Charset;
 use keyword_lists::Entry;
 use lc_base::{ByteText, List, Place, TextFault};
 use std::alloc::{AllocError, Global};

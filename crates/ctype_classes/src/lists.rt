@@ -12,7 +12,7 @@ ghost use Rattle.ctype_classes.specs.Lists.{is_ten, is_cased, is_cased_pair, eac
 use crate::classes::{Classes, has_member, twelve_classes, with_class};
 use crate::first_lines::KeywordList;
 use crate::table::ClassRow;
-use charmap_reader::Charset;
+use charset::Charset;
 use keyword_lists::{Entry, ValueRef, Values};
 use keyword_table::{Operands, Rule, rule_of, takes_of};
 use keyword_values::check_operands;

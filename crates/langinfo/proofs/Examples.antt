@@ -7,7 +7,7 @@ use Rattle.lc_base.specs.declared.item.Item.TheVariants as items
 use Rattle.keyword_lists.specs.declared.source.Value.{Value}
 use Rattle.keyword_lists.specs.declared.source.Value.TheVariants.{Text, Number}
 use Rattle.keyword_lists.specs.declared.source.Entry.{Entry}
-use Rattle.charmap_reader.specs.CodedSet.{CodedSet, utf8, posix, set_name}
+use Rattle.charset.specs.CodedSet.{CodedSet, utf8, posix, set_name}
 use Rattle.ctype_classes.specs.CtypeValues.{CtypeValues}
 use Rattle.numeric_cat.specs.Numeric as numeric
 use Rattle.monetary_cat.specs.Monetary as monetary

@@ -4,7 +4,7 @@ use Rattle.std.specs.List.{list_any}
 use Rattle.lc_base.specs.declared.category.Category.{Category}
 use Rattle.lc_base.specs.Reading.{Reads, ◌>>=◌}
 use Rattle.src_lines.specs.Places.{Logical}
-use Rattle.charmap_reader.specs.CodedSet.{CodedSet}
+use Rattle.charset.specs.CodedSet.{CodedSet}
 use Rattle.locale_reader.specs.Opened.{Opened}
 use Rattle.locale_reader.specs.Section.{keyword_line, keyword_lines}
 

@@ -6,7 +6,7 @@ use Rattle.std.proofs.lemmas.List.Folds.{list_any-append}
 use Rattle.std.specs.List.{list_any}
 use Rattle.lc_base.specs.declared.place.Place.{Place}
 use Rattle.lc_base.specs.Reading.{Reads, ◌>>=◌}
-use Rattle.charmap_reader.specs.CodedSet.{CodedSet}
+use Rattle.charset.specs.CodedSet.{CodedSet}
 use Rattle.keyword_lists.specs.declared.source.Value.{Value}
 use Rattle.keyword_lists.specs.declared.source.Value.TheVariants.{Chars}
 use Rattle.keyword_table.specs.declared.row.Element.{Element}

@@ -6,7 +6,7 @@ use Rattle.lc_base.specs.declared.reason.Reason.TheVariants.{NoEnd}
 use Rattle.lc_base.specs.Reading.{Reads, ◌>>=◌}
 use Rattle.src_lines.specs.Words.{first_word}
 use Rattle.src_lines.specs.Places.{Logical, start, closes_line}
-use Rattle.charmap_reader.specs.CodedSet.{CodedSet}
+use Rattle.charset.specs.CodedSet.{CodedSet}
 use Rattle.keyword_lists.specs.declared.source.Section.{Section}
 use Rattle.locale_reader.specs.Source.{category_named, with_section, closed_at, section_from, outside, sections_of}
 

@@ -12,9 +12,9 @@ use Rattle.lc_base.specs.Reading.{Reads}
 use Rattle.src_lines.specs.Logical.{front_from, front}
 use Rattle.src_lines.specs.Atoms.{items_from}
 use Rattle.src_lines.specs.Tokens.{tokens, operands, separated, operand, run, text}
-use Rattle.charmap_reader.specs.Portable.{portable_code}
-use Rattle.charmap_reader.specs.Hex.{numbered}
-use Rattle.charmap_reader.specs.CodedSet.{CodedSet, utf8, posix, listed, valued}
+use Rattle.charset.specs.Portable.{portable_code}
+use Rattle.charset.specs.Hex.{numbered}
+use Rattle.charset.specs.CodedSet.{CodedSet, utf8, posix, listed, valued}
 use Rattle.keyword_lists.specs.declared.source.Value.{Value}
 use Rattle.keyword_lists.specs.declared.source.Value.TheVariants.{Text, Number, Chars, Pair}
 use Rattle.keyword_lists.specs.declared.source.Body.TheVariants.{Copy, Entries}

@@ -9,8 +9,8 @@ use Rattle.src_lines.specs.declared.line.Line.{Line}
 use Rattle.src_lines.specs.Words.{first_word}
 use Rattle.src_lines.specs.Places.{Logical}
 use Rattle.src_lines.specs.Tokens.{tokens}
-use Rattle.charmap_reader.specs.Portable.{Name}
-use Rattle.charmap_reader.specs.CodedSet.{CodedSet}
+use Rattle.charset.specs.Portable.{Name}
+use Rattle.charset.specs.CodedSet.{CodedSet}
 use Rattle.keyword_lists.specs.declared.source.Body.{Body}
 use Rattle.keyword_table.specs.declared.row.Operands.{Operands}
 use Rattle.keyword_table.specs.declared.row.Operands.TheVariants.{Copied, Characters, One, Several, PassedOver}

@@ -14,8 +14,8 @@ use Rattle.src_lines.specs.Words.{first_word, second_word}
 use Rattle.src_lines.specs.Places.{Logical, start, closes_line}
 use Rattle.src_lines.specs.Logical.{ends_head, front}
 use Rattle.src_lines.specs.Tokens.{tokens}
-use Rattle.charmap_reader.specs.Portable.{Name}
-use Rattle.charmap_reader.specs.CodedSet.{CodedSet}
+use Rattle.charset.specs.Portable.{Name}
+use Rattle.charset.specs.CodedSet.{CodedSet}
 use Rattle.keyword_lists.specs.declared.source.Section.{Section}
 use Rattle.keyword_lists.specs.declared.source.LocaleSource.{LocaleSource}
 use Rattle.locale_reader.specs.Section.{body}

@@ -2,7 +2,7 @@
 use Rattle.std.specs.Prelude.{◌≡◌, ℕ, Bool, true, false, List, [], ◌∷◌, Option, Some, None, Ok, Err, if◌then◌else◌}
 use Rattle.lc_base.specs.declared.reason.Reason.TheVariants.{WrongOperand}
 use Rattle.lc_base.specs.Reading.{Reads, ◌>>=◌}
-use Rattle.charmap_reader.specs.CodedSet.{CodedSet}
+use Rattle.charset.specs.CodedSet.{CodedSet}
 use Rattle.keyword_lists.specs.declared.source.Value.{Value}
 use Rattle.keyword_lists.specs.declared.source.Value.TheVariants.{Chars}
 use Rattle.locale_reader.specs.Values.{joined, Placed, one_character, is_dots, range_end}

@@ -10,7 +10,7 @@ use Rattle.src_lines.specs.declared.line.OperandPiece.{OperandPiece}
 use Rattle.src_lines.specs.declared.line.OperandPiece.TheVariants.{Byte, Name as Named}
 use Rattle.src_lines.specs.declared.line.Operand.{Operand}
 use Rattle.src_lines.specs.declared.line.Operand.TheVariants.{Plain, Quoted, Dots, Pair as Paired}
-use Rattle.charmap_reader.specs.CodedSet.{CodedSet, named, encoded, valued}
+use Rattle.charset.specs.CodedSet.{CodedSet, named, encoded, valued}
 use Rattle.src_lines.specs.Pieces.{only_bytes}
 use Rattle.keyword_lists.specs.declared.source.Value.{Value}
 use Rattle.keyword_lists.specs.declared.source.Value.TheVariants.{Text, Number, Chars, Pair}

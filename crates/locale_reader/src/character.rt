@@ -6,7 +6,7 @@ ghost use Rattle.lc_base.specs.Reading.{Gives};
 ghost use Rattle.locale_reader.specs.Values.{lone_name, spelled, character, one_character, case_pair, is_dots, range_end, members};
 ghost use Rattle.locale_reader.specs.Steps.{member, first_member};
 
-use charmap_reader::Charset;
+use charset::Charset;
 use keyword_lists::{Value, Values};
 use lc_base::{Place, Reason, TextFault};
 use src_lines::{Operand, PieceRef, Pieces};

@@ -10,7 +10,7 @@ ghost use Rattle.locale_reader.specs.Section.{operands_of, taken, allowed, is_pa
 use crate::character::members;
 use crate::opened::{Opened, is_charclass, is_copy};
 use crate::value::{copied_name, one, several};
-use charmap_reader::Charset;
+use charset::Charset;
 use keyword_lists::{Body, Values};
 use keyword_table::{Operands, takes_of};
 use lc_base::{Category, Reason, TextFault};

@@ -7,7 +7,7 @@ ghost use Rattle.src_lines.specs.Places.{line_at};
 ghost use Rattle.locale_reader.specs.Source.{category_named, opens_section, has_section, with_section, section_from, outside, sections_of, source};
 
 use crate::keyword_line::read_body;
-use charmap_reader::Charset;
+use charset::Charset;
 use keyword_lists::{LocaleSource, Section};
 use lc_base::{CATEGORIES, Category, List, Place, Reason, TextFault};
 use src_lines::{Kind, Lines, ends_head, split_front};

@@ -7,7 +7,7 @@ ghost use Rattle.locale_reader.specs.Values.{word, element, one, several};
 use crate::character::case_pair;
 use crate::number::number;
 use crate::text::{quote, word};
-use charmap_reader::Charset;
+use charset::Charset;
 use keyword_lists::{Value, Values};
 use keyword_table::Element;
 use lc_base::{ByteText, Place, Reason, TextFault};

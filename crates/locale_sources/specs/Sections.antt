@@ -6,7 +6,7 @@ use Rattle.std.specs.Str.{bytes_eq}
 use Rattle.lc_base.specs.declared.category.Category.{Category}
 use Rattle.lc_base.specs.Mask.{category_bit}
 use Rattle.lc_base.specs.Lines.{◌>>=◌}
-use Rattle.charmap_reader.specs.Portable.{Name}
+use Rattle.charset.specs.Portable.{Name}
 use Rattle.keyword_lists.specs.declared.source.Section.{Section}
 use Rattle.locale_sources.specs.Sources.{Source}
 

@@ -1,7 +1,7 @@
 -- Locale sources that were read.
 use Rattle.std.specs.Prelude.{List, Option}
-use Rattle.charmap_reader.specs.Portable.{Name}
-use Rattle.charmap_reader.specs.CodedSet.{CodedSet}
+use Rattle.charset.specs.Portable.{Name}
+use Rattle.charset.specs.CodedSet.{CodedSet}
 use Rattle.keyword_lists.specs.declared.source.Section.{Section}
 
 -- a locale's source that was read: its key where it is a later version, its name, its charset and its sections

@@ -1,6 +1,6 @@
 //! A locale's source.
 
-use charmap_reader::Charset;
+use charset::Charset;
 use keyword_lists::Section;
 use lc_base::List;
 

@@ -10,8 +10,8 @@ use Rattle.lc_base.specs.declared.block.Later.{Later}
 use Rattle.lc_base.specs.Reading.{Reads, ◌>>=◌}
 use Rattle.lc_base.proofs.ReadingLemmas.{value_of}
 use Rattle.byte_words.specs.Tables.{first_named}
-use Rattle.charmap_reader.specs.Portable.{Name}
-use Rattle.charmap_reader.specs.CodedSet.{CodedSet}
+use Rattle.charset.specs.Portable.{Name}
+use Rattle.charset.specs.CodedSet.{CodedSet}
 use Rattle.locale_reader.specs.Source.{source}
 use Rattle.locale_sources.specs.Named.{with_named}
 use Rattle.locale_sources.specs.Sources.{Source}

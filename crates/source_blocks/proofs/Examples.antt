@@ -1,7 +1,7 @@
 -- Worked examples of blocks by place, and of charsets by their names.
 use Rattle.std.specs.Prelude.{◌≡◌, ℕ, List, [], ◌∷◌, codes, map, refl}
 use Rattle.lc_base.specs.declared.block.Block.{Block}
-use Rattle.charmap_reader.specs.CodedSet.{utf8, listed}
+use Rattle.charset.specs.CodedSet.{utf8, listed}
 use Rattle.source_blocks.specs.Blocks.{by_place}
 use Rattle.source_blocks.specs.Sources.{charset_named}
 

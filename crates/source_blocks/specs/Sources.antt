@@ -4,8 +4,8 @@ use Rattle.std.specs.Str.{bytes_eq}
 use Rattle.lc_base.specs.declared.block.Block.{Block}
 use Rattle.lc_base.specs.Reading.{Reads, ◌>>=◌}
 use Rattle.byte_words.specs.Tables.{first_named}
-use Rattle.charmap_reader.specs.Portable.{Name}
-use Rattle.charmap_reader.specs.CodedSet.{CodedSet, utf8, posix}
+use Rattle.charset.specs.Portable.{Name}
+use Rattle.charset.specs.CodedSet.{CodedSet, utf8, posix}
 use Rattle.charmap_reader.specs.Charmap.{charmap}
 use Rattle.locale_reader.specs.Source.{source}
 use Rattle.locale_sources.specs.Named.{with_named}

@@ -6,7 +6,8 @@ ghost use Rattle.lc_base.specs.Blocks.{IsSized};
 ghost use Rattle.locale_sources.specs.Named.{pairs_of};
 ghost use Rattle.source_blocks.specs.Sources.{charsets, charset_named};
 
-use charmap_reader::{Charset, read_charmap};
+use charmap_reader::read_charmap;
+use charset::Charset;
 use lc_base::{Block, List, TextFault};
 use locale_sources::{ByName, add_named, get_named};
 use std::alloc::{AllocError, Global};
@@ -31,7 +32,7 @@ impl Drop for Charsets {
 
 impl Model for Charsets {
     ghost use Rattle.std.specs.Prelude.{◌≡◌, List, ℕ};
-    ghost use Rattle.charmap_reader.specs.CodedSet.{CodedSet, utf8, posix};
+    ghost use Rattle.charset.specs.CodedSet.{CodedSet, utf8, posix};
     ghost use Rattle.locale_sources.specs.Named.{pairs_of};
 
     ghost Value = { List (List ℕ × CodedSet) };

@@ -2,7 +2,7 @@
 
 use crate::checking::check_files;
 use category_store::{Compiled, Library, Share};
-use charmap_reader::Charset;
+use charset::Charset;
 use clap::ArgMatches;
 use ctype_classes::Ctype;
 use lc_base::{ByteText, Category};

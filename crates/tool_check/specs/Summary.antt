@@ -7,7 +7,7 @@ use Rattle.lc_base.specs.Categories.{category_name}
 use Rattle.keyword_lists.specs.declared.source.Body.{Body}
 use Rattle.keyword_lists.specs.declared.source.Body.TheVariants.{Copy, Entries}
 use Rattle.keyword_lists.specs.declared.source.Section.{Section}
-use Rattle.charmap_reader.specs.CodedSet.{CodedSet, set_name, has}
+use Rattle.charset.specs.CodedSet.{CodedSet, set_name, has}
 use Rattle.ctype_classes.specs.Classes.{Classes, class_answer, numbered_answer}
 
 -- a row: a name, blanks up to the fifteenth byte, and what stands behind them

@@ -11,7 +11,7 @@ use crate::found::Fault;
 use crate::summary::{push_charmap, push_locale};
 use crate::texts::is_charmap;
 use category_store::{Library, Share};
-use charmap_reader::Charset;
+use charset::Charset;
 use lc_base::{ByteText, TextFault};
 use std::alloc::{AllocError, Global};
 use std::rt::Files;

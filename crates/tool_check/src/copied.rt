@@ -5,7 +5,7 @@ ghost use Rattle.std.specs.List.{Contains};
 ghost use Rattle.tool_check.specs.Looks.{AddsAlone, AreAlone, block_alone};
 
 use crate::looks::{Look, block_alone};
-use charmap_reader::Charset;
+use charset::Charset;
 use lc_base::{Block, List};
 use std::alloc::{AllocError, Global};
 use tool_files::{CopiedName, copied_names};

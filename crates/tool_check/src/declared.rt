@@ -1,6 +1,6 @@
 //! The classes that a locale declares.
 
-use charmap_reader::Charset;
+use charset::Charset;
 use ctype_classes::Ctype;
 use keyword_lists::{Body, Entry, Section, ValueRef, Values};
 use lc_base::{Block, ByteText, List, TextFault};

@@ -6,7 +6,7 @@ ghost use Rattle.tool_check.specs.Found.{AreAllTold};
 use crate::copied::blocks_alone;
 use crate::found::{Fault, push_fault};
 use crate::looks::{LOOK_COUNT, Look, look_at};
-use charmap_reader::Charset;
+use charset::Charset;
 use lc_base::TextFault;
 use std::alloc::Global;
 use tool_files::{Sources, sized_library};

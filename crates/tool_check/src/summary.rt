@@ -3,10 +3,10 @@
 ghost use Rattle.std.specs.Prelude.{◌≡◌, ◌+◌, ◌≤◌, ◌^◌, ◌++◌, length, map, drop, OnOk, codes};
 ghost use Rattle.std.specs.List.{flat_map};
 ghost use Rattle.std.specs.Fmt.{decimal};
-ghost use Rattle.charmap_reader.specs.CodedSet.{set_name};
+ghost use Rattle.charset.specs.CodedSet.{set_name};
 ghost use Rattle.tool_check.specs.Summary.{row, accepted_line, keyword_count, body_text, section_row, count_below, is_numbered, numbered_count, class_count, class_row, standard_classes, charmap_summary, locale_summary, name_seen};
 
-use charmap_reader::Charset;
+use charset::Charset;
 use ctype_classes::Ctype;
 use keyword_lists::{Body, Section};
 use lc_base::ByteText;

@@ -2,7 +2,7 @@
 
 use crate::compiled::sections_in;
 use crate::format::word_at;
-use charmap_reader::Charset;
+use charset::Charset;
 use keyword_lists::{Body, Section};
 use lc_base::{Block, ByteText, Category, Place, TextFault, next_line};
 use std::alloc::{AllocError, Global};

@@ -1,6 +1,6 @@
 //! Where a byte of a text in quotes is spelled.
 
-use charmap_reader::Charset;
+use charset::Charset;
 use lc_base::{Place, next_line};
 
 /// The escape character of a source that gives none.

@@ -6,7 +6,7 @@ use crate::files::file_text;
 use crate::parts::with_categories;
 use crate::shown::fault_problem;
 use crate::sources::Sources;
-use charmap_reader::Charset;
+use charset::Charset;
 use lc_base::{Block, ByteText, Category, Limit, Reason, TextFault};
 use locale_sources::is_posix;
 use std::alloc::{AllocError, Global};

@@ -7,7 +7,7 @@ use crate::copies::name_at;
 use crate::format::{byte_place, from_place};
 use crate::hints::{push_hint_of, push_hint_of_bytes, push_hint_of_copy};
 use crate::sources::{FilePath, Sources};
-use charmap_reader::Charset;
+use charset::Charset;
 use lc_base::{Block, ByteText, Place, Reason, TextFault};
 use script_out::push_refusal;
 use std::alloc::{AllocError, Global};

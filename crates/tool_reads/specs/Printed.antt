@@ -2,7 +2,7 @@
 use Rattle.std.specs.Prelude.{ℕ, ℤ, pos, negsuc, Bool, true, false, List, [], ◌∷◌, ◌++◌, ◌-◌, length, replicate, nat_le, Option, Some, None, option_map, Ok, Err, codes, if◌then◌else◌}
 use Rattle.std.specs.Fmt.{decimal}
 use Rattle.std.specs.List.{flat_map}
-use Rattle.charmap_reader.specs.CodedSet.{CodedSet, encoded, named, valued}
+use Rattle.charset.specs.CodedSet.{CodedSet, encoded, named, valued}
 use Rattle.ctype_classes.specs.CtypeValues.{CtypeValues}
 use Rattle.ctype_classes.specs.Classes.{class_answer}
 use Rattle.ctype_classes.specs.Case.{image}

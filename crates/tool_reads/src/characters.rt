@@ -7,7 +7,7 @@ ghost use Rattle.tool_reads.specs.Printed.{case_line, character, character_line,
 
 use crate::wrong_word::{unknown_problem, usage_problem};
 use byte_words::decimal_number;
-use charmap_reader::Charset;
+use charset::Charset;
 use ctype_classes::Ctype;
 use lc_base::ByteText;
 use script_words::behind_front;

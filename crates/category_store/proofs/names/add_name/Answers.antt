@@ -1,6 +1,6 @@
 use Rattle.std.proofs.Common.{ℕ, ◌+◌, ◌≤◌, List, length, subst, sym}
 use Rattle.std.proofs.lemmas.Result.{on_ok_weaker}
-use Rattle.charmap_reader.specs.Portable.{Name}
+use Rattle.charset.specs.Portable.{Name}
 use Rattle.locale_sources.specs.Named.{pairs_of}
 use Rattle.category_store.proofs.LibraryLemmas.{with_named-few}
 use Rattle.category_store.proofs.names.add_name.Goals as goal

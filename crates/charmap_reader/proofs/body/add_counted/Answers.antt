@@ -1,12 +1,12 @@
 use Rattle.std.proofs.Common.{◌≡◌, ◌^◌, ◌<◌, ◌≤◌, ◌+◌, min, length, Some, sym, ap, ◌∙◌, arith}
 use Rattle.std.specs.Prelude.{option_map}
 use Rattle.std.proofs.Math.Nat.{pow-le-pow_right}
-use Rattle.charmap_reader.specs.declared.names.TheConstants.{NAME_LIMIT}
-use Rattle.charmap_reader.specs.CodedSet.{big_endian}
-use Rattle.charmap_reader.specs.Code.{code_bytes}
+use Rattle.charset.specs.declared.names.TheConstants.{NAME_LIMIT}
+use Rattle.charset.specs.CodedSet.{big_endian}
+use Rattle.charset.specs.Code.{code_bytes}
 use Rattle.charmap_reader.specs.Seen.{seen}
 use Rattle.charmap_reader.proofs.Adding.{counted_over}
-use Rattle.charmap_reader.proofs.Shortest.{length-encoding}
+use Rattle.charmap_reader.proofs.EncodingLemmas.{length-encoding}
 use Rattle.charmap_reader.proofs.body.add_counted.Goals as goal
 
 pub returns-then-len-more : goal.returns-then-len-more

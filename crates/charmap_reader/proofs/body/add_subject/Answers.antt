@@ -1,8 +1,8 @@
 use Rattle.std.proofs.Common.{sym, ◌∙◌}
 use Rattle.charmap_reader.specs.Seen.{seen}
-use Rattle.charmap_reader.specs.Code.{code_bytes}
+use Rattle.charset.specs.Code.{code_bytes}
 use Rattle.charmap_reader.specs.Charmap.{entries}
-use Rattle.charmap_reader.proofs.Shortest.{entries_valued}
+use Rattle.charmap_reader.proofs.EncodingLemmas.{entries_valued}
 use Rattle.charmap_reader.proofs.Adding.{listed_twice, listed_moved, listed_all}
 use Rattle.charmap_reader.proofs.body.add_subject.Goals as goal
 

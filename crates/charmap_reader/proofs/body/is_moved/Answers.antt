@@ -1,10 +1,10 @@
 use Rattle.std.proofs.Common.{◌≡◌, ◌<◌, ℕ, true, Some, length, ltb, eqb, not, sym, ap, ◌∙◌, arith}
 use Rattle.std.specs.Prelude.{option_map}
 use Rattle.std.proofs.lemmas.Bool.Decides.{nat_tests}
-use Rattle.charmap_reader.specs.Portable.{portable_code}
-use Rattle.charmap_reader.specs.CodedSet.{big_endian}
+use Rattle.charset.specs.Portable.{portable_code}
+use Rattle.charset.specs.CodedSet.{big_endian}
 use Rattle.std.specs.Int.{bytes_high_first}
-use Rattle.charmap_reader.specs.Code.{code_bytes}
+use Rattle.charset.specs.Code.{code_bytes}
 use Rattle.charmap_reader.specs.Seen.{seen}
 use Rattle.charmap_reader.proofs.Moving.{range_digits, range_not_moved, single_long, single_one}
 use Rattle.charmap_reader.proofs.body.is_moved.Goals as goal

@@ -1,5 +1,5 @@
 use Rattle.std.proofs.Common.{sym, ◌∙◌}
-use Rattle.charmap_reader.proofs.Shortest.{encoding-long, long_up_to}
+use Rattle.charmap_reader.proofs.EncodingLemmas.{encoding-long, long_up_to}
 use Rattle.charmap_reader.proofs.encoding.encoding_in.Goals as goal
 
 pub returns-in-None : goal.returns-in-None

@@ -1,4 +1,4 @@
-use Rattle.charmap_reader.proofs.Shortest.{encoding-long}
+use Rattle.charmap_reader.proofs.EncodingLemmas.{encoding-long}
 use Rattle.charmap_reader.proofs.encoding.encoding_of.Goals as goal
 
 pub returns-in_default-2 : goal.returns-in_default-2

@@ -1,5 +1,5 @@
 use Rattle.std.proofs.Common.{arith, refl}
-use Rattle.charmap_reader.specs.CodedSet.{has}
+use Rattle.charset.specs.CodedSet.{has}
 use Rattle.ctype_classes.proofs.CharacterLemmas.{added_run, added_last}
 use Rattle.ctype_classes.proofs.characters.add_characters.Goals as goal
 

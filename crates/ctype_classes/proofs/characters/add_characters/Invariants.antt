@@ -1,5 +1,5 @@
 use Rattle.std.proofs.Common.{◌+◌, ◌-◌}
-use Rattle.charmap_reader.specs.CodedSet.{has}
+use Rattle.charset.specs.CodedSet.{has}
 use Rattle.ctype_classes.proofs.CharacterLemmas.{AreAdded}
 use Rattle.ctype_classes.proofs.characters.add_characters.Given as goal
 

@@ -1,5 +1,5 @@
 use Rattle.std.proofs.Common.{◌&&◌, Bool, ap, ◌∙◌}
-use Rattle.charmap_reader.specs.CodedSet.{has}
+use Rattle.charset.specs.CodedSet.{has}
 use Rattle.ctype_classes.proofs.CharacterLemmas.{characters_are}
 use Rattle.ctype_classes.proofs.characters.characters.Goals as goal
 

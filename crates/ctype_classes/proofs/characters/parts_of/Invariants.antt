@@ -1,6 +1,6 @@
 use Rattle.std.proofs.Common.{◌≡◌, ℕ, ◌≤◌, ◌&&◌, All, take}
 use Rattle.class_ranges.specs.Ranges.{covers}
-use Rattle.charmap_reader.specs.CodedSet.{has}
+use Rattle.charset.specs.CodedSet.{has}
 use Rattle.ctype_classes.proofs.characters.parts_of.Given as goal
 
 abbrev pub invariant-loop-range : goal.invariant-loop-range

@@ -1,5 +1,5 @@
 use Rattle.std.proofs.Common.{◌≡◌, ℕ, ◌+◌, ◌^◌, ◌&&◌, Bool, sym, ap, ◌∙◌, arith}
-use Rattle.charmap_reader.specs.CodedSet.{has}
+use Rattle.charset.specs.CodedSet.{has}
 use Rattle.tool_check.specs.Summary.{count_below, is_numbered}
 use Rattle.tool_check.proofs.SummaryLemmas.{count_below-zero, run_counted, rest_counted, last_counted}
 use Rattle.tool_check.proofs.summary.numbered_count.Goals as goal

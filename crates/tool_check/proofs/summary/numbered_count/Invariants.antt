@@ -1,5 +1,5 @@
 use Rattle.std.proofs.Common.{◌≡◌, ◌-◌, ◌≤◌, ◌^◌, ◌&&◌}
-use Rattle.charmap_reader.specs.CodedSet.{has}
+use Rattle.charset.specs.CodedSet.{has}
 use Rattle.tool_check.specs.Summary.{count_below, is_numbered}
 use Rattle.tool_check.proofs.summary.numbered_count.Given as goal
 

@@ -1,5 +1,0 @@
-use Rattle.charmap_reader.proofs.Encodings.{is_some-code}
-use Rattle.charmap_reader.proofs.charset.Charset.encode.Goals as goal
-
-pub returns-in-Listed-clause-has : goal.returns-in-Listed-clause-has
-returns-in-Listed-clause-has c = rw (← c.self.view_is, c.in-Listed.is) (is_some-code c.in-Listed.set c.args.w _ c.encode-in-Listed.ensures.bytes)

@@ -1,6 +1,0 @@
-use Rattle.std.proofs.Common.{◌≡◌, ◌<◌, ◌^◌, drop}
-use Rattle.charmap_reader.specs.Hex.{hex_after}
-use Rattle.charmap_reader.proofs.hex.hex.Given as goal
-
-abbrev pub invariant-loop-digit : goal.invariant-loop-digit
-invariant-loop-digit l = (hex_after l.number (drop l.digit-index l.digits) ≡ hex_after 0 l.digits) × (l.number < 16 ^ l.digit-index)

@@ -1,7 +1,0 @@
-use Rattle.std.proofs.Common.{◌≡◌, ◌-◌}
-use Rattle.charmap_reader.proofs.DigitLemmas.{front_value, far}
-use Rattle.charmap_reader.proofs.numbering.distance.Given as goal
-
-abbrev pub invariant-loop-i : goal.invariant-loop-i
-invariant-loop-i l =
-    l.so_far ≡ far (front_value l.first (l.longest - l.i)) (front_value l.last (l.longest - l.i))

@@ -1,5 +1,0 @@
-use Rattle.charmap_reader.proofs.Encodings.{encoded-not_utf8}
-use Rattle.charmap_reader.proofs.unicode.decode.Goals as goal
-
-pub returns-in-Err : goal.returns-in-Err
-returns-in-Err c = encoded-not_utf8 _ c.in-Err.ensures.cases.0

@@ -1,0 +1,14 @@
+pub mod Portable
+pub mod Hex
+pub mod CodedSet
+pub mod Code
+pub mod Numbering
+pub mod ShortBytes
+pub mod Tails
+pub mod Entries
+pub mod ByteStrings
+pub mod Fronts
+pub mod Spans
+pub mod Blocks
+pub mod CharacterNames
+pub mod Listing
