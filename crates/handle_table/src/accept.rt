@@ -12,11 +12,11 @@ ghost use Rattle.handle_table.specs.Effects.{after_make};
 ghost use Rattle.handle_table.specs.Accepted.{Accepts, SameShape};
 
 use crate::checks::first_reason;
-use crate::handle::{Handle, Named};
 use crate::kept::Kept;
 use crate::op::{Op, Refusal, Reply};
 use crate::setting::{MAX_THREADS, Setting};
 use crate::shelf::from_shelf;
+use handles::{Handle, Named};
 use lc_base::{CELLS, Mask};
 use mask_compose::{Object, Offer, Part, compose};
 

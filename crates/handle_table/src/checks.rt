@@ -10,11 +10,11 @@ ghost use Rattle.handle_table.specs.Table.{Fits};
 ghost use Rattle.handle_table.specs.Seen.{op_of, reason_of};
 ghost use Rattle.handle_table.specs.Kept.{Keeps};
 
-use crate::handle::Named;
 use crate::kept::Kept;
 use crate::op::{Op, Refusal};
 use crate::setting::{MAX_THREADS, Setting};
 use crate::shelf::lacking;
+use handles::Named;
 use lc_base::{CELLS, Mask};
 use mask_compose::Part;
 

@@ -8,11 +8,11 @@ ghost use Rattle.handle_table.specs.Rows.{row_at};
 ghost use Rattle.handle_table.specs.Effects.{selected, after_make, after_rebuild, after_free, after_use, after_hold, after_release, after_set, after_install, after_post, after_end};
 
 use crate::grid::Grid;
-use crate::handle::{Handle, Named};
 use crate::row::Row;
 use crate::rows;
 use crate::setting::{MAX_THREADS, Setting};
 use global_locale::Global as GlobalLocale;
+use handles::{Handle, Named};
 use lc_base::{CELLS, Mask};
 use mask_compose::{Object, Offer, Part};
 use std::alloc::{AllocError, Global};

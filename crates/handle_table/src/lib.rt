@@ -5,7 +5,6 @@
 mod accept;
 mod checks;
 mod grid;
-mod handle;
 mod kept;
 pub mod laws;
 mod op;
@@ -15,7 +14,6 @@ mod setting;
 mod shelf;
 mod table;
 
-pub use handle::{Handle, Named};
 pub use op::{Op, Refusal, Reply};
 pub use setting::{MAX_THREADS, Setting};
 pub use table::Table;

@@ -1,6 +1,6 @@
 //! What threads ask of the table, and what it replies.
 
-use crate::handle::{Handle, Named};
+use handles::{Handle, Named};
 use lc_base::{Category, Mask};
 use mask_compose::{Object, Offer, Part};
 

@@ -7,8 +7,8 @@ use Rattle.lc_base.specs.declared.category.Category.TheVariants as categories
 use Rattle.lc_base.specs.Categories.{category_name}
 use Rattle.time_cat.specs.declared.tm.TmField.{TmField}
 use Rattle.time_cat.specs.declared.tm.TmField.TheVariants as fields
-use Rattle.handle_table.specs.declared.handle.Handle.{Handle}
-use Rattle.handle_table.specs.declared.handle.Named.{Named}
+use Rattle.handles.specs.declared.handle.Handle.{Handle}
+use Rattle.handles.specs.declared.handle.Named.{Named}
 use Rattle.handle_table.specs.declared.op.Refusal.TheVariants as refusals
 use Rattle.strptime_fields.specs.declared.parsed.Parsed.{Parsed}
 use Rattle.byte_words.specs.Tables.{first_named}

@@ -1,8 +1,8 @@
 //! Handles, places, versions, refusals and the fields of a time.
 
 ghost use Rattle.std.specs.Prelude.{◌≡◌, ◌≢◌, ℕ, ◌<◌, ◌^◌, ◌∷◌, length, [], Option, List, IfOk, IfSome, IsNone, slice_index_or};
-ghost use Rattle.handle_table.specs.declared.handle.Handle.{Handle};
-ghost use Rattle.handle_table.specs.declared.handle.Named.{Named};
+ghost use Rattle.handles.specs.declared.handle.Handle.{Handle};
+ghost use Rattle.handles.specs.declared.handle.Named.{Named};
 ghost use Rattle.strptime_fields.specs.declared.parsed.Parsed.{Parsed};
 ghost use Rattle.script_out.specs.declared.output.Places.{Places};
 ghost use Rattle.script_out.specs.declared.output.Why.{Why};
@@ -14,7 +14,8 @@ ghost use Rattle.output_reader.specs.Reading.{Gives, GivesFor};
 use crate::pieces::{behind, cut, first_word, index, is_word, number, small, small_number};
 use crate::unread::Unread;
 use crate::words::{WhyForm, category, field, why_form};
-use handle_table::{Handle, Named, Refusal};
+use handle_table::Refusal;
+use handles::{Handle, Named};
 use lc_base::{ByteText, List};
 use script_out::{Places, Why};
 

@@ -4,7 +4,7 @@ use Rattle.std.specs.Prelude.{◌==◌, ◌⊎◌, if◌then◌else◌, All}
 use Rattle.std.proofs.lemmas.Bool.{cases_lt, eqb-true, eq-eqb, le-leb, false≢true, or_cases, or_left, or_from, and_from, not_from_false}
 use Rattle.std.proofs.lemmas.List.Elements.{All-nil, All-cons, All-head, All-tail, All-weaker}
 use Rattle.mask_compose.specs.Parts.{Parts}
-use Rattle.handle_table.specs.declared.handle.Handle.{Handle}
+use Rattle.handles.specs.declared.handle.Handle.{Handle}
 use Rattle.handle_table.specs.Entry.{Op, New, Dup, Free, Use, Hold, Release, SetGlobal, Install, Post, Fetch, Pins, End, Entry, History, Setting, is_accepted}
 use Rattle.handle_table.specs.Shelf.{posix}
 use Rattle.handle_table.specs.History.{sets_after, sets, global, global_at}

@@ -1,7 +1,7 @@
 -- Commands, from their words (our own).
 use Rattle.std.specs.Prelude.{ℕ, zero, suc, ℤ, Bool, true, false, List, [], ◌∷◌, codes, Option, Some, None, Ok, Err, if◌then◌else◌}
 use Rattle.std.specs.Str.{bytes_eq}
-use Rattle.handle_table.specs.declared.handle.Handle.{Handle as HandleNumbers}
+use Rattle.handles.specs.declared.handle.Handle.{Handle as HandleNumbers}
 use Rattle.lc_base.specs.declared.reason.Reason.TheVariants.{BadLine, OverLimit, NoThread, NoLater}
 use Rattle.lc_base.specs.declared.reason.Limit.{Limit}
 use Rattle.lc_base.specs.declared.reason.Limit.TheVariants as limits

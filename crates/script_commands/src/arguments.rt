@@ -19,7 +19,7 @@ use crate::command::{OpenCatalog, Target};
 use crate::known::{Known, lacks_key, thread_number};
 use crate::scope::Scope;
 use byte_words::decimal_number;
-use handle_table::Handle;
+use handles::Handle;
 use lc_base::{ByteText, CELLS, Item, Limit, LinePart, List, Place, Reason, TextFault};
 use script_words::{
     AMOUNT_LIMIT, Categories, CommandText, DEFAULT_MAX, Format, NUMBER_LIMIT, Stretch,

@@ -1,6 +1,6 @@
 //! The commands of a script.
 
-use handle_table::Handle;
+use handles::Handle;
 use lc_base::{ByteText, Item, List};
 use script_words::{Categories, CommandText, Format, WrittenAmount, WrittenNumber, WrittenTime};
 

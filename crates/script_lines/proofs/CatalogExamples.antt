@@ -9,8 +9,8 @@ use Rattle.catalog_table.specs.declared.op.CatalogRefusal.TheVariants as catalog
 use Rattle.catalog_table.specs.Entry as catalogs
 use Rattle.category_store.specs.Catalog.{Catalog}
 use Rattle.compiled_categories.specs.Locale.{posix_locale}
-use Rattle.handle_table.specs.declared.handle.Handle.{Handle}
-use Rattle.handle_table.specs.declared.handle.Named.TheVariants.{Of, Global}
+use Rattle.handles.specs.declared.handle.Handle.{Handle}
+use Rattle.handles.specs.declared.handle.Named.TheVariants.{Of, Global}
 use Rattle.handle_table.specs.declared.op.Refusal.TheVariants as refusals
 use Rattle.handle_table.specs.Entry as table
 use Rattle.handle_table.specs.Entry.{Setting, History}

@@ -7,7 +7,7 @@ use Rattle.catalog_table.specs.declared.setting.CatalogSetting.{CatalogSetting}
 use Rattle.catalog_table.specs.Entry as catalogs
 use Rattle.catalog_table.specs.Answer as catalog_answers
 use Rattle.category_store.specs.Catalog.{Catalog}
-use Rattle.handle_table.specs.declared.handle.Named.{Named}
+use Rattle.handles.specs.declared.handle.Named.{Named}
 use Rattle.handle_table.specs.Entry as table
 use Rattle.handle_table.specs.Entry.{History, Setting}
 use Rattle.handle_table.specs.History.{sets, global, selection}

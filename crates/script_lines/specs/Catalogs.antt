@@ -15,7 +15,7 @@ use Rattle.catalog_table.specs.declared.op.CatalogRefusal.TheVariants as catalog
 use Rattle.catalog_table.specs.Entry as catalogs
 use Rattle.catalog_table.specs.Answer as answers
 use Rattle.category_store.specs.Catalog.{Catalog}
-use Rattle.handle_table.specs.declared.handle.Handle.{Handle}
+use Rattle.handles.specs.declared.handle.Handle.{Handle}
 use Rattle.handle_table.specs.declared.op.Refusal.{Refusal}
 use Rattle.handle_table.specs.declared.op.Refusal.TheVariants as refusals
 use Rattle.handle_table.specs.Entry.{Setting}

@@ -2,7 +2,8 @@
 
 use catalog_table::{BookShare, CatalogOp, CatalogReply};
 use category_store::Share;
-use handle_table::{Named, Op, Reply};
+use handle_table::{Op, Reply};
+use handles::Named;
 use mask_compose::Object;
 use std::alloc::AllocError;
 

@@ -15,7 +15,7 @@ use crate::catalogs::{Books, Wanted, handle_meant, handle_reply_shown};
 use crate::lines::{Caller, line};
 use catalog_table::{BookShare, CatalogOp};
 use category_store::Library;
-use handle_table::Handle;
+use handles::Handle;
 use lc_base::ByteText;
 use script_out::{OutLine, Places, Said, Why};
 use std::alloc::{AllocError, Global};

@@ -8,7 +8,8 @@ ghost use Rattle.script_lines.specs.Catalogs.{number_of, is_for, book_named, mes
 use crate::names::part_name;
 use catalog_table::{BookShare, CatalogHandle, CatalogRefusal, CatalogReply};
 use category_store::{Library, Share};
-use handle_table::{Handle, Refusal};
+use handle_table::Refusal;
+use handles::Handle;
 use lc_base::{Block, ByteText, Category, List};
 use mask_compose::Object;
 use msg_catalog::Book;

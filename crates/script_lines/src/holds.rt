@@ -7,7 +7,8 @@ ghost use Rattle.handle_table.specs.Seen.{op_of, reply_of};
 ghost use Rattle.script_lines.specs.Holds.{object_held, with_hold, without, hold_change, changed, is_of, held_as};
 
 use category_store::Share;
-use handle_table::{Handle, Named, Op, Reply};
+use handle_table::{Op, Reply};
+use handles::{Handle, Named};
 use mask_compose::Object;
 use std::alloc::AllocError;
 

@@ -4,7 +4,7 @@ ghost use Rattle.std.specs.Prelude.{◌≡◌, ◌∷◌, [], ℕ, List, OnOk};
 ghost use Rattle.script_lines.specs.Seen.{variable_seen};
 ghost use Rattle.script_lines.specs.Variables.{locale_variable, catalog_variable, bound, bound_name};
 
-use handle_table::Handle;
+use handles::Handle;
 use lc_base::ByteText;
 use std::alloc::{AllocError, Global};
 use std::collections::BTreeMap;
@@ -54,7 +54,7 @@ struct Names {
 
 impl Model for Names {
     ghost use Rattle.std.specs.Prelude.{List, ℕ, map};
-    ghost use Rattle.handle_table.specs.declared.handle.Handle.{Handle};
+    ghost use Rattle.handles.specs.declared.handle.Handle.{Handle};
     ghost use Rattle.script_lines.specs.Variables.{binding_of};
 
     ghost Value = { List (List ℕ × Handle) };

@@ -8,7 +8,8 @@ use crate::before::{put_byte, put_bytes, put_count, put_name, put_number};
 use crate::quoting::{push_quoted, push_quoted_behind_space};
 use crate::short::{push_behind_space, push_digit, push_short, push_short_number};
 use crate::texts::Texts;
-use handle_table::{Handle, Named, Refusal};
+use handle_table::Refusal;
+use handles::{Handle, Named};
 use itoa::Buffer;
 use lc_base::{ByteText, List};
 use std::alloc::{AllocError, Global};
@@ -99,6 +100,7 @@ pub enum Said {
 }
 
 impl Drop for Said {
+    #[inline(always)]
     fn drop(self) {
         match self {
             Said::Handle(_a) => {}

@@ -8,7 +8,7 @@ use Rattle.std.proofs.lemmas.List.{map-append, length-map}
 use Rattle.std.proofs.lemmas.List.Folds.{find-append}
 use Rattle.std.proofs.lemmas.List.Sums.{sum_by-cons, sum_by-append, count_by-le-length}
 use Rattle.mask_compose.specs.Parts.{Parts}
-use Rattle.handle_table.specs.declared.handle.Named.{Named}
+use Rattle.handles.specs.declared.handle.Named.{Named}
 use Rattle.handle_table.specs.Entry.{History, Setting}
 use Rattle.handle_table.specs.Answer.{own, IsLegal}
 use Rattle.script_commands.specs.declared.command.Read.{Read}

@@ -12,8 +12,8 @@ use Rattle.handle_table.specs.Entry as table
 use Rattle.handle_table.specs.Entry.{Setting}
 use Rattle.mask_compose.specs.Parts.{Parts}
 use Rattle.handle_table.specs.Answer.{answer}
-use Rattle.handle_table.specs.declared.handle.Named.{Named}
-use Rattle.handle_table.specs.declared.handle.Named.TheVariants as named
+use Rattle.handles.specs.declared.handle.Named.{Named}
+use Rattle.handles.specs.declared.handle.Named.TheVariants as named
 use Rattle.script_words.specs.declared.categories.Categories.TheVariants.{All as AllCategories, One}
 use Rattle.script_commands.specs.declared.command.Read.{Read as Reading}
 use Rattle.script_commands.specs.declared.command.Read.TheVariants.{Info}

@@ -5,8 +5,8 @@ use Rattle.std.specs.List.{list_any}
 use Rattle.std.proofs.lemmas.List.{reverse-append}
 use Rattle.std.proofs.lemmas.List.Elements.{All-nil, All-cons, All-weaker}
 use Rattle.turn_gate.specs.declared.entry.Terms.{Terms}
-use Rattle.handle_table.specs.declared.handle.Handle.{Handle}
-use Rattle.handle_table.specs.declared.handle.Named.TheVariants.{Of}
+use Rattle.handles.specs.declared.handle.Handle.{Handle}
+use Rattle.handles.specs.declared.handle.Named.TheVariants.{Of}
 use Rattle.handle_table.specs.declared.op.Refusal.TheVariants.{NotHeld}
 use Rattle.handle_table.specs.Entry.{Op, Release, Reply, Released, History, Setting}
 use Rattle.handle_table.specs.History.{holding}

@@ -5,9 +5,9 @@ use Rattle.std.specs.List.{list_any}
 use Rattle.turn_gate.specs.declared.entry.Terms.{Terms}
 use Rattle.turn_gate.specs.Callers.{Gate}
 use Rattle.mask_compose.specs.Parts.{Parts}
-use Rattle.handle_table.specs.declared.handle.Handle.{Handle}
-use Rattle.handle_table.specs.declared.handle.Named.{Named}
-use Rattle.handle_table.specs.declared.handle.Named.TheVariants.{Of}
+use Rattle.handles.specs.declared.handle.Handle.{Handle}
+use Rattle.handles.specs.declared.handle.Named.{Named}
+use Rattle.handles.specs.declared.handle.Named.TheVariants.{Of}
 use Rattle.handle_table.specs.declared.op.Refusal.{Refusal}
 use Rattle.handle_table.specs.Entry.{Op, Use, Hold, Release, SetGlobal, Reply, Was, Set, Held, Released, Refused, Entry, History, Setting, is_accepted}
 use Rattle.handle_table.specs.History.{sets, global, global_at, selection}

@@ -11,7 +11,8 @@ ghost use Rattle.script_seats.specs.Seated.{HasCalls, MayCall, IsPlain, IsChange
 use catalog_seats::{Reader, SharedCatalogs};
 use catalog_table::{BookShare, CatalogOp, CatalogReply};
 use category_store::Share;
-use handle_table::{Handle, Named, Op, Refusal, Reply};
+use handle_table::{Op, Refusal, Reply};
+use handles::{Handle, Named};
 use mask_compose::Object;
 use script_lines::board::{Board, Side};
 use script_lines::holds::is_named;

@@ -11,7 +11,7 @@ use Rattle.std.proofs.lemmas.List.FromFn.{length-range_with_len}
 use Rattle.std.proofs.lemmas.List.Kept.{AllPairs-from_increasing}
 use Rattle.mask_compose.specs.Parts.{Parts}
 use Rattle.category_store.specs.Catalog.{Catalog}
-use Rattle.handle_table.specs.declared.handle.Named.{Named}
+use Rattle.handles.specs.declared.handle.Named.{Named}
 use Rattle.handle_table.specs.Entry as table
 use Rattle.handle_table.specs.Entry.{Entry, History, Setting}
 use Rattle.handle_table.specs.History.{sets, global, selection}

@@ -4,9 +4,9 @@ use Rattle.std.specs.Prelude.{◌==◌, ◌&&◌, ◌||◌, if◌then◌else◌}
 use Rattle.std.proofs.lemmas.Bool.{eq-eqb, and_from}
 use Rattle.mask_compose.specs.Parts.{Parts}
 use Rattle.category_store.specs.Catalog.{Catalog}
-use Rattle.handle_table.specs.declared.handle.Handle.{Handle}
-use Rattle.handle_table.specs.declared.handle.Named.{Named}
-use Rattle.handle_table.specs.declared.handle.Named.TheVariants.{Global, Of}
+use Rattle.handles.specs.declared.handle.Handle.{Handle}
+use Rattle.handles.specs.declared.handle.Named.{Named}
+use Rattle.handles.specs.declared.handle.Named.TheVariants.{Global, Of}
 use Rattle.handle_table.specs.declared.op.Refusal.{Refusal}
 use Rattle.handle_table.specs.declared.op.Refusal.TheVariants.{NotHeld}
 use Rattle.handle_table.specs.Entry.{Hold, Release, Reply, Made, Freed, Was, Held, Released, Set, Installed, Posted, Got, Pinned, Ended, Refused, History, Setting, same_handle, is_accepted}

@@ -7,7 +7,7 @@ use Rattle.std.proofs.lemmas.Bool.{ne_eqb}
 use Rattle.std.proofs.lemmas.Bool.Decides.{eqb_tells}
 use Rattle.category_store.specs.Catalog.{Catalog}
 use Rattle.category_store.specs.Library.{opening}
-use Rattle.handle_table.specs.declared.handle.Handle.{Handle}
+use Rattle.handles.specs.declared.handle.Handle.{Handle}
 use Rattle.handle_table.specs.Entry.{Setting, History}
 use Rattle.catalog_table.specs.Entry.{History as CatalogHistory}
 use Rattle.script_out.specs.declared.output.OutLine.{OutLine}

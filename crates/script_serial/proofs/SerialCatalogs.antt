@@ -10,7 +10,7 @@ use Rattle.catalog_table.specs.Entry as catalog
 use Rattle.catalog_table.specs.Entry.{History as CatalogHistory}
 use Rattle.catalog_table.specs.Answer.{IsLegal, AreThreads}
 use Rattle.category_store.specs.Catalog.{Catalog}
-use Rattle.handle_table.specs.declared.handle.Named.{Named}
+use Rattle.handles.specs.declared.handle.Named.{Named}
 use Rattle.handle_table.specs.Entry as table
 use Rattle.handle_table.specs.Entry.{History, Setting}
 use Rattle.handle_table.specs.History.{sets, global}

@@ -1,7 +1,7 @@
 -- What a thread keeps beside a table that its runner has alone, when it is right, and the table with its catalogs.
 use Rattle.std.specs.Prelude.{◌≡◌, ℕ, List, Option}
 use Rattle.mask_compose.specs.Parts.{Parts}
-use Rattle.handle_table.specs.declared.handle.Named.{Named}
+use Rattle.handles.specs.declared.handle.Named.{Named}
 use Rattle.handle_table.specs.Entry.{History}
 use Rattle.handle_table.specs.History.{selection}
 use Rattle.handle_table.specs.Answer.{own}

@@ -2,7 +2,7 @@
 
 ghost use Rattle.std.specs.Prelude.{◌≡◌};
 
-use handle_table::Handle;
+use handles::Handle;
 use mask_compose::{Object, Part};
 use std::marker::Model;
 

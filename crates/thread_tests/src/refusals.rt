@@ -6,7 +6,8 @@ ghost use Rattle.thread_current.specs.Thread.{first_thread};
 ghost use Rattle.thread_tests.specs.Rounds.{MayMake};
 
 use crate::threads::{Number, offered};
-use handle_table::{Handle, Named, Refusal};
+use handle_table::Refusal;
+use handles::{Handle, Named};
 use lc_base::{Category, List, Mask};
 use mask_compose::{Object, Offer};
 use std::alloc::{AllocError, Global};

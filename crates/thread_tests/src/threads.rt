@@ -7,7 +7,8 @@ ghost use Rattle.thread_tests.specs.declared.threads.TheConstants.{ENTRIES};
 ghost use Rattle.thread_current.specs.Thread.{IsThreadOf, first_thread};
 ghost use Rattle.thread_tests.specs.Rounds.{MayMake};
 
-use handle_table::{Named, Table};
+use handle_table::Table;
+use handles::Named;
 use lc_base::{CATEGORIES, List, Mask};
 use mask_compose::{Object, Offer, Part};
 use std::alloc::{AllocError, Global};
