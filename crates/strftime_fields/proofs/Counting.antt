@@ -19,7 +19,7 @@ use Rattle.strftime_fields.specs.Appending.{Appends, CountsTo, fault_of}
 use Rattle.strftime_fields.specs.Cost.{read_for, piece_reads, pieces_read, reads, cost, Counts}
 use Rattle.strftime_fields.specs.declared.read.Seen.TheVariants.{Inner}
 use Rattle.strftime_fields.specs.Reading.{IsShort, IsFormatless, IsSeen, width, short_text}
-use Rattle.strftime_fields.proofs.Left.{plain_conversion, format_conversion}
+use Rattle.strftime_fields.proofs.Left.{plain_conversion, format_conversion, nothing_left}
 
 -- of what is left at a place, behind so many bytes of the text
 unfoldable pub reads_left : ℕ → ℕ → TimeValues → TmValues → ℕ → List ℕ → ℕ → ℕ
@@ -138,3 +138,11 @@ inner_reads max levels v t before format at s key stands is fits =
     let more = format_read v t (reads max (levels - 1) v t before) (conversion 0 is.0) (record { rank = is.1; shows = Format key }) (format_text v key) is.3 refl in
     let left' = rw gives at left in
     rw is.2 (omega (arith, left', more))
+
+pub inner_ends_reads : (max levels : ℕ) (v : TimeValues) (t : TmValues) (before : ℕ) (format : List ℕ) (at : ℕ) (s : Step) (key : TimeText) → IsStep format at s → IsSeen at s (Inner key) → before ≤ max → length format ≤ at + 2 → 1 < levels
+    → reads_left max levels v t before format at ≡ counted s + reads_left max (levels - 1) v t before (format_text v key) 0
+inner_ends_reads max levels v t before format at s key stands is fits end deep =
+    let all = inner_reads max levels v t before format at s key stands is fits in
+    let none = reads_at_end max levels v t (before + length (expanded (levels - 1) v t (format_text v key))) format (at + 2) (nothing_left format (at + 2) end) in
+    let start = reads_at_start max (levels - 1) v t before (format_text v key) (omega (arith, deep)) in
+    omega (arith, all, none, start)

@@ -1,5 +1,5 @@
 -- What the pieces of a format give that are left at a place, and how many conversions they are.
-use Rattle.std.proofs.Common.{◌≡◌, ℕ, zero, suc, ◌+◌, ◌-◌, ◌<◌, List, [], ◌∷◌, ◌++◌, Option, Some, None, cond, refl, ap, ◌∙◌, subst, arith, count_by, flat_map, length, drop, ◌≤◌}
+use Rattle.std.proofs.Common.{◌≡◌, ℕ, zero, suc, ◌+◌, ◌-◌, ◌<◌, Bool, true, false, List, [], ◌∷◌, ◌++◌, Option, Some, None, cond, refl, sym, ap, ◌∙◌, append-nil, subst, arith, count_by, flat_map, length, drop, ◌≤◌}
 use Rattle.std.proofs.lemmas.List.{drop_all}
 use Rattle.std.proofs.lemmas.List.Sums.{sum_by-cons}
 use Rattle.time_cat.specs.declared.conversion.Conversion.{Conversion}
@@ -148,3 +148,32 @@ pub inner_bad : (format : List ℕ) (at : ℕ) (s : Step) (key : TimeText) → I
 inner_bad format at s key stands is =
     let here : IsStep format at (steps.Conv 0 is.0 is.1 (at + 2)) = subst (λ (x : Step). IsStep format at x) is.2 stands in
     rw here.2 refl
+
+-- ---- such a conversion at the end of a format, where the other one is read in place of this one
+
+pub inner_ends : (levels : ℕ) (v : TimeValues) (t : TmValues) (format : List ℕ) (at : ℕ) (s : Step) (key : TimeText) → IsStep format at s → IsSeen at s (Inner key) → length format ≤ at + 2 → 1 < levels → text_left levels v t format at ≡ text_left (levels - 1) v t (format_text v key) 0
+inner_ends levels v t format at s key stands is end deep =
+    let none = text_at_end levels v t format (at + 2) (nothing_left format (at + 2) end) in
+    let start = text_at_start (levels - 1) v t (format_text v key) (omega (arith, deep)) in
+    inner_left levels v t format at s key stands is ∙ (ap (λ (x : List ℕ). expanded (levels - 1) v t (format_text v key) ++ x) none ∙ (append-nil (expanded (levels - 1) v t (format_text v key)) ∙ sym start))
+
+-- where a `%` stands that begins no conversion: there in what is left of the whole format, or nowhere where another one ends it
+abbrev pub Bads : Bool → Option ℕ → Option ℕ → Type 0
+Bads true left all = left ≡ all
+Bads false left all = all ≡ None
+
+pub bads_same : (whole : Bool) (left next all : Option ℕ) → left ≡ next → Bads whole left all → Bads whole next all
+bads_same whole left next all same bad = subst (λ (x : Option ℕ). Bads whole x all) same bad
+
+pub bads_none : (whole : Bool) (all : Option ℕ) → Bads whole None all → None ≡ all
+bads_none true all bad = bad
+bads_none false all bad = sym bad
+
+pub bads_here : (whole : Bool) (left all : Option ℕ) → whole ≡ true → Bads whole left all → left ≡ all
+bads_here true left all is bad = bad
+bads_here false left all is bad = cc
+
+pub inner_ends_bad : (whole : Bool) (format : List ℕ) (at : ℕ) (s : Step) (key : TimeText) (all : Option ℕ) → IsStep format at s → IsSeen at s (Inner key) → length format ≤ at + 2 → Bads whole (bad_place (rest_of format at)) all → all ≡ None
+inner_ends_bad whole format at s key all stands is end bad =
+    let none : bad_place (rest_of format (at + 2)) ≡ None = ap (λ ps. bad_place ps) (nothing_left format (at + 2) end) in
+    sym (bads_none whole all (bads_same whole (bad_place (rest_of format at)) None all (inner_bad format at s key stands is ∙ none) bad))

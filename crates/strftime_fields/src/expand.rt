@@ -37,30 +37,43 @@ pub fn put_format<L: Ledger>(
     if levels == 0 {
         return Ok(None);
     }
+    // The format that is read: the caller's, or one that ends it.
+    let mut current = format;
+    let mut depth = levels;
+    let mut whole = true;
     let mut at = 0;
     let mut text = held(out);
     let mut limit = text.capacity().min(max);
     'reading: loop {
-        match put_short(&mut text, limit, t, tm, format, at) {
+        match put_short(&mut text, limit, t, tm, current, at) {
             Seen::Added(short) => {
                 // The piece is known already: this counts it.
-                let _step = step_at(format, at, steps);
+                let _step = step_at(current, at, steps);
                 let taken = width(short);
                 at += taken;
             }
             Seen::Inner(key) => {
-                let _step = step_at(format, at, steps);
-                *out = text;
-                put_inner(levels - 1, t, tm, max, text_of(t, key), steps, out)?;
+                let _step = step_at(current, at, steps);
                 at += 2;
-                text = held(out);
-                limit = text.capacity().min(max);
+                if at == current.len() && 1 < depth {
+                    // Nothing is behind it, so it is read in place of this one.
+                    current = text_of(t, key);
+                    depth -= 1;
+                    whole = false;
+                    at = 0;
+                } else {
+                    *out = text;
+                    put_inner(depth - 1, t, tm, max, text_of(t, key), steps, out)?;
+                    text = held(out);
+                    limit = text.capacity().min(max);
+                }
             }
             Seen::Other => {
                 *out = text;
-                match step_at(format, at, steps) {
+                match step_at(current, at, steps) {
                     Step::End => return Ok(None),
-                    Step::Bad => return Ok(Some(at)),
+                    Step::Bad if whole => return Ok(Some(at)),
+                    Step::Bad => return Ok(None),
                     Step::Byte(byte) => {
                         put_byte(out, max, byte)?;
                         at += 1;
@@ -73,7 +86,7 @@ pub fn put_format<L: Ledger>(
                         next,
                         ..
                     } => {
-                        put_other(levels - 1, t, tm, max, modifier, letter, steps, out)?;
+                        put_other(depth - 1, t, tm, max, modifier, letter, steps, out)?;
                         at = next;
                         text = held(out);
                         limit = text.capacity().min(max);
