@@ -10,6 +10,7 @@ use Rattle.std.specs.Int.Digits.{number_from_digits_after}
 use Rattle.charset.specs.CodedSet.{big_endian}
 use Rattle.charmap_reader.specs.Encoding.{atom_number, and_bytes, numbers, is_encoding, encoding}
 use Rattle.charset.specs.ShortBytes.{shortest}
+use Rattle.charset.proofs.Shortest.{high_first-shortest}
 use Rattle.charset.specs.Entries.{Entry}
 use Rattle.charmap_reader.specs.Charmap.{entries}
 use Rattle.charset.specs.CharacterNames.{valued_names}

@@ -21,6 +21,7 @@ use Rattle.src_lines.specs.Fields.{fields}
 use Rattle.charset.specs.declared.names.TheConstants.{NAME_LIMIT}
 use Rattle.charset.specs.Portable.{portable_code}
 use Rattle.charset.specs.CodedSet.{CodedSet, listed, big_endian}
+use Rattle.charset.specs.Entries.{Entry, added}
 use Rattle.charmap_reader.specs.Subject.{Subject, subject, more_names, name_at}
 use Rattle.charmap_reader.specs.Encoding.{encoding}
 

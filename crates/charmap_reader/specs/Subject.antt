@@ -6,7 +6,7 @@ use Rattle.src_lines.specs.declared.atom.Atom.{Atom}
 use Rattle.src_lines.specs.declared.atom.Atom.TheVariants.{Made}
 use Rattle.src_lines.specs.Shapes.{is_dots}
 use Rattle.charset.specs.Portable.{Name}
-use Rattle.charset.specs.Numbering.{stem, digits, number}
+use Rattle.charset.specs.Numbering.{stem, digits, number, name_after}
 
 -- a name, or the first name of a range with its last one
 pub record Subject : Type 0 where
