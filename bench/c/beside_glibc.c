@@ -1,9 +1,11 @@
 /*
  * Times calls of this library and the same calls of the C library in one process, on 1, 2 and 4 threads,
  * under a locale that localedef compiled from the same source: bench/c/run makes it and runs this. First
- * looks whether both give the same bytes. Prints nanoseconds a call and thread, the ratio, and by how much
- * all threads do more than half as many did, of this library and of the C library. With a second word only
- * makes each call so many times, on one thread, for a tool that counts.
+ * looks whether both give the same bytes. Times this library and the C library by turns, on each number of
+ * threads, in ROUNDS rounds, so that all see the same machine. Prints nanoseconds a call and thread, each
+ * the middle of the rounds, the ratio, and by how much all threads do more than half as many did, of this
+ * library and of the C library. With a second word only makes each call so many times, on one thread, for a
+ * tool that counts.
  */
 #define _GNU_SOURCE
 #include "locale_objects.h"
@@ -20,7 +22,7 @@
 
 #define LONG_FORMAT "%A %d %B %c"
 
-enum { MOST_THREADS = 4 };
+enum { MOST_THREADS = 4, COUNTS = 3, ROUNDS = 15 };
 
 /* What a thread has: a call writes its handle, so that two handles in one line of a cache would slow threads. */
 typedef struct side {
@@ -142,13 +144,13 @@ static const struct row {
     work *theirs;
     int times;
 } rows[] = {
-    { "strfmon %n", our_strfmon, their_strfmon, 500000 },
-    { "strftime " LONG_FORMAT, our_strftime, their_strftime, 200000 },
-    { "nl_langinfo D_T_FMT", our_langinfo, their_langinfo, 1000000 },
-    { "iswctype alpha", our_class, their_class, 2000000 },
-    { "iswctype, wctype alpha", our_named_class, their_named_class, 2000000 },
-    { "newlocale, freelocale", our_new, their_new, 100000 },
-    { "duplocale, freelocale", our_dup, their_dup, 500000 },
+    { "strfmon %n", our_strfmon, their_strfmon, 50000 },
+    { "strftime " LONG_FORMAT, our_strftime, their_strftime, 50000 },
+    { "nl_langinfo D_T_FMT", our_langinfo, their_langinfo, 200000 },
+    { "iswctype alpha", our_class, their_class, 200000 },
+    { "iswctype, wctype alpha", our_named_class, their_named_class, 200000 },
+    { "newlocale, freelocale", our_new, their_new, 5000 },
+    { "duplocale, freelocale", our_dup, their_dup, 50000 },
 };
 
 typedef struct task {
@@ -198,14 +200,30 @@ static void read_source(const char *path, lo_object *library) {
     }
 }
 
-/* Prints a line of the table for each number of threads. */
+static int by_size(const void *a, const void *b) {
+    double x = *(const double *)a, y = *(const double *)b;
+    return (x > y) - (x < y);
+}
+
+static double middle(double *found) {
+    qsort(found, ROUNDS, sizeof *found, by_size);
+    return found[ROUNDS / 2];
+}
+
+/* Prints a line of the table for each number of threads: 1, 2 and 4. */
 static void measure_row(const struct row *row, side *sides) {
+    static double ours[COUNTS][ROUNDS], theirs[COUNTS][ROUNDS];
     double us_before = 0, them_before = 0;
-    for (int threads = 1; threads <= MOST_THREADS; threads *= 2) {
-        double us = measured(row->ours, row->times, sides, threads);
-        double them = measured(row->theirs, row->times, sides, threads);
-        printf("%-30s %7d %10.1f %10.1f %8.2f", row->name, threads, us, them, them / us);
-        if (threads > 1) printf(" %8.2f %8.2f", 2 * us_before / us, 2 * them_before / them);
+    for (int round = 0; round < ROUNDS; round++) {
+        for (int i = 0; i < COUNTS; i++) {
+            ours[i][round] = measured(row->ours, row->times, sides, 1 << i);
+            theirs[i][round] = measured(row->theirs, row->times, sides, 1 << i);
+        }
+    }
+    for (int i = 0; i < COUNTS; i++) {
+        double us = middle(ours[i]), them = middle(theirs[i]);
+        printf("%-30s %7d %10.1f %10.1f %8.2f", row->name, 1 << i, us, them, them / us);
+        if (i > 0) printf(" %8.2f %8.2f", 2 * us_before / us, 2 * them_before / them);
         printf("\n");
         us_before = us;
         them_before = them;

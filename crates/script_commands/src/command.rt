@@ -163,21 +163,11 @@ pub enum Command {
 }
 
 /// A command with its place in the script.
-#[derive(Debug)]
+#[derive(Debug, Drop)]
 pub struct Placed {
     /// The round, from 1.
     pub round: u32,
     /// The number of the thread, from 0.
     pub thread: u32,
     pub command: Command,
-}
-
-impl Drop for Placed {
-    fn drop(self) {
-        let Placed {
-            round: _,
-            thread: _,
-            command: _,
-        } = self;
-    }
 }

@@ -100,7 +100,6 @@ pub enum Said {
 }
 
 impl Drop for Said {
-    #[inline(always)]
     fn drop(self) {
         match self {
             Said::Handle(_a) => {}

@@ -127,6 +127,17 @@ short_reads max levels v t before format at s (Plain letter found) stands is non
     let left' = rw gives at left in
     rw is.0 (omega (arith, left', more))
 
+-- a byte is no step, and a conversion is one
+pub counted_byte : (at : ℕ) (s : Step) (short : Short) (c : ℕ) → IsShort at s short → short ≡ Byte c → counted s ≡ 0
+counted_byte at s short c piece is =
+    let here : IsShort at s (Byte c) = subst (λ (x : Short). IsShort at s x) is piece in
+    ap counted here
+
+pub counted_plain : (at : ℕ) (s : Step) (short : Short) (letter : ℕ) (found : Conversion) → IsShort at s short → short ≡ Plain letter found → counted s ≡ 1
+counted_plain at s short letter found piece is =
+    let here : IsShort at s (Plain letter found) = subst (λ (x : Short). IsShort at s x) is piece in
+    ap counted here.0
+
 -- ---- a conversion without a modifier that stands for a format of the locale
 
 pub inner_reads : (max levels : ℕ) (v : TimeValues) (t : TmValues) (before : ℕ) (format : List ℕ) (at : ℕ) (s : Step) (key : TimeText) → IsStep format at s → IsSeen at s (Inner key) → before ≤ max

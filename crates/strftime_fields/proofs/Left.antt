@@ -1,6 +1,6 @@
 -- What the pieces of a format give that are left at a place, and how many conversions they are.
 use Rattle.std.proofs.Common.{◌≡◌, ℕ, zero, suc, ◌+◌, ◌-◌, ◌<◌, Bool, true, false, List, [], ◌∷◌, ◌++◌, Option, Some, None, cond, refl, sym, ap, ◌∙◌, append-nil, subst, arith, count_by, flat_map, length, drop, ◌≤◌}
-use Rattle.std.proofs.lemmas.List.{drop_all}
+use Rattle.std.proofs.lemmas.List.{drop_all, drop-drop, length-drop}
 use Rattle.std.proofs.lemmas.List.Sums.{sum_by-cons}
 use Rattle.time_cat.specs.declared.conversion.Conversion.{Conversion}
 use Rattle.time_cat.specs.declared.conversion.Shows.TheVariants.{Format}
@@ -8,7 +8,8 @@ use Rattle.time_cat.specs.declared.conversion.TimeText.{TimeText}
 use Rattle.time_cat.specs.Conversions.{conversion}
 use Rattle.time_cat.specs.declared.step.Step.{Step}
 use Rattle.time_cat.specs.declared.step.Step.TheVariants as steps
-use Rattle.time_cat.specs.Formats.{Piece, Literal, Converted, Wrong, pieces, rest_of, is_conversion, bad_place, counted, IsStep}
+use Rattle.time_cat.specs.Formats.{Piece, Literal, Converted, Wrong, pieces, rest_of, is_conversion, step, bad_place, counted, IsStep}
+use Rattle.time_cat.proofs.StepLemmas.{is_step}
 use Rattle.time_cat.specs.Times.{TmValues}
 use Rattle.time_cat.specs.TimeValues.{TimeValues, format_text}
 use Rattle.time_cat.specs.Shown.{expanded, converted, piece_text, format_for, plain_text, conversions_of}
@@ -53,6 +54,19 @@ pieces_at_start format = refl
 pub nothing_left : (format : List ℕ) (at : ℕ) → length format ≤ at → rest_of format at ≡ []
 unfolding rest_of
 nothing_left format at end = let none : drop at format ≡ [] = drop_all at format end in rw none refl
+
+-- where what is left of a format stands, behind some bytes more, and that it is what is left there
+pub behind : (format rest next : List ℕ) (n : ℕ) → rest ≡ drop (length format - length rest) format → length rest ≤ length format → n ≤ length rest → next ≡ drop n rest
+    → (length next ≤ length format) × (length format - length next ≡ length format - length rest + n) × (next ≡ drop (length format - length next) format) × (length next + n ≡ length rest)
+behind format rest next n left within some is =
+    let long : length next ≡ length rest - n = ap length is ∙ length-drop n rest in
+    let place : length format - length next ≡ length format - length rest + n = omega (arith, long, within, some) in
+    let same : next ≡ drop (length format - length rest + n) format = is ∙ (ap (drop n) left ∙ drop-drop n (length format - length rest) format) in
+    (omega (arith, long, within), place, rw place same, omega (arith, long, some))
+
+-- what is left begins with what stands there
+pub stands_here : (format rest : List ℕ) (at : ℕ) → rest ≡ drop at format → IsStep format at (step at rest)
+stands_here format rest at is = rw is (is_step format at)
 
 -- a format without levels gives nothing
 pub no_levels : (levels : ℕ) (v : TimeValues) (t : TmValues) (format : List ℕ) → levels ≡ 0 → expanded levels v t format ≡ []

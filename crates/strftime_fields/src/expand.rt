@@ -1,6 +1,6 @@
 //! Formats within formats.
 
-ghost use Rattle.std.specs.Prelude.{◌≡◌, ◌+◌, ◌++◌, ◌<◌, ◌≤◌, length, drop, vec_capacity, IfOk};
+ghost use Rattle.std.specs.Prelude.{◌≡◌, ◌+◌, ◌++◌, ◌<◌, ◌≤◌, length, drop, vec_capacity, IfOk, ℕ};
 ghost use Rattle.time_cat.specs.Conversions.{conversion};
 ghost use Rattle.time_cat.specs.Formats.{pieces, bad_place, step};
 ghost use Rattle.time_cat.specs.Shown.{expanded, converted};
@@ -10,9 +10,9 @@ ghost use Rattle.strftime_fields.specs.Cost.{read_for, reads};
 ghost use Rattle.strftime_fields.specs.Reading.{IsSeen, SeenFormatless, AddsSeen};
 
 use crate::digits::put_number_within;
-use crate::output::{Stop, put_byte, put_byte_within, put_within};
-use crate::plain::{format_for, name, number, put_plain};
-use crate::read::{Seen, Short, short_at, width};
+use crate::output::{Stop, put_byte, put_byte_within, put_long_within, put_within};
+use crate::plain::{format_for, full_time, name, number, put_plain, short_time};
+use crate::read::{Seen, Short, short_of};
 use std::mem::replace;
 use std::sync::ledger::Ledger;
 use time_cat::{Shows, Step, Steps, Time, TimeText, Tm, conversion_of, step_at};
@@ -39,44 +39,46 @@ pub fn put_format<L: Ledger>(
     }
     // The format that is read: the caller's, or one that ends it.
     let mut current = format;
+    // What is left of it.
+    let mut rest = format;
     let mut depth = levels;
     let mut whole = true;
-    let mut at = 0;
     let mut text = held(out);
     let mut limit = text.capacity().min(max);
     'reading: loop {
-        match put_short(&mut text, limit, t, tm, current, at) {
-            Seen::Added(short) => {
-                // The piece is known already: this counts it.
-                let _step = step_at(current, at, steps);
-                let taken = width(short);
-                at += taken;
+        match put_short(&mut text, limit, t, tm, rest) {
+            Seen::Added(Short::Byte(_)) => rest = &rest[1..],
+            Seen::Added(Short::Plain { .. }) => {
+                steps.tick();
+                rest = &rest[2..];
             }
             Seen::Inner(key) => {
-                let _step = step_at(current, at, steps);
-                at += 2;
-                if at == current.len() && 1 < depth {
+                steps.tick();
+                rest = &rest[2..];
+                let inner = text_of(t, key);
+                if rest.is_empty() && 1 < depth {
                     // Nothing is behind it, so it is read in place of this one.
-                    current = text_of(t, key);
+                    current = inner;
+                    rest = inner;
                     depth -= 1;
                     whole = false;
-                    at = 0;
                 } else {
                     *out = text;
-                    put_inner(depth - 1, t, tm, max, text_of(t, key), steps, out)?;
+                    put_inner(depth - 1, t, tm, max, inner, steps, out)?;
                     text = held(out);
                     limit = text.capacity().min(max);
                 }
             }
             Seen::Other => {
                 *out = text;
+                let at = current.len() - rest.len();
                 match step_at(current, at, steps) {
                     Step::End => return Ok(None),
                     Step::Bad if whole => return Ok(Some(at)),
                     Step::Bad => return Ok(None),
                     Step::Byte(byte) => {
                         put_byte(out, max, byte)?;
-                        at += 1;
+                        rest = &rest[1..];
                         text = held(out);
                         limit = text.capacity().min(max);
                     }
@@ -87,7 +89,7 @@ pub fn put_format<L: Ledger>(
                         ..
                     } => {
                         put_other(depth - 1, t, tm, max, modifier, letter, steps, out)?;
-                        at = next;
+                        rest = &current[next..];
                         text = held(out);
                         limit = text.capacity().min(max);
                     }
@@ -107,20 +109,20 @@ fn held(out: &mut Vec<u8>) -> Vec<u8>
     replace(out, empty)
 }
 
-/// Adds what the piece gives that stands at a place, if it is a byte, or a name or a number without a
-/// modifier, and if the text is then no longer than `limit`. There is room for a text of that length.
+/// Adds what the piece gives that bytes begin with, if it is a byte, or a name, a number or a time of
+/// day without a modifier, and if the text is then no longer than `limit`. There is room for a text of
+/// that length.
 #[inline(always)]
-fn put_short(out: &mut Vec<u8>, limit: usize, t: &Time, tm: &Tm, format: &[u8], at: usize) -> Seen
-    requires within { at ≤ length format.now }
+fn put_short(out: &mut Vec<u8>, limit: usize, t: &Time, tm: &Tm, rest: &[u8]) -> Seen
     requires short { length out.old.items ≤ limit }
     requires room { limit ≤ vec_capacity out.old }
-    ensures piece { IsSeen at (step at (drop at format.now)) result }
+    ensures piece { (at : ℕ) → IsSeen at (step at rest.now) result }
     ensures formatless { SeenFormatless t.now tm.now result }
     ensures text { AddsSeen t.now tm.now out.old.items out.new.items result }
     ensures short { length out.new.items ≤ limit }
     ensures room { limit ≤ vec_capacity out.new }
 {
-    let Some(short) = short_at(format, at) else {
+    let Some(short) = short_of(rest) else {
         return Seen::Other;
     };
     let added = match short {
@@ -131,6 +133,8 @@ fn put_short(out: &mut Vec<u8>, limit: usize, t: &Time, tm: &Tm, format: &[u8], 
                 put_number_within(out, limit, layout, number(quantity, tm))
             }
             Shows::Format(key) => return Seen::Inner(key),
+            Shows::ShortTime => put_long_within(out, limit, &short_time(tm)),
+            Shows::FullTime => put_long_within(out, limit, &full_time(tm)),
             _ => return Seen::Other,
         },
     };

@@ -148,7 +148,7 @@ pub fn put_four_within(out: &mut Vec<u8>, limit: usize, bytes: [u8; 4]) -> bool
 
 /// The same of any bytes.
 #[inline(always)]
-fn put_long_within(out: &mut Vec<u8>, limit: usize, bytes: &[u8]) -> bool
+pub fn put_long_within(out: &mut Vec<u8>, limit: usize, bytes: &[u8]) -> bool
     requires short { length out.old.items ≤ limit }
     requires room { limit ≤ vec_capacity out.old }
     ensures text { Adds out.old.items bytes.now out.new.items result }
@@ -164,7 +164,7 @@ fn put_long_within(out: &mut Vec<u8>, limit: usize, bytes: &[u8]) -> bool
     true
 }
 
-/// The same of any bytes, where a few are added without a loop.
+/// The same of any bytes, where up to nine are added without a loop.
 #[inline(always)]
 pub fn put_within(out: &mut Vec<u8>, limit: usize, bytes: &[u8]) -> bool
     requires short { length out.old.items ≤ limit }
@@ -177,6 +177,15 @@ pub fn put_within(out: &mut Vec<u8>, limit: usize, bytes: &[u8]) -> bool
         [a, b] => put_two_within(out, limit, [*a, *b]),
         [a, b, c] => put_three_within(out, limit, [*a, *b, *c]),
         [a, b, c, d] => put_four_within(out, limit, [*a, *b, *c, *d]),
+        [a, b, c, d, e] => put_long_within(out, limit, &[*a, *b, *c, *d, *e]),
+        [a, b, c, d, e, f] => put_long_within(out, limit, &[*a, *b, *c, *d, *e, *f]),
+        [a, b, c, d, e, f, g] => put_long_within(out, limit, &[*a, *b, *c, *d, *e, *f, *g]),
+        [a, b, c, d, e, f, g, h] => {
+            put_long_within(out, limit, &[*a, *b, *c, *d, *e, *f, *g, *h])
+        }
+        [a, b, c, d, e, f, g, h, i] => {
+            put_long_within(out, limit, &[*a, *b, *c, *d, *e, *f, *g, *h, *i])
+        }
         _ => put_long_within(out, limit, bytes),
     }
 }

@@ -92,7 +92,8 @@ fn dashed_date(tm: &Tm) -> [u8; 10]
 }
 
 /// Hour and minute.
-fn short_time(tm: &Tm) -> [u8; 5]
+#[inline(always)]
+pub fn short_time(tm: &Tm) -> [u8; 5]
     ensures { result ≡ short_time tm.now }
 {
     let (hour, minute) = (tm.hour(), tm.min());
@@ -106,7 +107,8 @@ fn short_time(tm: &Tm) -> [u8; 5]
 }
 
 /// Hour, minute and second.
-fn full_time(tm: &Tm) -> [u8; 8]
+#[inline(always)]
+pub fn full_time(tm: &Tm) -> [u8; 8]
     ensures { result ≡ full_time tm.now }
 {
     let (hour, minute, second) = (tm.hour(), tm.min(), tm.sec());

@@ -2,7 +2,7 @@
 
 ghost use Rattle.std.specs.Prelude.{◌≡◌, ◌≤◌, ℕ, length, drop, IfSome};
 ghost use Rattle.time_cat.specs.Formats.{step};
-ghost use Rattle.strftime_fields.specs.Reading.{IsShort, width};
+ghost use Rattle.strftime_fields.specs.Reading.{IsShort};
 
 use time_cat::{Conversion, TimeText, conversion_of};
 
@@ -30,7 +30,7 @@ pub enum Seen {
 /// The piece that bytes begin with, if it is a byte or a conversion without a modifier.
 #[tactic(auto, using(crate::proofs::Shorts::no_modifier))]
 #[inline(always)]
-fn short_of(rest: &[u8]) -> Option<Short>
+pub fn short_of(rest: &[u8]) -> Option<Short>
     ensures { IfSome result (λ r. (at : ℕ) → IsShort at (step at rest.now) r) }
 {
     match rest {
@@ -56,15 +56,4 @@ pub fn short_at(format: &[u8], at: usize) -> Option<Short>
     ensures { IfSome result (IsShort at (step at (drop at format.now))) }
 {
     short_of(&format[at..])
-}
-
-/// How many bytes of the format a piece takes.
-#[inline(always)]
-pub fn width(short: Short) -> usize
-    ensures { result ≡ width short }
-{
-    match short {
-        Short::Byte(_) => 1,
-        Short::Plain { .. } => 2,
-    }
 }

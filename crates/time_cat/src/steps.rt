@@ -34,8 +34,8 @@ impl<L: Ledger> Steps<L> {
         Steps { book, share }
     }
 
-    /// One step more.
-    pub(crate) fn tick(&mut self)
+    /// One step more: a conversion that the caller has read by itself.
+    pub fn tick(&mut self)
         ensures { self.new ≡ self.old + 1 }
     {
         self.book.add(&mut self.share, 1);
