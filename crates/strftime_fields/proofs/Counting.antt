@@ -18,12 +18,9 @@ use Rattle.strftime_fields.specs.declared.read.Short.TheVariants.{Byte, Plain}
 use Rattle.strftime_fields.specs.Appending.{Appends, CountsTo, fault_of}
 use Rattle.strftime_fields.specs.Cost.{read_for, piece_reads, pieces_read, reads, cost, Counts}
 use Rattle.strftime_fields.specs.declared.read.Seen.TheVariants.{Inner}
+use Rattle.strftime_fields.specs.Going.{reads_left}
 use Rattle.strftime_fields.specs.Reading.{IsShort, IsFormatless, IsSeen, width, short_text}
 use Rattle.strftime_fields.proofs.Left.{plain_conversion, format_conversion, nothing_left}
-
--- of what is left at a place, behind so many bytes of the text
-unfoldable pub reads_left : ℕ → ℕ → TimeValues → TmValues → ℕ → List ℕ → ℕ → ℕ
-reads_left max levels v t before format at = pieces_read max v t (expanded (levels - 1) v t) (reads max (levels - 1) v t) before (rest_of format at)
 
 pub reads_at_start : (max levels : ℕ) (v : TimeValues) (t : TmValues) (before : ℕ) (format : List ℕ) → 0 < levels → reads_left max levels v t before format 0 ≡ reads max levels v t before format
 unfolding reads_left reads rest_of pieces

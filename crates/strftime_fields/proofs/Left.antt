@@ -1,5 +1,5 @@
 -- What the pieces of a format give that are left at a place, and how many conversions they are.
-use Rattle.std.proofs.Common.{◌≡◌, ℕ, zero, suc, ◌+◌, ◌-◌, ◌<◌, Bool, true, false, List, [], ◌∷◌, ◌++◌, Option, Some, None, cond, refl, sym, ap, ◌∙◌, append-nil, subst, arith, count_by, flat_map, length, drop, ◌≤◌}
+use Rattle.std.proofs.Common.{◌≡◌, ℕ, zero, suc, ◌+◌, ◌-◌, ◌<◌, Bool, true, false, List, [], ◌∷◌, ◌++◌, Option, Some, None, cond, refl, sym, ap, ◌∙◌, append-nil, subst, arith, count_by, length, drop, ◌≤◌}
 use Rattle.std.proofs.lemmas.List.{drop_all, drop-drop, length-drop}
 use Rattle.std.proofs.lemmas.List.Sums.{sum_by-cons}
 use Rattle.time_cat.specs.declared.conversion.Conversion.{Conversion}
@@ -12,17 +12,14 @@ use Rattle.time_cat.specs.Formats.{Piece, Literal, Converted, Wrong, pieces, res
 use Rattle.time_cat.proofs.StepLemmas.{is_step}
 use Rattle.time_cat.specs.Times.{TmValues}
 use Rattle.time_cat.specs.TimeValues.{TimeValues, format_text}
-use Rattle.time_cat.specs.Shown.{expanded, converted, piece_text, format_for, plain_text, conversions_of}
+use Rattle.time_cat.specs.Shown.{expanded, converted, format_for, plain_text, conversions_of}
 use Rattle.strftime_fields.specs.declared.read.Short.{Short}
 use Rattle.strftime_fields.specs.declared.read.Short.TheVariants.{Byte, Plain}
 use Rattle.strftime_fields.specs.declared.read.Seen.TheVariants.{Inner}
 use Rattle.strftime_fields.specs.Reading.{IsShort, IsFormatless, IsSeen, width, short_text}
+use Rattle.strftime_fields.specs.Going.{text_left, Bads}
 
 -- ---- texts
-
--- what is left gives, where a format that stands behind a conversion lies one level deeper
-unfoldable pub text_left : ℕ → TimeValues → TmValues → List ℕ → ℕ → List ℕ
-text_left levels v t format at = flat_map (piece_text v t (expanded (levels - 1) v t)) (rest_of format at)
 
 pub text_at_start : (levels : ℕ) (v : TimeValues) (t : TmValues) (format : List ℕ) → 0 < levels → text_left levels v t format 0 ≡ expanded levels v t format
 unfolding text_left expanded rest_of pieces
@@ -171,11 +168,6 @@ inner_ends levels v t format at s key stands is end deep =
     let start = text_at_start (levels - 1) v t (format_text v key) (omega (arith, deep)) in
     inner_left levels v t format at s key stands is ∙ (ap (λ (x : List ℕ). expanded (levels - 1) v t (format_text v key) ++ x) none ∙ (append-nil (expanded (levels - 1) v t (format_text v key)) ∙ sym start))
 
--- where a `%` stands that begins no conversion: there in what is left of the whole format, or nowhere where another one ends it
-abbrev pub Bads : Bool → Option ℕ → Option ℕ → Type 0
-Bads true left all = left ≡ all
-Bads false left all = all ≡ None
-
 pub bads_same : (whole : Bool) (left next all : Option ℕ) → left ≡ next → Bads whole left all → Bads whole next all
 bads_same whole left next all same bad = subst (λ (x : Option ℕ). Bads whole x all) same bad
 
@@ -186,6 +178,10 @@ bads_none false all bad = sym bad
 pub bads_here : (whole : Bool) (left all : Option ℕ) → whole ≡ true → Bads whole left all → left ≡ all
 bads_here true left all is bad = bad
 bads_here false left all is bad = cc
+
+pub bads_elsewhere : (whole : Bool) (left all : Option ℕ) → whole ≡ false → Bads whole left all → None ≡ all
+bads_elsewhere true left all is bad = cc
+bads_elsewhere false left all is bad = sym bad
 
 pub inner_ends_bad : (whole : Bool) (format : List ℕ) (at : ℕ) (s : Step) (key : TimeText) (all : Option ℕ) → IsStep format at s → IsSeen at s (Inner key) → length format ≤ at + 2 → Bads whole (bad_place (rest_of format at)) all → all ≡ None
 inner_ends_bad whole format at s key all stands is end bad =

@@ -4,6 +4,7 @@ pub mod Bound
 pub mod CalendarLemmas
 pub mod Counting
 pub mod Examples
+pub mod Going
 pub mod Left
 pub mod Numbers
 pub mod Offsets

@@ -4,12 +4,12 @@ use lib.Ieee.Fits.{and_l, and_r}
 use Rattle.strftime_fields.specs.declared.digits.TheConstants.{PAIRS}
 use Rattle.time_cat.specs.Shown.{two, four}
 
--- the pairs below a number are those of two digits
+-- the pairs below a number are those of its last two digits
 abbrev are_pairs : ℕ → Bool
 are_pairs zero = true
-are_pairs (suc p) = (eqb (get_or PAIRS (p * 2) 0) (48 + p / 10) && eqb (get_or PAIRS (p * 2 + 1) 0) (48 + p % 10)) && are_pairs p
+are_pairs (suc p) = (eqb (get_or PAIRS (p * 2) 0) (48 + p / 10 % 10) && eqb (get_or PAIRS (p * 2 + 1) 0) (48 + p % 10)) && are_pairs p
 
-below : (n p : ℕ) → T (are_pairs n) → p < n → (get_or PAIRS (p * 2) 0 ≡ 48 + p / 10) × (get_or PAIRS (p * 2 + 1) 0 ≡ 48 + p % 10)
+below : (n p : ℕ) → T (are_pairs n) → p < n → (get_or PAIRS (p * 2) 0 ≡ 48 + p / 10 % 10) × (get_or PAIRS (p * 2 + 1) 0 ≡ 48 + p % 10)
 below zero p t h = absurd (omega arith)
 below (suc n) p t h =
     elim (eq-zero-or-pos (n - p)) [
@@ -20,11 +20,15 @@ below (suc n) p t h =
 same_pair : (a a' b b' : ℕ) → a ≡ a' → b ≡ b' → (48 + a) ∷ (48 + b) ∷ [] ≡ (48 + a') ∷ (48 + b') ∷ []
 same_pair a a' b b' e f = rw (e, f) refl
 
--- the last two digits are the pair of the number below 100
-pub two_of_pair : (n : ℕ) → get_or PAIRS (n % 100 * 2) 0 ∷ get_or PAIRS (n % 100 * 2 + 1) 0 ∷ [] ≡ two n
-two_of_pair n =
-    let p = below 100 (n % 100) tt (omega arith) in
-    rw (p.0, p.1) (same_pair (n % 100 / 10) (n / 10 % 10) (n % 100 % 10) (n % 10) (omega arith) (omega arith))
+-- the last two digits of a number below 256 are its pair
+pub two_of_pair : (n : ℕ) → n < 256 → get_or PAIRS (n * 2) 0 ∷ get_or PAIRS (n * 2 + 1) 0 ∷ [] ≡ two n
+two_of_pair n small =
+    let p = below 256 n tt small in
+    rw (p.0, p.1) refl
+
+-- and those of any number are those of its rest
+pub two_of_rest : (n : ℕ) → two (n % 100) ≡ two n
+two_of_rest n = same_pair (n % 100 / 10 % 10) (n / 10 % 10) (n % 100 % 10) (n % 10) (omega arith) (omega arith)
 
 -- the last four are those of two pairs
 pub four_of_pairs : (old : List ℕ) (n : ℕ) → (old ++ two (n / 100)) ++ two n ≡ old ++ four n

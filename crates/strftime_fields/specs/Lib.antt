@@ -3,4 +3,5 @@ pub mod Answers
 pub mod Calendar
 pub mod Cost
 pub mod Reading
+pub mod Going
 pub mod Refusals

@@ -1,19 +1,17 @@
 //! Numbers as they are written.
 
-ghost use Rattle.std.specs.Prelude.{◌≡◌, ◌≤◌, ◌<◌, ◌%◌, length, vec_capacity, decimal};
+ghost use Rattle.std.specs.Prelude.{◌≡◌, ◌≤◌, ◌<◌, ◌%◌, ◌+◌, length, vec_capacity, decimal};
 ghost use Rattle.std.specs.Fmt.{signed_decimal};
 ghost use Rattle.time_cat.specs.Shown.{last_digit, two, three, four, laid_out, spaced};
 ghost use Rattle.strftime_fields.specs.Appending.{Appends, Adds};
 
-use crate::output::{
-    Stop, put, put_byte_within, put_four_within, put_three_within, put_two_within,
-};
+use crate::output::{Stop, put, put_here};
 use itoa::Buffer;
 use time_cat::Layout;
 
-/// The two digits of each number from 0 to 99.
-static PAIRS: [u8; 200] =
-    *b"00010203040506070809101112131415161718192021222324252627282930313233343536373839404142434445464748495051525354555657585960616263646566676869707172737475767778798081828384858687888990919293949596979899";
+/// The last two digits of each number from 0 to 255.
+static PAIRS: [u8; 512] =
+    *b"00010203040506070809101112131415161718192021222324252627282930313233343536373839404142434445464748495051525354555657585960616263646566676869707172737475767778798081828384858687888990919293949596979899000102030405060708091011121314151617181920212223242526272829303132333435363738394041424344454647484950515253545556575859606162636465666768697071727374757677787980818283848586878889909192939495969798990001020304050607080910111213141516171819202122232425262728293031323334353637383940414243444546474849505152535455";
 
 /// The last decimal digit.
 #[inline(always)]
@@ -32,17 +30,27 @@ fn below_hundred(n: u32) -> u32
     if n < 100 { n } else { n % 100 }
 }
 
-/// The last two digits.
+/// The last two digits of a small number.
 #[tactic(auto, using(crate::proofs::Pairs::two_of_pair))]
+#[inline(always)]
+pub fn pair(n: u8) -> [u8; 2]
+    ensures { result ≡ two n }
+{
+    let from = n as usize * 2;
+    [PAIRS[from], PAIRS[from + 1]]
+}
+
+/// The last two digits.
+#[tactic(auto, using(crate::proofs::Pairs::two_of_rest))]
 #[inline(always)]
 pub fn two(n: u32) -> [u8; 2]
     ensures { result ≡ two n }
 {
-    let from = below_hundred(n) as usize * 2;
-    [PAIRS[from], PAIRS[from + 1]]
+    pair(below_hundred(n) as u8)
 }
 
 /// The last three digits.
+#[inline(always)]
 pub fn three(n: u32) -> [u8; 3]
     ensures { result ≡ three n }
 {
@@ -122,7 +130,7 @@ fn put_three(out: &mut Vec<u8>, max: usize, n: u32) -> Result<(), Stop>
 
 /// A number in two places.
 #[inline(always)]
-fn spaced(n: u32) -> [u8; 2]
+pub fn spaced(n: u32) -> [u8; 2]
     ensures { result ≡ spaced n }
 {
     if n < 10 {
@@ -155,39 +163,21 @@ pub fn put_number(out: &mut Vec<u8>, max: usize, layout: Layout, n: u32) -> Resu
     }
 }
 
-/// Adds a number without padding, if it has one digit or four and if the text is then no longer
-/// than `limit`, and says whether it did. There is room for a text of that length.
+/// Adds a number without padding, if it has one digit or four, and says whether it did. There is room
+/// for it.
 #[tactic(auto, using(crate::proofs::Numbers::one_digit, crate::proofs::Numbers::four_digits))]
 #[inline(always)]
-fn put_bare_within(out: &mut Vec<u8>, limit: usize, n: u32) -> bool
-    requires short { length out.old.items ≤ limit }
-    requires room { limit ≤ vec_capacity out.old }
+pub fn put_bare_here(out: &mut Vec<u8>, n: u32) -> bool
+    requires room { length out.old.items + 16 ≤ vec_capacity out.old }
     ensures text { Adds out.old.items (decimal n) out.new.items result }
-    ensures short { length out.new.items ≤ limit }
-    ensures room { limit ≤ vec_capacity out.new }
+    ensures short { length out.new.items ≤ length out.old.items + 16 }
+    ensures room { vec_capacity out.new ≡ vec_capacity out.old }
 {
     if 1000 <= n && n <= 9999 {
-        put_four_within(out, limit, four(n))
+        put_here(out, &four(n))
     } else if n < 10 {
-        put_byte_within(out, limit, last_digit(n))
+        put_here(out, &[last_digit(n)])
     } else {
         false
-    }
-}
-
-/// Adds a number as it is written, if that is so, and says whether it did.
-#[inline(always)]
-pub fn put_number_within(out: &mut Vec<u8>, limit: usize, layout: Layout, n: u32) -> bool
-    requires short { length out.old.items ≤ limit }
-    requires room { limit ≤ vec_capacity out.old }
-    ensures text { Adds out.old.items (laid_out layout n) out.new.items result }
-    ensures short { length out.new.items ≤ limit }
-    ensures room { limit ≤ vec_capacity out.new }
-{
-    match layout {
-        Layout::Bare => put_bare_within(out, limit, n),
-        Layout::Two => put_two_within(out, limit, two(n)),
-        Layout::Three => put_three_within(out, limit, three(n)),
-        Layout::Spaced => put_two_within(out, limit, spaced(n)),
     }
 }

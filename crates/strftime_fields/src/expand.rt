@@ -1,25 +1,41 @@
 //! Formats within formats.
 
-ghost use Rattle.std.specs.Prelude.{◌≡◌, ◌+◌, ◌++◌, ◌<◌, ◌≤◌, length, drop, vec_capacity, IfOk, ℕ};
+ghost use Rattle.std.specs.Prelude.{◌≡◌, ◌+◌, ◌<◌, ◌≤◌, length, vec_capacity, IfOk, ℕ};
 ghost use Rattle.time_cat.specs.Conversions.{conversion};
 ghost use Rattle.time_cat.specs.Formats.{pieces, bad_place, step};
 ghost use Rattle.time_cat.specs.Shown.{expanded, converted};
-ghost use Rattle.time_cat.specs.TimeValues.{format_text};
 ghost use Rattle.strftime_fields.specs.Appending.{Appends, CountsTo, added};
 ghost use Rattle.strftime_fields.specs.Cost.{read_for, reads};
+ghost use Rattle.strftime_fields.specs.Going.{Stands, Goes, Ends, place_of};
 ghost use Rattle.strftime_fields.specs.Reading.{IsSeen, SeenFormatless, AddsSeen};
 
-use crate::digits::put_number_within;
-use crate::output::{Stop, put_byte, put_byte_within, put_long_within, put_within};
-use crate::plain::{format_for, full_time, name, number, put_plain, short_time};
+use crate::output::{Stop, put_byte, put_here, put_name_here};
+use crate::plain::{format_for, full_time, name, put_number_here, put_plain, short_time};
 use crate::read::{Seen, Short, short_of};
 use std::mem::replace;
 use std::sync::ledger::Ledger;
-use time_cat::{Shows, Step, Steps, Time, TimeText, Tm, conversion_of, step_at};
+use time_cat::{NAME_FRONT, Shows, Step, Steps, Time, Tm, conversion_of, step_at};
+
+/// How many bytes a piece that is told at first sight adds at most, with a byte behind it.
+const MOST: usize = NAME_FRONT + 1;
+
+/// Where the reading of formats stands.
+#[derive(Clone, Copy)]
+pub struct Left<'a> {
+    /// The format that is read: the caller's, or one that ends it.
+    format: &'a [u8],
+    /// What is left of it.
+    rest: &'a [u8],
+    /// How many formats may lie within one another, with this one.
+    levels: u8,
+    /// Whether it is the caller's.
+    whole: bool,
+}
 
 /// Adds what a format gives, with so many formats within one another, up to the first `%` that begins
 /// no conversion, and says where that stands.
 #[cycle(expand)]
+#[inline(always)]
 pub fn put_format<L: Ledger>(
     levels: u8,
     t: &Time,
@@ -37,65 +53,108 @@ pub fn put_format<L: Ledger>(
     if levels == 0 {
         return Ok(None);
     }
-    // The format that is read: the caller's, or one that ends it.
-    let mut current = format;
-    // What is left of it.
-    let mut rest = format;
-    let mut depth = levels;
-    let mut whole = true;
+    let mut left = Left {
+        format,
+        rest: format,
+        levels,
+        whole: true,
+    };
+    put_quick(t, tm, max, &mut left, steps, out);
+    if left.rest.is_empty() {
+        return Ok(None);
+    }
+    put_left(t, tm, max, &mut left, steps, out)
+}
+
+/// Adds what the next pieces give that are told at first sight and for which there is room, also those of
+/// a format of the locale that ends this one. All that it needs stays in registers, as nothing that it
+/// calls is a call in the program.
+#[inline(never)]
+fn put_quick<'a, L: Ledger>(
+    t: &'a Time,
+    tm: &Tm,
+    max: usize,
+    left: &mut Left<'a>,
+    steps: &mut Steps<L>,
+    out: &mut Vec<u8>,
+)
+    requires stands { Stands (place_of left.old) }
+    requires short { length out.old.items ≤ max }
+    ensures goes { Goes max t.now tm.now out.old.items steps.old (place_of left.old) out.new.items steps.new (place_of left.new) }
+    ensures short { length out.new.items ≤ max }
+{
+    let limit = out.capacity().min(max);
+    if limit < MOST {
+        return;
+    }
+    let stop = limit - MOST;
+    let mut rest = left.rest;
     let mut text = held(out);
-    let mut limit = text.capacity().min(max);
-    'reading: loop {
-        match put_short(&mut text, limit, t, tm, rest) {
+    'reading: while text.len() <= stop {
+        match put_piece(&mut text, t, tm, rest) {
             Seen::Added(Short::Byte(_)) => rest = &rest[1..],
             Seen::Added(Short::Plain { .. }) => {
                 steps.tick();
-                rest = &rest[2..];
+                match rest {
+                    [_, _, byte, ..] if *byte != b'%' => {
+                        text.push_reserved(*byte);
+                        rest = &rest[3..];
+                    }
+                    _ => rest = &rest[2..],
+                }
             }
-            Seen::Inner(key) => {
+            Seen::Inner(key) if rest.len() == 2 && 1 < left.levels => {
+                // Nothing is behind it, so it is read in place of this one.
                 steps.tick();
-                rest = &rest[2..];
-                let inner = text_of(t, key);
-                if rest.is_empty() && 1 < depth {
-                    // Nothing is behind it, so it is read in place of this one.
-                    current = inner;
-                    rest = inner;
-                    depth -= 1;
-                    whole = false;
-                } else {
-                    *out = text;
-                    put_inner(depth - 1, t, tm, max, inner, steps, out)?;
-                    text = held(out);
-                    limit = text.capacity().min(max);
-                }
+                rest = t.text(key);
+                left.format = rest;
+                left.levels -= 1;
+                left.whole = false;
             }
-            Seen::Other => {
-                *out = text;
-                let at = current.len() - rest.len();
-                match step_at(current, at, steps) {
-                    Step::End => return Ok(None),
-                    Step::Bad if whole => return Ok(Some(at)),
-                    Step::Bad => return Ok(None),
-                    Step::Byte(byte) => {
-                        put_byte(out, max, byte)?;
-                        rest = &rest[1..];
-                        text = held(out);
-                        limit = text.capacity().min(max);
-                    }
-                    Step::Conv {
-                        modifier,
-                        letter,
-                        next,
-                        ..
-                    } => {
-                        put_other(depth - 1, t, tm, max, modifier, letter, steps, out)?;
-                        rest = &current[next..];
-                        text = held(out);
-                        limit = text.capacity().min(max);
-                    }
-                }
+            Seen::Inner(_) | Seen::Other => break 'reading,
+        }
+    }
+    left.rest = rest;
+    *out = text;
+}
+
+/// Adds what is left of a format gives, up to the first `%` that begins no conversion, and says where
+/// that stands in the caller's.
+#[cycle(expand)]
+#[inline(never)]
+fn put_left<'a, L: Ledger>(
+    t: &'a Time,
+    tm: &Tm,
+    max: usize,
+    left: &mut Left<'a>,
+    steps: &mut Steps<L>,
+    out: &mut Vec<u8>,
+) -> Result<Option<usize>, Stop>
+    requires stands { Stands (place_of left.old) }
+    requires short { length out.old.items ≤ max }
+    ensures { Ends max t.now tm.now out.old.items steps.old (place_of left.old) out.new.items steps.new result }
+{
+    'reading: loop {
+        let at = left.format.len() - left.rest.len();
+        match step_at(left.format, at, steps) {
+            Step::End => return Ok(None),
+            Step::Bad if left.whole => return Ok(Some(at)),
+            Step::Bad => return Ok(None),
+            Step::Byte(byte) => {
+                put_byte(out, max, byte)?;
+                left.rest = &left.format[at + 1..];
+            }
+            Step::Conv {
+                modifier,
+                letter,
+                next,
+                ..
+            } => {
+                put_other(left.levels - 1, t, tm, max, modifier, letter, steps, out)?;
+                left.rest = &left.format[next..];
             }
         }
+        put_quick(t, tm, max, left, steps, out);
     }
 }
 
@@ -109,32 +168,29 @@ fn held(out: &mut Vec<u8>) -> Vec<u8>
     replace(out, empty)
 }
 
-/// Adds what the piece gives that bytes begin with, if it is a byte, or a name, a number or a time of
-/// day without a modifier, and if the text is then no longer than `limit`. There is room for a text of
-/// that length.
+/// Adds what the piece gives that bytes begin with, if it is a byte, or a short name, a number read off a
+/// field, a time of day or a sign without a modifier. There is room for it.
 #[inline(always)]
-fn put_short(out: &mut Vec<u8>, limit: usize, t: &Time, tm: &Tm, rest: &[u8]) -> Seen
-    requires short { length out.old.items ≤ limit }
-    requires room { limit ≤ vec_capacity out.old }
+fn put_piece(out: &mut Vec<u8>, t: &Time, tm: &Tm, rest: &[u8]) -> Seen
+    requires room { length out.old.items + 16 ≤ vec_capacity out.old }
     ensures piece { (at : ℕ) → IsSeen at (step at rest.now) result }
     ensures formatless { SeenFormatless t.now tm.now result }
     ensures text { AddsSeen t.now tm.now out.old.items out.new.items result }
-    ensures short { length out.new.items ≤ limit }
-    ensures room { limit ≤ vec_capacity out.new }
+    ensures short { length out.new.items ≤ length out.old.items + 16 }
+    ensures room { vec_capacity out.new ≡ vec_capacity out.old }
 {
     let Some(short) = short_of(rest) else {
         return Seen::Other;
     };
     let added = match short {
-        Short::Byte(byte) => put_byte_within(out, limit, byte),
+        Short::Byte(byte) => put_here(out, &[byte]),
         Short::Plain { found, .. } => match found.shows {
-            Shows::Name(list) => put_within(out, limit, name(t, tm, list)),
-            Shows::Number(quantity, layout) => {
-                put_number_within(out, limit, layout, number(quantity, tm))
-            }
+            Shows::Name(list) => put_name_here(out, name(t, tm, list)),
+            Shows::Number(quantity, layout) => put_number_here(out, tm, quantity, layout),
             Shows::Format(key) => return Seen::Inner(key),
-            Shows::ShortTime => put_long_within(out, limit, &short_time(tm)),
-            Shows::FullTime => put_long_within(out, limit, &full_time(tm)),
+            Shows::ShortTime => put_here(out, &short_time(tm)),
+            Shows::FullTime => put_here(out, &full_time(tm)),
+            Shows::Sign(byte) => put_here(out, &[byte]),
             _ => return Seen::Other,
         },
     };
@@ -143,14 +199,6 @@ fn put_short(out: &mut Vec<u8>, limit: usize, t: &Time, tm: &Tm, rest: &[u8]) ->
     } else {
         Seen::Other
     }
-}
-
-/// A format of the locale, in code of its own: a loop would look for each of them beforehand.
-#[inline(never)]
-fn text_of(t: &Time, key: TimeText) -> &[u8]
-    ensures { result.now ≡ format_text t.now key }
-{
-    t.text(key)
 }
 
 /// Adds what any conversion gives, with so many formats within one another, in code of its own.

@@ -1,18 +1,20 @@
 //! What conversions give, and the formats for which they stand.
 
-ghost use Rattle.std.specs.Prelude.{◌≡◌, ◌∷◌, ◌≤◌, length, count_by, Some, IfSome, option_map};
+ghost use Rattle.std.specs.Prelude.{◌≡◌, ◌∷◌, ◌≤◌, ◌+◌, ◌%◌, length, vec_capacity, count_by, Some, IfSome, option_map};
 ghost use Rattle.std.specs.Option.{option_copied};
 ghost use Rattle.time_cat.specs.Faults.{IsFormat};
 ghost use Rattle.time_cat.specs.Formats.{pieces, is_conversion};
 ghost use Rattle.time_cat.specs.declared.conversion.Shows.TheVariants.{EraName, EraYear};
 ghost use Rattle.time_cat.specs.Hits.{hit};
 ghost use Rattle.time_cat.specs.Shown.{quantity as value_of, alternative, name_text, slashed_date, dashed_date, short_time, full_time, hours_and_minutes, offset_text, era_of, or_plain, format_for, plain_text, or_text, laid_out};
-ghost use Rattle.strftime_fields.specs.Appending.{Appends};
+ghost use Rattle.strftime_fields.specs.Appending.{Appends, Adds};
 
-use crate::digits::{last_digit, put_bare, put_number, put_signed, two};
-use crate::output::{Stop, put, put_byte};
+use crate::digits::{
+    last_digit, pair, put_bare, put_bare_here, put_number, put_signed, spaced, three, two,
+};
+use crate::output::{Stop, put, put_byte, put_here};
 use crate::weeks::{behind_monday, iso_week, monday_week, sunday_week};
-use time_cat::{EraHit, Layout, NameList, Quantity, Shows, Time, Tm};
+use time_cat::{EraHit, Layout, Name, NameList, Quantity, Shows, Time, Tm};
 
 /// A number of a time.
 #[inline(always)]
@@ -40,9 +42,63 @@ pub fn number(quantity: Quantity, tm: &Tm) -> u32
     }
 }
 
+/// The hour from 1 to 12.
+#[inline(always)]
+fn half_day_hour(hour: u32) -> u32
+    requires { hour ≤ 23 }
+    ensures is { result ≡ (hour + 11) % 12 + 1 }
+    ensures few { result ≤ 12 }
+{
+    match hour {
+        0 => 12,
+        1..=12 => hour,
+        _ => hour - 12,
+    }
+}
+
+/// A number of a time that is read off a field and has at most two digits.
+#[inline(always)]
+fn few(quantity: Quantity, tm: &Tm) -> Option<u8>
+    ensures { IfSome result (λ n. n ≡ value_of quantity tm.now) }
+{
+    match quantity {
+        Quantity::YearOfCentury => Some((tm.year() % 100) as u8),
+        Quantity::Month => Some(tm.mon() as u8),
+        Quantity::Day => Some(tm.mday() as u8),
+        Quantity::Hour => Some(tm.hour() as u8),
+        Quantity::HalfDayHour => Some(half_day_hour(tm.hour()) as u8),
+        Quantity::Minute => Some(tm.min() as u8),
+        Quantity::Second => Some(tm.sec() as u8),
+        _ => None,
+    }
+}
+
+/// Adds a number that is read off a field, and says whether it did. There is room for it.
+#[inline(always)]
+pub fn put_number_here(out: &mut Vec<u8>, tm: &Tm, quantity: Quantity, layout: Layout) -> bool
+    requires room { length out.old.items + 16 ≤ vec_capacity out.old }
+    ensures text { Adds out.old.items (laid_out layout (value_of quantity tm.now)) out.new.items result }
+    ensures short { length out.new.items ≤ length out.old.items + 16 }
+    ensures room { vec_capacity out.new ≡ vec_capacity out.old }
+{
+    match (layout, quantity) {
+        (Layout::Two, _) => match few(quantity, tm) {
+            None => false,
+            Some(n) => put_here(out, &pair(n)),
+        },
+        (Layout::Spaced, _) => match few(quantity, tm) {
+            None => false,
+            Some(n) => put_here(out, &spaced(u32::from(n))),
+        },
+        (Layout::Bare, Quantity::Year) => put_bare_here(out, tm.year()),
+        (Layout::Three, Quantity::YearDay) => put_here(out, &three(tm.yday() + 1)),
+        _ => false,
+    }
+}
+
 /// A name of the locale.
 #[inline(always)]
-pub fn name<'a>(t: &'a Time, tm: &Tm, list: NameList) -> &'a [u8]
+pub fn name<'a>(t: &'a Time, tm: &Tm, list: NameList) -> &'a Name
     ensures { result.now ≡ name_text t.now tm.now list }
 {
     match list {
@@ -294,7 +350,7 @@ pub fn put_plain(out: &mut Vec<u8>, max: usize, t: &Time, tm: &Tm, shows: Shows)
     ensures { Appends max out.old.items (plain_text t.now tm.now shows) out.new.items result }
 {
     match shows {
-        Shows::Name(list) => put(out, max, name(t, tm, list)),
+        Shows::Name(list) => put(out, max, name(t, tm, list).as_bytes()),
         Shows::Number(quantity, layout) => put_number(out, max, layout, number(quantity, tm)),
         Shows::Alternative(quantity, layout) => {
             put_alternative(out, max, t, layout, number(quantity, tm))

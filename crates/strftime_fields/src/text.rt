@@ -119,9 +119,8 @@ fn put_from<L: Ledger>(
 {
     let mut steps = Steps::<L>::new(blank);
     out.clear();
-    let room = first_room(format, max);
-    if out.capacity() < room {
-        out.reserve(room)?;
+    if out.capacity() < SPARE {
+        out.reserve(first_room(format, max))?;
     }
     match put_format(LEVELS, t, tm, max, format, &mut steps, out) {
         Ok(None) => Ok(()),

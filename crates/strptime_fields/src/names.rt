@@ -73,9 +73,9 @@ fn short_name(t: &Time, names: Names, i: u8) -> &[u8]
     ensures { result.now ≡ short_name t.now names i }
 {
     match names {
-        Names::Weekdays => t.abday(i),
-        Names::Months => t.abmon(i),
-        Names::HalfDays => t.am_pm(i),
+        Names::Weekdays => t.abday(i).as_bytes(),
+        Names::Months => t.abmon(i).as_bytes(),
+        Names::HalfDays => t.am_pm(i).as_bytes(),
     }
 }
 
@@ -85,8 +85,8 @@ fn full_name(t: &Time, names: Names, i: u8) -> &[u8]
     ensures { result.now ≡ full_name t.now names i }
 {
     match names {
-        Names::Weekdays => t.day(i),
-        Names::Months => t.mon(i),
+        Names::Weekdays => t.day(i).as_bytes(),
+        Names::Months => t.mon(i).as_bytes(),
         Names::HalfDays => b"",
     }
 }

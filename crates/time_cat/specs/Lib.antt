@@ -12,3 +12,4 @@ pub mod Values
 pub mod Kept
 pub mod Hits
 pub mod Shown
+pub mod Names

@@ -5,6 +5,7 @@
 mod conversion;
 mod faults;
 mod keywords;
+mod name;
 mod segment;
 mod step;
 mod steps;
@@ -13,6 +14,7 @@ mod time;
 mod tm;
 
 pub use conversion::{Conversion, Layout, NameList, Quantity, Shows, TimeText, conversion_of};
+pub use name::{NAME_FRONT, Name};
 pub use step::{Step, step_at};
 pub use steps::Steps;
 pub use time::{EraHit, Time};

@@ -5,6 +5,7 @@ ghost use Rattle.std.specs.List.{flat_map};
 ghost use Rattle.time_cat.specs.TimeValues.{text_at, joined};
 ghost use Rattle.time_cat.specs.Values.{spelled, segments_in, names_in, formats_in, eras_of, digits_of};
 
+use crate::name::Name;
 use crate::segment::{Segment, segment_of};
 use keyword_lists::Entry;
 use keyword_values::{text_value, texts_value};
@@ -14,11 +15,11 @@ use std::alloc::{AllocError, Global};
 /// The names of days, months and half days.
 #[derive(Debug)]
 pub struct NameLists {
-    pub abday: List<ByteText>,
-    pub day: List<ByteText>,
-    pub abmon: List<ByteText>,
-    pub mon: List<ByteText>,
-    pub am_pm: List<ByteText>,
+    pub abday: List<Name>,
+    pub day: List<Name>,
+    pub abmon: List<Name>,
+    pub mon: List<Name>,
+    pub am_pm: List<Name>,
 }
 
 impl Drop for NameLists {
@@ -59,16 +60,27 @@ impl Drop for FormatTexts {
     }
 }
 
+/// Names with these texts.
+fn named(alloc: Global, texts: List<ByteText>) -> Result<List<Name>, AllocError>
+    ensures { IfOk result (λ names. names ≡ texts) }
+{
+    let mut names = Vec::with_capacity(alloc, texts.len())?;
+    for text in texts.into_vec() {
+        names.push(Name::of(text))?;
+    }
+    Ok(List::of(names))
+}
+
 /// The names that a list defines.
 pub fn names_in(alloc: Global, list: &[Entry]) -> Result<NameLists, AllocError>
     ensures { IfOk result (λ names. names ≡ names_in list.now) }
 {
     Ok(NameLists {
-        abday: texts_value(alloc, Category::Time, list, b"abday")?,
-        day: texts_value(alloc, Category::Time, list, b"day")?,
-        abmon: texts_value(alloc, Category::Time, list, b"abmon")?,
-        mon: texts_value(alloc, Category::Time, list, b"mon")?,
-        am_pm: texts_value(alloc, Category::Time, list, b"am_pm")?,
+        abday: named(alloc, texts_value(alloc, Category::Time, list, b"abday")?)?,
+        day: named(alloc, texts_value(alloc, Category::Time, list, b"day")?)?,
+        abmon: named(alloc, texts_value(alloc, Category::Time, list, b"abmon")?)?,
+        mon: named(alloc, texts_value(alloc, Category::Time, list, b"mon")?)?,
+        am_pm: named(alloc, texts_value(alloc, Category::Time, list, b"am_pm")?)?,
     })
 }
 
@@ -186,10 +198,10 @@ pub fn digits_in(alloc: Global, list: &[Entry]) -> Result<(List<ByteText>, ByteT
     Ok((texts, joined))
 }
 
-/// A text of a list.
-pub fn text_at(texts: &[ByteText], i: usize) -> &[u8]
-    requires { i < length texts.now }
-    ensures { result.now ≡ text_at texts.now i }
+/// A name of a list.
+pub fn name_at(names: &[Name], i: usize) -> &Name
+    requires { i < length names.now }
+    ensures { result.now ≡ text_at names.now i }
 {
-    texts[i].as_bytes()
+    &names[i]
 }

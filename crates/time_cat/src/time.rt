@@ -10,8 +10,9 @@ ghost use Rattle.time_cat.specs.Values.{values_of, posix_values, time_values};
 
 use crate::conversion::TimeText;
 use crate::faults::check;
+use crate::name::Name;
 use crate::segment::{Date, Segment, segment_at};
-use crate::texts::{FormatTexts, NameLists, digits_in, eras_in, formats_in, names_in, text_at};
+use crate::texts::{FormatTexts, NameLists, digits_in, eras_in, formats_in, name_at, names_in};
 use keyword_lists::Entry;
 use lc_base::{ByteText, List, TextFault};
 use std::alloc::{AllocError, Global};
@@ -132,43 +133,43 @@ impl Time {
     }
 
     /// The short name of a day of the week, from 0 on Sunday.
-    pub fn abday(&self, i: u8) -> &[u8]
+    pub fn abday(&self, i: u8) -> &Name
         requires { i < 7 }
         ensures { result.now ≡ text_at self.now.names.abday i }
     {
-        text_at(self.names.abday.as_slice(), i as usize)
+        name_at(self.names.abday.as_slice(), i as usize)
     }
 
     /// The name of a day of the week, from 0 on Sunday.
-    pub fn day(&self, i: u8) -> &[u8]
+    pub fn day(&self, i: u8) -> &Name
         requires { i < 7 }
         ensures { result.now ≡ text_at self.now.names.day i }
     {
-        text_at(self.names.day.as_slice(), i as usize)
+        name_at(self.names.day.as_slice(), i as usize)
     }
 
     /// The short name of a month, from 0.
-    pub fn abmon(&self, i: u8) -> &[u8]
+    pub fn abmon(&self, i: u8) -> &Name
         requires { i < 12 }
         ensures { result.now ≡ text_at self.now.names.abmon i }
     {
-        text_at(self.names.abmon.as_slice(), i as usize)
+        name_at(self.names.abmon.as_slice(), i as usize)
     }
 
     /// The name of a month, from 0.
-    pub fn mon(&self, i: u8) -> &[u8]
+    pub fn mon(&self, i: u8) -> &Name
         requires { i < 12 }
         ensures { result.now ≡ text_at self.now.names.mon i }
     {
-        text_at(self.names.mon.as_slice(), i as usize)
+        name_at(self.names.mon.as_slice(), i as usize)
     }
 
     /// What stands for the half of the day, before noon and from noon on.
-    pub fn am_pm(&self, i: u8) -> &[u8]
+    pub fn am_pm(&self, i: u8) -> &Name
         requires { i < 2 }
         ensures { result.now ≡ text_at self.now.names.am_pm i }
     {
-        text_at(self.names.am_pm.as_slice(), i as usize)
+        name_at(self.names.am_pm.as_slice(), i as usize)
     }
 
     /// The era of a date: that of the first segment that contains it, if one does. The segments are
