@@ -1,5 +1,5 @@
 -- Texts of times, by their definitions.
-use Rattle.std.proofs.Common.{◌≡◌, ℕ, ◌+◌, List, [], ◌∷◌, Some, Result, Ok, Err, refl}
+use Rattle.std.proofs.Common.{◌≡◌, ℕ, ◌+◌, List, [], ◌∷◌, true, Some, Result, Ok, Err, refl}
 use Rattle.std.specs.Prelude.{codes, negsuc}
 use Rattle.std.specs.Fmt.{digits}
 use Rattle.lc_base.specs.declared.place.Place.{Place}
@@ -9,7 +9,7 @@ use Rattle.keyword_lists.specs.declared.source.Entry.{Entry}
 use Rattle.byte_words.specs.Cuts.{cut_at}
 use Rattle.byte_words.specs.Numbers.{few_digits}
 use Rattle.time_cat.specs.Conversions.{conversion}
-use Rattle.time_cat.specs.Formats.{pieces}
+use Rattle.time_cat.specs.Formats.{pieces, rest_of}
 use Rattle.time_cat.specs.Eras.{year_of, date, end_of, segment}
 use Rattle.time_cat.specs.Times.{TmValues}
 use Rattle.time_cat.specs.TimeValues.{TimeValues}
@@ -20,6 +20,8 @@ use Rattle.strftime_fields.specs.declared.fault.TimeFault.TheVariants as stops
 use Rattle.strftime_fields.specs.Answers.{answer, with_text}
 use Rattle.strftime_fields.specs.Refusals.{TimeRefusal, BadFormat, TooBig}
 use Rattle.strftime_fields.specs.Cost.{cost, reads}
+use Rattle.strftime_fields.specs.Going.{text_of, reads_of, bad_of, text_left, reads_left}
+use Rattle.strftime_fields.specs.Going as going
 
 -- a day at 14:05:06, an hour and a half west of UTC
 abbrev day : ℕ → ℕ → ℕ → ℕ → ℕ → TmValues
@@ -115,3 +117,19 @@ era_years = refl
 steps_of_eras : cost japanese (day 2021 2 3 0 0) (codes "%EY") 4096 ∷ cost japanese (day 1989 1 7 0 0) (codes "%EY") 4096 ∷ [] ≡ 4 ∷ 2 ∷ []
 unfolding values_of expanded reads pieces conversion digits cut_at few_digits year_of date end_of segment
 steps_of_eras = refl
+
+-- what is left of a format of the caller's behind its first conversion
+abbrev behind_hours : going.Place
+behind_hours = record { format = codes "%H:%r%"; rest = codes ":%r%"; levels = 2; whole = true }
+
+behind : text_of posix_values (day 2021 1 3 0 2) behind_hours ≡ codes ":02:05:06 PM"
+unfolding values_of text_left expanded pieces rest_of conversion digits
+behind = refl
+
+behind_costs : reads_of 4096 posix_values (day 2021 1 3 0 2) 2 behind_hours ≡ 5
+unfolding values_of reads_left reads expanded pieces rest_of conversion digits
+behind_costs = refl
+
+behind_wrong : bad_of behind_hours ≡ Some 5
+unfolding rest_of conversion
+behind_wrong = refl

@@ -20,10 +20,6 @@ pub record Place : Type 0 where
 abbrev pub place_of : Left → Place
 place_of l = record { format = l.format.now; rest = l.rest.now; levels = l.levels; whole = l.whole }
 
--- where what is left begins
-abbrev pub at_of : Place → ℕ
-at_of p = length p.format - length p.rest
-
 -- what is left is the end of the format, and there is a level for it
 pub record Stands (p : Place) : Type 0 where
   pub within : length p.rest ≤ length p.format
@@ -38,6 +34,7 @@ text_left levels v t format at = flat_map (piece_text v t (expanded (levels - 1)
 unfoldable pub reads_left : ℕ → ℕ → TimeValues → TmValues → ℕ → List ℕ → ℕ → ℕ
 reads_left max levels v t before format at = pieces_read max v t (expanded (levels - 1) v t) (reads max (levels - 1) v t) before (rest_of format at)
 
+-- what a place gives, and what it costs
 abbrev pub text_of : TimeValues → TmValues → Place → List ℕ
 text_of v t p = text_left p.levels v t p.format (length p.format - length p.rest)
 
@@ -49,6 +46,7 @@ abbrev pub Bads : Bool → Option ℕ → Option ℕ → Type 0
 Bads true left all = left ≡ all
 Bads false left all = all ≡ None
 
+-- where it stands in what is left at a place
 abbrev pub bad_of : Place → Option ℕ
 bad_of p = bad_place (rest_of p.format (length p.format - length p.rest))
 

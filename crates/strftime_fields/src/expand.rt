@@ -21,7 +21,7 @@ const MOST: usize = NAME_FRONT + 1;
 
 /// Where the reading of formats stands.
 #[derive(Clone, Copy)]
-pub struct Left<'a> {
+struct Left<'a> {
     /// The format that is read: the caller's, or one that ends it.
     format: &'a [u8],
     /// What is left of it.
