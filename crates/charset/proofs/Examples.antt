@@ -10,6 +10,9 @@ use Rattle.charset.specs.CodedSet.{CodedSet, utf8, posix, listed, set_name, has,
 use Rattle.charset.specs.ShortBytes.{shortest}
 use Rattle.charset.specs.Hex.{numbered}
 use Rattle.charset.specs.Portable.{Name, portable_code, portable_names, is_portable}
+use Rattle.charset.specs.Numbering.{padded}
+use Rattle.charset.specs.CharacterNames.{valued_names}
+use Rattle.charset.specs.Entries.{added}
 
 -- 51 characters, of which eight have a second name; letters name themselves
 names : length portable_names ≡ 59
@@ -141,3 +144,21 @@ goes_on run = let none : false ≡ true = run.unbroken 0xD800 (omega arith) (ome
 
 says_none : IsNextRun posix 100 None → ⊥
 says_none none = let other : true ≡ false = none 100 (omega arith) in cc
+
+-- ---- entries of a charmap
+
+-- a range counts on past its width, and its values with it
+range_of_names : valued_names (codes "j8") 255 2 ≡ (codes "j8", 255 ∷ []) ∷ (codes "j9", 1 ∷ 0 ∷ []) ∷ (codes "j10", 1 ∷ 1 ∷ []) ∷ []
+unfolding padded
+range_of_names = refl
+
+-- new names are added in their order
+all_new : added ((codes "a", 1 ∷ []) ∷ []) ((codes "c", 3 ∷ []) ∷ (codes "b", 3 ∷ []) ∷ []) ≡ Some ((codes "a", 1 ∷ []) ∷ (codes "c", 3 ∷ []) ∷ (codes "b", 3 ∷ []) ∷ [])
+all_new = refl
+
+-- nothing is added where a name was given before, or is given twice
+given_before : added ((codes "a", 1 ∷ []) ∷ []) ((codes "b", 2 ∷ []) ∷ (codes "a", 3 ∷ []) ∷ []) ≡ None
+given_before = refl
+
+given_twice : added [] ((codes "b", 2 ∷ []) ∷ (codes "b", 2 ∷ []) ∷ []) ≡ None
+given_twice = refl

@@ -1,6 +1,6 @@
 -- Steps, eras, keyword lists and their values, times, weeks and texts, by their definitions.
-use Rattle.std.proofs.Common.{◌≡◌, ℕ, ◌+◌, true, false, List, [], ◌∷◌, ◌++◌, Option, Some, None, Ok, Err, refl}
-use Rattle.std.specs.Prelude.{codes, pos, negsuc}
+use Rattle.std.proofs.Common.{◌≡◌, ◌≤◌, ℕ, ◌+◌, true, false, List, [], ◌∷◌, ◌++◌, get_or, Option, Some, None, Ok, Err, refl, ap, arith}
+use Rattle.std.specs.Prelude.{codes, pos, negsuc, replicate}
 use Rattle.lc_base.specs.declared.place.Place.{Place}
 use Rattle.lc_base.specs.declared.reason.Reason.TheVariants.{WrongCount, BadEra, BadFormat, FormatRank, OverLimit}
 use Rattle.lc_base.specs.declared.reason.Limit.TheVariants.{Conversions}
@@ -18,6 +18,7 @@ use Rattle.time_cat.specs.declared.segment.Date.{Date}
 use Rattle.time_cat.specs.declared.segment.End.TheVariants.{On, AfterAll}
 use Rattle.time_cat.specs.Eras.{Hit, year_of, date, end_of, segment, date_is_no_later, is_no_later, era}
 use Rattle.time_cat.specs.Keywords.{takes_of}
+use Rattle.time_cat.specs.Names.{IsFront}
 use Rattle.time_cat.specs.Faults.{format_reason, line_checked, checked}
 use Rattle.time_cat.specs.TimeValues.{TimeValues, format_text, text_at, joined}
 use Rattle.time_cat.specs.Values.{segments_in, values_of, posix_values}
@@ -213,3 +214,23 @@ era_names = refl
 alternative_digits : (time_text japanese (day 2021 2 2 2 32) (codes "%Od %Oe")) ∷ (time_text japanese (day 2021 2 3 3 33) (codes "%Od %Oe")) ∷ [] ≡ (Ok (codes "two two")) ∷ (Ok (codes "03  3")) ∷ []
 unfolding values_of expanded pieces conversion
 alternative_digits = refl
+
+-- ---- fronts of names: a short name with anything behind it; where the name is long, any 16 bytes
+
+short_front : IsFront (codes "Mon") (codes "Mon" ++ replicate 13 0)
+short_front = record { wide = refl; short = λ few. refl }
+
+full_front : IsFront (codes "Sixteen bytes it") (codes "Sixteen bytes it")
+full_front = record { wide = refl; short = λ few. refl }
+
+long_front : IsFront (codes "Eighteen bytes are") (replicate 16 0)
+long_front = record { wide = refl; short = λ few. let wrong : 18 ≤ 16 = few in absurd (omega (arith, wrong)) }
+
+not_its_front : IsFront (codes "Mon") (codes "Tue" ++ replicate 13 0) → ⊥
+not_its_front front =
+    let small : 3 ≤ 16 = omega arith in
+    let first : 84 ≡ 77 = ap (λ (bytes : List ℕ). get_or bytes 0 0) (front.short small) in
+    omega (arith, first)
+
+narrow_front : IsFront (codes "Mon") (codes "Mon") → ⊥
+narrow_front front = let wide : 3 ≡ 16 = front.wide in omega (arith, wide)

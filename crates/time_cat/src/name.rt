@@ -13,7 +13,7 @@ pub const NAME_FRONT: usize = 16;
 /// its front.
 #[derive(Debug)]
 pub struct Name {
-    front: [u8; 16],
+    front: [u8; NAME_FRONT],
     text: ByteText,
 }
 
@@ -53,7 +53,7 @@ impl Name {
 
     /// The front of a name that has no more bytes than lie there, and how many bytes it has.
     #[inline(always)]
-    pub fn front(&self) -> Option<(&[u8; 16], usize)>
+    pub fn front(&self) -> Option<(&[u8; NAME_FRONT], usize)>
         ensures long { IsNone result ↔ (16 < length self.now) }
         ensures wide { IfSome result (λ f. length f.0.now ≡ 16) }
         ensures few { IfSome result (λ f. f.1 ≤ 16) }
@@ -69,10 +69,10 @@ impl Name {
 }
 
 /// The bytes of a text with zeros behind them, if they are at most 16.
-fn front_of(bytes: &[u8]) -> [u8; 16]
+fn front_of(bytes: &[u8]) -> [u8; NAME_FRONT]
     ensures { IsFront bytes.now result }
 {
-    let mut front = [0; 16];
+    let mut front = [0; NAME_FRONT];
     if bytes.len() <= NAME_FRONT {
         front[..bytes.len()].copy_from_slice(bytes);
     }
