@@ -22,7 +22,7 @@ use Rattle.strftime_fields.specs.Answers.{answer}
 use Rattle.int_format.specs.Refusals.{IntRefusal}
 use Rattle.int_format.specs.Refusals as int_refusals
 use Rattle.int_format.specs.Ints.{at_most, ints}
-use Rattle.strptime_fields.specs.declared.parsed.Parsed.{Parsed}
+use Rattle.time_cat.specs.declared.parsed.Parsed.{Parsed}
 use Rattle.strptime_fields.specs.declared.fault.ScanFault.TheVariants as scan_faults
 use Rattle.strptime_fields.specs.Scans.{Scanned, scan}
 use Rattle.langinfo.specs.Items.{info}

@@ -10,7 +10,7 @@ use Rattle.time_cat.specs.declared.tm.TmField.TheVariants as fields
 use Rattle.handles.specs.declared.handle.Handle.{Handle}
 use Rattle.handles.specs.declared.handle.Named.{Named}
 use Rattle.handle_table.specs.declared.op.Refusal.TheVariants as refusals
-use Rattle.strptime_fields.specs.declared.parsed.Parsed.{Parsed}
+use Rattle.time_cat.specs.declared.parsed.Parsed.{Parsed}
 use Rattle.byte_words.specs.Tables.{first_named}
 use Rattle.script_out.specs.declared.output.Said.{Said}
 use Rattle.script_out.specs.declared.output.Said.TheVariants as said

@@ -3,7 +3,7 @@
 ghost use Rattle.std.specs.Prelude.{◌≡◌, ◌≢◌, ℕ, ◌<◌, ◌^◌, ◌∷◌, length, [], Option, List, IfOk, IfSome, IsNone, slice_index_or};
 ghost use Rattle.handles.specs.declared.handle.Handle.{Handle};
 ghost use Rattle.handles.specs.declared.handle.Named.{Named};
-ghost use Rattle.strptime_fields.specs.declared.parsed.Parsed.{Parsed};
+ghost use Rattle.time_cat.specs.declared.parsed.Parsed.{Parsed};
 ghost use Rattle.script_out.specs.declared.output.Places.{Places};
 ghost use Rattle.script_out.specs.declared.output.Why.{Why};
 ghost use Rattle.script_out.specs.Output.{handle_text, named_text, places_text, version_text, why_text, known_text};

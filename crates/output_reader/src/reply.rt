@@ -4,7 +4,7 @@ ghost use Rattle.std.specs.Prelude.{◌≡◌, ℕ, ℤ, ◌<◌, ◌^◌, ◌++
 ghost use Rattle.std.specs.Int.{w32};
 ghost use Rattle.std.specs.Int.RustNames.{FitsSigned};
 ghost use Rattle.std.specs.List.{AllByRecursion};
-ghost use Rattle.strptime_fields.specs.declared.parsed.Parsed.{Parsed};
+ghost use Rattle.time_cat.specs.declared.parsed.Parsed.{Parsed};
 ghost use Rattle.script_out.specs.declared.output.Said.{Said};
 ghost use Rattle.script_out.specs.declared.output.Said.TheVariants as said;
 ghost use Rattle.script_out.specs.Output.{year_text, known_text, parsed_text, texts_text, numbers_text, reply_text};
@@ -22,7 +22,7 @@ use lc_base::{ByteText, List};
 use script_out::Said;
 use std::alloc::Global;
 use std::str;
-use strptime_fields::Parsed;
+use time_cat::Parsed;
 
 /// The reply that may print as these bytes.
 pub fn reply(alloc: Global, bytes: &[u8], threads: &List<ByteText>) -> Result<Said, Unread>

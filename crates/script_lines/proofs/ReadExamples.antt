@@ -21,7 +21,7 @@ use Rattle.time_cat.specs.Formats.{pieces as time_pieces}
 use Rattle.time_cat.specs.Times.{time_of}
 use Rattle.time_cat.specs.Values.{values_of}
 use Rattle.time_cat.specs.Shown.{expanded}
-use Rattle.strptime_fields.specs.declared.parsed.Parsed.{Parsed}
+use Rattle.time_cat.specs.declared.parsed.Parsed.{Parsed}
 use Rattle.strptime_fields.specs.Items.{item}
 use Rattle.strptime_fields.specs.Reading.{number as read_number, longest}
 use Rattle.strptime_fields.specs.Scans.{followed}

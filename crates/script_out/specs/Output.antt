@@ -15,7 +15,7 @@ use Rattle.handles.specs.declared.handle.Handle.{Handle}
 use Rattle.handles.specs.declared.handle.Named.{Named}
 use Rattle.handles.specs.declared.handle.Named.TheVariants.{Global, Of}
 use Rattle.script_out.specs.declared.output.OutLine.{OutLine}
-use Rattle.strptime_fields.specs.declared.parsed.Parsed.{Parsed}
+use Rattle.time_cat.specs.declared.parsed.Parsed.{Parsed}
 use Rattle.time_cat.specs.declared.tm.TmField.{TmField}
 use Rattle.time_cat.specs.declared.tm.TmField.TheVariants as fields
 

@@ -13,8 +13,7 @@ use handles::{Handle, Named};
 use itoa::Buffer;
 use lc_base::{ByteText, List};
 use std::alloc::{AllocError, Global};
-use strptime_fields::Parsed;
-use time_cat::TmField;
+use time_cat::{Parsed, TmField};
 
 /// The positions of a line's entries in the history.
 #[derive(Clone, Copy, Debug, PartialEq, Eq)]

@@ -9,7 +9,7 @@ use Rattle.time_cat.specs.Conversions.{conversion}
 use Rattle.time_cat.specs.Formats.{pieces}
 use Rattle.time_cat.specs.TimeValues.{TimeValues}
 use Rattle.time_cat.specs.Values.{values_of, posix_values}
-use Rattle.strptime_fields.specs.declared.parsed.Parsed.{Parsed}
+use Rattle.time_cat.specs.declared.parsed.Parsed.{Parsed}
 use Rattle.strptime_fields.specs.declared.fault.ScanFault.TheVariants.{BadFormat, Mismatch}
 use Rattle.strptime_fields.specs.Items.{item}
 use Rattle.strptime_fields.specs.Reading.{number, longest}

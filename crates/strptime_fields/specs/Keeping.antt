@@ -3,7 +3,7 @@ use Rattle.std.specs.Prelude.{ℕ, ℤ, pos, ◌+◌, ◌-◌, ◌*◌, ◌%◌,
 use Rattle.strptime_fields.specs.declared.item.Kind.{Kind}
 use Rattle.strptime_fields.specs.declared.item.Kind.TheVariants.{Day, Month, Weekday, Hour, HalfDayHour, Minute, Second, Century, YearOfCentury, HalfDay, Week}
 use Rattle.strptime_fields.specs.declared.last_read.LastRead.{LastRead}
-use Rattle.strptime_fields.specs.declared.parsed.Parsed.{Parsed}
+use Rattle.time_cat.specs.declared.parsed.Parsed.{Parsed}
 
 -- nothing was read yet
 abbrev pub nothing : LastRead

@@ -6,7 +6,7 @@ use Rattle.time_cat.specs.Formats.{Piece, Literal, Converted, Wrong, pieces}
 use Rattle.time_cat.specs.Times.{TmValues, IsTime}
 use Rattle.time_cat.specs.TimeValues.{TimeValues}
 use Rattle.time_cat.specs.Shown.{time_text}
-use Rattle.strptime_fields.specs.declared.parsed.Parsed.{Parsed}
+use Rattle.time_cat.specs.declared.parsed.Parsed.{Parsed}
 use Rattle.strptime_fields.specs.Scans.{scan}
 
 -- the numbers of a plain format: d, e, H, j, m, M, S, w and Y

@@ -4,7 +4,7 @@ use Rattle.std.specs.List.{flat_map, list_all}
 use Rattle.time_cat.specs.Formats.{Piece, Literal, Converted, Wrong, pieces, is_conversion}
 use Rattle.time_cat.specs.TimeValues.{TimeValues}
 use Rattle.strptime_fields.specs.declared.item.Item.{Item}
-use Rattle.strptime_fields.specs.declared.parsed.Parsed.{Parsed}
+use Rattle.time_cat.specs.declared.parsed.Parsed.{Parsed}
 use Rattle.strptime_fields.specs.declared.fault.ScanFault.{ScanFault}
 use Rattle.strptime_fields.specs.declared.fault.ScanFault.TheVariants.{BadFormat, Mismatch}
 use Rattle.strptime_fields.specs.Items.{item_of, format_for}

@@ -14,6 +14,6 @@ mod scan;
 
 pub use fault::ScanFault;
 pub use names::longest_names_hold;
-pub use parsed::Parsed;
 pub use plain::{is_plain, plain_formats_hold};
 pub use scan::{strptime, strptime_counted};
+pub use time_cat::Parsed;

@@ -9,11 +9,10 @@ use crate::fault::ScanFault;
 use crate::follow::follow_conversion;
 use crate::item::byte_item;
 use crate::last_read::LastRead;
-use crate::parsed::Parsed;
 use crate::progress::{Progress, read_item};
 use std::marker::Brand;
 use std::sync::ledger::{Blank, Ledger};
-use time_cat::{Step, Steps, Time, step_at};
+use time_cat::{Parsed, Step, Steps, Time, step_at};
 
 /// How many formats lie within one another behind a conversion of the caller's format: those of
 /// the ranks 4 to 2, and those of the table.

@@ -6,6 +6,7 @@ mod conversion;
 mod faults;
 mod keywords;
 mod name;
+mod parsed;
 mod segment;
 mod step;
 mod steps;
@@ -15,6 +16,7 @@ mod tm;
 
 pub use conversion::{Conversion, Layout, NameList, Quantity, Shows, TimeText, conversion_of};
 pub use name::{NAME_FRONT, Name};
+pub use parsed::Parsed;
 pub use step::{Step, step_at};
 pub use steps::Steps;
 pub use time::{EraHit, Time};

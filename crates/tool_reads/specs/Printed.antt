@@ -14,7 +14,7 @@ use Rattle.strfmon.specs.MoneyAmount.{MoneyAmount}
 use Rattle.strfmon.specs.Money.{money}
 use Rattle.strftime_fields.specs.Answers.{answer}
 use Rattle.int_format.specs.Ints.{at_most, ints}
-use Rattle.strptime_fields.specs.declared.parsed.Parsed.{Parsed}
+use Rattle.time_cat.specs.declared.parsed.Parsed.{Parsed}
 use Rattle.strptime_fields.specs.Scans.{Scanned, scan}
 use Rattle.langinfo.specs.declared.conv.Lconv.{Lconv}
 use Rattle.lc_base.specs.declared.item.Item.{Item}
