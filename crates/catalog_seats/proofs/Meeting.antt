@@ -1,9 +1,7 @@
 -- Threads of shared catalogs that have seen more.
 use Rattle.std.proofs.Common.{◌≡◌, ℕ, ◌+◌, ◌≤◌, ◌++◌, [], length, refl, sym, ap, ◌∙◌, arith, append_assoc, length-append}
-use Rattle.turn_gate.specs.Callers.{Gate}
-use Rattle.catalog_table.specs.declared.setting.CatalogSetting.{CatalogSetting}
 use Rattle.catalog_table.specs.Entry.{History}
-use Rattle.catalog_seats.specs.Reader.{ReaderData, IsReaderOf, GoesOnFrom, SawMore}
+use Rattle.catalog_seats.specs.Reader.{ReaderData, GoesOnFrom, SawMore}
 
 pub goes_on : (W S T : History) → GoesOnFrom T W → GoesOnFrom W S → GoesOnFrom T S
 goes_on W S T after before =
@@ -31,6 +29,3 @@ saw_again t u v first then = record {
 
 pub saw_same : (r : ReaderData) → SawMore r r
 saw_same r = record { same = record { table = refl; terms = refl; number = refl }; later = goes_same r.seen; calls = refl }
-
-pub reader_kept : (gate : Gate CatalogSetting) (t u : ReaderData) → IsReaderOf gate t → SawMore t u → IsReaderOf gate u
-reader_kept gate t u is saw = (saw.same.table ∙ is.0, saw.same.terms ∙ is.1)

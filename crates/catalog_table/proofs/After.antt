@@ -53,22 +53,6 @@ row_kept G H t r row count alive same s = record {
       ∙ ap (λ n. live_book G (nth t r n)) (sym count);
 }
 
--- ---- a Get
-
-pub keeps_get : (c : CatalogSetting) (H : History) (w : ℕ) (h : CatalogHandle) (rows : RowsData) → w < c.threads → Keeps c H rows
-    → Keeps c (entry c H w (Get h) ∷ H) rows
-keeps_get c H w h rows caller k =
-    let e : Entry = entry c H w (Get h) in record {
-      legal = (refl, k.legal);
-      callers = (caller, k.callers);
-      threads = k.threads;
-      width = k.width;
-      full = k.full;
-      each = λ t r line column.
-          row_kept (e ∷ H) H t r (row_at rows t r) refl
-          (live_kept e H (newest H t r) refl (and_right (is_accepted e.reply) false refl)) refl (k.each t r line column);
-    }
-
 -- ---- an Open
 
 -- the handle of an accepted Open is live, and has its catalog

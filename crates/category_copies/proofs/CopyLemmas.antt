@@ -10,7 +10,7 @@ use Rattle.keyword_lists.specs.declared.source.Section.{Section}
 use Rattle.keyword_lists.specs.declared.source.Body.TheVariants.{Copy, Entries}
 use Rattle.locale_sources.specs.Sources.{Source}
 use Rattle.locale_sources.specs.Sections.{is_posix, section_of, section_at}
-use Rattle.category_copies.specs.Copies.{locale_numbers, target, step_from, step, followed, last, end_of}
+use Rattle.category_copies.specs.Copies.{locale_numbers, target, step_from, step, followed, last}
 use Rattle.category_copies.specs.Tables.{led, repeated, IsClosed}
 use Rattle.category_copies.proofs.TableLemmas.{led-map, tables-same}
 
@@ -79,20 +79,3 @@ pub ends_are : (S : List Source) (c : Category) → map (repeated (table_of S c)
 ends_are S c =
     ap (λ (n : ℕ). map (repeated (table_of S c) (length S)) (range_with_len 0 n)) (length_of S c)
     ∙ tables-same (repeated (table_of S c) (length S)) (last S c) (length S + 1) (λ k h. followed_is S c (length S) k h)
-
-onward : (S : List Source) (c : Category) (m : ℕ) (o : Option ℕ) → IfSome o (λ to. to < length S + 1) → ((k : ℕ) → k < length S + 1 → IfSome (followed S c m k) (λ to. to < length S + 1)) → IfSome (o >>= followed S c m) (λ to. to < length S + 1)
-onward S c m None inside rest = tt
-onward S c m (Some k) inside rest = rest k inside
-
-followed_inside : (S : List Source) (c : Category) (m k : ℕ) → k < length S + 1 → IfSome (followed S c m k) (λ to. to < length S + 1)
-followed_inside S c zero k h = h
-followed_inside S c (suc m) k h = onward S c m (step S c k) (step_inside S c k h) (λ j inside. followed_inside S c m j inside)
-
-end_or : (S : List Source) (b : Bool) (o : Option ℕ) → IfSome o (λ to. to < length S + 1) → cond b (elim o [ None ↦ 0 | Some to ↦ to ]) 0 < length S + 1
-end_or S true None h = omega arith
-end_or S true (Some to) h = h
-end_or S false o h = omega arith
-
--- copies end in a source that is there
-pub end_inside : (S : List Source) (c : Category) (n : ℕ) → n < length S + 1 → end_of S c n < length S + 1
-end_inside S c n h = end_or S (is_some (section_at S c n)) (last S c n) (followed_inside S c (length S) n h)

@@ -1,15 +1,10 @@
 -- Header lines, read one after the other.
-use Rattle.std.proofs.Common.{◌≡◌, true, false, List, ℕ, Option, ◌++◌, Err, refl}
-use Rattle.std.specs.Prelude.{option_map}
+use Rattle.std.proofs.Common.{◌≡◌, true, false, List, ℕ, Err, refl}
 use Rattle.lc_base.specs.declared.reason.Reason.TheVariants.{BadHeader}
 use Rattle.lc_base.specs.Reading.{◌>>=◌}
 use Rattle.src_lines.specs.Words.{first_word}
 use Rattle.src_lines.specs.Places.{Logical, start}
 use Rattle.charmap_reader.specs.Charmap.{gives_name, gives_count, line_bytes, named_by, counted_by, header}
-
--- the bytes that were read before, and those that are still read
-abbrev pub bytes_after : List ℕ → Option (List ℕ) → Option (List ℕ)
-bytes_after front later = option_map (λ bs. front ++ bs) later
 
 -- a line with the code set name
 pub header_named : (name : List ℕ) (l : Logical) → gives_name (first_word l.bytes) ≡ true → header name l ≡ (line_bytes l >>= named_by (start l))

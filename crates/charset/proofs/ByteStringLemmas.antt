@@ -1,7 +1,6 @@
 -- Byte strings in one buffer.
 use Rattle.std.proofs.Common.{◌≡◌, ℕ, ◌-◌, List, [], ◌∷◌, ◌++◌, length, take, drop, All, refl, ◌∙◌, ap, arith, length-append}
 use Rattle.std.proofs.lemmas.List.{length-drop, drop-append-le, take-append-le, drop_at, take_all, map_push}
-use Rattle.std.proofs.lemmas.List.Elements.{All-weaker, All-push}
 use Rattle.lc_base.proofs.Slices.{map_same}
 use Rattle.charset.specs.ByteStrings.{string_from, strings_in, IsPartOf}
 
@@ -14,11 +13,6 @@ string_stays bytes more part within =
 -- so do all
 pub strings_stay : (bytes more : List ℕ) (parts : List (ℕ × ℕ)) → All (IsPartOf bytes) parts → strings_in (bytes ++ more) parts ≡ strings_in bytes parts
 strings_stay bytes more parts within = map_same (string_from (bytes ++ more)) (string_from bytes) (IsPartOf bytes) (string_stays bytes more) parts within
-
--- and their parts are within
-pub parts_stay : (bytes more : List ℕ) (parts : List (ℕ × ℕ)) → All (IsPartOf bytes) parts → All (IsPartOf (bytes ++ more)) parts
-parts_stay bytes more parts within =
-    All-weaker (IsPartOf bytes) (IsPartOf (bytes ++ more)) (λ part h. (h.0, omega (arith, h.1, length-append bytes more))) parts within
 
 -- the bytes that come behind
 string_behind : (bytes string : List ℕ) → string_from (bytes ++ string) (length bytes, length (bytes ++ string)) ≡ string
@@ -35,8 +29,3 @@ strings_push bytes string parts start end within first last =
     ∙ map_push (string_from (bytes ++ string)) parts (length bytes, length (bytes ++ string))
     ∙ ap (λ (ts : List (List ℕ)). ts ++ string_from (bytes ++ string) (length bytes, length (bytes ++ string)) ∷ []) (strings_stay bytes string parts within)
     ∙ ap (λ (t : List ℕ). strings_in bytes parts ++ t ∷ []) (string_behind bytes string)
-
--- its part is within as well
-pub parts_push : (bytes string : List ℕ) (parts : List (ℕ × ℕ)) (start end : ℕ) → All (IsPartOf bytes) parts → start ≡ length bytes → end ≡ length (bytes ++ string) → All (IsPartOf (bytes ++ string)) (parts ++ (start, end) ∷ [])
-parts_push bytes string parts start end within first last =
-    All-push (IsPartOf (bytes ++ string)) parts (start, end) (parts_stay bytes string parts within) (omega (arith, first, last, length-append bytes string), omega (arith, last))

@@ -24,14 +24,6 @@ high_first-more (suc k) n =
     let rest : bytes_high_first (suc k) n ≡ bytes_high_first k (n / 256) ++ n % 256 ∷ [] = high_first-more k n in
     cc
 
--- the same of a number and a byte behind it
-pub high_first-push : (k n b : ℕ) → b < 256 → bytes_high_first (k + 1) (n * 256 + b) ≡ bytes_high_first k n ++ b ∷ []
-high_first-push k n b byte =
-    let count : k + 1 ≡ suc k = omega arith in
-    let front : (n * 256 + b) / 256 ≡ n = omega arith in
-    let last : (n * 256 + b) % 256 ≡ b = omega arith in
-    rw (count, high_first-more k (n * 256 + b), front, last) refl
-
 -- so many bytes of a number are its fewest, if the first is not zero or is the last
 high_first-short_bytes : (more len n : ℕ) → len ≤ more → n < 256 ^ suc len → (len ≡ 0) ⊎ (256 ^ len ≤ n) → bytes_high_first (suc len) n ≡ short_bytes more n
 high_first-short_bytes zero zero n few below least = ap (λ (x : ℕ). x ∷ []) (omega arith)

@@ -120,11 +120,6 @@ none_from_not : {X : Type 0} (o : Option X) → (IsSome o → ⊥) → o ≡ Non
 none_from_not None h = refl
 none_from_not (Some x) h = absurd (h refl)
 
--- an option that is none is not there
-not_from_none : {X : Type 0} (o : Option X) → o ≡ None → IsSome o → ⊥
-not_from_none None h some = cc
-not_from_none (Some x) h some = cc
-
 -- an option that is some is there
 some_from : (o : Option ℕ) (n : ℕ) → o ≡ Some n → IsSome o
 some_from None n h = cc

@@ -4,7 +4,7 @@ use Rattle.std.specs.Int.{is_in_range}
 use Rattle.std.specs.Option.{option_or}
 use Rattle.std.proofs.Math.Seq.{drop-cons}
 use Rattle.std.proofs.lemmas.List.{drop_all}
-use Rattle.std.proofs.lemmas.Bool.{cases_lt, cond_both, cond-true, cond-false, leb-true, leb-false, lt-leb, le-leb, and_right, and_parts, or_left, or_from, false_from_ne_true, true≢false}
+use Rattle.std.proofs.lemmas.Bool.{cases_lt, cond_both, cond-false, leb-true, leb-false, lt-leb, and_right, and_parts, or_left, or_from, false_from_ne_true, true≢false}
 use Rattle.std.proofs.lemmas.Bool.Decides.{nat_tests}
 use Rattle.class_ranges.specs.Ranges.{Range, IsApart, covers, first_in, first_common, IsLeast}
 use Rattle.class_ranges.proofs.Orders.{FollowFrom, follow_apart, follow_drop, covers_before}
@@ -28,12 +28,6 @@ pass_other low [] s ss h before = refl
 pass_other low (r ∷ rs) s ss h before =
     let no : leb (max r.0 s.0) (min r.1 s.1) ≡ false = lt-leb (max r.0 s.0) (min r.1 s.1) (omega (arith, h.0)) in
     rw (cond-false (leb (max r.0 s.0) (min r.1 s.1)) (Some (max r.0 s.0)) (first_in r ss) no, pass_other (r.1 + 2) rs s ss h.2 (omega (arith, h.0, h.1))) refl
-
--- two first ranges that meet have the least value
-pub meet_first : (r : Range) (rs : List Range) (s : Range) (ss : List Range) → max r.0 s.0 ≤ min r.1 s.1 → first_common (r ∷ rs) (s ∷ ss) ≡ Some (max r.0 s.0)
-meet_first r rs s ss meets =
-    let one : leb (max r.0 s.0) (min r.1 s.1) ≡ true = le-leb (max r.0 s.0) (min r.1 s.1) meets in
-    rw (cond-true (leb (max r.0 s.0) (min r.1 s.1)) (Some (max r.0 s.0)) (first_in r ss) one) refl
 
 pub nothing_common : (rs : List Range) → first_common rs [] ≡ None
 nothing_common [] = refl
@@ -154,15 +148,6 @@ pass_other_at rs ss i j order others within inside_others gap shorter =
     let other = at_index ss j others inside_others in
     let whole : (get_or ss j (0, 0)).0 ≤ (get_or ss j (0, 0)).1 = other.1.1 in
     rw (add-one, one.0, other.0) (pass_other (get_or rs i (0, 0)).0 (get_or rs i (0, 0) ∷ drop (suc i) rs) (get_or ss j (0, 0)) (drop (suc j) ss) (omega arith, one.1.1, one.1.2) (omega arith))
-
--- two ranges that meet have the least value
-pub meet_at : (rs ss : List Range) (i j : ℕ) → IsApart rs → IsApart ss → i < length rs → j < length ss
-    → max (get_or rs i (0, 0)).0 (get_or ss j (0, 0)).0 ≤ min (get_or rs i (0, 0)).1 (get_or ss j (0, 0)).1
-    → first_common (drop i rs) (drop j ss) ≡ Some (max (get_or rs i (0, 0)).0 (get_or ss j (0, 0)).0)
-meet_at rs ss i j order others within inside_others meets =
-    let one = at_index rs i order within in
-    let other = at_index ss j others inside_others in
-    rw (one.0, other.0) (meet_first (get_or rs i (0, 0)) (drop (suc i) rs) (get_or ss j (0, 0)) (drop (suc j) ss) meets)
 
 -- where the others are at their end, nothing is left
 pub ended_others : (rs ss : List Range) (j : ℕ) → length ss ≤ j → first_common rs (drop j ss) ≡ None

@@ -1,5 +1,5 @@
 -- Ranges of values in order: what they cover, and what stands next in them.
-use Rattle.std.proofs.Common.{◌≡◌, ℕ, ◌+◌, ◌<◌, ◌≤◌, max, Bool, true, false, ◌||◌, ◌⊎◌, inl, inr, ⊎_elim, List, [], ◌∷◌, ◌++◌, length, get_or, take, All, refl, sym, ap, ◌∙◌, arith, ltb, ltb-true, ltb-false, length-append, take_all}
+use Rattle.std.proofs.Common.{◌≡◌, ℕ, ◌+◌, ◌<◌, ◌≤◌, max, Bool, true, false, ◌||◌, ◌⊎◌, inl, inr, ⊎_elim, List, [], ◌∷◌, ◌++◌, length, get_or, take, All, refl, sym, ap, ◌∙◌, arith, ltb, ltb-true, ltb-false, length-append}
 use Rattle.std.specs.Int.{is_in_range}
 use Rattle.std.proofs.Math.ListN.{get_or-append}
 use Rattle.std.proofs.Math.Seq.{get_or-append_seam}
@@ -104,11 +104,6 @@ or_more true r s b c h = or_step true b c s h
 or_more false true s b c h = or_step true b c s h
 or_more false false s b c h = or_step false b c s h
 
--- a test twice
-or_again : (a b : Bool) → (a || (a || b)) ≡ (a || b)
-or_again true b = refl
-or_again false b = refl
-
 -- what the loop that joins ranges keeps: those that are closed and the open one cover the start and the ranges so far, and the open one begins before the others
 pub record IsJoined (start : ℕ × ℕ) (ranges : List (ℕ × ℕ)) (first last : ℕ) (parts : List (ℕ × ℕ)) (index : ℕ) : Type 0 where
   pub forward : first ≤ last
@@ -166,16 +161,6 @@ joined_near start ranges first last parts index part e sorted within is whole ne
           (or_more (covers ranges w) (is_in_range first last w) (is_in_range part.0 part.1 w) (is_in_range start.0 start.1 w) (covers (take index parts) w) old);
       behind = λ k d from in_parts. omega (arith, starts_behind parts index part e sorted within is k d from in_parts);
     }
-
--- at the end the ranges cover the start and all those
-pub joined_all : (start : ℕ × ℕ) (ranges : List (ℕ × ℕ)) (first last : ℕ) (parts : List (ℕ × ℕ)) (index : ℕ) → length parts ≤ index → IsJoined start ranges first last parts index
-    → (w : ℕ) → covers (ranges ++ (first, last) ∷ []) w ≡ (is_in_range start.0 start.1 w || covers parts w)
-joined_all start ranges first last parts index end joined w = rw (take_all index parts end) at (joined.covered w)
-
--- the first of ranges is among them
-pub start_among : (parts : List (ℕ × ℕ)) (start d : ℕ × ℕ) (w : ℕ) → 0 < length parts → start ≡ get_or parts 0 d → (is_in_range start.0 start.1 w || covers parts w) ≡ covers parts w
-start_among [] start d w within is = absurd (omega arith)
-start_among (p ∷ ps) start d w within is = rw is (or_again (is_in_range p.0 p.1 w) (covers ps w))
 
 -- where each range ends before a value, nothing from it on is covered
 covers_nothing : (ranges : List (ℕ × ℕ)) (w : ℕ) → All (λ (range : ℕ × ℕ). range.1 < w) ranges → HoldsNowhereFrom (covers ranges) w

@@ -131,10 +131,6 @@ or_false : (a : Bool) → (a || false) ≡ a
 or_false true = refl
 or_false false = refl
 
-and_true : (a : Bool) → (a && true) ≡ a
-and_true true = refl
-and_true false = refl
-
 in_range : (low high w : ℕ) → low ≤ w → w ≤ high → is_in_range low high w ≡ true
 in_range low high w above below = grind (arith, nat_tests)
 
@@ -232,28 +228,3 @@ added_last test old parts low high from first end run inside last h w =
     (λ from_on begun upto. (run.unbroken w begun (omega arith), (omega (arith, h.begun), (omega arith, omega arith))))
     (λ from_on behind. inl (omega arith)))
     ∙ ap (λ (b : Bool). test w && b) (whole_range low high w))
-
--- what all is added is, where a test holds of nothing more in the range
-pub added_all : (test : ℕ → Bool) (old parts : List Range) (low high from : ℕ) → ((w : ℕ) → from ≤ w → w ≤ high → test w ≡ false)
-    → AreAdded test old low high from high parts → (w : ℕ) → covers parts w ≡ (covers old w || (test w && is_in_range low high w))
-added_all test old parts low high from none h w =
-    h.values w ∙ ap (λ (b : Bool). covers old w || b)
-    (⊎_elim
-    (λ under. let one : ltb w from ≡ true = lt-ltb w from under in rw one (ap (λ (b : Bool). test w && b) (and_true (is_in_range low high w))))
-    (λ from_on. ⊎_elim
-    (λ outside. let out : is_in_range low high w ≡ false = above_range low high w outside in rw out refl)
-    (λ inside. let no : test w ≡ false = none w from_on inside in rw no refl)
-    (cases_lt high w))
-    (cases_lt w from))
-
--- at first nothing is added
-pub added_none : (test : ℕ → Bool) (old : List Range) (low high : ℕ) → low ≤ high → AreForward old → AreAdded test old low high low high old
-added_none test old low high whole forward = record {
-  end = refl;
-  begun = omega arith;
-  within = whole;
-  forward = forward;
-  values = λ w.
-      let none : (is_in_range low high w && ltb w low) ≡ false = grind (arith, nat_tests) in
-      sym (ap (λ (b : Bool). covers old w || (test w && b)) none ∙ ap (λ (b : Bool). covers old w || b) (and_false (test w)) ∙ or_false (covers old w));
-}

@@ -10,7 +10,7 @@ use Rattle.handle_table.specs.declared.op.Refusal.{Refusal}
 use Rattle.handle_table.specs.Entry.{Op, New, Dup, Free, Use, Hold, Release, SetGlobal, Install, Post, Fetch, Pins, End, Reply, Made, Freed, Was, Held, Released, Set, Installed, Posted, Got, Pinned, Ended, Refused, Entry, History, Setting, names, is_accepted}
 use Rattle.handle_table.specs.Shelf.{offer_after, shelf, installs_after, installs, from_shelf}
 use Rattle.handle_table.specs.History.{handle_in, handle_made, is_handle, makes_handle, made, frees_handle, live, with_handle, handles, sets_after, sets, global_after, global, object_after, replies_with, object, selection_after, selection, holding_after, holding, pins, free_row, posted_after, posted}
-use Rattle.handle_table.specs.Answer.{first_reason, reasons, of_handle, made_in, got, target_object, reply_to, unless, answer, IsLegal, own_after, own}
+use Rattle.handle_table.specs.Answer.{first_reason, reasons, of_handle, made_in, got, reply_to, unless, answer, IsLegal, own_after, own}
 use Rattle.handle_table.specs.Table.{has_base}
 use Rattle.handle_table.proofs.Numbering.{made_once, same_handles, same_itself}
 use Rattle.handle_table.proofs.Gone.{freed_stays, unrefused}
@@ -21,11 +21,6 @@ use Rattle.handle_table.proofs.Pinned.{bit, ways, sum_but_one, pins_counted}
 -- a handle that was made stays made
 pub made_stays : (e : Entry) (H : History) (h : Handle) → made H h ≡ true → made (e ∷ H) h ≡ true
 made_stays e H h before = or_right (makes_handle e h) (made H h) before
-
--- a handle that was made is live after an entry where it was live, and the entry is no accepted Free of it
-pub live_after : (c : Setting) (e : Entry) (H : History) (h : Handle) → IsLegal c (e ∷ H) → made H h ≡ true
-    → live (e ∷ H) h ≡ (not (frees_handle e h) && live H h)
-live_after c e H h legal before = ap (λ b. not (frees_handle e h) && (b || live H h)) (made_once c e H h legal before)
 
 -- a freed handle is never live again
 pub freed_for_good : (c : Setting) (G H : History) (h : Handle) → IsLegal c (G ++ H) → made H h ≡ true → live H h ≡ false
@@ -73,12 +68,6 @@ holding_of_caller e H t h same accepted =
 pub posted_of_other : (e : Entry) (H : History) (t k : ℕ) → (e.who ≡ t → ⊥) → posted (e ∷ H) t k ≡ posted H t k
 posted_of_other e H t k other =
     ap (λ b. if b then posted_after e.op k (posted H t k) else posted H t k) (other_caller e.who t (is_accepted e.reply) other)
-
--- an accepted Post of the thread to the cell puts its handle there, and no other op changes the cell
-pub posted_of_caller : (e : Entry) (H : History) (t k : ℕ) → e.who ≡ t → is_accepted e.reply ≡ true
-    → posted (e ∷ H) t k ≡ posted_after e.op k (posted H t k)
-posted_of_caller e H t k same accepted =
-    ap (λ b. if b then posted_after e.op k (posted H t k) else posted H t k) (same_caller e.who t (is_accepted e.reply) same accepted)
 
 -- a refused entry changes no selection
 pub selection_refused : (e : Entry) (H : History) (t : ℕ) → is_accepted e.reply ≡ false → selection (e ∷ H) t ≡ selection H t
@@ -272,35 +261,11 @@ pub own_refused : (e : Entry) (H : History) (t : ℕ) → is_accepted e.reply �
 own_refused e H t refused =
     ap (λ o. if e.who == t then o else own H t) (refused_own e.reply (own H t) refused) ∙ same_either (e.who == t) (own H t)
 
--- an accepted Use takes up the object of its target as it is then, or the global locale
-pub own_of_use : (c : Setting) (e : Entry) (H : History) (t : ℕ) (n : Named) → IsLegal c (e ∷ H) → e.who ≡ t → e.op ≡ Use n
-    → is_accepted e.reply ≡ true → own (e ∷ H) t ≡ target_object c H n
-own_of_use c e H t n legal same is accepted =
-    let reply : e.reply ≡ answer c H e.who (Use n) = legal.0 ∙ ap (answer c H e.who) is in
-    let none = unrefused (first_reason (reasons c H e.who (Use n))) (reply_to c H e.who (Use n)) (sym (ap is_accepted reply) ∙ accepted) in
-    own_of_caller e H t same
-    ∙ ap (λ r. own_after r (own H t)) reply
-    ∙ ap (λ r. own_after (unless r (reply_to c H e.who (Use n))) (own H t)) none
-
--- a thread that has ended has the global locale
-pub own_of_end : (c : Setting) (e : Entry) (H : History) (t : ℕ) → IsLegal c (e ∷ H) → e.who ≡ t → e.op ≡ End → own (e ∷ H) t ≡ None
-own_of_end c e H t legal same is =
-    own_of_caller e H t same
-    ∙ ap (λ r. own_after r (own H t)) (legal.0 ∙ ap (answer c H e.who) is)
-
 -- ---- the shelf and the global locale
-
--- an accepted Install puts its offer under its number, and no other op changes the shelf
-pub shelf_accepted : (c : Setting) (e : Entry) (H : History) (n : ℕ) → is_accepted e.reply ≡ true → shelf c (e ∷ H) n ≡ offer_after e.op n (shelf c H n)
-shelf_accepted c e H n accepted = ap (λ b. if b then offer_after e.op n (shelf c H n) else shelf c H n) accepted
 
 -- a refused entry leaves the shelf
 pub shelf_refused : (c : Setting) (e : Entry) (H : History) (n : ℕ) → is_accepted e.reply ≡ false → shelf c (e ∷ H) n ≡ shelf c H n
 shelf_refused c e H n refused = ap (λ b. if b then offer_after e.op n (shelf c H n) else shelf c H n) refused
-
--- each accepted Install counts, and nothing else does
-pub installs_accepted : (e : Entry) (H : History) → is_accepted e.reply ≡ true → installs (e ∷ H) ≡ installs_after e.op (installs H)
-installs_accepted e H accepted = ap (λ b. if b then installs_after e.op (installs H) else installs H) accepted
 
 pub installs_refused : (e : Entry) (H : History) → is_accepted e.reply ≡ false → installs (e ∷ H) ≡ installs H
 installs_refused e H refused = ap (λ b. if b then installs_after e.op (installs H) else installs H) refused

@@ -7,24 +7,23 @@ use Rattle.mask_compose.specs.Offer.{Offered}
 use Rattle.handles.specs.declared.handle.Handle.{Handle}
 use Rattle.handles.specs.declared.handle.Named.{Named}
 use Rattle.handles.specs.declared.handle.Named.TheVariants.{Global, Of}
-use Rattle.lc_base.specs.declared.cells.TheConstants.{CELLS}
 use Rattle.handle_table.specs.declared.op.Refusal.{Refusal}
 use Rattle.handle_table.specs.declared.op.Refusal.TheVariants.{AlreadyHeld, NotHeld}
-use Rattle.handle_table.specs.Entry.{Op, New, Dup, Free, Use, Hold, Release, SetGlobal, Install, Post, Fetch, Pins, End, Entry, History, Setting, names, is_accepted}
+use Rattle.handle_table.specs.Entry.{Op, New, Dup, Free, Use, Hold, Release, SetGlobal, Install, Fetch, Pins, End, Entry, History, Setting, names, is_accepted}
 use Rattle.handle_table.specs.Shelf.{posix, shelf, installs, from_shelf}
 use Rattle.handle_table.specs.History.{handle_in, makes, live, object_named, replies_with, object, selection, holding, posted, sets, global, is_free, free_row}
 use Rattle.handle_table.specs.Answer.{no_data, never_made, stale, global_handle, already_held, not_held, first_reason, reasons, unless, made_in, reply_to, answer, entry}
 use Rattle.handle_table.specs.Row.{pinned, unpinned}
 use Rattle.handle_table.specs.Rows.{changed, all_let_go}
 use Rattle.handle_table.specs.Kept.{RowsStand, KeptData, Keeps}
-use Rattle.handle_table.specs.Effects.{after_make, after_rebuild, after_free, after_use, after_hold, after_release, after_set, after_install, after_post, after_end}
+use Rattle.handle_table.specs.Effects.{after_make, after_rebuild, after_free, after_use, after_hold, after_release, after_set, after_install, after_end}
 use Rattle.handle_table.proofs.Numbering.{nth, same_itself}
 use Rattle.handle_table.proofs.Gone.{no_reason, names_handle, not_refused}
 use Rattle.handle_table.proofs.Newest.{least_passes}
 use Rattle.handle_table.proofs.Changes.{object_stays, object_refused, posted_refused, shelf_refused, installs_refused, sets_refused, global_refused, refused_makes, same_either}
 use Rattle.handle_table.proofs.Same.{MakesNext, rows_kept, same_refused, same_quiet, same_holders, rows_of_make}
 use Rattle.handle_table.proofs.RowsOf.{rows_of_use, rows_of_hold, rows_of_release, rows_of_end, rows_of_free}
-use Rattle.handle_table.proofs.PartsOf.{objects_kept, objects_of_base, objects_of_make, selections_kept, selections_written, cells_kept, cells_of_post, shelf_kept, shelf_of_install, global_kept, global_of_set}
+use Rattle.handle_table.proofs.PartsOf.{objects_kept, objects_of_base, objects_of_make, selections_kept, selections_written, cells_kept, shelf_kept, shelf_of_install, global_kept, global_of_set}
 use Rattle.handle_table.proofs.Says.{object_said}
 
 -- an op with no reason against it is accepted, where what it asks for is
@@ -191,25 +190,6 @@ keeps_install c H w m offer kept caller on k =
       cells = cells_kept c H (e ∷ H) kept.cells (λ t j. same_either (w == t && is_accepted e.reply) (posted H t j)) k.cells;
       shelf = shelf_of_install c H w m offer kept.installed on k.shelf;
       installs = add-one kept.installs ∙ ap suc k.installs;
-      global = global_kept c H (e ∷ H) kept.global (same_either (is_accepted e.reply) (sets H)) (same_either (is_accepted e.reply) (global c H)) k.global;
-    }
-
--- a Post
-pub keeps_post : (c : Setting) (H : History) (w : ℕ) (j : ℕ) (n : Named) (kept : KeptData) → w < c.threads → j < CELLS
-    → first_reason (reasons c H w (Post j n)) ≡ None → Keeps c H kept → Keeps c (entry c H w (Post j n) ∷ H) (after_post w j n kept)
-keeps_post c H w j n kept caller small none k =
-    let e : Entry = entry c H w (Post j n) in
-    let accepted = unopposed c H w (Post j n) none refl in
-    record {
-      legal = (refl, k.legal);
-      callers = (caller, k.callers);
-      opening = k.opening;
-      rows = rows_kept c H (e ∷ H) kept.rows (same_quiet e H refl refl) k.rows;
-      objects = objects_kept c e H kept.objects (refl, k.legal) refl (λ h before. object_stays c e H h (refl, k.legal) before refl) k.objects;
-      selections = selections_kept c H (e ∷ H) kept.selections (λ t. same_either (w == t && is_accepted e.reply) (selection H t)) k.selections;
-      cells = cells_of_post c H w j n kept.cells caller small accepted k.cells;
-      shelf = shelf_kept c H (e ∷ H) kept.installed (λ n. same_either (is_accepted e.reply) (shelf c H n)) k.shelf;
-      installs = k.installs ∙ sym (same_either (is_accepted e.reply) (installs H));
       global = global_kept c H (e ∷ H) kept.global (same_either (is_accepted e.reply) (sets H)) (same_either (is_accepted e.reply) (global c H)) k.global;
     }
 

@@ -9,17 +9,16 @@ use Rattle.global_locale.specs.Versioned.{Versioned}
 use Rattle.handles.specs.declared.handle.Handle.{Handle}
 use Rattle.handles.specs.declared.handle.Named.{Named}
 use Rattle.handles.specs.declared.handle.Named.TheVariants.{Global, Of}
-use Rattle.lc_base.specs.declared.cells.TheConstants.{CELLS}
-use Rattle.handle_table.specs.Entry.{New, SetGlobal, Install, Post, Entry, History, Setting, is_accepted, same_handle}
+use Rattle.handle_table.specs.Entry.{New, SetGlobal, Install, Entry, History, Setting, is_accepted, same_handle}
 use Rattle.handle_table.specs.Shelf.{opening_offer, shelf, from_shelf}
-use Rattle.handle_table.specs.History.{handle_made, is_handle, makes_handle, made, makes, object, selection_after, selection, is_kept, handle_named, posted, sets, global}
+use Rattle.handle_table.specs.History.{handle_made, is_handle, makes_handle, made, makes, object, selection_after, selection, is_kept, posted, sets, global}
 use Rattle.handle_table.specs.Answer.{answer, entry, IsLegal}
 use Rattle.handle_table.specs.Grid.{GridData, cell, with_cell}
 use Rattle.handle_table.specs.Kept.{newest, ObjectsStand, SelectionsStand, CellsStand, ShelfStands, GlobalStands}
 use Rattle.handle_table.proofs.Numbering.{nth, same_handles}
 use Rattle.handle_table.proofs.Gone.{gone_stays, unmade_gone}
 use Rattle.handle_table.proofs.Pinned.{gone_unkept, unkept_gone}
-use Rattle.handle_table.proofs.Changes.{object_stays, object_rebuilt, selection_of_other, selection_of_caller, posted_of_other, posted_of_caller, sets_accepted, global_accepted, handles_kept, made_kept}
+use Rattle.handle_table.proofs.Changes.{object_stays, object_rebuilt, selection_of_other, selection_of_caller, sets_accepted, global_accepted, handles_kept, made_kept}
 use Rattle.handle_table.proofs.Same.{MakesNext, cases_place, more_in_row, same_elsewhere}
 use Rattle.handle_table.proofs.Places.{cell_here, cell_elsewhere}
 use Rattle.handle_table.proofs.Changed.{shape_with, if_true, if_false}
@@ -159,41 +158,6 @@ cells_kept c H G cells same s = record {
   shape = s.shape;
   each = λ t k line column. s.each t k line column ∙ sym (same t k);
 }
-
-post_here : (j k : ℕ) (x y : Option Handle) → j ≡ k → (if j == k then x else y) ≡ x
-post_here j k x y same = if_true (j == k) x y (eq-eqb j k same)
-
-post_elsewhere : (j k : ℕ) (x y : Option Handle) → (j ≡ k → ⊥) → (if j == k then x else y) ≡ y
-post_elsewhere j k x y other = if_false (j == k) x y (ne_eqb j k other)
-
--- an accepted Post puts its handle into the cell
-pub cells_of_post : (c : Setting) (H : History) (w j : ℕ) (n : Named) (cells : GridData (Option Handle)) → w < c.threads → j < CELLS
-    → is_accepted (answer c H w (Post j n)) ≡ true → CellsStand c H cells
-    → CellsStand c (entry c H w (Post j n) ∷ H) (with_cell cells w j (handle_named n))
-cells_of_post c H w j n cells caller small accepted s =
-    let e : Entry = entry c H w (Post j n) in
-    let lines = s.shape.lines in
-    let width = s.shape.width in record {
-      shape = shape_with c CELLS cells w j (handle_named n) s.shape;
-      each = λ t k line column.
-          elim (cases_eq w t) [
-            | inr other ↦
-                cell_elsewhere cells w j t k (handle_named n) None (omega arith) (omega arith) (λ both. other (sym both.0))
-                ∙ s.each t k line column ∙ sym (posted_of_other e H t k other)
-            | inl same ↦
-                elim (cases_eq j k) [
-                  | inl here ↦
-                      ap (λ m. cell (with_cell cells m j (handle_named n)) t k None) same
-                      ∙ ap (λ m. cell (with_cell cells t m (handle_named n)) t k None) here
-                      ∙ cell_here cells t k (handle_named n) None s.shape.full (omega arith) (omega arith)
-                      ∙ sym (posted_of_caller e H t k same accepted ∙ post_here j k (handle_named n) (posted H t k) here)
-                  | inr apart ↦
-                      cell_elsewhere cells w j t k (handle_named n) None (omega arith) (omega arith) (λ both. apart (sym both.1))
-                      ∙ s.each t k line column
-                      ∙ sym (posted_of_caller e H t k same accepted ∙ post_elsewhere j k (handle_named n) (posted H t k) apart)
-                ]
-          ];
-    }
 
 -- ---- the shelf
 

@@ -20,10 +20,6 @@ use Rattle.int_format.specs.Digits.{digit_count}
 use Rattle.int_format.specs.Formats.{followed}
 use Rattle.int_format.specs.Ints.{is_number, refusal, good_pieces, pieces_text, piece_text, numbers_behind, missing, refusal_behind, within, Refuses, padded, shown, least_digits, sizes_of, sign_text, fill_of, conversion_text, fault_of, unless_refused, at_most}
 
-pub refusal_start : (r : Result (List (ℕ × Piece)) ℕ) (n : ℕ) → refusal r n ≡ refusal_behind None r n
-refusal_start (Ok ps) n = refl
-refusal_start (Err at) n = refl
-
 pub refusal_bad : (lacking : Option ℕ) (at n : ℕ) → refusal_behind lacking (Err at) n ≡ Some (BadFormat at)
 refusal_bad None at n = refl
 refusal_bad (Some place) at n = refl

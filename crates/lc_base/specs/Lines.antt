@@ -35,11 +35,6 @@ pub record CutsLine (text line rest : List ℕ) : Type 0 where
 abbrev pub after : List ℕ → List ℕ → Option (List ℕ)
 after front line = if starts_with nat_eq line front then Some (drop (length front) line) else None
 
--- the first of a list, and the others
-abbrev pub first_of : {A : Type 0} → List A → Option (A × List A)
-first_of [] = None
-first_of (x ∷ xs) = Some (x, xs)
-
 -- one part of a text after another, as far as they are there
 infixl 10 ◌>>=◌
 abbrev pub ◌>>=◌ : {A B : Type 0} → Option A → (A → Option B) → Option B

@@ -10,11 +10,7 @@ use Rattle.locale_cli.specs.declared.words.Mode.{Mode}
 use Rattle.locale_cli.specs.declared.words.Mode.TheVariants.{Check}
 use Rattle.script_out.specs.Refusal.{refusal_line}
 use Rattle.locale_cli.specs.declared.answer.Status.TheVariants.{Refused}
-use Rattle.locale_cli.specs.Answer.{counts_line, counts_text, Outputs, OutputsOf, answer_for, IsAnswer, MayPrint}
-
--- a text of an accepted bundle
-pub printed_is : (mode : Mode) (input text : List ℕ) (plan : PlanData) → plan_of input ≡ Ok plan → Outputs mode plan text → OutputsOf mode (plan_of input) (Ok text)
-printed_is mode input text plan is outputs = subst (λ (r : Reads PlanData). OutputsOf mode r (Ok text)) (sym is) outputs
+use Rattle.locale_cli.specs.Answer.{counts_line, counts_text, OutputsOf, answer_for, IsAnswer, MayPrint}
 
 -- the fault of a refused one
 fault_is : (mode : Mode) (input : List ℕ) (fault : Place × Reason) → plan_of input ≡ Err fault → OutputsOf mode (plan_of input) (Err fault)

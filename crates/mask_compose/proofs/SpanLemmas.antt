@@ -26,16 +26,6 @@ piece pre q p post =
 field_parts : (c : Category) (p : List ℕ) → field c p ≡ field c [] ++ p
 field_parts c p = sym (append_assoc (category_name c) (61 ∷ []) p)
 
--- what stands after the first field
-more_fields : List (List ℕ) → List ℕ
-more_fields [] = []
-more_fields (f ∷ fs) = 59 ∷ join_with_byte 59 (f ∷ fs)
-
-join_first : (f : List ℕ) (fs : List (List ℕ)) → join_with_byte 59 (f ∷ fs) ≡ f ++ more_fields fs
-unfolding more_fields
-join_first f [] = sym (append-nil f)
-join_first f (g ∷ fs) = refl
-
 pub record HasSpans (text : List ℕ) (spans : List (ℕ × ℕ)) (ps : List (List ℕ)) : Type 0 where
   pub parts : map (spanned text) spans ≡ ps
   pub within : AllByRecursion (λ (span : ℕ × ℕ). span.0 + span.1 ≤ length text) spans

@@ -37,9 +37,6 @@ not_behind_before s k m h = grind (arith, nat_tests)
 not_behind_at : (s k : ℕ) (m : Message) → stands_at s k m ≡ true → comes_behind s k m ≡ false
 not_behind_at s k m h = grind (arith, nat_tests)
 
-not_before_at : (s k : ℕ) (m : Message) → stands_at s k m ≡ true → comes_before s k m ≡ false
-not_before_at s k m h = grind (arith, nat_tests)
-
 -- ---- lists behind a message
 
 -- all of these are behind a number
@@ -118,12 +115,6 @@ without_absent s k (m ∷ ms) absent = either (stands_at s k m)
     (λ apart. rw apart (ap (λ (xs : List Message). m ∷ xs) (without_absent s k ms (rw apart at absent))))
 
 -- ---- where a message stands
-
-pub there_at : (s k : ℕ) (ms : List Message) (d : Message) → number_before s k ms < length ms → stands_at s k (get_or ms (number_before s k ms) d) ≡ true → has_message s k ms ≡ true
-there_at s k [] d within here = absurd (omega arith)
-there_at s k (m ∷ ms) d within here = either (comes_before s k m)
-    (λ h. rw (not_at_before s k m h) (there_at s k ms d (let w = rw h at within in omega (arith, w)) (rw h at here)))
-    (λ h. let at = rw h at here in rw at refl)
 
 pub absent_at : (s k : ℕ) (ms : List Message) (d : Message) → IsInOrder ms → stands_at s k (get_or ms (number_before s k ms) d) ≡ false → has_message s k ms ≡ false
 absent_at s k [] d order apart = refl

@@ -110,22 +110,6 @@ word_whole text word (d ∷ ds) e lacks behind is =
     let whole : text ≡ word ++ 32 ∷ ds = is ∙ ap (λ k. word ++ k ∷ ds) behind in
     absurd (never_lacks word ds 32 (subst (λ (t : List ℕ). Lacks t 32) whole (none_found text 32 e)))
 
--- a text has one first word
-pub one_word : (a x b y : List ℕ) → Lacks a 32 → IsBehindWord x → Lacks b 32 → IsBehindWord y → a ++ x ≡ b ++ y → (a ≡ b) × (x ≡ y)
-one_word a [] b [] la bx lb by e = (sym (append-nil a) ∙ e ∙ append-nil b, refl)
-one_word a [] b (d ∷ y) la bx lb by e =
-    let whole : a ≡ b ++ 32 ∷ y = sym (append-nil a) ∙ e ∙ ap (λ k. b ++ k ∷ y) by in
-    absurd (never_lacks b y 32 (subst (λ (t : List ℕ). Lacks t 32) whole la))
-one_word a (c ∷ x) b [] la bx lb by e =
-    let whole : b ≡ a ++ 32 ∷ x = sym (append-nil b) ∙ sym e ∙ ap (λ k. a ++ k ∷ x) bx in
-    absurd (never_lacks a x 32 (subst (λ (t : List ℕ). Lacks t 32) whole lb))
-one_word a (c ∷ x) b (d ∷ y) la bx lb by e =
-    let whole : a ++ 32 ∷ x ≡ b ++ 32 ∷ y = ap (λ k. a ++ k ∷ x) (sym bx) ∙ e ∙ ap (λ k. b ++ k ∷ y) by in
-    let both = one_cut a x b y 32 la lb whole in
-    let tails : x ≡ y = both.1 in
-    let heads : c ≡ d = bx ∙ sym by in
-    (both.0, cc (heads, tails))
-
 -- ---- fronts
 
 pub strip_read : (s p : List ℕ) (r : Option (Bor (List ℕ))) → MatchOption r ((rest : List ℕ) → s ≢ p ++ rest) (λ x. s ≡ p ++ x.now) → IfSome r (λ x. s ≡ p ++ x.now)

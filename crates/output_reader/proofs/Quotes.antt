@@ -6,15 +6,11 @@ use Rattle.std.specs.List.{flat_map, AllByRecursion}
 use Rattle.std.proofs.lemmas.Bool.{eqb-true, eqb-false, ltb-true}
 use Rattle.std.proofs.lemmas.Fmt.{decimal_nonempty}
 use Rattle.std.proofs.lemmas.List.{append_assoc, append-nil}
-use Rattle.script_out.specs.Output.{hex_digit, escaped, quoted, texts_text, numbers_text}
+use Rattle.script_out.specs.Output.{hex_digit, escaped, texts_text, numbers_text}
 use Rattle.output_reader.specs.Reading.{EndsTexts, IsBehindWord, Lacks}
 use Rattle.output_reader.proofs.Lacking.{decimal_lacks}
 
 -- ---- bytes of a text in quotes
-
-or_cases : (a b : Bool) → (a || b) ≡ true → (a ≡ true) ⊎ (b ≡ true)
-or_cases true b e = inl refl
-or_cases false b e = inr e
 
 or_none : (a b : Bool) → (a || b) ≡ false → (a ≡ false) × (b ≡ false)
 or_none true b e = cc
@@ -65,9 +61,6 @@ text_step text items left rest (d ∷ ds) c behind is back quote =
 pub text_over : (text items left rest later : List ℕ) → IsTextLeft text items left rest later → ((d : ℕ) (r : List ℕ) → left ≡ escaped d ++ r → ⊥) → (items ≡ text) × (left ≡ 34 ∷ rest)
 text_over text items left rest [] is none = (sym (is.0 ∙ append-nil items), is.1)
 text_over text items left rest (d ∷ ds) is none = absurd (none d (flat_map escaped ds ++ 34 ∷ rest) (is.1 ∙ append_assoc (escaped d) (flat_map escaped ds) (34 ∷ rest)))
-
-pub quoted_is : (text : List ℕ) → quoted text ≡ 34 ∷ (flat_map escaped text ++ 34 ∷ [])
-quoted_is text = refl
 
 -- ---- texts behind spaces
 

@@ -63,17 +63,6 @@ pub record Moments : Type 0 where
   pub second : History
   pub asked : Asked
 
--- the moments of a line where nobody else calls
-abbrev pub moments_alone : Setting → ℕ → History → Asked → Wish → Moments
-moments_alone c thread H asked (ReadsOf n read) = record { seen = H; first = H; second = with_call c H thread (table.Hold n); asked = asked }
-moments_alone c thread H asked (Calls categories op) = record { seen = H; first = H; second = H; asked = asked }
-moments_alone c thread H asked (Reads read) = record { seen = H; first = H; second = H; asked = asked }
-moments_alone c thread H asked AsksSelection = record { seen = H; first = H; second = H; asked = asked }
-moments_alone c thread H asked (AsksName categories) = record { seen = H; first = H; second = H; asked = asked }
-moments_alone c thread H asked (OpensCatalog name) = record { seen = H; first = H; second = H; asked = asked }
-moments_alone c thread H asked (GetsMessage h set message default) = record { seen = H; first = H; second = H; asked = asked }
-moments_alone c thread H asked (ClosesCatalog h) = record { seen = H; first = H; second = H; asked = asked }
-
 -- ---- what a wish leaves
 
 -- a Hold that gives this object, a read of it, and a Release; the Hold alone where it gives none

@@ -138,15 +138,6 @@ pub record FirstSoFar (mines : List Thread) (all : List ReaderData) (ws : List W
   pub rest_are : (i : ℕ) (d : Thread) → i < length rest → slice_index_or rest i d ≡ slice_index_or mines (length ws + i) d
   pub left_are : (i : ℕ) (d : ReaderData) → i < length left → slice_index_or left i d ≡ slice_index_or all (length ws + i) d
 
-pub first_none : (mines : List Thread) (all : List ReaderData) → FirstSoFar mines all [] mines all
-first_none mines all = record {
-  first = λ i d lt. absurd (omega (arith, lt));
-  count = omega arith;
-  readers_count = omega arith;
-  rest_are = λ i d lt. ap (λ (j : ℕ). slice_index_or mines j d) (omega arith);
-  left_are = λ i d lt. ap (λ (j : ℕ). slice_index_or all j d) (omega arith);
-}
-
 -- a reader is left for each thread that is left
 pub reader_left : (mines : List Thread) (all : List ReaderData) (ws : List Worker) (mine : Thread) (rest : List Thread) (left : List ReaderData) → FirstSoFar mines all ws (mine ∷ rest) left → length all ≡ length mines → length left ≡ 0 → ⊥
 reader_left mines all ws mine rest left was many none = let count = was.count in let readers_count = was.readers_count in omega (arith, count, readers_count, many, none)

@@ -16,7 +16,7 @@ use Rattle.catalog_table.specs.Entry.{History as CatalogHistory}
 use Rattle.catalog_seats.proofs.Meeting as reading
 use Rattle.script_lines.specs.Catalogs.{catalog_setting}
 use Rattle.turn_gate.specs.Ends.{SomeCaller}
-use Rattle.thread_current.specs.Thread.{Thread, thread_of, IsThreadOf, IsInOrder, SawMore, GoesOnFrom, IsPart, entries_by}
+use Rattle.thread_current.specs.Thread.{Thread, thread_of, IsInOrder, SawMore, GoesOnFrom, IsPart, entries_by}
 use Rattle.thread_current.specs.Mine.{HeldData}
 use Rattle.script_out.specs.declared.output.OutLine.{OutLine}
 use Rattle.script_lines.specs.declared.holds.OpenHold.{OpenHold}
@@ -180,14 +180,6 @@ can_close gate plan seats w ws mine lines was sound for for_asked saw orders =
       };
       few = omega (arith, counted, few, holds, own_few, made_long, most, commands);
     }
-
--- each seat so far is one of the table
-pub seats_of : (gate : Gates) (plan : PlanData) (seats : List SeatData) (ws : List Worker) (lines : List OutLine) → AreClosing gate plan seats ws lines → Each seats (λ i seat. IsSeatOf gate.locales seat)
-seats_of gate plan seats ws lines was = λ i d lt. (was.closers.closers i d lt).seat
-
--- and a worker that is left is a thread of it
-pub next_thread : (gate : Gates) (plan : PlanData) (seats : List SeatData) (w : Worker) (ws : List Worker) (lines : List OutLine) → AreClosing gate plan seats (w ∷ ws) lines → IsThreadOf gate.locales (mine_of w)
-next_thread gate plan seats w ws lines was = (was.ready 0 w (omega arith)).worker.seated.thread
 
 pub closing_next : (gate : Gates) (plan : PlanData) (seats others all : List SeatData) (w : Worker) (ws : List Worker) (mine : Thread) (lines closed lines' : List OutLine) (seat : SeatData)
     → AreClosing gate plan seats (w ∷ ws) lines → ClosesNext gate plan seats others w mine closed seat → all ≡ others ++ seat ∷ [] → lines' ≡ lines ++ closed → AreClosing gate plan all ws lines'

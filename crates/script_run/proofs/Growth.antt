@@ -4,7 +4,6 @@ use Rattle.std.specs.Prelude.{◌==◌, if◌then◌else◌, unwrap_or}
 use Rattle.std.proofs.lemmas.Bool.{cases_lt, le-leb, lt-leb}
 use Rattle.std.proofs.lemmas.List.Elements.{All-weaker}
 use Rattle.handle_table.specs.Entry.{Entry, History, Setting}
-use Rattle.handle_table.specs.Answer.{IsLegal}
 use Rattle.thread_current.specs.Thread.{GoesOnFrom}
 use Rattle.script_lines.specs.Board.{Moments, catalog_op, granted_at}
 use Rattle.script_lines.specs.Catalogs.{Asked}
@@ -45,48 +44,6 @@ oldest_length p (e ∷ W) le =
           let same : length (oldest p (e ∷ W)) ≡ suc (length W) = ap length (oldest_here p e W lt) in
           omega (arith, same, lt, le)
       | inr ge ↦ ap length (oldest_below p e W ge) ∙ oldest_length p W ge
-    ]
-
-pub oldest_oldest : (p q : ℕ) (W : History) → p ≤ q → oldest p (oldest q W) ≡ oldest p W
-oldest_oldest p q [] le = refl
-oldest_oldest p q (e ∷ W) le =
-    elim (cases_lt (length W) q) [
-      | inl lt ↦ ap (oldest p) (oldest_here q e W lt)
-      | inr ge ↦
-          let within : p ≤ length W = omega (arith, le, ge) in
-          ap (oldest p) (oldest_below q e W ge) ∙ oldest_oldest p q W le ∙ sym (oldest_below p e W within)
-    ]
-
-pub oldest_legal : (c : Setting) (p : ℕ) (W : History) → IsLegal c W → IsLegal c (oldest p W)
-oldest_legal c p [] legal = tt
-oldest_legal c p (e ∷ W) legal =
-    elim (cases_lt (length W) p) [
-      | inl lt ↦ subst (IsLegal c) (sym (oldest_here p e W lt)) legal
-      | inr ge ↦ subst (IsLegal c) (sym (oldest_below p e W ge)) (oldest_legal c p W legal.1)
-    ]
-
--- a history goes on from what stood before a place
-pub oldest_rest : (p : ℕ) (W : History) → GoesOnFrom W (oldest p W)
-oldest_rest p [] = ([], refl)
-oldest_rest p (e ∷ W) =
-    elim (cases_lt (length W) p) [
-      | inl lt ↦ ([], sym (oldest_here p e W lt))
-      | inr ge ↦
-          let rest = oldest_rest p W in
-          (e ∷ rest.0, ap (λ (H : History). e ∷ H) rest.1 ∙ ap (λ (H : History). e ∷ rest.0 ++ H) (sym (oldest_below p e W ge)))
-    ]
-
--- the entry of a place
-pub oldest_next : (p : ℕ) (W : History) → p < length W → (e : Entry) × (oldest (p + 1) W ≡ e ∷ oldest p W)
-oldest_next p [] lt = absurd (omega arith)
-oldest_next p (e ∷ W) lt =
-    elim (cases_lt p (length W)) [
-      | inl within ↦
-          let rest = oldest_next p W within in
-          (rest.0, oldest_below (p + 1) e W (omega (arith, within)) ∙ rest.1 ∙ ap (λ (H : History). rest.0 ∷ H) (sym (oldest_below p e W (omega (arith, within)))))
-      | inr past ↦
-          let all : oldest p W ≡ W = oldest_whole p W past in
-          (e, oldest_here (p + 1) e W (omega (arith, past)) ∙ ap (λ (H : History). e ∷ H) (sym (oldest_below p e W (omega (arith, lt)) ∙ all)))
     ]
 
 -- ---- what a line is judged by

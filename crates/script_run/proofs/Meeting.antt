@@ -15,7 +15,7 @@ use Rattle.script_seats.specs.declared.seated.Seated.{Seated}
 use Rattle.script_run.specs.declared.worker.Worker.{Worker}
 use Rattle.script_seats.specs.Seated.{Gates}
 use Rattle.script_run.specs.Rounds.{Each, EachTwo, mine_of, reader_at, IsOfBoth, IsOrderly, HasSeenOf, with_both, SeesMore, HasMet, AllMet}
-use Rattle.script_run.proofs.Seeing.{goes_on, goes_same}
+use Rattle.script_run.proofs.Seeing.{goes_on}
 
 -- ---- a worker that sees more, and more again
 
@@ -39,15 +39,6 @@ sees_again gate t u v first then = record {
   asked_order = λ order. then.asked_order (first.asked_order order);
 }
 
-pub sees_same : (gate : Gates) (w : Worker) → SeesMore gate w w
-sees_same gate w = record {
-  same = refl;
-  saw = record { same = record { table = refl; terms = refl; number = refl }; later = goes_same (mine_of w).seen; calls = refl };
-  in_order = λ order. order;
-  asked_saw = reading.saw_same (reader_at w);
-  asked_order = λ order. order;
-}
-
 -- what two that meet leave of one of them
 pub record MeetsBoth (gate : Gates) (w other : Worker) (mine : Thread) (reader : ReaderData) : Type 0 where
   pub saw : SawMore (mine_of w) mine
@@ -67,14 +58,6 @@ pub record MeetsTo (gate : Gates) (first0 first : Worker) (others0 others : List
   pub met : (i : ℕ) (d : Worker) → i < k → HasMet gate (mine_of first0).seen (reader_at first0).seen (slice_index_or others0 i d) (slice_index_or others i d)
   pub seen : (i : ℕ) (d : Worker) → i < k → HasSeenOf (slice_index_or others0 i d) first
   pub left : (i : ℕ) (d : Worker) → k ≤ i → slice_index_or others i d ≡ slice_index_or others0 i d
-
-pub meets_none : (gate : Gates) (first : Worker) (others : List Worker) → MeetsTo gate first first others others 0
-meets_none gate first others = record {
-  sees = sees_same gate first;
-  met = λ i d lt. absurd (omega (arith, lt));
-  seen = λ i d lt. absurd (omega (arith, lt));
-  left = λ i d le. refl;
-}
 
 pub meets_next : (gate : Gates) (first0 first : Worker) (others0 others : List Worker) (k : ℕ) (other : Worker) (mine others_mine : Thread) (reader others_reader : ReaderData)
     → MeetsTo gate first0 first others0 others k → k < length others → other ≡ slice_index_or others k other → MeetsBoth gate first other mine reader → MeetsBoth gate other first others_mine others_reader
@@ -187,14 +170,6 @@ of_both_kept gate t u is sees = (
   (sees.saw.same.table ∙ is.0.0, sees.saw.same.terms ∙ is.0.1),
   (sees.asked_saw.same.table ∙ is.1.0, sees.asked_saw.same.terms ∙ is.1.1),
 )
-
-pub first_thread_of : (gate : Gates) (first0 first : Worker) (others0 others : List Worker) (k : ℕ) → MeetsTo gate first0 first others0 others k → IsOfBoth gate first0 → IsOfBoth gate first
-first_thread_of gate first0 first others0 others k was is = of_both_kept gate first0 first is was.sees
-
-pub left_thread : (gate : Gates) (first0 first : Worker) (others0 others : List Worker) (k : ℕ) (other : Worker) → MeetsTo gate first0 first others0 others k → k < length others0 → other ≡ slice_index_or others k other
-    → Each others0 (λ i w. IsOfBoth gate w) → IsOfBoth gate other
-left_thread gate first0 first others0 others k other was within at are =
-    subst (IsOfBoth gate) (sym (at ∙ was.left k other (omega arith))) (are k other within)
 
 -- those that have met are threads of both as before
 pub met_threads : (gate : Gates) (seen : History) (asked : CatalogHistory) (olds news : List Worker) → length news ≡ length olds → EachTwo olds news (λ i old new. HasMet gate seen asked old new)

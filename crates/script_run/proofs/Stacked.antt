@@ -1,19 +1,17 @@
 -- Lines that several threads have made beside each other are right behind all earlier lines, for one history of their calls.
-use Rattle.std.proofs.Common.{◌≡◌, ℕ, zero, suc, ◌+◌, ◌<◌, ◌≤◌, true, false, List, [], ◌∷◌, ◌++◌, length, refl, sym, ap, subst, ◌∙◌, arith, inl, inr, reverse}
-use Rattle.std.specs.Prelude.{◌≢◌, ◌==◌, nat_lt, nat_le, flat_map, All}
+use Rattle.std.proofs.Common.{◌≡◌, ℕ, zero, suc, ◌+◌, ◌<◌, ◌≤◌, true, false, List, [], ◌∷◌, ◌++◌, length, refl, sym, ap, subst, ◌∙◌, arith, inl, inr}
+use Rattle.std.specs.Prelude.{◌≢◌, ◌==◌, nat_lt, nat_le, All}
 use Rattle.std.specs.List.{range_with_len}
 use Rattle.std.proofs.lemmas.Bool.{cases_lt, eq-eqb, ne_eqb, le-leb, lt-leb}
-use Rattle.std.proofs.lemmas.List.{append-nil, append_assoc, map-append, reverse-append}
-use Rattle.std.proofs.lemmas.List.Concat.{flat_map-append}
+use Rattle.std.proofs.lemmas.List.{append_assoc}
 use Rattle.std.proofs.lemmas.List.Elements.{All-nil, All-cons, All-head, All-tail, All-append, All-weaker, filter-append}
 use Rattle.handle_table.specs.Entry.{History, Setting}
 use Rattle.handle_table.specs.Kept.{AreThreads}
 use Rattle.handle_table.specs.Answer.{IsLegal}
 use Rattle.thread_current.specs.Thread.{GoesOnFrom}
-use Rattle.script_lines.specs.Turns.{Turn}
 use Rattle.script_plan.specs.Plan.{PlanData}
 use Rattle.script_plan.proofs.LineLists.{filter_all, filter_none}
-use Rattle.script_run.specs.Timed.{places_by, Timed, end_of, AreTimed, turn_made, turns_made, placed_back, stacked, own_lines, AreRight, in_rounds_before, in_rounds_to, IsInRound, IsWhole}
+use Rattle.script_run.specs.Timed.{places_by, Timed, end_of, AreTimed, placed_back, stacked, own_lines, AreRight, in_rounds_before, in_rounds_to, IsInRound, IsWhole}
 use Rattle.script_run.proofs.Apart.{right_onto}
 use Rattle.script_run.proofs.Counted.{whole_length}
 use Rattle.script_run.proofs.Growth.{are_right_grow}
@@ -94,23 +92,6 @@ range_more a zero = ap (λ (k : ℕ). k ∷ []) (omega arith)
 range_more a (suc n) =
     let same : (a + 1) + n ≡ a + suc n = omega arith in
     ap (λ (ks : List ℕ). a ∷ ks) (range_more (a + 1) n ∙ ap (λ (k : ℕ). range_with_len (a + 1) n ++ k ∷ []) same)
-
-pub turns_stacked : (more : ℕ → List Timed) (made : List Timed) (f : ℕ → List Turn) (n : ℕ) → ((k : ℕ) → k < n → turns_made (more k) ≡ reverse (f k))
-    → turns_made (stacked more made n) ≡ reverse (flat_map f (range_with_len 0 n)) ++ turns_made made
-turns_stacked more made f zero each = refl
-turns_stacked more made f (suc n) each =
-    let front : List Turn = flat_map f (range_with_len 0 n) in
-    let last : 0 + n ≡ n = omega arith in
-    let all : flat_map f (range_with_len 0 (suc n)) ≡ front ++ f n =
-    ap (flat_map f) (range_more 0 n ∙ ap (λ (k : ℕ). range_with_len 0 n ++ k ∷ []) last)
-    ∙ flat_map-append f (range_with_len 0 n) (n ∷ [])
-    ∙ ap (λ (ts : List Turn). front ++ ts) (append-nil (f n))
-    in
-    map-append turn_made (more n) (stacked more made n)
-    ∙ ap (λ (ts : List Turn). ts ++ turns_made (stacked more made n)) (each n (omega arith))
-    ∙ ap (λ (ts : List Turn). reverse (f n) ++ ts) (turns_stacked more made f n (λ k lt. each k (omega (arith, lt))))
-    ∙ sym (append_assoc (reverse (f n)) (reverse front) (turns_made made))
-    ∙ ap (λ (ts : List Turn). ts ++ turns_made made) (sym (ap reverse all ∙ reverse-append front (f n)))
 
 -- ---- each line in its round
 

@@ -322,10 +322,6 @@ holds_nothing gate stock t can empty h =
     ∙ ap (λ (n : ℕ). list_any (is_of h) (open_holds s.mine.seen n)) at.knows.number
     ∙ ap (λ (os : List OpenHold). list_any (is_of h) os) (open_none gate s at empty)
 
-pub may_end : (gate : Gates) (stock : Stock) (t : ScriptThread Seated) → CanClose gate stock t → length t.side.mine.calls < gate.locales.terms.quota
-may_end gate stock t can = let quota = can.calls.calls.quota in
-    let asks = can.calls.asks.quota in omega arith
-
 front_timed : (ts us : List Timed) → AreTimed (ts ++ us) → AreTimed ts
 front_timed [] us timed = tt
 front_timed (t ∷ []) us timed = (omega arith, tt)

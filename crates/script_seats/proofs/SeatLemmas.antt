@@ -10,10 +10,10 @@ use Rattle.handles.specs.declared.handle.Named.{Named}
 use Rattle.handles.specs.declared.handle.Named.TheVariants.{Of}
 use Rattle.handle_table.specs.declared.op.Refusal.{Refusal}
 use Rattle.handle_table.specs.Entry.{Op, Use, Hold, Release, SetGlobal, Reply, Was, Set, Held, Released, Refused, Entry, History, Setting, is_accepted}
-use Rattle.handle_table.specs.History.{sets, global, global_at, selection}
+use Rattle.handle_table.specs.History.{sets, global, global_at}
 use Rattle.handle_table.specs.Answer.{answer, own, IsLegal}
 use Rattle.thread_current.specs.Mine.{HeldData}
-use Rattle.thread_current.specs.Thread.{Thread, IsThreadOf, IsInOrder, entries_by, without_newest, before, Answered, SawMore, IsSameThread, selected, own_object, holds}
+use Rattle.thread_current.specs.Thread.{Thread, IsThreadOf, IsInOrder, entries_by, without_newest, before, Answered, SawMore, IsSameThread, holds}
 use Rattle.script_lines.specs.declared.holds.OpenHold.{OpenHold}
 use Rattle.script_lines.specs.declared.holds.HoldChange.TheVariants as changes
 use Rattle.script_lines.specs.Holds.{object_held, with_hold, hold_change, changed, holds_after, open_holds, is_of, held_as}
@@ -310,12 +310,6 @@ can_same g old new version object found same number n may = record {
 }
 
 -- ---- what the thread knows of itself
-
-pub own_known : (s : Seated) (o : Option Parts) → o ≡ own_object s.mine → (H : History) → KnowsSeated s H → o ≡ own H s.number
-own_known s o is H knows = is ∙ ap (λ (G : History). own G s.mine.number) knows.seen ∙ ap (own H) knows.number
-
-pub selected_known : (s : Seated) (n : Named) → n ≡ selected s.mine → (H : History) → KnowsSeated s H → n ≡ selection H s.number
-selected_known s n is H knows = is ∙ ap (λ (G : History). selection G s.mine.number) knows.seen ∙ ap (selection H) knows.number
 
 pub held_known : (s : Seated) (n : Named) (o : Option Parts) → o ≡ option_map (λ (h : HeldData). h.object) (find (is_held n) s.holds.items)
     → (H : History) → KnowsSeated s H → o ≡ held_as (open_holds H s.number) n

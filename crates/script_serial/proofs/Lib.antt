@@ -4,7 +4,6 @@ pub mod Effects
 pub mod OnlySerial
 pub mod OutcomeLemmas
 pub mod PlayLemmas
-pub mod ReleaseLaws
 pub mod RunLemmas
 pub mod SerialAnswered
 pub mod SerialApart

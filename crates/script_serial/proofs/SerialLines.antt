@@ -1,5 +1,5 @@
 -- The lines that `serial` prints: whose they are, and that their places go up from line to line.
-use Rattle.std.proofs.Common.{◌≡◌, ℕ, zero, suc, ◌+◌, Bool, cond, List, [], ◌∷◌, ◌++◌, length, map, Option, Some, None, Result, Ok, Err, refl, sym, ap, ◌∙◌, append_assoc, arith}
+use Rattle.std.proofs.Common.{◌≡◌, ℕ, zero, suc, ◌+◌, cond, List, [], ◌∷◌, ◌++◌, length, map, Option, Some, None, Result, Ok, Err, refl, sym, ap, ◌∙◌, append_assoc, arith}
 use Rattle.std.specs.Prelude.{◌==◌, fold}
 use Rattle.std.specs.List.{range_with_len}
 use Rattle.std.proofs.lemmas.List.{map-append, append-nil}
@@ -49,9 +49,6 @@ granted_caller c library books H M at (Ok (AsksName categories)) = refl
 granted_caller c library books H M at (Ok (OpensCatalog name)) = opens_caller c library books H at name (asked_of c library books H M at.thread (Ok (OpensCatalog name))) (own H at.thread)
 granted_caller c library books H M at (Ok (GetsMessage h set message default)) = refl
 granted_caller c library books H M at (Ok (ClosesCatalog h)) = refl
-
-one_more : (b : Bool) (n m : ℕ) → n ≡ m → n + cond b 1 0 ≡ m + cond b 1 0
-one_more b n m e = ap (λ (k : ℕ). k + cond b 1 0) e
 
 -- a thread has as many lines as callers
 same_count : (thread : ℕ) (a : ℕ) (lines : List OutLine) → fold (λ n (l : OutLine). n + cond (l.thread == thread) 1 0) a lines ≡ fold (λ n (at : Caller). n + cond (at.thread == thread) 1 0) a (map caller_of lines)

@@ -3,7 +3,6 @@ use Rattle.std.proofs.Common.{◌≡◌, ℕ, zero, suc, ◌<◌, Bool, false, L
 use Rattle.std.specs.Prelude.{replicate}
 use Rattle.src_lines.specs.declared.atom.Atom.{Atom}
 use Rattle.src_lines.specs.declared.atom.Atom.TheVariants.{Bare}
-use Rattle.src_lines.specs.Atoms.{is_bare}
 use Rattle.src_lines.specs.Shapes.{is_dots, starts, stops}
 
 -- so many bare dots before other atoms
@@ -29,11 +28,3 @@ not_dots (suc (suc (suc n))) us lt h = absurd (omega arith)
 abbrev pub last_is : ℕ → Bool → List Atom → Bool
 last_is b before [] = before
 last_is b before (u ∷ us) = stops b (u ∷ us)
-
-pub last_more : (b : ℕ) (before : Bool) (u : Atom) (us : List Atom) → last_is b before (u ∷ us) ≡ last_is b (is_bare b u) us
-last_more b before u [] = refl
-last_more b before u (v ∷ us) = refl
-
-pub last_first : (b : ℕ) (us : List Atom) → last_is b false us ≡ stops b us
-last_first b [] = refl
-last_first b (u ∷ us) = refl

@@ -11,9 +11,6 @@ use Rattle.strfmon.specs.Formats.{with_flag, flags_behind, flags, number_after, 
 
 -- ---- flags
 
-further_none : {A : Type 0} (n : ℕ) → further {A = A} n None ≡ None
-further_none n = refl
-
 further_twice : {A : Type 0} (n m : ℕ) (r : Option (A × ℕ)) → further n (further m r) ≡ further (m + n) r
 further_twice n m None = refl
 further_twice n m (Some x) = ap (λ k. Some (x.0, k)) (omega arith)

@@ -22,10 +22,6 @@ use Rattle.strfmon.specs.Looks.{Look, look_of, parts_text}
 use Rattle.strfmon.specs.Formats.{followed}
 use Rattle.strfmon.specs.Money.{refusal, good_pieces, pieces_text, piece_text, amounts_behind, missing, refusal_behind, within, Refuses, fraction_text, radix_of, precision_of, sizes_of, text_parts, text_with, aligned_text, conversion_text, in_field, with_spaces, spaces, is_negative, pad_count, aligned_digits, fill_count, fault_of, unless_refused}
 
-pub refusal_start : (r : Result (List (ℕ × Piece)) ℕ) (n : ℕ) → refusal r n ≡ refusal_behind None r n
-refusal_start (Ok ps) n = refl
-refusal_start (Err at) n = refl
-
 pub refusal_bad : (lacking : Option ℕ) (at n : ℕ) → refusal_behind lacking (Err at) n ≡ Some (BadFormat at)
 refusal_bad None at n = refl
 refusal_bad (Some place) at n = refl

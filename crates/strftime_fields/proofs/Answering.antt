@@ -1,9 +1,6 @@
 -- The answers of strftime.
-use Rattle.std.proofs.Common.{◌≡◌, ℕ, ◌<◌, ◌≤◌, true, false, leb, List, [], length, Option, Some, None, Ok, Err, refl, sym, ap, ◌∙◌, subst, arith}
-use Rattle.std.specs.Prelude.{MatchOption}
+use Rattle.std.proofs.Common.{◌≡◌, ℕ, ◌<◌, ◌≤◌, true, false, leb, List, [], length, Some, None, Ok, Err, refl, sym, ap, ◌∙◌, subst, arith}
 use Rattle.std.proofs.lemmas.Bool.{le-leb, lt-leb}
-use Rattle.strftime_fields.specs.declared.fault.TimeFault.{TimeFault}
-use Rattle.strftime_fields.specs.declared.fault.TimeFault.TheVariants as faults
 use Rattle.strftime_fields.specs.declared.output.Stop.{Stop}
 use Rattle.strftime_fields.specs.declared.output.Stop.TheVariants as stops
 use Rattle.time_cat.specs.Formats.{pieces, bad_place}
@@ -38,13 +35,3 @@ answers_text v t format max new good added =
 pub answers_fault : (v : TimeValues) (t : TmValues) (format : List ℕ) (max : ℕ) (old new : List ℕ) (e : Stop) → bad_place (pieces format) ≡ None → old ≡ [] → Appends max old (expanded 5 v t format) new (Err e) → Answers (Err (fault_of e)) (answer v t format max)
 answers_fault v t format max old new stops.TooBig good empty long = text_of v t format max good ∙ too_big max (expanded 5 v t format) (omega (arith, ap length empty, long))
 answers_fault v t format max old new stops.Memory good empty none = tt
-
--- the same where it is not known yet that the conversions are right
-stopped_at : (v : TimeValues) (t : TmValues) (format : List ℕ) (max : ℕ) (old new : List ℕ) (e : Stop) (fault : TimeFault) (b : Option ℕ) → bad_place (pieces format) ≡ b → old ≡ [] → Appends max old (expanded 5 v t format) new (Err e)
-    → MatchOption b (fault ≡ fault_of e) (λ at. fault ≡ faults.BadFormat at) → Answers (Err fault) (answer v t format max)
-stopped_at v t format max old new e fault None good empty stops is = rw is (answers_fault v t format max old new e good empty stops)
-stopped_at v t format max old new e fault (Some at) bad empty stops is = rw is (answers_bad v t format max at bad)
-
-pub answers_stopped : (v : TimeValues) (t : TmValues) (format : List ℕ) (max : ℕ) (old new : List ℕ) (e : Stop) (fault : TimeFault) → old ≡ [] → Appends max old (expanded 5 v t format) new (Err e)
-    → MatchOption (bad_place (pieces format)) (fault ≡ fault_of e) (λ at. fault ≡ faults.BadFormat at) → Answers (Err fault) (answer v t format max)
-answers_stopped v t format max old new e fault empty stops is = stopped_at v t format max old new e fault (bad_place (pieces format)) refl empty stops is

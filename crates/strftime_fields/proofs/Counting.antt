@@ -75,9 +75,6 @@ no_levels_read max levels v t before format none = rw none refl
 
 -- ---- what a conversion reads behind it
 
-pub no_conversion_read : (v : TimeValues) (t : TmValues) (inner : List ℕ → ℕ) (o : Option Conversion) → o ≡ None → read_for v t inner o ≡ 0
-no_conversion_read v t inner o none = rw none refl
-
 pub plain_read : (v : TimeValues) (t : TmValues) (inner : List ℕ → ℕ) (o : Option Conversion) (c : Conversion) → o ≡ Some c → format_for v t c.shows ≡ None → read_for v t inner o ≡ 0
 plain_read v t inner o c some none = rw some (rw none refl)
 

@@ -23,10 +23,6 @@ use Rattle.strftime_fields.proofs.Counting.{short_reads, inner_ends_reads, reads
 
 -- ---- on
 
--- nothing is done yet
-pub goes_none : (max : ℕ) (v : TimeValues) (t : TmValues) (out : List ℕ) (n : ℕ) (p : Place) → Stands p → Goes max v t out n p out n p
-goes_none max v t out n p stands = record { text = refl; steps = refl; bad = λ all bad. bad; stands = stands; deep = omega arith; less = omega arith }
-
 -- one way behind another
 pub goes_both : (max : ℕ) (v : TimeValues) (t : TmValues) (out : List ℕ) (n : ℕ) (p : Place) (out' : List ℕ) (n' : ℕ) (p' : Place) (out'' : List ℕ) (n'' : ℕ) (p'' : Place)
     → Goes max v t out n p out' n' p' → Goes max v t out' n' p' out'' n'' p'' → Goes max v t out n p out'' n'' p''

@@ -1,18 +1,17 @@
 -- What the pieces of a format give that are left at a place, and how many conversions they are.
-use Rattle.std.proofs.Common.{◌≡◌, ℕ, zero, suc, ◌+◌, ◌-◌, ◌<◌, Bool, true, false, List, [], ◌∷◌, ◌++◌, Option, Some, None, cond, refl, sym, ap, ◌∙◌, append-nil, subst, arith, count_by, length, drop, ◌≤◌}
+use Rattle.std.proofs.Common.{◌≡◌, ℕ, zero, suc, ◌+◌, ◌-◌, ◌<◌, Bool, true, false, List, [], ◌∷◌, ◌++◌, Option, Some, None, refl, sym, ap, ◌∙◌, append-nil, subst, arith, length, drop, ◌≤◌}
 use Rattle.std.proofs.lemmas.List.{drop_all, drop-drop, length-drop}
-use Rattle.std.proofs.lemmas.List.Sums.{sum_by-cons}
 use Rattle.time_cat.specs.declared.conversion.Conversion.{Conversion}
 use Rattle.time_cat.specs.declared.conversion.Shows.TheVariants.{Format}
 use Rattle.time_cat.specs.declared.conversion.TimeText.{TimeText}
 use Rattle.time_cat.specs.Conversions.{conversion}
 use Rattle.time_cat.specs.declared.step.Step.{Step}
 use Rattle.time_cat.specs.declared.step.Step.TheVariants as steps
-use Rattle.time_cat.specs.Formats.{Piece, Literal, Converted, Wrong, pieces, rest_of, is_conversion, step, bad_place, counted, IsStep}
+use Rattle.time_cat.specs.Formats.{Literal, Converted, Wrong, pieces, rest_of, step, bad_place, IsStep}
 use Rattle.time_cat.proofs.StepLemmas.{is_step}
 use Rattle.time_cat.specs.Times.{TmValues}
 use Rattle.time_cat.specs.TimeValues.{TimeValues, format_text}
-use Rattle.time_cat.specs.Shown.{expanded, converted, format_for, plain_text, conversions_of}
+use Rattle.time_cat.specs.Shown.{expanded, converted, format_for, plain_text}
 use Rattle.strftime_fields.specs.declared.read.Short.{Short}
 use Rattle.strftime_fields.specs.declared.read.Short.TheVariants.{Byte, Plain}
 use Rattle.strftime_fields.specs.declared.read.Seen.TheVariants.{Inner}
@@ -72,33 +71,11 @@ no_levels levels v t format none = rw none refl
 
 -- ---- what a conversion gives
 
-pub no_conversion : (v : TimeValues) (t : TmValues) (expand : List ℕ → List ℕ) (o : Option Conversion) → o ≡ None → converted v t expand o ≡ []
-no_conversion v t expand o none = rw none refl
-
 pub plain_conversion : (v : TimeValues) (t : TmValues) (expand : List ℕ → List ℕ) (o : Option Conversion) (c : Conversion) → o ≡ Some c → format_for v t c.shows ≡ None → converted v t expand o ≡ plain_text v t c.shows
 plain_conversion v t expand o c some none = rw some (rw none refl)
 
 pub format_conversion : (v : TimeValues) (t : TmValues) (expand : List ℕ → List ℕ) (o : Option Conversion) (c : Conversion) (format : List ℕ) → o ≡ Some c → format_for v t c.shows ≡ Some format → converted v t expand o ≡ expand format
 format_conversion v t expand o c format some is = rw some (rw is refl)
-
--- ---- conversions
-
-unfoldable pub conversions_left : List ℕ → ℕ → ℕ
-conversions_left format at = count_by is_conversion (rest_of format at)
-
-pub conversions_at_start : (format : List ℕ) → conversions_left format 0 ≡ conversions_of format
-unfolding conversions_left rest_of pieces
-conversions_at_start format = refl
-
-pub conversions_at_byte : (format : List ℕ) (at c next : ℕ) → rest_of format at ≡ Literal c ∷ rest_of format next → conversions_left format at ≡ conversions_left format next
-unfolding conversions_left
-conversions_at_byte format at c next is = rw is (omega arith)
-
-pub conversions_at_conversion : (format : List ℕ) (at modifier letter rank next : ℕ) → rest_of format at ≡ Converted modifier letter rank ∷ rest_of format next → conversions_left format at ≡ conversions_left format next + 1
-unfolding conversions_left
-conversions_at_conversion format at modifier letter rank next is =
-    let more : count_by is_conversion (Converted modifier letter rank ∷ rest_of format next) ≡ 1 + count_by is_conversion (rest_of format next) = sum_by-cons (λ (p : Piece). cond (is_conversion p) 1 0) (Converted modifier letter rank) (rest_of format next) in
-    rw is (omega (arith, more))
 
 -- ---- pieces that are told at first sight
 
@@ -109,10 +86,6 @@ short_within format at s (Byte c) stands is =
 short_within format at s (Plain letter found) stands is =
     let here : IsStep format at (steps.Conv 0 letter found.rank (at + 2)) = subst (λ (x : Step). IsStep format at x) is.0 stands in
     here.1
-
-pub width_some : (short : Short) → 0 < width short
-width_some (Byte c) = omega arith
-width_some (Plain letter found) = omega arith
 
 pub short_left : (levels : ℕ) (v : TimeValues) (t : TmValues) (format : List ℕ) (at : ℕ) (s : Step) (short : Short) → IsStep format at s → IsShort at s short → IsFormatless v t short → text_left levels v t format at ≡ short_text v t short ++ text_left levels v t format (at + width short)
 short_left levels v t format at s (Byte c) stands is none =
@@ -131,23 +104,7 @@ short_bad format at s (Plain letter found) stands is =
     let here : IsStep format at (steps.Conv 0 letter found.rank (at + 2)) = subst (λ (x : Step). IsStep format at x) is.0 stands in
     rw here.2 refl
 
-pub short_conversions : (format : List ℕ) (at : ℕ) (s : Step) (short : Short) → IsStep format at s → IsShort at s short → count_by is_conversion (rest_of format at) ≡ counted s + count_by is_conversion (rest_of format (at + width short))
-unfolding conversions_left
-short_conversions format at s (Byte c) stands is =
-    let here : IsStep format at (steps.Byte c) = subst (λ (x : Step). IsStep format at x) is stands in
-    let left = conversions_at_byte format at c (at + 1) here.1 in
-    rw is (omega (arith, left))
-short_conversions format at s (Plain letter found) stands is =
-    let here : IsStep format at (steps.Conv 0 letter found.rank (at + 2)) = subst (λ (x : Step). IsStep format at x) is.0 stands in
-    let left = conversions_at_conversion format at 0 letter found.rank (at + 2) here.2 in
-    rw is.0 (omega (arith, left))
-
 -- ---- a conversion without a modifier that stands for a format of the locale
-
-pub inner_within : (format : List ℕ) (at : ℕ) (s : Step) (key : TimeText) → IsStep format at s → IsSeen at s (Inner key) → at + 2 ≤ length format
-inner_within format at s key stands is =
-    let here : IsStep format at (steps.Conv 0 is.0 is.1 (at + 2)) = subst (λ (x : Step). IsStep format at x) is.2 stands in
-    here.1
 
 pub inner_left : (levels : ℕ) (v : TimeValues) (t : TmValues) (format : List ℕ) (at : ℕ) (s : Step) (key : TimeText) → IsStep format at s → IsSeen at s (Inner key) → text_left levels v t format at ≡ expanded (levels - 1) v t (format_text v key) ++ text_left levels v t format (at + 2)
 inner_left levels v t format at s key stands is =

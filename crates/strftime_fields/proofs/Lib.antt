@@ -9,5 +9,4 @@ pub mod Left
 pub mod Numbers
 pub mod Offsets
 pub mod Pairs
-pub mod Pushing
 pub mod Shorts

@@ -1,7 +1,7 @@
 -- Each time is read back by each plain format.
 use Rattle.std.proofs.Common.{◌≡◌, ℕ, ◌+◌, ◌-◌, inl, inr, ◌⊎◌, Bool, true, false, not, ◌&&◌, ◌||◌, cond, eqb, List, [], ◌∷◌, ◌++◌, length, decimal, Option, Some, None, Ok, refl, sym, ap, ◌∙◌, subst, arith, flat_map}
 use Rattle.std.specs.Prelude.{pos, option_map}
-use Rattle.std.specs.List.{list_all, list_any}
+use Rattle.std.specs.List.{list_all}
 use Rattle.std.specs.Char.{is_ascii_digit}
 use Rattle.std.proofs.lemmas.Bool.{and_parts, or_cases, eqb-true, eq-eqb, not-true, false≢true}
 use Rattle.time_cat.specs.Conversions.{conversion}
@@ -202,9 +202,6 @@ say_Y v t rank is = record {
   alone = refl;
   tells = λ ps k. rw (same_kept (holds 89 ps) t.year) refl;
 }
-
-abbrev IsOneOf : ℕ → List ℕ → Bool
-IsOneOf letter letters = list_any (λ c. eqb c letter) letters
 
 said_by : (v : TimeValues) (t : TmValues) (letter rank c : ℕ) → eqb c letter ≡ true → IsSaid v t c rank → IsSaid v t letter rank
 said_by v t letter rank c is known = subst (λ (l : ℕ). IsSaid v t l rank) (eqb-true c letter is) known

@@ -1,8 +1,8 @@
 -- Numbers of at most four digits.
-use Rattle.std.proofs.Common.{◌≡◌, ℕ, suc, ◌+◌, ◌^◌, ◌<◌, ◌≤◌, Bool, true, false, cond, List, [], ◌∷◌, length, take, lit<, Option, drop, refl, sym, ap, ap₂, ◌∙◌, arith, length-take}
+use Rattle.std.proofs.Common.{◌≡◌, ℕ, ◌^◌, ◌<◌, ◌≤◌, Bool, List, length, take, lit<, Option, drop, sym, ap, ap₂, ◌∙◌, arith, length-take}
 use Rattle.std.proofs.Math.Nat.{pow-le-pow_right}
 use Rattle.std.specs.Char.{is_ascii_digit}
-use Rattle.std.specs.List.{list_all, prefix_len, take_while}
+use Rattle.std.specs.List.{prefix_len}
 use Rattle.std.proofs.lemmas.List.Folds.{length-prefix_len}
 use Rattle.strptime_fields.specs.declared.item.Digits.{Digits}
 use Rattle.strptime_fields.specs.Items.{most_digits}
@@ -17,31 +17,12 @@ before_last n i below few =
 
 -- ---- digits at the front of a text
 
-by_head : (p : ℕ → Bool) (x : ℕ) (xs : List ℕ) (b : Bool) → p x ≡ b → list_all p (take (prefix_len p xs) xs) ≡ true → list_all p (take (cond b (1 + prefix_len p xs) 0) (x ∷ xs)) ≡ true
-by_head p x xs false is rest = refl
-by_head p x xs true is rest =
-    let one : 1 + prefix_len p xs ≡ suc (prefix_len p xs) = omega arith in
-    rw (one, is) rest
-
-all_pass : (p : ℕ → Bool) (xs : List ℕ) → list_all p (take_while p xs) ≡ true
-all_pass p [] = refl
-all_pass p (x ∷ xs) = by_head p x xs (p x) refl (all_pass p xs)
-
--- they are digits
-pub are_digits : (most : ℕ) (text : List ℕ) → list_all is_ascii_digit (leading_digits most text) ≡ true
-are_digits most text = all_pass is_ascii_digit (take most text)
-
 prefix_at_most : (p : ℕ → Bool) (xs : List ℕ) → prefix_len p xs ≤ length xs
 prefix_at_most p xs = Rattle.std.proofs.lemmas.List.Sums.prefix_len-le-length p xs
 
 -- at most so many
 pub at_most : (most : ℕ) (text : List ℕ) → length (leading_digits most text) ≤ most
 at_most most text =
-    let is = length-prefix_len is_ascii_digit (take most text) in
-    omega (arith, is, prefix_at_most is_ascii_digit (take most text), length-take most text)
-
-pub at_most_length : (most : ℕ) (text : List ℕ) → length (leading_digits most text) ≤ length text
-at_most_length most text =
     let is = length-prefix_len is_ascii_digit (take most text) in
     omega (arith, is, prefix_at_most is_ascii_digit (take most text), length-take most text)
 

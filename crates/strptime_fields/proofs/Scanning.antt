@@ -1,18 +1,17 @@
 -- Wrong conversions, and the answers.
-use Rattle.std.proofs.Common.{◌≡◌, ℕ, ◌+◌, ◌≤◌, Bool, true, false, cond, eqb, List, [], ◌∷◌, length, Option, Some, None, Ok, Err, refl, sym, ap, subst, arith}
+use Rattle.std.proofs.Common.{◌≡◌, ℕ, ◌+◌, ◌≤◌, Bool, true, false, cond, eqb, List, [], ◌∷◌, length, Option, Some, None, Ok, refl, sym, ap, subst, arith}
 use Rattle.std.specs.List.{list_all}
 use Rattle.std.proofs.lemmas.Bool.{eqb-true, false≢true}
 use Rattle.time_cat.specs.declared.conversion.Conversion.{Conversion}
 use Rattle.time_cat.specs.declared.step.Step.TheVariants.{Byte, Conv}
 use Rattle.time_cat.specs.Conversions.{conversion}
-use Rattle.time_cat.specs.Formats.{Piece, Literal, Converted, Wrong, pieces, rest_of, is_modifier, step_of, modified_step, conversion_step, step}
+use Rattle.time_cat.specs.Formats.{Piece, Literal, Converted, pieces, rest_of, is_modifier, step_of, modified_step, conversion_step, step}
 use Rattle.time_cat.specs.TimeValues.{TimeValues}
 use Rattle.strptime_fields.specs.declared.item.Item.{Item}
-use Rattle.strptime_fields.specs.declared.fault.ScanFault.TheVariants.{BadFormat}
 use Rattle.strptime_fields.specs.Items.{item}
 use Rattle.strptime_fields.specs.Keeping.{nothing}
 use Rattle.strptime_fields.specs.Scans.{followed, followed_piece, is_known, bad_from, Progress, IsWithin, run, if_known, through, through_item, ended, scan}
-use Rattle.strptime_fields.proofs.Through.{byte_piece, unknown_piece, known_piece}
+use Rattle.strptime_fields.proofs.Through.{byte_piece, known_piece}
 use Rattle.strptime_fields.proofs.Shorter.{run_within}
 
 -- ---- the bytes of a conversion
@@ -75,17 +74,8 @@ bad_at_byte v format at c next is =
     let known : list_all is_known (followed_piece v (followed 4 v) (Literal c)) ≡ true = ap (list_all is_known) (byte_piece v (followed 4 v) c) in
     rw is (rw known refl)
 
-pub bad_at_wrong : (v : TimeValues) (format : List ℕ) (at : ℕ) → rest_of format at ≡ Wrong at ∷ [] → bad_from v at (rest_of format at) ≡ Some at
-bad_at_wrong v format at is = rw is refl
-
 pub bad_at_end : (v : TimeValues) (format : List ℕ) (at : ℕ) → rest_of format at ≡ [] → bad_from v at (rest_of format at) ≡ None
 bad_at_end v format at is = rw is refl
-
-pub bad_at_unknown : (v : TimeValues) (format : List ℕ) (at modifier letter rank next : ℕ) (progress : Progress) → rest_of format at ≡ Converted modifier letter rank ∷ rest_of format next
-    → through_item v (followed 4 v) (item modifier letter) progress ≡ None → bad_from v at (rest_of format at) ≡ Some at
-bad_at_unknown v format at modifier letter rank next progress is none =
-    let unknown : list_all is_known (followed_piece v (followed 4 v) (Converted modifier letter rank)) ≡ false = unknown_piece v (followed 4 v) (Converted modifier letter rank) progress none in
-    rw is (rw unknown refl)
 
 pub bad_at_known : (v : TimeValues) (format : List ℕ) (at modifier letter rank next : ℕ) (progress further : Progress) → rest_of format at ≡ Converted modifier letter rank ∷ rest_of format next
     → through_item v (followed 4 v) (item modifier letter) progress ≡ Some further → next ≡ at + 2 → bad_from v at (rest_of format at) ≡ bad_from v next (rest_of format next)
@@ -111,7 +101,3 @@ left_within v format text progress read =
     let is : run v (Ok (text, nothing)) (followed 5 v format) ≡ progress = run_from (list_all is_known (followed 5 v format)) _ progress read in
     let short : length text ≤ length text = omega arith in
     subst (IsWithin (length text)) is (run_within (length text) v (followed 5 v format) (Ok (text, nothing)) short)
-
--- one with a wrong conversion
-pub scan_bad : (v : TimeValues) (format text : List ℕ) (at : ℕ) → bad_from v 0 (pieces format) ≡ Some at → scan v format text ≡ Err (BadFormat at)
-scan_bad v format text at bad = rw bad refl

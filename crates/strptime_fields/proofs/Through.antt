@@ -1,15 +1,14 @@
 -- What the pieces of a format give that are left at a place.
-use Rattle.std.proofs.Common.{◌≡◌, ℕ, zero, suc, Ok, Err, ◌+◌, ◌-◌, ◌<◌, Bool, true, false, cond, ◌&&◌, List, [], ◌∷◌, ◌++◌, Option, Some, None, refl, ap, ◌∙◌, arith, flat_map}
+use Rattle.std.proofs.Common.{◌≡◌, ℕ, zero, suc, ◌+◌, ◌-◌, ◌<◌, Bool, true, false, cond, ◌&&◌, List, [], ◌∷◌, ◌++◌, Option, Some, None, refl, ap, ◌∙◌, arith, flat_map}
 use Rattle.std.specs.List.{list_all}
 use Rattle.std.proofs.lemmas.List.Folds.{list_all-append}
 use Rattle.std.proofs.lemmas.List.Sums.{fold-append}
 use Rattle.time_cat.specs.Formats.{Piece, Literal, Converted, Wrong, pieces, rest_of, is_conversion}
 use Rattle.time_cat.specs.TimeValues.{TimeValues}
-use Rattle.strptime_fields.specs.declared.item.Form.{Form}
 use Rattle.strptime_fields.specs.declared.item.Item.{Item}
-use Rattle.strptime_fields.specs.declared.item.Item.TheVariants.{White, Sign, Number, YearDay, Year, Name, Format}
-use Rattle.strptime_fields.specs.Items.{is_white, item, item_of, format_for}
-use Rattle.strptime_fields.specs.Scans.{within, followed_piece, followed, is_known, has_item, Progress, read_onward, by_item, onward, run, if_known, through, through_item, one_if, reads}
+use Rattle.strptime_fields.specs.declared.item.Item.TheVariants.{White, Sign}
+use Rattle.strptime_fields.specs.Items.{is_white, item, item_of}
+use Rattle.strptime_fields.specs.Scans.{within, followed_piece, followed, is_known, has_item, Progress, by_item, onward, run, if_known, through, through_item, one_if, reads}
 
 -- ---- lists of pieces
 
@@ -141,39 +140,3 @@ pieces_at_start format = refl
 pub no_levels : (levels : ℕ) (v : TimeValues) (format : List ℕ) → levels ≡ 0 → followed levels v format ≡ []
 unfolding followed
 no_levels levels v format none = rw none refl
-
--- ---- items that stand for formats
-
--- such an item reads nothing by itself
-nothing_read : (v : TimeValues) (form : Form) (progress : Progress) → read_onward v progress (Format form) ≡ progress
-nothing_read v form (Err left) = refl
-nothing_read v form (Ok r) = refl
-
-format_reads : (v : TimeValues) (i : Item) (format : List ℕ) (progress : Progress) → format_for v i ≡ Some format → read_onward v progress i ≡ progress
-format_reads v White format progress is = absurd cc
-format_reads v (Sign c) format progress is = absurd cc
-format_reads v (Number kind digits low high) format progress is = absurd cc
-format_reads v (YearDay digits low high) format progress is = absurd cc
-format_reads v (Year digits low high) format progress is = absurd cc
-format_reads v (Name names) format progress is = absurd cc
-format_reads v (Format form) format progress is = nothing_read v form progress
-
-pub by_format : (v : TimeValues) (follow : List ℕ → List Piece) (o : Option Item) (i : Item) (format : List ℕ) (progress : Progress) → o ≡ Some i → format_for v i ≡ Some format
-    → through_item v follow o progress ≡ through v (follow format) progress
-by_format v follow o i format progress some is = rw (some, is) (ap (λ (p : Progress). through v (follow format) p) (format_reads v i format progress is))
-
-pub by_itself : (v : TimeValues) (follow : List ℕ → List Piece) (o : Option Item) (i : Item) (progress : Progress) → o ≡ Some i → format_for v i ≡ None
-    → through_item v follow o progress ≡ Some (read_onward v progress i)
-by_itself v follow o i progress some none = rw (some, none) refl
-
-pub by_none : (v : TimeValues) (follow : List ℕ → List Piece) (o : Option Item) (progress : Progress) → o ≡ None → through_item v follow o progress ≡ None
-by_none v follow o progress none = rw none refl
-
-pub reads_format : (v : TimeValues) (follow : List ℕ → List Piece) (o : Option Item) (i : Item) (format : List ℕ) → o ≡ Some i → format_for v i ≡ Some format → reads (within v follow o) ≡ reads (follow format)
-reads_format v follow o i format some is = rw (some, is) refl
-
-pub reads_itself : (v : TimeValues) (follow : List ℕ → List Piece) (o : Option Item) (i : Item) → o ≡ Some i → format_for v i ≡ None → reads (within v follow o) ≡ 0
-reads_itself v follow o i some none = rw (some, none) refl
-
-pub reads_no_item : (v : TimeValues) (follow : List ℕ → List Piece) (o : Option Item) → o ≡ None → reads (within v follow o) ≡ 0
-reads_no_item v follow o none = rw none refl

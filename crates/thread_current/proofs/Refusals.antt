@@ -1,5 +1,5 @@
 -- When each call is refused: the first reason against it, by what the history says.
-use Rattle.std.proofs.Common.{◌≡◌, ◌≢◌, ℕ, Bool, true, false, not, ◌&&◌, List, [], ◌∷◌, Option, Some, None, refl, ap, sym, ◌∙◌}
+use Rattle.std.proofs.Common.{◌≡◌, ℕ, Bool, true, false, not, ◌&&◌, List, [], ◌∷◌, Option, Some, None, refl, ap, sym, ◌∙◌}
 use Rattle.std.proofs.Math.Logic.{◌↔◌}
 use Rattle.std.specs.Prelude.{if◌then◌else◌}
 use Rattle.std.specs.Option.{option_map, IsSomeAnd}
@@ -8,12 +8,12 @@ use Rattle.handles.specs.declared.handle.Handle.{Handle}
 use Rattle.handles.specs.declared.handle.Named.{Named}
 use Rattle.handles.specs.declared.handle.Named.TheVariants.{Global, Of}
 use Rattle.handle_table.specs.declared.op.Refusal.{Refusal}
-use Rattle.handle_table.specs.declared.op.Refusal.TheVariants.{NoData, GlobalHandle, NeverMade, Stale, TooMany, AlreadyHeld, NotHeld, EmptyCell}
+use Rattle.handle_table.specs.declared.op.Refusal.TheVariants.{NoData, GlobalHandle, NeverMade, Stale, TooMany}
 use Rattle.handle_table.specs.Entry.{Op, New, Dup, Free, Use, Hold, Release, SetGlobal, Install, Post, Fetch, Pins, End, Reply, Refused, History, Setting}
 use Rattle.handle_table.specs.Shelf.{lacking}
-use Rattle.handle_table.specs.History.{made, live, holding, free_row, posted}
-use Rattle.handle_table.specs.Answer.{no_data, global_handle, never_made, stale, too_many, already_held, not_held, empty_cell, made_in, got, reasons, first_reason, reply_to, unless, answer}
-use Rattle.thread_current.specs.Causes.{IsNeverMade, IsStale, IsThere, IsHeldAlready}
+use Rattle.handle_table.specs.History.{made, live, free_row, posted}
+use Rattle.handle_table.specs.Answer.{no_data, global_handle, never_made, stale, too_many, empty_cell, made_in, got, reasons, first_reason, reply_to, unless, answer}
+use Rattle.thread_current.specs.Causes.{IsNeverMade, IsStale}
 
 -- the reason in a reply
 abbrev pub reason_in : Reply → Option Refusal
@@ -85,28 +85,8 @@ stale_first false l rest non = (λ p. absurd (cc p), λ p. absurd (let q = p.0 i
 stale_first true false rest non = (λ p. (refl, refl), λ p. refl)
 stale_first true true rest non = (λ p. absurd (non p), λ p. absurd (let q = p.1 in cc q))
 
--- a reason that comes after those
-rest_first : (b l : Bool) (rest : List (Option Refusal)) (r : Refusal) → (r ≡ NeverMade → ⊥) → (r ≡ Stale → ⊥)
-    → (of_object b l rest ≡ Some r) ↔ (((b ≡ true) × (l ≡ true)) × (first_reason rest ≡ Some r))
-rest_first false l rest r never stale = (λ p. absurd (never (sym (same_value NeverMade r p))), λ p. absurd (let q = p.0.0 in cc q))
-rest_first true false rest r never stale = (λ p. absurd (stale (sym (same_value Stale r p))), λ p. absurd (let q = p.0.1 in cc q))
-rest_first true true rest r never stale = (λ p. ((refl, refl), p), λ p. p.1)
-
 abbrev against : History → Named → List (Option Refusal) → Option Refusal
 against H n rest = first_reason (never_made H n ∷ stale H n ∷ rest)
-
-never_against : (H : History) (n : Named) (rest : List (Option Refusal)) → (first_reason rest ≡ Some NeverMade → ⊥) → (against H n rest ≡ Some NeverMade) ↔ IsNeverMade H n
-never_against H Global rest non = (λ p. absurd (non p), λ p. absurd p)
-never_against H (Of h) rest non = never_first (made H h) (live H h) rest non
-
-stale_against : (H : History) (n : Named) (rest : List (Option Refusal)) → (first_reason rest ≡ Some Stale → ⊥) → (against H n rest ≡ Some Stale) ↔ IsStale H n
-stale_against H Global rest non = (λ p. absurd (non p), λ p. absurd p)
-stale_against H (Of h) rest non = stale_first (made H h) (live H h) rest non
-
-rest_against : (H : History) (n : Named) (rest : List (Option Refusal)) (r : Refusal) → (r ≡ NeverMade → ⊥) → (r ≡ Stale → ⊥)
-    → (against H n rest ≡ Some r) ↔ (IsThere H n × (first_reason rest ≡ Some r))
-rest_against H Global rest r never stale = (λ p. (tt, p), λ p. p.1)
-rest_against H (Of h) rest r never stale = rest_first (made H h) (live H h) rest r never stale
 
 -- the same where an object is wanted
 abbrev on_object : History → Named → List (Option Refusal) → Option Refusal
@@ -149,97 +129,6 @@ too_many_where (Some row) = (λ p. absurd (cc p), λ p. absurd (cc p))
 
 -- ---- the calls
 
--- Free, Post and Pins of a name
-pub on_free : (c : Setting) (H : History) (t : ℕ) (n : Named) → OnObject H n (first_reason (reasons c H t (Free n)))
-on_free c H t n = wants_object H n [] (none_there GlobalHandle) (none_there NeverMade) (none_there Stale)
-
-pub on_post : (c : Setting) (H : History) (t k : ℕ) (n : Named) → OnObject H n (first_reason (reasons c H t (Post k n)))
-on_post c H t k n = wants_object H n [] (none_there GlobalHandle) (none_there NeverMade) (none_there Stale)
-
-unmade_only : (b : Bool) → (first_reason ((if b then None else Some NeverMade) ∷ []) ≡ Some NeverMade) ↔ (b ≡ false)
-unmade_only false = (λ p. refl, λ p. refl)
-unmade_only true = (λ p. absurd (cc p), λ p. absurd (cc p))
-
-unmade_global : (b : Bool) (h : Handle) → (first_reason ((if b then None else Some NeverMade) ∷ []) ≡ Some GlobalHandle) ↔ (Of h ≡ Global)
-unmade_global false h = (λ p. absurd (cc p), λ p. absurd (cc p))
-unmade_global true h = (λ p. absurd (cc p), λ p. absurd (cc p))
-
-pub record OnPins (H : History) (n : Named) (f : Option Refusal) : Type 0 where
-  pub global_handle : (f ≡ Some GlobalHandle) ↔ (n ≡ Global)
-  pub never_made : (f ≡ Some NeverMade) ↔ IsNeverMade H n
-
-pub on_pins : (c : Setting) (H : History) (t : ℕ) (n : Named) → OnPins H n (first_reason (reasons c H t (Pins n)))
-on_pins c H t Global = record { global_handle = (λ p. refl, λ p. refl); never_made = (λ p. absurd (cc p), λ p. absurd p) }
-on_pins c H t (Of h) = record { global_handle = unmade_global (made H h) h; never_made = unmade_only (made H h) }
-
-pub record OnUse (H : History) (n : Named) (f : Option Refusal) : Type 0 where
-  pub never_made : (f ≡ Some NeverMade) ↔ IsNeverMade H n
-  pub stale : (f ≡ Some Stale) ↔ IsStale H n
-
-pub on_use : (c : Setting) (H : History) (t : ℕ) (n : Named) → OnUse H n (first_reason (reasons c H t (Use n)))
-on_use c H t n = record { never_made = never_against H n [] (none_there NeverMade); stale = stale_against H n [] (none_there Stale) }
-
-pub record OnDup (c : Setting) (H : History) (t : ℕ) (n : Named) (f : Option Refusal) : Type 0 where
-  pub never_made : (f ≡ Some NeverMade) ↔ IsNeverMade H n
-  pub stale : (f ≡ Some Stale) ↔ IsStale H n
-  pub too_many : (f ≡ Some TooMany) ↔ (IsThere H n × (free_row c H t ≡ None))
-
-pub on_dup : (c : Setting) (H : History) (t : ℕ) (n : Named) → OnDup c H t n (first_reason (reasons c H t (Dup n)))
-on_dup c H t n =
-    let row : Option ℕ = free_row c H t in
-    let many = rest_against H n (too_many row ∷ []) TooMany (λ p. cc p) (λ p. cc p) in
-    let where_none = too_many_where row in record {
-      never_made = never_against H n (too_many row ∷ []) (too_many_only row NeverMade (λ p. cc p));
-      stale = stale_against H n (too_many row ∷ []) (too_many_only row Stale (λ p. cc p));
-      too_many = (λ p. let q = many.0 p in (q.0, where_none.0 q.1), λ p. many.1 (p.0, where_none.1 p.1));
-    }
-
-abbrev held_only : Bool → Option Refusal
-held_only b = first_reason ((if b then Some AlreadyHeld else None) ∷ [])
-
-held_not : (b : Bool) (r : Refusal) → (r ≡ AlreadyHeld → ⊥) → held_only b ≡ Some r → ⊥
-held_not true r non p = non (sym (same_value AlreadyHeld r p))
-held_not false r non p = cc p
-
-held_where : (b : Bool) → (held_only b ≡ Some AlreadyHeld) ↔ (b ≡ true)
-held_where true = (λ p. refl, λ p. refl)
-held_where false = (λ p. absurd (cc p), λ p. absurd (cc p))
-
-pub record OnHold (H : History) (t : ℕ) (n : Named) (f : Option Refusal) : Type 0 where
-  pub object : OnObject H n f
-  pub already_held : (f ≡ Some AlreadyHeld) ↔ IsHeldAlready H t n
-
-pub on_hold : (c : Setting) (H : History) (t : ℕ) (n : Named) → OnHold H t n (first_reason (reasons c H t (Hold n)))
-on_hold c H t Global = record {
-  object = wants_object H Global (already_held H t Global ∷ []) (none_there GlobalHandle) (none_there NeverMade) (none_there Stale);
-  already_held = (λ p. absurd (cc p), λ p. absurd p);
-}
-on_hold c H t (Of h) =
-    let b : Bool = holding H t h in
-    let rest : List (Option Refusal) = already_held H t (Of h) ∷ [] in
-    let after = rest_first (made H h) (live H h) rest AlreadyHeld (λ p. cc p) (λ p. cc p) in
-    let is = held_where b in record {
-      object = wants_object H (Of h) rest (held_not b GlobalHandle (λ p. cc p)) (held_not b NeverMade (λ p. cc p)) (held_not b Stale (λ p. cc p));
-      already_held = (λ p. let q = after.0 p in (q.0, is.0 q.1), λ p. after.1 (p.0, is.1 p.1));
-    }
-
--- a Release of what the thread does not hold
-pub on_release : (c : Setting) (H : History) (t : ℕ) (n : Named) → ((h : Handle) → n ≡ Of h → holding H t h ≡ false)
-    → ((first_reason (reasons c H t (Release n)) ≡ Some GlobalHandle) ↔ (n ≡ Global)) × ((first_reason (reasons c H t (Release n)) ≡ Some NotHeld) ↔ (n ≢ Global))
-on_release c H t Global none = ((λ p. refl, λ p. refl), (λ p. absurd (cc p), λ p. absurd (p refl)))
-on_release c H t (Of h) none =
-    let not_there : first_reason (not_held H t (Of h) ∷ []) ≡ Some NotHeld = ap (λ b. first_reason ((if b then None else Some NotHeld) ∷ [])) (none h refl) in (
-      (λ p. absurd (let q = sym not_there ∙ p in cc q), λ p. absurd (cc p)),
-      (λ p q. cc q, λ p. not_there),
-    )
-
-empty_where : (o : Option Handle) → (first_reason (empty_cell o ∷ []) ≡ Some EmptyCell) ↔ (o ≡ None)
-empty_where None = (λ p. refl, λ p. refl)
-empty_where (Some h) = (λ p. absurd (cc p), λ p. absurd (cc p))
-
-pub on_fetch : (c : Setting) (H : History) (t owner k : ℕ) → (first_reason (reasons c H t (Fetch owner k)) ≡ Some EmptyCell) ↔ (posted H owner k ≡ None)
-on_fetch c H t owner k = empty_where (posted H owner k)
-
 data_where : (o : Option Category) (k : Category) (rest : List (Option Refusal)) → (first_reason rest ≡ Some (NoData k) → ⊥)
     → (first_reason (option_map NoData o ∷ rest) ≡ Some (NoData k)) ↔ (o ≡ Some k)
 data_where None k rest non = (λ p. absurd (non p), λ p. absurd (cc p))
@@ -249,10 +138,6 @@ data_first : (o : Option Category) (r : Refusal) (rest : List (Option Refusal)) 
     → (first_reason (option_map NoData o ∷ rest) ≡ Some r) ↔ ((o ≡ None) × (first_reason rest ≡ Some r))
 data_first None r rest non = (λ p. (refl, p), λ p. p.1)
 data_first (Some j) r rest non = (λ p. absurd (non j (same_value (NoData j) r p)), λ p. absurd (let q = p.0 in cc q))
-
-pub on_set : (c : Setting) (H : History) (t mask : ℕ) (numbers : List ℕ) (k : Category)
-    → (first_reason (reasons c H t (SetGlobal mask numbers)) ≡ Some (NoData k)) ↔ (lacking c H mask numbers ≡ Some k)
-on_set c H t mask numbers k = data_where (lacking c H mask numbers) k [] (none_there (NoData k))
 
 pub record OnNew (c : Setting) (H : History) (t mask : ℕ) (numbers : List ℕ) (base : Option Named) (f : Option Refusal) : Type 0 where
   pub no_data : (k : Category) → (f ≡ Some (NoData k)) ↔ (lacking c H mask numbers ≡ Some k)

@@ -17,12 +17,6 @@ passed_on Memory defined f told = told
 passed_on (Usage message) defined f told = rw told refl
 passed_on (Refused message) defined f told = rw told refl
 
--- behind values, too
-pub passed_beside : {A : Type 0} (problem : Problem) (front : List A) (defined : Defined (List A)) → Tells problem defined → Tells problem (beside front defined)
-passed_beside Memory front defined told = told
-passed_beside (Usage message) front defined told = rw told refl
-passed_beside (Refused message) front defined told = rw told refl
-
 regroup : {A : Type 0} (front more : List A) (later : Defined (List A)) → beside (front ++ more) later ≡ beside front (beside more later)
 regroup {A} front more (Ok xs) = ap {B = Defined (List A)} (λ (x : List A). Ok x) (append_assoc front more xs)
 regroup {A} front more (Err cause) = refl
