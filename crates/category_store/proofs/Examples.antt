@@ -6,9 +6,9 @@ use Rattle.lc_base.specs.declared.category.Category.TheVariants.{Numeric, Time}
 use Rattle.lc_base.specs.declared.reason.Reason.TheVariants.{CopyMissing}
 use Rattle.mask_compose.specs.Offer.{no_offer}
 use Rattle.charset.specs.CodedSet.{utf8}
-use Rattle.keyword_lists.specs.declared.source.Value.TheVariants.{Text}
-use Rattle.keyword_lists.specs.declared.source.Section.{Section}
-use Rattle.keyword_lists.specs.declared.source.Body.TheVariants.{Copy, Entries}
+use Rattle.keywords.specs.declared.source.Value.TheVariants.{Text}
+use Rattle.keywords.specs.declared.source.Section.{Section}
+use Rattle.keywords.specs.declared.source.Body.TheVariants.{Copy, Entries}
 use Rattle.numeric_cat.specs.NumericValues.{NumericValues}
 use Rattle.numeric_cat.specs.Numeric.{posix_values}
 use Rattle.locale_sources.specs.Sources.{Source}

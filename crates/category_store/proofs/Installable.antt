@@ -10,7 +10,7 @@ use Rattle.lc_base.specs.declared.place.Place.{Place}
 use Rattle.lc_base.specs.declared.reason.Reason.{Reason}
 use Rattle.lc_base.specs.Reading.{Reads, ◌>>=◌}
 use Rattle.lc_base.proofs.ReadingLemmas.{value_of}
-use Rattle.byte_words.specs.Tables.{first_named}
+use Rattle.lc_base.specs.Tables.{first_named}
 use Rattle.charset.specs.Portable.{Name}
 use Rattle.mask_compose.specs.Offer.{Offered}
 use Rattle.ctype_classes.specs.Ctype.{posix_values as posix_classes}
@@ -20,8 +20,8 @@ use Rattle.time_cat.specs.Values.{posix_values as posix_times}
 use Rattle.messages_cat.specs.Messages.{posix_values as posix_messages}
 use Rattle.locale_sources.specs.Named.{with_named}
 use Rattle.locale_sources.specs.Sources.{Source}
-use Rattle.category_copies.specs.Copies.{copy_fault}
-use Rattle.category_copies.specs.Rows.{available}
+use Rattle.locale_sources.specs.Copies.{copy_fault}
+use Rattle.locale_sources.specs.Rows.{available}
 use Rattle.compiled_categories.specs.Locale.{Locale, locale_among}
 use Rattle.compiled_categories.specs.Compiled.{ctype_of, numeric_of, monetary_of, time_of, messages_of, category_of, locale_of, locales_from, locales_of}
 use Rattle.category_store.specs.Catalog.{Catalog}

@@ -5,14 +5,14 @@ use Rattle.lc_base.specs.declared.place.Place.{Place}
 use Rattle.lc_base.specs.declared.reason.Reason.{Reason}
 use Rattle.lc_base.specs.declared.fault.TextFault.{TextFault}
 use Rattle.lc_base.specs.Reading.{Reads, ◌>>=◌, Gives}
-use Rattle.byte_words.specs.Tables.{first_named}
+use Rattle.lc_base.specs.Tables.{first_named}
 use Rattle.charset.specs.Portable.{Name}
 use Rattle.locale_sources.specs.Named.{with_named}
 use Rattle.mask_compose.specs.Offer.{Offered}
 use Rattle.std.proofs.Math.Seq.{take-nil}
 use Rattle.locale_sources.specs.Sources.{Source}
-use Rattle.category_copies.specs.Copies.{locale_numbers, copy_fault}
-use Rattle.category_copies.specs.Rows.{given_unless}
+use Rattle.locale_sources.specs.Copies.{locale_numbers, copy_fault}
+use Rattle.locale_sources.specs.Rows.{given_unless}
 use Rattle.compiled_categories.specs.Locale.{Locale}
 use Rattle.compiled_categories.specs.Compiled.{locales_of}
 use Rattle.category_store.specs.Catalog.{Catalog}

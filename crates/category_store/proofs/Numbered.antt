@@ -12,12 +12,12 @@ use Rattle.lc_base.specs.Mask.{includes}
 use Rattle.lc_base.specs.Reading.{Reads}
 use Rattle.lc_base.proofs.ReadingLemmas.{value_of}
 use Rattle.mask_compose.specs.Offer.{AreOnShelf}
-use Rattle.byte_words.specs.Tables.{first_named}
+use Rattle.lc_base.specs.Tables.{first_named}
 use Rattle.charset.specs.Portable.{Name}
 use Rattle.locale_sources.specs.Named.{with_named}
 use Rattle.locale_sources.specs.Sources.{Source}
 use Rattle.locale_sources.specs.Sections.{is_posix}
-use Rattle.category_copies.specs.Copies.{copy_fault}
+use Rattle.locale_sources.specs.Copies.{copy_fault}
 use Rattle.compiled_categories.specs.Locale.{Locale}
 use Rattle.compiled_categories.specs.Compiled.{locales_of}
 use Rattle.category_store.specs.Catalog.{Catalog}

@@ -1,3 +1,6 @@
 pub mod Catalog
 pub mod Library
 pub mod Shelf
+pub mod Blocks
+pub mod Sources
+pub mod Seen

@@ -8,7 +8,7 @@ use Rattle.lc_base.specs.declared.block.Block.{Block}
 use Rattle.lc_base.specs.declared.block.Later.{Later}
 use Rattle.lc_base.specs.Mask.{includes}
 use Rattle.lc_base.specs.Reading.{Reads, ◌>>=◌}
-use Rattle.byte_words.specs.Tables.{first_named}
+use Rattle.lc_base.specs.Tables.{first_named}
 use Rattle.charset.specs.Portable.{Name}
 use Rattle.charset.specs.CodedSet.{CodedSet}
 use Rattle.mask_compose.specs.Parts.{Parts}
@@ -18,9 +18,9 @@ use Rattle.mask_compose.specs.Names.{mixed_parts}
 use Rattle.locale_sources.specs.Named.{with_named}
 use Rattle.locale_sources.specs.Sources.{Source}
 use Rattle.locale_sources.specs.Sections.{is_posix}
-use Rattle.source_blocks.specs.Blocks.{by_place}
-use Rattle.source_blocks.specs.Sources.{charsets, sources_of}
-use Rattle.category_copies.specs.Copies.{locale_numbers, copy_fault}
+use Rattle.category_store.specs.Blocks.{by_place}
+use Rattle.category_store.specs.Sources.{charsets, sources_of}
+use Rattle.locale_sources.specs.Copies.{locale_numbers, copy_fault}
 use Rattle.compiled_categories.specs.Locale.{Locale, locale_among}
 use Rattle.compiled_categories.specs.Compiled.{locales_of}
 use Rattle.category_store.specs.Catalog.{Catalog}

@@ -7,19 +7,18 @@ ghost use Rattle.mask_compose.specs.Names.{spanned};
 ghost use Rattle.locale_sources.specs.Named.{pairs_of};
 ghost use Rattle.locale_sources.specs.Seen.{source};
 ghost use Rattle.lc_base.specs.Blocks.{IsSized};
-ghost use Rattle.category_copies.specs.Copies.{locale_numbers, copy_fault};
+ghost use Rattle.locale_sources.specs.Copies.{locale_numbers, copy_fault};
 ghost use Rattle.compiled_categories.specs.Compiled.{locales_of};
 ghost use Rattle.category_store.specs.Library.{catalog, catalog_over, catalog_from, locale_at, number_of, number_in, numbers, names_given, posix_object, object_of, offer_at, first_offer, name_at, opening, later, unless_fault};
 ghost use Rattle.category_store.specs.Shelf.{IsNumbered, IsInstallable};
 
 use crate::names::{Names, plain_number};
 use crate::share::Share;
-use category_copies::read_rows;
+use crate::{Charsets, read_blocks};
 use compiled_categories::{Compiled, Locales};
 use lc_base::{Block, Category, Later, List, Mask, TextFault};
-use locale_sources::{ByName, Source, get_named};
+use locale_sources::{ByName, Source, get_named, read_rows};
 use mask_compose::{Object, Offer, read_names};
-use source_blocks::{Charsets, read_blocks};
 use std::alloc::{AllocError, Global};
 use std::marker::Model;
 

@@ -4,11 +4,10 @@ ghost use Rattle.std.specs.Prelude.{◌≡◌, ◌+◌, ◌<◌, ◌≤◌, ◌^
 ghost use Rattle.std.specs.Option.{option_copied};
 ghost use Rattle.locale_sources.specs.Named.{pairs_of, with_named};
 ghost use Rattle.locale_sources.specs.Seen.{source};
-ghost use Rattle.category_copies.specs.Copies.{locale_numbers};
+ghost use Rattle.locale_sources.specs.Copies.{locale_numbers};
 ghost use Rattle.category_store.specs.Library.{names_of, keys_of, plain_number, native_number};
 
-use category_copies::locale_numbers;
-use locale_sources::{ByName, Source, add_named, get_named, is_posix};
+use locale_sources::{ByName, Source, add_named, get_named, is_posix, locale_numbers};
 use std::alloc::{AllocError, Global};
 
 /// The names of a library with their numbers.

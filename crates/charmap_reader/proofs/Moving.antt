@@ -9,7 +9,7 @@ use Rattle.std.proofs.lemmas.Bool.{cases_eq, eq-eqb, false_from_ne_true}
 use Rattle.std.proofs.lemmas.Bool.Decides.{nat_tests}
 use Rattle.std.proofs.lemmas.Grind.{common_steps}
 use Rattle.std.proofs.lemmas.Slice.Eq.{bytes_eq-Decides}
-use Rattle.byte_words.specs.Tables.{first_named}
+use Rattle.lc_base.specs.Tables.{first_named}
 use Rattle.charset.specs.Portable.{Name, letter_code, portable_names, portable_code}
 use Rattle.charset.specs.CodedSet.{big_endian}
 use Rattle.charset.specs.Numbering.{stem, digits, number, name_after}

@@ -6,7 +6,7 @@ use Rattle.std.proofs.Math.Nat.{pow-suc, pow-le-pow_right}
 use Rattle.std.proofs.lemmas.List.{append_assoc, length-drop, replicate_more, take-append-drop}
 use Rattle.std.proofs.lemmas.List.FromFn.{length-map-range_with_len}
 use Rattle.std.proofs.lemmas.Int.Digits.{digits_value-lt}
-use Rattle.byte_words.specs.Tables.{first_named}
+use Rattle.lc_base.specs.Tables.{first_named}
 use Rattle.charset.specs.Portable.{Name}
 use Rattle.std.specs.Option.{is_some}
 use Rattle.charset.specs.declared.spans.Block.{Block}

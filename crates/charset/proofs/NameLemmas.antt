@@ -11,7 +11,7 @@ use Rattle.std.proofs.lemmas.List.FromFn.{length-map-range_with_len}
 use Rattle.charset.specs.declared.names.TheConstants.{NAME_LIMIT}
 use Rattle.charset.specs.declared.spans.Block.{Block}
 use Rattle.charset.specs.declared.spans.Span.{Span}
-use Rattle.byte_words.specs.Tables.{first_named}
+use Rattle.lc_base.specs.Tables.{first_named}
 use Rattle.charset.specs.Portable.{Name}
 use Rattle.charset.specs.CodedSet.{big_endian}
 use Rattle.charset.specs.Entries.{Entry, added}

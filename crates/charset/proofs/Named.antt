@@ -5,7 +5,7 @@ use Rattle.std.specs.List.{list_all, list_any}
 use Rattle.std.specs.Str.{bytes_eq}
 use Rattle.std.proofs.lemmas.Bool.Decides.{nat_tests}
 use Rattle.std.proofs.lemmas.Grind.{common_steps}
-use Rattle.byte_words.specs.Tables.{first_named}
+use Rattle.lc_base.specs.Tables.{first_named}
 use Rattle.charset.specs.Portable.{Name, letter_code, portable_names, portable_code, is_portable}
 use Rattle.charset.specs.Hex.{numbered}
 use Rattle.charset.specs.CodedSet.{CodedSet, utf8, posix, listed, has, has_value, only_in, named, named_beside, big_endian}

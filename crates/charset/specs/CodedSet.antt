@@ -6,7 +6,7 @@ use Rattle.std.specs.List.{list_any, find}
 use Rattle.std.specs.Option.{option_or, option_map}
 use Rattle.std.specs.Str.{bytes_eq, chars}
 use Rattle.class_ranges.specs.Runs.{IsRunOf}
-use Rattle.byte_words.specs.Tables.{first_named}
+use Rattle.lc_base.specs.Tables.{first_named}
 use Rattle.charset.specs.Portable.{Name, portable_code, is_portable}
 use Rattle.charset.specs.Hex.{numbered}
 

@@ -2,7 +2,7 @@
 
 ghost use Rattle.std.specs.Prelude.{◌≡◌, ℕ, ◌+◌, ◌<◌, ◌≤◌, [], All, length, IfOk, option_map};
 ghost use Rattle.std.specs.List.{list_any};
-ghost use Rattle.byte_words.specs.Tables.{first_named};
+ghost use Rattle.lc_base.specs.Tables.{first_named};
 ghost use Rattle.charset.specs.CodedSet.{big_endian, has_value};
 ghost use Rattle.class_ranges.specs.Ranges.{covers};
 ghost use Rattle.charset.specs.Listing.{IsShort};

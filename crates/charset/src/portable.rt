@@ -3,7 +3,7 @@
 ghost use Rattle.std.specs.Prelude.{◌≡◌};
 ghost use Rattle.charset.specs.Portable as spec;
 
-use byte_words::first_named;
+use lc_base::first_named;
 
 const PORTABLE: [(&[u8], u32); 59] = [
     (b"NUL", 0),

@@ -5,10 +5,10 @@ use Rattle.lc_base.specs.declared.category.Category.{Category}
 use Rattle.lc_base.specs.declared.category.Category.TheVariants.{Ctype, Numeric, Monetary, Time, Messages}
 use Rattle.lc_base.specs.declared.reason.Reason.TheVariants.{EmptyRadix, DigitsNotTen, BadCurrency, WrongCount}
 use Rattle.charset.specs.CodedSet.{utf8, posix}
-use Rattle.keyword_lists.specs.declared.source.Value.TheVariants.{Text, Chars}
-use Rattle.keyword_lists.specs.declared.source.Entry.{Entry}
-use Rattle.keyword_lists.specs.declared.source.Section.{Section}
-use Rattle.keyword_lists.specs.declared.source.Body.TheVariants.{Copy, Entries}
+use Rattle.keywords.specs.declared.source.Value.TheVariants.{Text, Chars}
+use Rattle.keywords.specs.declared.source.Entry.{Entry}
+use Rattle.keywords.specs.declared.source.Section.{Section}
+use Rattle.keywords.specs.declared.source.Body.TheVariants.{Copy, Entries}
 use Rattle.ctype_classes.specs.Lines.{rule_of_line}
 use Rattle.ctype_classes.specs.Lists.{classes_of}
 use Rattle.ctype_classes.specs.Ctype.{ctype_values, posix_values as posix_classes}

@@ -14,8 +14,8 @@ use Rattle.time_cat.specs.Values.{time_values, posix_values as posix_times}
 use Rattle.messages_cat.specs.MessagesValues.{MessagesValues}
 use Rattle.messages_cat.specs.Messages.{messages_values, posix_values as posix_messages}
 use Rattle.locale_sources.specs.Sources.{Source}
-use Rattle.category_copies.specs.Copies.{end_of}
-use Rattle.category_copies.specs.Rows.{available}
+use Rattle.locale_sources.specs.Copies.{end_of}
+use Rattle.locale_sources.specs.Rows.{available}
 use Rattle.compiled_categories.specs.Written.{Written, written_at}
 use Rattle.compiled_categories.specs.Locale.{Locale}
 

@@ -13,8 +13,8 @@ use Rattle.monetary_cat.specs.Monetary.{posix_values as posix_money}
 use Rattle.time_cat.specs.Values.{posix_values as posix_times}
 use Rattle.messages_cat.specs.Messages.{posix_values as posix_messages}
 use Rattle.locale_sources.specs.Sources.{Source}
-use Rattle.category_copies.specs.declared.numbers.SourceNumbers.{SourceNumbers}
-use Rattle.category_copies.specs.declared.rows.LocaleRow.{LocaleRow}
+use Rattle.locale_sources.specs.declared.numbers.SourceNumbers.{SourceNumbers}
+use Rattle.locale_sources.specs.declared.rows.LocaleRow.{LocaleRow}
 use Rattle.compiled_categories.specs.declared.kept.CategoryLists.{CategoryLists}
 use Rattle.compiled_categories.specs.Written.{Written, written_for}
 use Rattle.compiled_categories.specs.Locale.{Locale}

@@ -4,9 +4,9 @@ use Rattle.lc_base.specs.declared.place.Place.{Place}
 use Rattle.lc_base.specs.declared.category.Category.{Category}
 use Rattle.lc_base.specs.Lines.{◌>>=◌}
 use Rattle.charset.specs.CodedSet.{CodedSet}
-use Rattle.keyword_lists.specs.declared.source.Section.{Section}
-use Rattle.keyword_lists.specs.declared.source.Entry.{Entry}
-use Rattle.keyword_lists.specs.declared.source.Body.TheVariants.{Copy, Entries}
+use Rattle.keywords.specs.declared.source.Section.{Section}
+use Rattle.keywords.specs.declared.source.Entry.{Entry}
+use Rattle.keywords.specs.declared.source.Body.TheVariants.{Copy, Entries}
 use Rattle.locale_sources.specs.Sources.{Source}
 use Rattle.locale_sources.specs.Sections.{section_of}
 

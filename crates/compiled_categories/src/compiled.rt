@@ -4,9 +4,9 @@ ghost use Rattle.std.specs.Prelude.{◌≡◌};
 ghost use Rattle.compiled_categories.specs.Kept.{locale_with};
 
 use crate::kept::CategoryLists;
-use category_copies::SourceNumbers;
 use ctype_classes::Ctype;
 use lc_base::Mask;
+use locale_sources::SourceNumbers;
 use messages_cat::Messages;
 use monetary_cat::Monetary;
 use numeric_cat::Numeric;

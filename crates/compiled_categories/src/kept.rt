@@ -8,10 +8,9 @@ ghost use Rattle.compiled_categories.specs.Kept.{slots, kept, kept_or, value_or,
 
 use crate::built::Built;
 use crate::written::written_for;
-use category_copies::SourceNumbers;
 use ctype_classes::Ctype;
 use lc_base::{Category, Place, Reason, TextFault};
-use locale_sources::Source;
+use locale_sources::{Source, SourceNumbers};
 use messages_cat::Messages;
 use monetary_cat::Monetary;
 use numeric_cat::Numeric;

@@ -4,16 +4,15 @@ ghost use Rattle.std.specs.Prelude.{◌≡◌, map};
 ghost use Rattle.std.specs.Option.{option_copied};
 ghost use Rattle.lc_base.specs.Reading.{Gives};
 ghost use Rattle.locale_sources.specs.Seen.{source};
-ghost use Rattle.category_copies.specs.Rows.{given_unless, rows_from};
+ghost use Rattle.locale_sources.specs.Rows.{given_unless, rows_from};
 ghost use Rattle.compiled_categories.specs.Compiled.{locales_of};
 ghost use Rattle.compiled_categories.specs.Kept.{rows_fault, row_at};
 ghost use Rattle.compiled_categories.specs.Locale.{locale_among};
 
 use crate::compiled::Compiled;
 use crate::kept::CategoryLists;
-use category_copies::{LocaleRow, SourceNumbers};
 use lc_base::{Mask, Place, Reason, TextFault};
-use locale_sources::Source;
+use locale_sources::{LocaleRow, Source, SourceNumbers};
 use std::alloc::Global;
 use std::marker::Model;
 

@@ -6,7 +6,7 @@ ghost use Rattle.compiled_categories.specs.Seen.{written};
 ghost use Rattle.compiled_categories.specs.Written.{written_for};
 
 use charset::Charset;
-use keyword_lists::{Body, Entry};
+use keywords::{Body, Entry};
 use lc_base::{Category, List, Place};
 use locale_sources::{Source, section_of};
 

@@ -5,10 +5,10 @@ use Rattle.lc_base.specs.declared.place.Place.{Place}
 use Rattle.lc_base.specs.declared.reason.Class.TheVariants.{Alpha, Space, Punct}
 use Rattle.lc_base.specs.declared.reason.Reason.TheVariants.{EmptyRadix, BadNumber, BadClassName, DigitsNotTen, NotCased, Excluded}
 use Rattle.charset.specs.CodedSet.{CodedSet, utf8, posix, listed}
-use Rattle.keyword_lists.specs.declared.source.Value.{Value}
-use Rattle.keyword_lists.specs.declared.source.Value.TheVariants.{Text, Number, Chars, Pair}
-use Rattle.keyword_lists.specs.declared.source.Entry.{Entry}
-use Rattle.keyword_table.specs.declared.row.Rule.TheVariants.{NotEmpty, Between}
+use Rattle.keywords.specs.declared.source.Value.{Value}
+use Rattle.keywords.specs.declared.source.Value.TheVariants.{Text, Number, Chars, Pair}
+use Rattle.keywords.specs.declared.source.Entry.{Entry}
+use Rattle.keywords.specs.declared.row.Rule.TheVariants.{NotEmpty, Between}
 use Rattle.ctype_classes.specs.Characters.{characters}
 use Rattle.ctype_classes.specs.Named.{place_of}
 use Rattle.ctype_classes.specs.Classes.{Classes, members_of, numbered_answer}

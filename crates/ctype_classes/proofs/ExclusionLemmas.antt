@@ -11,12 +11,12 @@ use Rattle.lc_base.specs.Reading.{Reads, Fails, ◌>>=◌}
 use Rattle.class_ranges.specs.Ranges.{IsLeast}
 use Rattle.charset.specs.Portable.{Name}
 use Rattle.charset.specs.CodedSet.{CodedSet}
-use Rattle.keyword_lists.specs.declared.source.Value.{Value}
-use Rattle.keyword_lists.specs.declared.source.Value.TheVariants.{Text, Number, Chars, Pair}
-use Rattle.keyword_lists.specs.declared.source.Entry.{Entry}
-use Rattle.keyword_table.specs.declared.row.Rule.{Rule}
-use Rattle.keyword_table.specs.declared.row.Rule.TheVariants as rules
-use Rattle.keyword_values.specs.Rules.{text_fault, number_fault, fault_of, unless, operands_checked}
+use Rattle.keywords.specs.declared.source.Value.{Value}
+use Rattle.keywords.specs.declared.source.Value.TheVariants.{Text, Number, Chars, Pair}
+use Rattle.keywords.specs.declared.source.Entry.{Entry}
+use Rattle.keywords.specs.declared.row.Rule.{Rule}
+use Rattle.keywords.specs.declared.row.Rule.TheVariants as rules
+use Rattle.keywords.specs.Rules.{text_fault, number_fault, fault_of, unless, operands_checked}
 use Rattle.ctype_classes.specs.Lines.{rule_of_line}
 use Rattle.ctype_classes.specs.Table.{declared_row}
 use Rattle.ctype_classes.specs.Classes.{Classes, with_class, twelve_classes}

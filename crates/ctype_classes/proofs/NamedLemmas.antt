@@ -11,7 +11,7 @@ use Rattle.std.specs.declared.vec.Vec.{Vec}
 use Rattle.std.proofs.lemmas.Bool.{cases_Bool, false_from_ne_true}
 use Rattle.std.proofs.lemmas.Map.Text.{is_eq-slice_cmp}
 use Rattle.std.proofs.lemmas.Slice.Eq.{bytes_eq-Decides}
-use Rattle.byte_words.specs.Tables.{first_named}
+use Rattle.lc_base.specs.Tables.{first_named}
 use Rattle.charset.specs.Portable.{Name}
 use Rattle.ctype_classes.specs.Named.{place_of, place_under, AreFirstPlaces}
 

@@ -4,9 +4,9 @@ use Rattle.std.specs.BTreeMap.{insert_entry, is_at}
 use Rattle.std.specs.Map.{lookup}
 use Rattle.std.specs.Ordering.{nat_cmp}
 use Rattle.lc_base.specs.declared.category.Category.TheVariants as categories
-use Rattle.keyword_lists.specs.declared.source.Entry.{Entry}
-use Rattle.keyword_table.specs.LookUp.{posix_pairs}
-use Rattle.keyword_values.specs.Keywords.{operands, pairs}
+use Rattle.keywords.specs.declared.source.Entry.{Entry}
+use Rattle.keywords.specs.LookUp.{posix_pairs}
+use Rattle.keywords.specs.Keywords.{operands, pairs}
 
 -- a pair the other way round
 abbrev pub reversed : ℕ × ℕ → ℕ × ℕ

@@ -3,7 +3,7 @@ use Rattle.std.specs.Prelude.{List, [], Ok}
 use Rattle.lc_base.specs.declared.place.Place.{Place}
 use Rattle.lc_base.specs.Reading.{Reads, ◌>>=◌}
 use Rattle.charset.specs.CodedSet.{CodedSet, posix, set_name}
-use Rattle.keyword_lists.specs.declared.source.Entry.{Entry}
+use Rattle.keywords.specs.declared.source.Entry.{Entry}
 use Rattle.ctype_classes.specs.Classes.{Classes, twelve_classes}
 use Rattle.ctype_classes.specs.Lists.{classes_of}
 use Rattle.ctype_classes.specs.Exclusions.{all_kept_apart}

@@ -8,7 +8,7 @@ use Rattle.lc_base.specs.declared.reason.Class.TheVariants.{Space, Punct}
 use Rattle.lc_base.specs.declared.reason.Reason.TheVariants.{Excluded}
 use Rattle.class_ranges.specs.Ranges.{IsLeast, covers}
 use Rattle.charset.specs.CodedSet.{CodedSet}
-use Rattle.keyword_lists.specs.declared.source.Entry.{Entry}
+use Rattle.keywords.specs.declared.source.Entry.{Entry}
 use Rattle.ctype_classes.specs.Classes.{Classes, members_of}
 use Rattle.ctype_classes.specs.Exclusions.{class_name, exclusions}
 use Rattle.ctype_classes.specs.Members.{membership}

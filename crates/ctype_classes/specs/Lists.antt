@@ -9,18 +9,18 @@ use Rattle.lc_base.specs.declared.reason.Reason.{Reason}
 use Rattle.lc_base.specs.declared.reason.Reason.TheVariants.{BadClassName, DigitsNotTen, NotCased}
 use Rattle.lc_base.specs.Reading.{Reads, ◌>>=◌}
 use Rattle.class_ranges.specs.Ranges.{covers}
-use Rattle.byte_words.specs.Tables.{first_named}
+use Rattle.lc_base.specs.Tables.{first_named}
 use Rattle.charset.specs.Portable.{Name}
 use Rattle.charset.specs.CodedSet.{CodedSet}
-use Rattle.keyword_lists.specs.declared.source.Value.{Value}
-use Rattle.keyword_lists.specs.declared.source.Value.TheVariants.{Text, Number, Chars, Pair}
-use Rattle.keyword_lists.specs.declared.source.Entry.{Entry}
-use Rattle.keyword_table.specs.declared.row.Operands.{Operands}
-use Rattle.keyword_table.specs.declared.row.Operands.TheVariants.{Copied}
-use Rattle.keyword_table.specs.declared.row.Rule.{Rule}
-use Rattle.keyword_table.specs.declared.row.Rule.TheVariants.{TenDigits, Cased, ClassNames}
-use Rattle.keyword_table.specs.LookUp.{takes_of}
-use Rattle.keyword_values.specs.Rules.{operands_checked}
+use Rattle.keywords.specs.declared.source.Value.{Value}
+use Rattle.keywords.specs.declared.source.Value.TheVariants.{Text, Number, Chars, Pair}
+use Rattle.keywords.specs.declared.source.Entry.{Entry}
+use Rattle.keywords.specs.declared.row.Operands.{Operands}
+use Rattle.keywords.specs.declared.row.Operands.TheVariants.{Copied}
+use Rattle.keywords.specs.declared.row.Rule.{Rule}
+use Rattle.keywords.specs.declared.row.Rule.TheVariants.{TenDigits, Cased, ClassNames}
+use Rattle.keywords.specs.LookUp.{takes_of}
+use Rattle.keywords.specs.Rules.{operands_checked}
 use Rattle.ctype_classes.specs.Lines.{rule_of_line}
 use Rattle.ctype_classes.specs.Table.{declared_row}
 use Rattle.ctype_classes.specs.Classes.{Classes, members_of, with_class, twelve_classes}

@@ -2,14 +2,14 @@
 use Rattle.std.specs.Prelude.{ℕ, Bool, false, ◌||◌, ◌&&◌, List, [], ◌∷◌, ◌++◌, map, Option, Some, unwrap_or}
 use Rattle.lc_base.specs.declared.place.Place.{Place}
 use Rattle.class_ranges.specs.Ranges.{covers}
-use Rattle.byte_words.specs.Tables.{first_named}
+use Rattle.lc_base.specs.Tables.{first_named}
 use Rattle.charset.specs.Portable.{Name}
 use Rattle.charset.specs.CodedSet.{CodedSet, has}
-use Rattle.keyword_lists.specs.declared.source.Value.{Value}
-use Rattle.keyword_lists.specs.declared.source.Entry.{Entry}
-use Rattle.keyword_table.specs.declared.row.Rule.{Rule}
-use Rattle.keyword_table.specs.declared.row.Rule.TheVariants.{ClassNames}
-use Rattle.keyword_values.specs.Keywords.{operands, texts}
+use Rattle.keywords.specs.declared.source.Value.{Value}
+use Rattle.keywords.specs.declared.source.Entry.{Entry}
+use Rattle.keywords.specs.declared.row.Rule.{Rule}
+use Rattle.keywords.specs.declared.row.Rule.TheVariants.{ClassNames}
+use Rattle.keywords.specs.Keywords.{operands, texts}
 use Rattle.ctype_classes.specs.Lines.{rule_of_line}
 use Rattle.ctype_classes.specs.Named.{with_named}
 use Rattle.ctype_classes.specs.Table.{ClassRow, class_table, declared_row}

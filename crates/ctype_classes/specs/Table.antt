@@ -3,7 +3,7 @@ use Rattle.std.specs.Prelude.{List, [], ◌∷◌, codes}
 use Rattle.class_ranges.specs.Ranges.{Range}
 use Rattle.charset.specs.Portable.{Name}
 use Rattle.lc_base.specs.declared.category.Category.TheVariants as categories
-use Rattle.keyword_table.specs.LookUp.{posix_ranges}
+use Rattle.keywords.specs.LookUp.{posix_ranges}
 
 -- a class: its name, the values that it always has, those that it has where its keyword is absent, and the classes above it in
 -- the table whose members it has

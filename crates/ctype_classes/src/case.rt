@@ -5,8 +5,7 @@ ghost use Rattle.std.specs.Option.{option_copied};
 ghost use Rattle.ctype_classes.specs.Case.{reversed, upper_pairs, lower_pairs, map_of, image};
 
 use crate::first_lines::KeywordList;
-use keyword_table::posix_pairs;
-use keyword_values::pairs;
+use keywords::{pairs, posix_pairs};
 use lc_base::Category;
 use std::alloc::{AllocError, Global};
 use std::collections::BTreeMap;

@@ -12,8 +12,7 @@ use crate::named::ByName;
 use crate::table::{AutomaticMembers, ClassRow, TABLE};
 use charset::Charset;
 use class_ranges::Ranges;
-use keyword_lists::Values;
-use keyword_values::ranges;
+use keywords::{Values, ranges};
 use std::alloc::{AllocError, Global};
 
 /// Classes with their members.

@@ -16,7 +16,7 @@ use crate::exclusions::check_exclusions;
 use crate::first_lines::KeywordList;
 use crate::lists::classes_of;
 use charset::Charset;
-use keyword_lists::Entry;
+use keywords::Entry;
 use lc_base::{ByteText, List, Place, TextFault};
 use std::alloc::{AllocError, Global};
 use std::marker::Model;

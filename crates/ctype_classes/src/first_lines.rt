@@ -2,11 +2,11 @@
 
 ghost use Rattle.std.specs.Prelude.{◌≡◌, IfOk};
 ghost use Rattle.std.specs.Option.{option_copied};
-ghost use Rattle.keyword_values.specs.Keywords.{operands};
+ghost use Rattle.keywords.specs.Keywords.{operands};
 ghost use Rattle.ctype_classes.specs.FirstLines.{AreFirstLines};
 
 use crate::named::ByName;
-use keyword_lists::{Entry, Values};
+use keywords::{Entry, Values};
 use std::alloc::{AllocError, Global};
 use std::marker::Model;
 
@@ -19,7 +19,7 @@ pub struct KeywordList<'a> {
 
 impl<'a> Model for KeywordList<'a> {
     ghost use Rattle.std.specs.Prelude.{List};
-    ghost use Rattle.keyword_lists.specs.declared.source.Entry.{Entry as Line};
+    ghost use Rattle.keywords.specs.declared.source.Entry.{Entry as Line};
     ghost use Rattle.ctype_classes.specs.FirstLines.{AreFirstLines};
 
     ghost Value = { List Line };

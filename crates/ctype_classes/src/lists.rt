@@ -5,7 +5,7 @@ ghost use Rattle.std.specs.List.{list_all};
 ghost use Rattle.std.specs.Char.{is_ascii_alphanumeric};
 ghost use Rattle.lc_base.specs.Reading.{Gives};
 ghost use Rattle.lc_base.specs.declared.reason.Reason.TheVariants.{DigitsNotTen as NotTen, NotCased as Caseless};
-ghost use Rattle.keyword_lists.specs.Cells.{seen};
+ghost use Rattle.keywords.specs.Cells.{seen};
 ghost use Rattle.ctype_classes.specs.Lines.{rule_of_line};
 ghost use Rattle.ctype_classes.specs.Lists.{is_ten, is_cased, is_cased_pair, each_passes, is_word, is_class_name, is_reserved, is_taken, declaring, declaring_value, declaring_values, after_operands, after_line, after_lines, classes_of};
 
@@ -13,9 +13,7 @@ use crate::classes::{Classes, has_member, twelve_classes, with_class};
 use crate::first_lines::KeywordList;
 use crate::table::ClassRow;
 use charset::Charset;
-use keyword_lists::{Entry, ValueRef, Values};
-use keyword_table::{Operands, Rule, rule_of, takes_of};
-use keyword_values::check_operands;
+use keywords::{Entry, Operands, Rule, ValueRef, Values, check_operands, rule_of, takes_of};
 use lc_base::{Category, Place, Reason, TextFault};
 use std::alloc::Global;
 

@@ -2,7 +2,7 @@
 
 ghost use Rattle.std.specs.Prelude.{◌≡◌, [], slice_get, option_map, IfOk};
 ghost use Rattle.std.specs.Option.{option_copied};
-ghost use Rattle.byte_words.specs.Tables.{first_named};
+ghost use Rattle.lc_base.specs.Tables.{first_named};
 ghost use Rattle.ctype_classes.specs.Named.{with_named, place_of};
 
 use lc_base::ByteText;

@@ -1,6 +1,6 @@
 //! The classes that each locale has.
 
-use keyword_table::posix_ranges;
+use keywords::posix_ranges;
 use lc_base::Category;
 
 /// A class of a locale.

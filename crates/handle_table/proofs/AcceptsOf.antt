@@ -2,9 +2,9 @@
 use Rattle.std.proofs.Common.{◌≡◌, ℕ, ◌+◌, ◌<◌, true, List, [], ◌∷◌, length, Option, None, Some, refl, ap, sym, ◌∙◌, subst, arith}
 use Rattle.mask_compose.specs.Parts.{Parts, composed}
 use Rattle.mask_compose.specs.Offer.{Offered}
-use Rattle.handles.specs.declared.handle.Handle.{Handle}
-use Rattle.handles.specs.declared.handle.Named.{Named}
-use Rattle.handles.specs.declared.handle.Named.TheVariants.{Global, Of}
+use Rattle.lc_base.specs.declared.handle.Handle.{Handle}
+use Rattle.lc_base.specs.declared.handle.Named.{Named}
+use Rattle.lc_base.specs.declared.handle.Named.TheVariants.{Global, Of}
 use Rattle.handle_table.specs.Entry.{New, Dup, Free, Use, Hold, Release, SetGlobal, Install, Fetch, Pins, End, Reply, Made, Freed, Was, Held, Released, Set, Installed, Got, Pinned, Ended, History, Setting}
 use Rattle.handle_table.specs.Shelf.{posix, from_shelf}
 use Rattle.handle_table.specs.History.{live, object, object_named, selection, pins, posted, global, sets, free_row}

@@ -5,8 +5,8 @@ use Rattle.std.specs.Prelude.{if◌then◌else◌, nat_lt}
 use Rattle.std.specs.List.{list_any}
 use Rattle.mask_compose.specs.Parts.{Parts}
 use Rattle.mask_compose.specs.Offer.{Offered}
-use Rattle.handles.specs.declared.handle.Handle.{Handle}
-use Rattle.handles.specs.declared.handle.Named.{Named}
+use Rattle.lc_base.specs.declared.handle.Handle.{Handle}
+use Rattle.lc_base.specs.declared.handle.Named.{Named}
 use Rattle.handle_table.specs.Entry.{Op, New, Free, Use, Hold, Release, SetGlobal, Install, End, Entry, History, Setting, names, is_accepted}
 use Rattle.handle_table.specs.Shelf.{offer_after, shelf, installs_after, installs}
 use Rattle.handle_table.specs.History.{handle_made, makes_handle, made, op_frees, frees_handle, live, is_in_row, with_handle, handles, makes, sets_after, sets, global_after, global, object, selection_after, selection, holding_after, holding, pins, is_kept, is_free, free_row, handle_named, posted}

@@ -3,9 +3,9 @@ use Rattle.std.proofs.Common.{◌≡◌, ℕ, ◌+◌, ◌<◌, Bool, true, fals
 use Rattle.std.proofs.lemmas.Bool.{eq-eqb, ne_eqb, and_from, and_left, or_right, false≢true}
 use Rattle.std.specs.Prelude.{if◌then◌else◌}
 use Rattle.mask_compose.specs.Parts.{Parts, composed}
-use Rattle.handles.specs.declared.handle.Handle.{Handle}
-use Rattle.handles.specs.declared.handle.Named.{Named}
-use Rattle.handles.specs.declared.handle.Named.TheVariants.{Global, Of}
+use Rattle.lc_base.specs.declared.handle.Handle.{Handle}
+use Rattle.lc_base.specs.declared.handle.Named.{Named}
+use Rattle.lc_base.specs.declared.handle.Named.TheVariants.{Global, Of}
 use Rattle.handle_table.specs.declared.op.Refusal.{Refusal}
 use Rattle.handle_table.specs.Entry.{Op, New, Dup, Free, Use, Hold, Release, SetGlobal, Install, Post, Fetch, Pins, End, Reply, Made, Freed, Was, Held, Released, Set, Installed, Posted, Got, Pinned, Ended, Refused, Entry, History, Setting, names, is_accepted}
 use Rattle.handle_table.specs.Shelf.{offer_after, shelf, installs_after, installs, from_shelf}

@@ -11,9 +11,9 @@ use Rattle.lc_base.specs.Mask.{includes}
 use Rattle.mask_compose.specs.Parts.{Parts, composed}
 use Rattle.mask_compose.specs.Parts as objects
 use Rattle.mask_compose.specs.Offer.{Offered}
-use Rattle.handles.specs.declared.handle.Handle.{Handle}
-use Rattle.handles.specs.declared.handle.Named.{Named}
-use Rattle.handles.specs.declared.handle.Named.TheVariants.{Global, Of}
+use Rattle.lc_base.specs.declared.handle.Handle.{Handle}
+use Rattle.lc_base.specs.declared.handle.Named.{Named}
+use Rattle.lc_base.specs.declared.handle.Named.TheVariants.{Global, Of}
 use Rattle.handle_table.specs.declared.op.Refusal.TheVariants.{NoData, NeverMade, Stale, AlreadyHeld, NotHeld}
 use Rattle.handle_table.specs.Entry.{Op, New, Dup, Free, Use, Hold, Release, SetGlobal, Install, Post, Fetch, Pins, End, Made, Was, Held, Set, Pinned, Installed, Entry, History, Setting, is_accepted}
 use Rattle.handle_table.specs.Shelf.{number_for, posix, offer_after, shelf, installs_after, installs, part_from_shelf, from_shelf, is_lacking, lacking}

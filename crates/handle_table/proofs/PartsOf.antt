@@ -6,9 +6,9 @@ use Rattle.std.specs.Prelude.{if◌then◌else◌, slice_set, slice_index_or, un
 use Rattle.mask_compose.specs.Parts.{Parts, composed}
 use Rattle.mask_compose.specs.Offer.{Offered, no_offer}
 use Rattle.global_locale.specs.Versioned.{Versioned}
-use Rattle.handles.specs.declared.handle.Handle.{Handle}
-use Rattle.handles.specs.declared.handle.Named.{Named}
-use Rattle.handles.specs.declared.handle.Named.TheVariants.{Global, Of}
+use Rattle.lc_base.specs.declared.handle.Handle.{Handle}
+use Rattle.lc_base.specs.declared.handle.Named.{Named}
+use Rattle.lc_base.specs.declared.handle.Named.TheVariants.{Global, Of}
 use Rattle.handle_table.specs.Entry.{New, SetGlobal, Install, Entry, History, Setting, is_accepted, same_handle}
 use Rattle.handle_table.specs.Shelf.{opening_offer, shelf, from_shelf}
 use Rattle.handle_table.specs.History.{handle_made, is_handle, makes_handle, made, makes, object, selection_after, selection, is_kept, posted, sets, global}

@@ -2,7 +2,7 @@
 use Rattle.std.proofs.Common.{◌≡◌, ℕ, zero, suc, ◌+◌, ◌≤◌, ◌<◌, Bool, true, false, [], ◌∷◌, ◌++◌, length, refl, ap, ◌∙◌, inl, inr, arith, length-append, ◌*◌, mul-suc}
 use Rattle.std.proofs.lemmas.Bool.{ltb-false, le-ltb, or_parts, or_from, cases_eq}
 use Rattle.std.specs.Prelude.{if◌then◌else◌, nat_lt}
-use Rattle.handles.specs.declared.handle.Handle.{Handle}
+use Rattle.lc_base.specs.declared.handle.Handle.{Handle}
 use Rattle.handle_table.specs.Entry.{History, Setting, names}
 use Rattle.handle_table.specs.History.{live, selection, holding, Selects, Holds, holders_of, holders_below, pins, is_kept}
 use Rattle.handle_table.proofs.Gone.{IsGone}

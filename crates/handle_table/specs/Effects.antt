@@ -2,9 +2,9 @@
 use Rattle.std.specs.Prelude.{ℕ, ◌+◌, Some, slice_set, slice_index_or}
 use Rattle.mask_compose.specs.Parts.{Parts, composed}
 use Rattle.mask_compose.specs.Offer.{Offered}
-use Rattle.handles.specs.declared.handle.Handle.{Handle}
-use Rattle.handles.specs.declared.handle.Named.{Named}
-use Rattle.handles.specs.declared.handle.Named.TheVariants.{Global}
+use Rattle.lc_base.specs.declared.handle.Handle.{Handle}
+use Rattle.lc_base.specs.declared.handle.Named.{Named}
+use Rattle.lc_base.specs.declared.handle.Named.TheVariants.{Global}
 use Rattle.handle_table.specs.Grid.{with_cell}
 use Rattle.handle_table.specs.History.{handle_named}
 use Rattle.handle_table.specs.Row.{pinned, unpinned, opened, closed, freed, with_next}

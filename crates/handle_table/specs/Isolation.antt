@@ -2,7 +2,7 @@
 -- histories alone, and of a list of threads as a set: order and repetition in it do not matter.
 use Rattle.std.specs.Prelude.{◌≡◌, ℕ, Bool, true, false, ◌==◌, not, ◌&&◌, ◌||◌, if◌then◌else◌, List, [], ◌∷◌, map, Option, None, Some}
 use Rattle.std.specs.List.{list_any}
-use Rattle.handles.specs.declared.handle.Handle.{Handle}
+use Rattle.lc_base.specs.declared.handle.Handle.{Handle}
 use Rattle.handle_table.specs.Entry.{Op, New, Dup, Free, Use, Hold, Release, SetGlobal, Install, Post, Fetch, Pins, End, Reply, Entry, History, Setting}
 use Rattle.handle_table.specs.Shelf.{shelf, installs}
 use Rattle.handle_table.specs.History.{made, makes, live, sets, global, global_at, object, selection, holding, pins, free_row, handle_named, posted}

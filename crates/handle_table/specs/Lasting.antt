@@ -1,6 +1,6 @@
 -- What later entries leave of a history, whatever they are.
 use Rattle.std.specs.Prelude.{◌≡◌, ◌≢◌, ℕ, ◌≤◌, false, true, ◌∷◌, ◌++◌}
-use Rattle.handles.specs.declared.handle.Handle.{Handle}
+use Rattle.lc_base.specs.declared.handle.Handle.{Handle}
 use Rattle.handle_table.specs.Entry.{Entry, History, Setting}
 use Rattle.handle_table.specs.History.{made, live, object, sets, global, global_at}
 use Rattle.handle_table.specs.Answer.{IsLegal, own}

@@ -1,8 +1,8 @@
 -- The rows of all threads, and what they say of handles.
 use Rattle.std.specs.Prelude.{ℕ, Bool, nat_lt, nat_le, ◌==◌, ◌&&◌, ◌||◌, not, if◌then◌else◌, map, Option, None, Some}
-use Rattle.handles.specs.declared.handle.Handle.{Handle}
-use Rattle.handles.specs.declared.handle.Named.{Named}
-use Rattle.handles.specs.declared.handle.Named.TheVariants.{Global, Of}
+use Rattle.lc_base.specs.declared.handle.Handle.{Handle}
+use Rattle.lc_base.specs.declared.handle.Named.{Named}
+use Rattle.lc_base.specs.declared.handle.Named.TheVariants.{Global, Of}
 use Rattle.handle_table.specs.declared.row.Row.{Row}
 use Rattle.handle_table.specs.Grid.{GridData, cell, with_cell}
 use Rattle.handle_table.specs.Row.{no_row, is_held, let_go}

@@ -16,8 +16,7 @@ use crate::kept::Kept;
 use crate::op::{Op, Refusal, Reply};
 use crate::setting::{MAX_THREADS, Setting};
 use crate::shelf::from_shelf;
-use handles::{Handle, Named};
-use lc_base::{CELLS, Mask};
+use lc_base::{CELLS, Handle, Mask, Named};
 use mask_compose::{Object, Offer, Part, compose};
 
 /// Answers the thread's op: refuses it for the first reason against it, else does what it asks for.

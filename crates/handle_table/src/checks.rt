@@ -14,8 +14,7 @@ use crate::kept::Kept;
 use crate::op::{Op, Refusal};
 use crate::setting::{MAX_THREADS, Setting};
 use crate::shelf::lacking;
-use handles::Named;
-use lc_base::{CELLS, Mask};
+use lc_base::{CELLS, Mask, Named};
 use mask_compose::Part;
 
 /// Whether the named locales have the categories of the mask.

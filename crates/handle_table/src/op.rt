@@ -1,7 +1,6 @@
 //! What threads ask of the table, and what it replies.
 
-use handles::{Handle, Named};
-use lc_base::{Category, Mask};
+use lc_base::{Category, Handle, Mask, Named};
 use mask_compose::{Object, Offer, Part};
 
 /// What a thread asks of the table.

@@ -9,7 +9,7 @@ ghost use Rattle.handle_table.specs.Grid.{with_cell};
 use crate::grid::Grid;
 use crate::row::Row;
 use crate::setting::MAX_THREADS;
-use handles::{Handle, Named};
+use lc_base::{Handle, Named};
 
 /// What is kept of a row.
 fn row_of(rows: &Grid<Row>, owner: u32, row: u32) -> Row

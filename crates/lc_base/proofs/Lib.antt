@@ -4,3 +4,5 @@ pub mod LineLemmas
 mod MemoryExamples
 mod Examples
 pub mod Slices
+pub mod NumberLemmas
+mod WordExamples

@@ -7,3 +7,6 @@ pub mod Lines
 pub mod Blocks
 pub mod Counted
 pub mod Memory
+pub mod Cuts
+pub mod Numbers
+pub mod Tables

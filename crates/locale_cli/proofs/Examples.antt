@@ -12,7 +12,7 @@ use Rattle.locale_cli.specs.Answer.{counts_line, answer_for, IsAnswer}
 use Rattle.locale_cli.specs.Status.{status_of, due_status}
 use Rattle.locale_cli.specs.Words.{mode_of, with_option, number_up_to}
 use Rattle.script_lang.specs.Accepted.{bundle_of, bundle_with}
-use Rattle.byte_words.specs.Numbers.{decimal_number}
+use Rattle.lc_base.specs.Numbers.{decimal_number}
 use Rattle.script_words.specs.Words.{behind_front}
 use Rattle.script_plan.specs.Plan.{plan_of}
 

@@ -5,3 +5,4 @@ pub mod Outputs
 mod RequestExamples
 pub mod Statuses
 pub mod Summaries
+mod Writing

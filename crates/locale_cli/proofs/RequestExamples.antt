@@ -1,7 +1,7 @@
 -- What words ask for.
 use Rattle.std.proofs.Common.{◌≡◌, [], ◌∷◌, Some, None, refl}
 use Rattle.std.specs.Prelude.{codes}
-use Rattle.byte_words.specs.Numbers.{decimal_number}
+use Rattle.lc_base.specs.Numbers.{decimal_number}
 use Rattle.script_words.specs.Words.{behind_front}
 use Rattle.locale_cli.specs.declared.request.Request.TheVariants.{Read, Make}
 use Rattle.locale_cli.specs.declared.words.Mode.TheVariants.{Check, Serial}

@@ -3,7 +3,7 @@ use Rattle.std.proofs.Common.{◌≡◌, ℕ, ◌+◌, true, Result, Ok, Err, Li
 use Rattle.std.specs.Prelude.{map, IfOk, if◌then◌else◌}
 use Rattle.std.specs.List.{sum_by}
 use Rattle.std.proofs.lemmas.List.Sums.{sum_by-cons}
-use Rattle.private_threads.specs.Private.{placeless, all_keep_to_themselves, PrintAlike}
+use Rattle.script_plan.specs.Private.{placeless, all_keep_to_themselves, PrintAlike}
 use Rattle.script_serial.proofs.SerialNewest.{serial_prints_in_order}
 use Rattle.script_plan.specs.Prints.{Prints}
 use Rattle.script_lang.specs.declared.bundle.Bundle.{Bundle}

@@ -1,7 +1,7 @@
 -- The words of the command line (our own).
 use Rattle.std.specs.Prelude.{ℕ, ◌≤◌, nat_le, ◌==◌, not, ◌&&◌, Bool, true, List, [], ◌∷◌, codes, Option, Some, None, option_map, option_and_then, unwrap_or, IfSome, if◌then◌else◌}
 use Rattle.std.specs.Str.{bytes_eq}
-use Rattle.byte_words.specs.Numbers.{decimal_number}
+use Rattle.lc_base.specs.Numbers.{decimal_number}
 use Rattle.script_words.specs.Words.{behind_front}
 use Rattle.locale_cli.specs.declared.words.TheConstants.{DEFAULT_ROWS, MOST_ROWS, DEFAULT_GENERATIONS, MOST_GENERATIONS}
 use Rattle.locale_cli.specs.declared.words.Options.{Options}

@@ -9,12 +9,13 @@ ghost use Rattle.locale_cli.specs.StatusCode.{status_code};
 ghost use Rattle.locale_cli.specs.Words.{IsSized};
 ghost use Rattle.script_out.specs.Refusal.{refusal_line};
 
+use crate::concurrent::print_concurrently;
+use crate::pieces::Pieces;
 use crate::words::Mode;
 use itoa::Buffer;
 use lc_base::{ByteText, Place, Reason, TextFault};
 use script_out::{print, push_refusal};
 use script_plan::{Counts, Plan, check, prepare};
-use script_print::{Pieces, print_beside};
 use script_run::run;
 use script_seats::Pause;
 use script_serial::serial;
@@ -208,7 +209,7 @@ fn run_text<R: Threads + Wait + Sync, P: Pause + Sync>(
     ensures { IfOk result (Outputs (Run rows generations) plan.now) }
 {
     let lines = run(rt, alloc, plan, rows, generations, pause)?;
-    let text = print_beside(rt, alloc, &lines, plan.threads());
+    let text = print_concurrently(rt, alloc, &lines, plan.threads());
     // The program ends soon, and gives all memory back at once.
     forget(lines);
     text

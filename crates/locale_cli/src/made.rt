@@ -7,17 +7,16 @@ ghost use Rattle.locale_cli.specs.declared.words.TheConstants.{DEFAULT_ROWS, DEF
 ghost use Rattle.locale_cli.specs.Answer.{answer_for};
 ghost use Rattle.locale_cli.specs.Made.{made_line, made_text};
 ghost use Rattle.locale_cli.specs.Words.{IsFromOneTo};
-ghost use Rattle.private_threads.specs.Private.{placeless};
+ghost use Rattle.script_plan.specs.Private.{placeless};
 ghost use Rattle.script_plan.specs.Serial.{serial_lines};
 
 use crate::answer::{Answer, Status, refusal};
+use crate::pieces::Pieces;
 use crate::words::{DEFAULT_GENERATIONS, DEFAULT_ROWS};
 use bundle_maker::{generate, summary};
 use lc_base::{ByteText, List, TextFault};
-use private_threads::{keep_to_themselves, print_alike};
 use script_out::OutLine;
-use script_plan::{Plan, prepare};
-use script_print::Pieces;
+use script_plan::{Plan, keep_to_themselves, prepare, print_alike};
 use script_run::run;
 use script_seats::Pause;
 use script_serial::serial;

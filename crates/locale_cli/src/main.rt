@@ -2,7 +2,9 @@
 #![tactic(auto)]
 
 mod answer;
+mod concurrent;
 mod made;
+mod pieces;
 mod request;
 mod top;
 mod words;

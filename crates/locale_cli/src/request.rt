@@ -10,8 +10,7 @@ ghost use Rattle.locale_cli.specs.Request.{wide_value, wide_number, seed_number,
 
 use crate::words::{Mode, is_unpadded, mode_of, number_up_to, once};
 use bundle_maker::MOST_COMMANDS;
-use byte_words::are_digits;
-use lc_base::ByteText;
+use lc_base::{ByteText, are_digits};
 use script_words::behind_front;
 
 /// What the program is to do.

@@ -7,9 +7,9 @@ use Rattle.std.specs.List.{list_any}
 use Rattle.lc_base.specs.declared.place.Place.{Place}
 use Rattle.lc_base.specs.Reading.{Reads, ◌>>=◌}
 use Rattle.charset.specs.CodedSet.{CodedSet}
-use Rattle.keyword_lists.specs.declared.source.Value.{Value}
-use Rattle.keyword_lists.specs.declared.source.Value.TheVariants.{Chars}
-use Rattle.keyword_table.specs.declared.row.Element.{Element}
+use Rattle.keywords.specs.declared.source.Value.{Value}
+use Rattle.keywords.specs.declared.source.Value.TheVariants.{Chars}
+use Rattle.keywords.specs.declared.row.Element.{Element}
 use Rattle.locale_reader.specs.Values.{Placed, one_character, is_dots, range_end, members, followed, element, several}
 use Rattle.locale_reader.specs.Steps.{member, first_member}
 

@@ -7,7 +7,7 @@ use Rattle.lc_base.specs.Reading.{Reads, ◌>>=◌}
 use Rattle.src_lines.specs.Words.{first_word}
 use Rattle.src_lines.specs.Places.{Logical, start, closes_line}
 use Rattle.charset.specs.CodedSet.{CodedSet}
-use Rattle.keyword_lists.specs.declared.source.Section.{Section}
+use Rattle.keywords.specs.declared.source.Section.{Section}
 use Rattle.locale_reader.specs.Source.{category_named, with_section, closed_at, section_from, outside, sections_of}
 
 -- the place of an end, counted from the first line of the text

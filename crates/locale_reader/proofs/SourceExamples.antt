@@ -3,7 +3,7 @@ use Rattle.std.proofs.Common.{◌≡◌, ℕ, List, [], ◌∷◌, ◌++◌, map
 use Rattle.std.specs.Prelude.{pos, negsuc}
 use Rattle.std.specs.Char.{encode_utf8}
 use Rattle.std.specs.Str.{chars}
-use Rattle.byte_words.specs.Numbers.{few_digits}
+use Rattle.lc_base.specs.Numbers.{few_digits}
 use Rattle.lc_base.specs.declared.place.Place.{Place}
 use Rattle.lc_base.specs.declared.category.Category.TheVariants.{Numeric, Messages}
 use Rattle.lc_base.specs.declared.reason.Reason.{Reason}
@@ -15,10 +15,10 @@ use Rattle.src_lines.specs.Tokens.{tokens, operands, separated, operand, run, te
 use Rattle.charset.specs.Portable.{portable_code}
 use Rattle.charset.specs.Hex.{numbered}
 use Rattle.charset.specs.CodedSet.{CodedSet, utf8, posix, listed, valued}
-use Rattle.keyword_lists.specs.declared.source.Value.{Value}
-use Rattle.keyword_lists.specs.declared.source.Value.TheVariants.{Text, Number, Chars, Pair}
-use Rattle.keyword_lists.specs.declared.source.Body.TheVariants.{Copy, Entries}
-use Rattle.keyword_lists.specs.declared.source.LocaleSource.{LocaleSource}
+use Rattle.keywords.specs.declared.source.Value.{Value}
+use Rattle.keywords.specs.declared.source.Value.TheVariants.{Text, Number, Chars, Pair}
+use Rattle.keywords.specs.declared.source.Body.TheVariants.{Copy, Entries}
+use Rattle.keywords.specs.declared.source.LocaleSource.{LocaleSource}
 use Rattle.locale_reader.specs.Values.{character, one_character, case_pair, quote, word, number, element}
 use Rattle.locale_reader.specs.Section.{taken, allowed, keyword_line, body}
 use Rattle.locale_reader.specs.Source.{with_section, section_from, outside, source}

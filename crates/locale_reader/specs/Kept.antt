@@ -2,7 +2,7 @@
 use Rattle.std.specs.Prelude.{◌≡◌, ℕ, List}
 use Rattle.std.specs.List.{list_any}
 use Rattle.std.specs.Str.{bytes_eq}
-use Rattle.keyword_lists.specs.declared.source.Entry.{Entry}
+use Rattle.keywords.specs.declared.source.Entry.{Entry}
 use Rattle.locale_reader.specs.declared.opened.Opened.TheInside.{Inside}
 use Rattle.locale_reader.specs.Opened.{Opened, declares}
 use Rattle.locale_reader.specs.Words.{has_word}

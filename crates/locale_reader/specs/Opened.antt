@@ -5,11 +5,11 @@ use Rattle.std.specs.Str.{bytes_eq}
 use Rattle.lc_base.specs.declared.place.Place.{Place}
 use Rattle.src_lines.specs.declared.line.Line.{Line}
 use Rattle.charset.specs.Portable.{Name}
-use Rattle.keyword_lists.specs.declared.source.Value.{Value}
-use Rattle.keyword_lists.specs.declared.source.Value.TheVariants.{Text, Number, Chars, Pair}
-use Rattle.keyword_lists.specs.declared.source.Entry.{Entry}
-use Rattle.keyword_lists.specs.declared.source.Body.{Body}
-use Rattle.keyword_lists.specs.declared.source.Body.TheVariants.{Copy, Entries}
+use Rattle.keywords.specs.declared.source.Value.{Value}
+use Rattle.keywords.specs.declared.source.Value.TheVariants.{Text, Number, Chars, Pair}
+use Rattle.keywords.specs.declared.source.Entry.{Entry}
+use Rattle.keywords.specs.declared.source.Body.{Body}
+use Rattle.keywords.specs.declared.source.Body.TheVariants.{Copy, Entries}
 
 -- what the lines of a section gave so far: the copied name with its place, and the keyword lines
 pub record Opened : Type 0 where

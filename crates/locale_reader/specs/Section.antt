@@ -11,10 +11,10 @@ use Rattle.src_lines.specs.Places.{Logical}
 use Rattle.src_lines.specs.Tokens.{tokens}
 use Rattle.charset.specs.Portable.{Name}
 use Rattle.charset.specs.CodedSet.{CodedSet}
-use Rattle.keyword_lists.specs.declared.source.Body.{Body}
-use Rattle.keyword_table.specs.declared.row.Operands.{Operands}
-use Rattle.keyword_table.specs.declared.row.Operands.TheVariants.{Copied, Characters, One, Several, PassedOver}
-use Rattle.keyword_table.specs.LookUp.{takes_of}
+use Rattle.keywords.specs.declared.source.Body.{Body}
+use Rattle.keywords.specs.declared.row.Operands.{Operands}
+use Rattle.keywords.specs.declared.row.Operands.TheVariants.{Copied, Characters, One, Several, PassedOver}
+use Rattle.keywords.specs.LookUp.{takes_of}
 use Rattle.locale_reader.specs.Opened.{Opened, nothing, is_copy, is_charclass, is_given, is_begun, is_declared, with_entry, body_of}
 use Rattle.locale_reader.specs.Values.{word, element, one, several, members}
 

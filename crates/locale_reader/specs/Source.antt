@@ -16,8 +16,8 @@ use Rattle.src_lines.specs.Logical.{ends_head, front}
 use Rattle.src_lines.specs.Tokens.{tokens}
 use Rattle.charset.specs.Portable.{Name}
 use Rattle.charset.specs.CodedSet.{CodedSet}
-use Rattle.keyword_lists.specs.declared.source.Section.{Section}
-use Rattle.keyword_lists.specs.declared.source.LocaleSource.{LocaleSource}
+use Rattle.keywords.specs.declared.source.Section.{Section}
+use Rattle.keywords.specs.declared.source.LocaleSource.{LocaleSource}
 use Rattle.locale_reader.specs.Section.{body}
 
 -- the category of a name

@@ -3,8 +3,8 @@ use Rattle.std.specs.Prelude.{◌≡◌, ℕ, Bool, true, false, List, [], ◌�
 use Rattle.lc_base.specs.declared.reason.Reason.TheVariants.{WrongOperand}
 use Rattle.lc_base.specs.Reading.{Reads, ◌>>=◌}
 use Rattle.charset.specs.CodedSet.{CodedSet}
-use Rattle.keyword_lists.specs.declared.source.Value.{Value}
-use Rattle.keyword_lists.specs.declared.source.Value.TheVariants.{Chars}
+use Rattle.keywords.specs.declared.source.Value.{Value}
+use Rattle.keywords.specs.declared.source.Value.TheVariants.{Chars}
 use Rattle.locale_reader.specs.Values.{joined, Placed, one_character, is_dots, range_end}
 
 -- the character or the range that begins with a character, and the operands behind it

@@ -1,6 +1,6 @@
 -- Operands, decoded by a charset (XBD 7.3.1).
 use Rattle.std.specs.Prelude.{ℕ, ℤ, pos, neg_ℤ, Bool, true, false, ◌==◌, nat_lt, List, [], ◌∷◌, ◌++◌, length, Option, Some, None, option_map, option_and_then, Ok, Err, if◌then◌else◌}
-use Rattle.byte_words.specs.Numbers.{few_digits}
+use Rattle.lc_base.specs.Numbers.{few_digits}
 use Rattle.lc_base.specs.declared.place.Place.{Place}
 use Rattle.lc_base.specs.declared.reason.Reason.{Reason}
 use Rattle.lc_base.specs.declared.reason.Reason.TheVariants.{WrongOperand, UnknownCharacter, OverLimit}
@@ -12,10 +12,10 @@ use Rattle.src_lines.specs.declared.line.Operand.{Operand}
 use Rattle.src_lines.specs.declared.line.Operand.TheVariants.{Plain, Quoted, Dots, Pair as Paired}
 use Rattle.charset.specs.CodedSet.{CodedSet, named, encoded, valued}
 use Rattle.src_lines.specs.Pieces.{only_bytes}
-use Rattle.keyword_lists.specs.declared.source.Value.{Value}
-use Rattle.keyword_lists.specs.declared.source.Value.TheVariants.{Text, Number, Chars, Pair}
-use Rattle.keyword_table.specs.declared.row.Element.{Element}
-use Rattle.keyword_table.specs.declared.row.Element.TheVariants.{CasePair, Word, Quote, Whole}
+use Rattle.keywords.specs.declared.source.Value.{Value}
+use Rattle.keywords.specs.declared.source.Value.TheVariants.{Text, Number, Chars, Pair}
+use Rattle.keywords.specs.declared.row.Element.{Element}
+use Rattle.keywords.specs.declared.row.Element.TheVariants.{CasePair, Word, Quote, Whole}
 use Rattle.locale_reader.specs.declared.text.TheConstants.{TEXT_LIMIT}
 
 -- an operand with the place of its first byte

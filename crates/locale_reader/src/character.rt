@@ -7,7 +7,7 @@ ghost use Rattle.locale_reader.specs.Values.{lone_name, spelled, character, one_
 ghost use Rattle.locale_reader.specs.Steps.{member, first_member};
 
 use charset::Charset;
-use keyword_lists::{Value, Values};
+use keywords::{Value, Values};
 use lc_base::{Place, Reason, TextFault};
 use src_lines::{Operand, PieceRef, Pieces};
 use std::alloc::Global;

@@ -8,7 +8,7 @@ ghost use Rattle.locale_reader.specs.Source.{category_named, opens_section, has_
 
 use crate::keyword_line::read_body;
 use charset::Charset;
-use keyword_lists::{LocaleSource, Section};
+use keywords::{LocaleSource, Section};
 use lc_base::{CATEGORIES, Category, List, Place, Reason, TextFault};
 use src_lines::{Kind, Lines, ends_head, split_front};
 use std::alloc::Global;

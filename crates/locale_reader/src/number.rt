@@ -5,15 +5,14 @@ ghost use Rattle.std.specs.Option.{option_copied};
 ghost use Rattle.lc_base.specs.Reading.{Gives};
 ghost use Rattle.locale_reader.specs.Values.{signed, number};
 
-use byte_words::few_digits;
-use lc_base::{Place, Reason, TextFault};
+use lc_base::{Place, Reason, TextFault, few_digits};
 use src_lines::Operand;
 
 /// The most digits of a number.
 const DIGITS: usize = 9;
 
 /// The number of one to nine digits, perhaps behind a `-`.
-#[tactic(auto, unfolding(byte_words::specs::Numbers::few_digits))]
+#[tactic(auto, unfolding(lc_base::specs::Numbers::few_digits))]
 fn signed(bytes: &[u8]) -> Option<i32>
     ensures { result ≡ signed bytes.now }
 {

@@ -6,7 +6,7 @@ ghost use Rattle.locale_reader.specs.Opened.{is_copy, is_charclass, is_text, not
 ghost use Rattle.locale_reader.specs.Words.{has_word};
 
 use crate::words::{Words, add_word, has_word};
-use keyword_lists::{Body, Entry, ValueRef, Values};
+use keywords::{Body, Entry, ValueRef, Values};
 use lc_base::{ByteText, List, Place};
 use src_lines::Line;
 use std::alloc::{AllocError, Global};

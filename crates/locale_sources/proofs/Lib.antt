@@ -1,1 +1,4 @@
 pub mod NamedLemmas
+mod CopyExamples
+pub mod TableLemmas
+pub mod CopyLemmas

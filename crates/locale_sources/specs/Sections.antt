@@ -7,7 +7,7 @@ use Rattle.lc_base.specs.declared.category.Category.{Category}
 use Rattle.lc_base.specs.Mask.{category_bit}
 use Rattle.lc_base.specs.Lines.{◌>>=◌}
 use Rattle.charset.specs.Portable.{Name}
-use Rattle.keyword_lists.specs.declared.source.Section.{Section}
+use Rattle.keywords.specs.declared.source.Section.{Section}
 use Rattle.locale_sources.specs.Sources.{Source}
 
 -- whether a name is one of the POSIX locale's (XBD 7.2)

@@ -2,7 +2,7 @@
 use Rattle.std.specs.Prelude.{List, Option}
 use Rattle.charset.specs.Portable.{Name}
 use Rattle.charset.specs.CodedSet.{CodedSet}
-use Rattle.keyword_lists.specs.declared.source.Section.{Section}
+use Rattle.keywords.specs.declared.source.Section.{Section}
 
 -- a locale's source that was read: its key where it is a later version, its name, its charset and its sections
 pub record Source : Type 0 where

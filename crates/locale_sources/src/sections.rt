@@ -6,7 +6,7 @@ ghost use Rattle.locale_sources.specs.Seen.{source};
 ghost use Rattle.locale_sources.specs.Sections.{is_posix, section_of, section_at};
 
 use crate::source::Source;
-use keyword_lists::Section;
+use keywords::Section;
 use lc_base::Category;
 
 /// Whether a name is one of the POSIX locale's.

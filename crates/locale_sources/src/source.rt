@@ -1,7 +1,7 @@
 //! A locale's source.
 
 use charset::Charset;
-use keyword_lists::Section;
+use keywords::Section;
 use lc_base::List;
 
 /// A locale's source: its key where it is a later version, its name, its charset and its sections.

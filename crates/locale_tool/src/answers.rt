@@ -7,7 +7,7 @@ use std::rt::{Env, Files};
 use std::sync::Wait;
 use std::thread::Threads;
 use std::time::Clock;
-use tool_words::{Answer, Problem};
+use tool_messages::{Answer, Problem};
 
 /// What a command answers.
 pub fn answer_of<

@@ -10,8 +10,8 @@ use std::rt::{Env, Files};
 use std::sync::Wait;
 use std::thread::Threads;
 use std::time::Clock;
-use tool_commands::tool_command;
-use tool_words::{Answer, Problem};
+use tool_answers::tool_command;
+use tool_messages::{Answer, Problem};
 
 /// How a run of the program comes out.
 #[derive(Drop)]

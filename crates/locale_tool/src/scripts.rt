@@ -5,11 +5,10 @@ use std::alloc::{AllocError, Global};
 use std::rt::Files;
 use std::sync::Wait;
 use std::thread::Threads;
-use tool_answers::Gathered;
-use tool_commands::strs;
+use tool_answers::{Gathered, strs};
 use tool_files::file_text;
+use tool_messages::{Answer, Problem};
 use tool_script::{Played, Playing, play};
-use tool_words::{Answer, Problem};
 
 /// Runs the scripts of bundles: the status is 1 where one is refused, or where a command is and that
 /// counts.

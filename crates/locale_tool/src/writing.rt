@@ -2,7 +2,7 @@
 
 use crate::outcome::Outcome;
 use std::io::{self, Write};
-use tool_words::{Answer, Problem};
+use tool_messages::{Answer, Problem};
 
 /// Says that standard output failed.
 const NO_OUTPUT: &[u8] = b"locale_tool: standard output could not be written\n";

@@ -2,8 +2,8 @@
 use Rattle.std.proofs.Common.{◌≡◌, ℕ, List, [], ◌∷◌, Ok, refl}
 use Rattle.std.specs.Prelude.{codes}
 use Rattle.lc_base.specs.declared.place.Place.{Place}
-use Rattle.keyword_lists.specs.declared.source.Value.TheVariants.{Text}
-use Rattle.keyword_lists.specs.declared.source.Entry.{Entry}
+use Rattle.keywords.specs.declared.source.Value.TheVariants.{Text}
+use Rattle.keywords.specs.declared.source.Entry.{Entry}
 use Rattle.messages_cat.specs.Messages.{messages_values, posix_values}
 
 abbrev at : ℕ → ℕ → Place

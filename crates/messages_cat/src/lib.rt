@@ -5,8 +5,7 @@ ghost use Rattle.std.specs.Prelude.{◌≡◌, IfOk};
 ghost use Rattle.lc_base.specs.Reading.{Gives};
 ghost use Rattle.messages_cat.specs.Messages.{messages_values, values_of, posix_values};
 
-use keyword_lists::Entry;
-use keyword_values::{check, text_value};
+use keywords::{Entry, check, text_value};
 use lc_base::{ByteText, Category, List, TextFault};
 use std::alloc::{AllocError, Global};
 use std::marker::Model;

@@ -3,9 +3,9 @@ use Rattle.std.proofs.Common.{◌≡◌, ℕ, List, [], ◌∷◌, Ok, Err, refl
 use Rattle.std.specs.Prelude.{codes, pos, negsuc}
 use Rattle.lc_base.specs.declared.place.Place.{Place}
 use Rattle.lc_base.specs.declared.reason.Reason.TheVariants.{BadCurrency, BadNumber}
-use Rattle.keyword_lists.specs.declared.source.Value.{Value}
-use Rattle.keyword_lists.specs.declared.source.Value.TheVariants.{Text, Number}
-use Rattle.keyword_lists.specs.declared.source.Entry.{Entry}
+use Rattle.keywords.specs.declared.source.Value.{Value}
+use Rattle.keywords.specs.declared.source.Value.TheVariants.{Text, Number}
+use Rattle.keywords.specs.declared.source.Entry.{Entry}
 use Rattle.monetary_cat.specs.declared.keys.MonText.TheVariants.{IntCurrSymbol, NegativeSign}
 use Rattle.monetary_cat.specs.declared.keys.MonNumber.TheVariants.{FracDigits, IntNSignPosn}
 use Rattle.monetary_cat.specs.MonetaryValues.{text_of, number_of}

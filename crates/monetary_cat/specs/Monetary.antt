@@ -2,9 +2,9 @@
 use Rattle.std.specs.Prelude.{ℕ, ℤ, List, [], codes, Ok}
 use Rattle.lc_base.specs.declared.category.Category.TheVariants as categories
 use Rattle.lc_base.specs.Reading.{Reads, ◌>>=◌}
-use Rattle.keyword_lists.specs.declared.source.Entry.{Entry}
-use Rattle.keyword_values.specs.Keywords.{text_value, number_value, numbers_value}
-use Rattle.keyword_values.specs.Rules.{checked}
+use Rattle.keywords.specs.declared.source.Entry.{Entry}
+use Rattle.keywords.specs.Keywords.{text_value, number_value, numbers_value}
+use Rattle.keywords.specs.Rules.{checked}
 use Rattle.monetary_cat.specs.declared.values.MoneyTexts.{MoneyTexts}
 use Rattle.monetary_cat.specs.declared.values.FormNumbers.{FormNumbers}
 use Rattle.monetary_cat.specs.MonetaryValues.{MonetaryValues}

@@ -5,8 +5,7 @@ ghost use Rattle.std.specs.Prelude.{◌≡◌, IfOk};
 ghost use Rattle.lc_base.specs.Reading.{Gives};
 ghost use Rattle.monetary_cat.specs.Monetary.{monetary_values, posix_values, values_of};
 
-use keyword_lists::Entry;
-use keyword_values::{check, numbers_value};
+use keywords::{Entry, check, numbers_value};
 use lc_base::{Category, List, TextFault};
 use std::alloc::{AllocError, Global};
 use std::marker::Model;

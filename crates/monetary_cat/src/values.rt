@@ -4,8 +4,7 @@ ghost use Rattle.std.specs.Prelude.{◌≡◌, IfOk, FitsSigned};
 ghost use Rattle.std.specs.Int.{w32};
 ghost use Rattle.monetary_cat.specs.Monetary.{text, number, texts_of, local_of, international_of};
 
-use keyword_lists::Entry;
-use keyword_values::{number_value, text_value};
+use keywords::{Entry, number_value, text_value};
 use lc_base::{ByteText, Category};
 use std::alloc::{AllocError, Global};
 

@@ -3,10 +3,10 @@ use Rattle.std.proofs.Common.{◌≡◌, ℕ, List, [], ◌∷◌, Some, None, O
 use Rattle.std.specs.Prelude.{codes, ℤ, pos, negsuc}
 use Rattle.lc_base.specs.declared.place.Place.{Place}
 use Rattle.lc_base.specs.declared.reason.Reason.TheVariants.{EmptyRadix, BadNumber}
-use Rattle.keyword_lists.specs.declared.source.Value.{Value}
-use Rattle.keyword_lists.specs.declared.source.Value.TheVariants.{Text, Number}
-use Rattle.keyword_lists.specs.declared.source.Entry.{Entry}
-use Rattle.keyword_values.specs.Keywords.{operands, text_or}
+use Rattle.keywords.specs.declared.source.Value.{Value}
+use Rattle.keywords.specs.declared.source.Value.TheVariants.{Text, Number}
+use Rattle.keywords.specs.declared.source.Entry.{Entry}
+use Rattle.keywords.specs.Keywords.{operands, text_or}
 use Rattle.numeric_cat.specs.Numeric.{numeric_values, posix_values}
 
 abbrev at : ℕ → ℕ → Place

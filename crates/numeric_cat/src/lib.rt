@@ -5,8 +5,7 @@ ghost use Rattle.std.specs.Prelude.{◌≡◌, IfOk};
 ghost use Rattle.lc_base.specs.Reading.{Gives};
 ghost use Rattle.numeric_cat.specs.Numeric.{values_of, numeric_values, posix_values};
 
-use keyword_lists::Entry;
-use keyword_values::{check, numbers_value, text_value};
+use keywords::{Entry, check, numbers_value, text_value};
 use lc_base::{ByteText, Category, List, TextFault};
 use std::alloc::{AllocError, Global};
 use std::marker::Model;

@@ -12,8 +12,8 @@ use Rattle.script_commands.specs.declared.command.OpenCatalog.TheVariants as cat
 use Rattle.script_commands.specs.declared.known.Known.{Known}
 use Rattle.script_words.specs.Names.{is_formed, is_locale_name, is_thread_name}
 use Rattle.script_words.specs.Spans.{whole_line, next_word}
-use Rattle.byte_words.specs.Cuts.{cut_at}
-use Rattle.byte_words.specs.Numbers.{decimal_number}
+use Rattle.lc_base.specs.Cuts.{cut_at}
+use Rattle.lc_base.specs.Numbers.{decimal_number}
 use Rattle.script_words.specs.Words.{variable_of_word, key_of_word, handle_of_word, quoted_of_word}
 use Rattle.script_commands.specs.Commands.{argument, read_as, no_more, command, catalog, catalog_word, command_text, catopen_command, catgets_command, catclose_command, shared_command, catalog_command, own_read_command, handle_read_command}
 use Rattle.script_commands.specs.InRange.{IsInRange}

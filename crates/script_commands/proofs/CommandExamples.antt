@@ -14,8 +14,8 @@ use Rattle.script_commands.specs.declared.command.Command.TheVariants.{New, Free
 use Rattle.script_commands.specs.declared.command.Read.TheVariants.{Info}
 use Rattle.script_words.specs.Names.{is_formed, is_locale_name, is_charmap_name, is_thread_name}
 use Rattle.script_words.specs.Spans.{whole_line, next_word}
-use Rattle.byte_words.specs.Cuts.{cut_at}
-use Rattle.byte_words.specs.Numbers.{decimal_number}
+use Rattle.lc_base.specs.Cuts.{cut_at}
+use Rattle.lc_base.specs.Numbers.{decimal_number}
 use Rattle.script_words.specs.Words.{text_of_word, categories_of_word, mask_of_word, variable_of_word, handle_of_word}
 use Rattle.script_words.specs.Tables.{items_table}
 use Rattle.script_commands.specs.Commands.{argument, read_as, no_more, is_over, command, target, target_word, lone_target, base, new_command, use_command, setlocale_command, info_words, shared_command, catalog_command, own_read_command, handle_read_command}

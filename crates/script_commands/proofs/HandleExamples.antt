@@ -15,8 +15,8 @@ use Rattle.script_commands.specs.declared.known.Known.{Known}
 use Rattle.script_words.specs.Names.{is_formed, is_locale_name, is_thread_name, is_class_name}
 use Rattle.script_words.specs.Spans.{whole_line, next_word}
 use Rattle.script_words.specs.Tables.{items_table}
-use Rattle.byte_words.specs.Cuts.{cut_at}
-use Rattle.byte_words.specs.Numbers.{decimal_number, few_digits}
+use Rattle.lc_base.specs.Cuts.{cut_at}
+use Rattle.lc_base.specs.Numbers.{decimal_number, few_digits}
 use Rattle.script_words.specs.Words.{text_of_word, quoted_of_word, zone_of_word, variable_of_word, class_of_word, key_of_word, cell_number, behind_front, max_number, handle_of_word, cell_of_word}
 use Rattle.script_words.specs.Numbers.{short_number, offset_of_word, three_numbers, amount_of_word}
 use Rattle.script_commands.specs.Commands.{argument, read_as, no_more, is_over, command, dup_command, lone_target, target_word, target, install_command, key, post_command, fetch_command, cell, read_of_command, info_words, class_words, lone_value, upper_words, lower_words, money_words, time_words, max_bytes, format, amounts, moment, offset, zone, shared_command, catalog_command, own_read_command, handle_read_command}

@@ -15,8 +15,8 @@ use Rattle.script_commands.specs.declared.command.Read.TheVariants.{Info, Conv, 
 use Rattle.script_words.specs.Names.{is_thread_name, is_class_name}
 use Rattle.script_words.specs.Spans.{whole_line, next_word}
 use Rattle.script_words.specs.Tables.{items_table}
-use Rattle.byte_words.specs.Cuts.{cut_at}
-use Rattle.byte_words.specs.Numbers.{decimal_number, few_digits}
+use Rattle.lc_base.specs.Cuts.{cut_at}
+use Rattle.lc_base.specs.Numbers.{decimal_number, few_digits}
 use Rattle.script_words.specs.Words.{text_of_word, quoted_of_word, zone_of_word, behind_front, max_number, variable_of_word, class_of_word, handle_of_word}
 use Rattle.script_words.specs.Numbers.{short_number, offset_of_word, three_numbers, amount_of_word, number_of_word}
 use Rattle.script_commands.specs.Commands.{argument, read_as, no_more, is_over, target, target_word, read_of_command, max_bytes, format, command_text, amounts, whole_numbers, offset, zone, moment, info_words, conv_words, class_words, lone_value, upper_words, lower_words, money_words, time_words, number_words, parse_words, command, shared_command, catalog_command, own_read_command, handle_read_command}

@@ -1,7 +1,7 @@
 -- Commands, from their words (our own).
 use Rattle.std.specs.Prelude.{ℕ, zero, suc, ℤ, Bool, true, false, List, [], ◌∷◌, codes, Option, Some, None, Ok, Err, if◌then◌else◌}
 use Rattle.std.specs.Str.{bytes_eq}
-use Rattle.handles.specs.declared.handle.Handle.{Handle as HandleNumbers}
+use Rattle.lc_base.specs.declared.handle.Handle.{Handle as HandleNumbers}
 use Rattle.lc_base.specs.declared.reason.Reason.TheVariants.{BadLine, OverLimit, NoThread, NoLater}
 use Rattle.lc_base.specs.declared.reason.Limit.{Limit}
 use Rattle.lc_base.specs.declared.reason.Limit.TheVariants as limits
@@ -22,9 +22,9 @@ use Rattle.script_commands.specs.declared.known.Known.{Known}
 use Rattle.script_commands.specs.Known.{lacks_key, thread_number}
 use Rattle.script_words.specs.Names.{is_thread_name}
 use Rattle.script_words.specs.Spans.{Span, next_word, end_of}
-use Rattle.byte_words.specs.Tables.{first_named}
+use Rattle.lc_base.specs.Tables.{first_named}
 use Rattle.script_words.specs.Tables.{items_table}
-use Rattle.byte_words.specs.Numbers.{decimal_number}
+use Rattle.lc_base.specs.Numbers.{decimal_number}
 use Rattle.script_words.specs.Words.{text_of_word, quoted_of_word, bounded, zone_of_word, behind_front, max_number, categories_of_word, mask_of_word, variable_of_word, class_of_word, key_of_word, cell_number, WrittenHandle, handle_of_word, WrittenCell, cell_of_word}
 use Rattle.script_words.specs.Numbers.{short_number, offset_of_word, three_numbers, Amount, amount_of_word, number_of_word}
 

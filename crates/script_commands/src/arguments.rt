@@ -8,19 +8,19 @@ ghost use Rattle.lc_base.specs.declared.reason.LinePart.TheVariants.{Argument};
 ghost use Rattle.lc_base.specs.Reading.{Gives};
 ghost use Rattle.script_commands.specs.InRange.{IsOwned, IsCatalogOwned};
 ghost use Rattle.script_words.specs.Spans.{span, spans};
-ghost use Rattle.byte_words.specs.Numbers.{decimal_number};
+ghost use Rattle.lc_base.specs.Numbers.{decimal_number};
 ghost use Rattle.script_words.specs.Words.{text_of_word, categories_of_word, mask_of_word, variable_of_word, class_of_word, key_of_word, cell_number};
 ghost use Rattle.script_words.specs.Numbers.{short_number, three_numbers};
-ghost use Rattle.byte_words.specs.Tables.{first_named};
+ghost use Rattle.lc_base.specs.Tables.{first_named};
 ghost use Rattle.script_words.specs.Tables.{items_table};
 ghost use Rattle.script_commands.specs.Commands.{argument, read_as, no_more, is_over, handle_word, target, target_word, lone_target, catalog, catalog_word, cell, key, max_bytes, format, command_text, amounts, whole_numbers, offset, zone, moment};
 
 use crate::command::{OpenCatalog, Target};
 use crate::known::{Known, lacks_key, thread_number};
 use crate::scope::Scope;
-use byte_words::decimal_number;
-use handles::Handle;
-use lc_base::{ByteText, CELLS, Item, Limit, LinePart, List, Place, Reason, TextFault};
+use lc_base::{
+    ByteText, CELLS, Handle, Item, Limit, LinePart, List, Place, Reason, TextFault, decimal_number,
+};
 use script_words::{
     AMOUNT_LIMIT, Categories, CommandText, DEFAULT_MAX, Format, NUMBER_LIMIT, Stretch,
     WrittenAmount, WrittenNumber, WrittenTime, amount_of_word, behind_front, categories_of_word,

@@ -1,7 +1,6 @@
 //! The commands of a script.
 
-use handles::Handle;
-use lc_base::{ByteText, Item, List};
+use lc_base::{ByteText, Handle, Item, List};
 use script_words::{Categories, CommandText, Format, WrittenAmount, WrittenNumber, WrittenTime};
 
 /// What a command names.

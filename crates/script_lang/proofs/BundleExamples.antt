@@ -17,8 +17,8 @@ use Rattle.script_lang.specs.declared.reading.Reading.{Reading}
 use Rattle.script_words.specs.Names.{is_formed, is_locale_name, is_part_name, is_charmap_name, is_thread_name}
 use Rattle.script_words.specs.Spans.{whole_line, next_word}
 use Rattle.script_words.specs.Tables.{directives_table}
-use Rattle.byte_words.specs.Cuts.{cut_at}
-use Rattle.byte_words.specs.Numbers.{decimal_number}
+use Rattle.lc_base.specs.Cuts.{cut_at}
+use Rattle.lc_base.specs.Numbers.{decimal_number}
 use Rattle.script_words.specs.Words.{text_of_word, mask_of_word, variable_of_word, key_of_word, cell_number, handle_of_word, cell_of_word}
 use Rattle.script_commands.specs.Commands.{argument, read_as, no_more, is_over, command, target, target_word, lone_target, cell, key, base, new_command, use_command, install_command, fetch_command, shared_command, catalog_command, own_read_command, handle_read_command}
 use Rattle.script_lang.specs.Reading.{at_first, with_open, new_thread, one_word, two_words, three_words, charmap_line, locale_line, later_line, catalog_line, native_line, thread_line, round_line, directive_line, command_line, outside, line_read}

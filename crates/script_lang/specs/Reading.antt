@@ -23,7 +23,7 @@ use Rattle.script_commands.specs.Commands.{command, is_over}
 use Rattle.script_commands.specs.Known.{has_block, has_key, lacks_charset, lacks_locale}
 use Rattle.script_words.specs.Names.{is_formed, is_locale_name, is_part_name, is_charmap_name, is_thread_name}
 use Rattle.script_words.specs.Spans.{Span, start, whole_line, next_word}
-use Rattle.byte_words.specs.Tables.{first_named}
+use Rattle.lc_base.specs.Tables.{first_named}
 use Rattle.script_words.specs.Tables.{directives_table}
 
 -- ---- what was read so far

@@ -4,13 +4,13 @@ use Rattle.std.specs.Prelude.{codes}
 use Rattle.lc_base.specs.declared.block.Block.{Block}
 use Rattle.mask_compose.specs.Parts.{Parts}
 use Rattle.msg_catalog.specs.declared.book.Message.{Message}
-use Rattle.catalog_table.specs.declared.handle.CatalogHandle.{CatalogHandle}
-use Rattle.catalog_table.specs.declared.op.CatalogRefusal.TheVariants as catalog_refusals
-use Rattle.catalog_table.specs.Entry as catalogs
+use Rattle.catalog_handles.specs.declared.handle.CatalogHandle.{CatalogHandle}
+use Rattle.catalog_handles.specs.declared.op.CatalogRefusal.TheVariants as catalog_refusals
+use Rattle.catalog_handles.specs.Entry as catalogs
 use Rattle.category_store.specs.Catalog.{Catalog}
 use Rattle.compiled_categories.specs.Locale.{posix_locale}
-use Rattle.handles.specs.declared.handle.Handle.{Handle}
-use Rattle.handles.specs.declared.handle.Named.TheVariants.{Of, Global}
+use Rattle.lc_base.specs.declared.handle.Handle.{Handle}
+use Rattle.lc_base.specs.declared.handle.Named.TheVariants.{Of, Global}
 use Rattle.handle_table.specs.declared.op.Refusal.TheVariants as refusals
 use Rattle.handle_table.specs.Entry as table
 use Rattle.handle_table.specs.Entry.{Setting, History}

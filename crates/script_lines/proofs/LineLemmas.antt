@@ -3,7 +3,7 @@ use Rattle.std.specs.Prelude.{option_map, IfOk, OnOk}
 use Rattle.std.proofs.Common.{◌≡◌, ℕ, ◌+◌, Option, Some, None, Result, Ok, Err, List, length, refl, sym, ap, subst, ◌∙◌, arith}
 use Rattle.mask_compose.specs.Parts.{Parts}
 use Rattle.category_store.specs.Catalog.{Catalog}
-use Rattle.handles.specs.declared.handle.Named.{Named}
+use Rattle.lc_base.specs.declared.handle.Named.{Named}
 use Rattle.handle_table.specs.Entry as table
 use Rattle.handle_table.specs.Entry.{History, Setting}
 use Rattle.handle_table.specs.History.{sets, global, selection}
@@ -23,10 +23,10 @@ use Rattle.script_lines.specs.Turns.{Turn}
 use Rattle.script_lines.specs.Variables.{Bindings, bound, Bound, bindings_of}
 use Rattle.script_lines.specs.Wishes.{Wish, Calls, ReadsOf, Reads, AsksSelection, AsksName, OpensCatalog, GetsMessage, ClosesCatalog, wish_of}
 use Rattle.script_lines.specs.Lines.{Caller, line, plain_line, placed_line, object_line}
-use Rattle.catalog_table.specs.Entry as catalogs
-use Rattle.catalog_table.specs.declared.handle.CatalogHandle.{CatalogHandle}
-use Rattle.catalog_table.specs.declared.setting.CatalogSetting.{CatalogSetting}
-use Rattle.handles.specs.declared.handle.Handle.{Handle}
+use Rattle.catalog_handles.specs.Entry as catalogs
+use Rattle.catalog_handles.specs.declared.handle.CatalogHandle.{CatalogHandle}
+use Rattle.catalog_handles.specs.declared.setting.CatalogSetting.{CatalogSetting}
+use Rattle.lc_base.specs.declared.handle.Handle.{Handle}
 use Rattle.script_lines.specs.Catalogs.{Books, Asked, not_asked, book_for, catalog_setting, object_used, catalog_op_by, handle_meant, message_shown, handle_reply_shown, open_line}
 use Rattle.script_lines.specs.Outcome.{with_call}
 use Rattle.script_lines.specs.Thread.{BindsAs}

@@ -1,7 +1,7 @@
 -- Names of two spaces as the variables of one thread.
 use Rattle.std.proofs.Common.{◌≡◌, ℕ, Bool, true, false, cond, List, [], ◌∷◌, ◌++◌, Option, Some, None, refl, sym, ◌∙◌, ap}
 use Rattle.std.specs.Str.{bytes_eq}
-use Rattle.handles.specs.declared.handle.Handle.{Handle}
+use Rattle.lc_base.specs.declared.handle.Handle.{Handle}
 use Rattle.script_lines.specs.declared.variables.Space.{Space}
 use Rattle.script_lines.specs.declared.variables.Space.TheVariants.{Locales, Catalogs}
 use Rattle.script_lines.specs.Variables.{Variable, Bindings, bound, bound_name, in_space}

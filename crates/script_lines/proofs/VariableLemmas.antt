@@ -11,7 +11,7 @@ use Rattle.std.specs.declared.vec.Vec.{Vec}
 use Rattle.std.proofs.lemmas.Map.Text.{is_eq-slice_cmp}
 use Rattle.std.proofs.lemmas.Slice.Eq.{bytes_eq-Decides}
 use Rattle.std.proofs.lemmas.Cmp.{nat_list_eq_equiv}
-use Rattle.handles.specs.declared.handle.Handle.{Handle}
+use Rattle.lc_base.specs.declared.handle.Handle.{Handle}
 use Rattle.script_lines.specs.Variables.{bound_name, binding_of}
 
 abbrev name_cmp : {A : Type 0} → List ℕ → Vec ℕ A → Ordering

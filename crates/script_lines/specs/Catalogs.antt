@@ -7,15 +7,15 @@ use Rattle.lc_base.specs.declared.category.Category.TheVariants as categories
 use Rattle.mask_compose.specs.Parts.{Parts}
 use Rattle.msg_catalog.specs.declared.book.Message.{Message}
 use Rattle.msg_catalog.specs.Books.{text_at}
-use Rattle.catalog_table.specs.declared.handle.CatalogHandle.{CatalogHandle}
-use Rattle.catalog_table.specs.declared.share.BookShare.{BookShare}
-use Rattle.catalog_table.specs.declared.setting.CatalogSetting.{CatalogSetting}
-use Rattle.catalog_table.specs.declared.op.CatalogRefusal.{CatalogRefusal}
-use Rattle.catalog_table.specs.declared.op.CatalogRefusal.TheVariants as catalog_refusals
-use Rattle.catalog_table.specs.Entry as catalogs
-use Rattle.catalog_table.specs.Answer as answers
+use Rattle.catalog_handles.specs.declared.handle.CatalogHandle.{CatalogHandle}
+use Rattle.catalog_handles.specs.declared.share.BookShare.{BookShare}
+use Rattle.catalog_handles.specs.declared.setting.CatalogSetting.{CatalogSetting}
+use Rattle.catalog_handles.specs.declared.op.CatalogRefusal.{CatalogRefusal}
+use Rattle.catalog_handles.specs.declared.op.CatalogRefusal.TheVariants as catalog_refusals
+use Rattle.catalog_handles.specs.Entry as catalogs
+use Rattle.catalog_handles.specs.Answer as answers
 use Rattle.category_store.specs.Catalog.{Catalog}
-use Rattle.handles.specs.declared.handle.Handle.{Handle}
+use Rattle.lc_base.specs.declared.handle.Handle.{Handle}
 use Rattle.handle_table.specs.declared.op.Refusal.{Refusal}
 use Rattle.handle_table.specs.declared.op.Refusal.TheVariants as refusals
 use Rattle.handle_table.specs.Entry.{Setting}

@@ -1,9 +1,9 @@
 -- The open Holds of a thread, with the objects that it took up by them (our own).
 use Rattle.std.specs.Prelude.{ℕ, Bool, ◌==◌, not, if◌then◌else◌, List, [], ◌∷◌, ◌++◌, filter, find, Option, Some, None, option_map}
 use Rattle.mask_compose.specs.Parts.{Parts}
-use Rattle.handles.specs.declared.handle.Handle.{Handle}
-use Rattle.handles.specs.declared.handle.Named.{Named}
-use Rattle.handles.specs.declared.handle.Named.TheVariants.{Global, Of}
+use Rattle.lc_base.specs.declared.handle.Handle.{Handle}
+use Rattle.lc_base.specs.declared.handle.Named.{Named}
+use Rattle.lc_base.specs.declared.handle.Named.TheVariants.{Global, Of}
 use Rattle.script_lines.specs.declared.holds.OpenHold.{OpenHold}
 use Rattle.script_lines.specs.declared.holds.HoldChange.{HoldChange}
 use Rattle.script_lines.specs.declared.holds.HoldChange.TheVariants as changes

@@ -2,12 +2,12 @@
 use Rattle.std.specs.Prelude.{ℕ, List, ◌∷◌, length, Option, Some, None, Result, Ok, Err}
 use Rattle.mask_compose.specs.Parts.{Parts}
 use Rattle.category_store.specs.Catalog.{Catalog}
-use Rattle.handles.specs.declared.handle.Named.{Named}
+use Rattle.lc_base.specs.declared.handle.Named.{Named}
 use Rattle.handle_table.specs.Entry as table
 use Rattle.handle_table.specs.Entry.{History, Setting}
 use Rattle.handle_table.specs.History.{sets, global, selection}
 use Rattle.handle_table.specs.Answer.{answer, entry, own}
-use Rattle.catalog_table.specs.Entry as catalogs
+use Rattle.catalog_handles.specs.Entry as catalogs
 use Rattle.script_commands.specs.declared.command.Read.{Read}
 use Rattle.script_words.specs.declared.categories.Categories.{Categories}
 use Rattle.script_words.specs.declared.categories.Categories.TheVariants.{All}

@@ -1,7 +1,7 @@
 -- Whose turn it is: round by round, and in a round thread by thread (our own).
 use Rattle.std.specs.Prelude.{ℕ, ◌+◌, ◌==◌, List, [], ◌∷◌, ◌++◌, length, map, filter, flat_map}
 use Rattle.std.specs.List.{range_with_len}
-use Rattle.handles.specs.declared.handle.Handle.{Handle}
+use Rattle.lc_base.specs.declared.handle.Handle.{Handle}
 use Rattle.handle_table.specs.Entry.{History}
 use Rattle.script_lang.specs.declared.bundle.Bundle.{Bundle}
 use Rattle.script_commands.specs.declared.command.Command.{Command}

@@ -6,9 +6,9 @@ use Rattle.lc_base.specs.Reading.{◌>>=◌}
 use Rattle.mask_compose.specs.Offer.{Offered}
 use Rattle.category_store.specs.Catalog.{Catalog}
 use Rattle.category_store.specs.Library.{numbers, later}
-use Rattle.handles.specs.declared.handle.Handle.{Handle}
-use Rattle.handles.specs.declared.handle.Named.{Named}
-use Rattle.handles.specs.declared.handle.Named.TheVariants as names
+use Rattle.lc_base.specs.declared.handle.Handle.{Handle}
+use Rattle.lc_base.specs.declared.handle.Named.{Named}
+use Rattle.lc_base.specs.declared.handle.Named.TheVariants as names
 use Rattle.handle_table.specs.declared.op.Refusal.TheVariants as refusals
 use Rattle.handle_table.specs.Entry as table
 use Rattle.script_commands.specs.declared.command.Read.{Read}

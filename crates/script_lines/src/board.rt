@@ -1,9 +1,9 @@
 //! Who answers the calls of the script's threads.
 
-use catalog_table::{BookShare, CatalogOp, CatalogReply};
+use catalog_handles::{BookShare, CatalogOp, CatalogReply};
 use category_store::Share;
 use handle_table::{Op, Reply};
-use handles::Named;
+use lc_base::Named;
 use mask_compose::Object;
 use std::alloc::AllocError;
 
@@ -45,8 +45,8 @@ pub trait Board: Drop {
     ghost use Rattle.std.specs.Prelude.{◌≡◌, ◌+◌, ℕ, IfOk, OnOk};
     ghost use Rattle.handle_table.specs.Entry.{History, Setting, Op as TableOp};
     ghost use Rattle.handle_table.specs.Seen.{op_of, reply_of};
-    ghost use Rattle.catalog_table.specs.Entry.{History as Catalogs};
-    ghost use Rattle.catalog_table.specs.Seen.{op_of as catalog_op_of, reply_of as catalog_reply_of};
+    ghost use Rattle.catalog_handles.specs.Entry.{History as Catalogs};
+    ghost use Rattle.catalog_handles.specs.Seen.{op_of as catalog_op_of, reply_of as catalog_reply_of};
     ghost use Rattle.script_lines.specs.Board.{Answers, Finds, AnswersCatalog};
     ghost use Rattle.script_lines.specs.Catalogs.{number_of as book_number, catalog_setting};
 

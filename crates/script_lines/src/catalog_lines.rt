@@ -3,7 +3,7 @@
 ghost use Rattle.std.specs.Prelude.{◌≡◌, ◌+◌, ℕ, Ok, Some, IfOk, OnOk};
 ghost use Rattle.std.specs.Option.{option_map};
 ghost use Rattle.handle_table.specs.Entry.{History};
-ghost use Rattle.catalog_table.specs.Entry as catalogs;
+ghost use Rattle.catalog_handles.specs.Entry as catalogs;
 ghost use Rattle.script_lines.specs.Board.{LeavesAsked, Leaves};
 ghost use Rattle.category_store.specs.Catalog.{Catalog};
 ghost use Rattle.script_lines.specs.Catalogs.{Books as CatalogBooks, number_of, handle_meant, catalog_setting, open_line};
@@ -13,10 +13,9 @@ ghost use Rattle.script_lines.specs.Wishes.{OpensCatalog, GetsMessage, ClosesCat
 use crate::board::{Board, Side};
 use crate::catalogs::{Books, Wanted, handle_meant, handle_reply_shown};
 use crate::lines::{Caller, line};
-use catalog_table::{BookShare, CatalogOp};
+use catalog_handles::{BookShare, CatalogOp};
 use category_store::Library;
-use handles::Handle;
-use lc_base::ByteText;
+use lc_base::{ByteText, Handle};
 use script_out::{OutLine, Places, Said, Why};
 use std::alloc::{AllocError, Global};
 

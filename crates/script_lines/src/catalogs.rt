@@ -2,15 +2,14 @@
 
 ghost use Rattle.std.specs.Prelude.{◌≡◌, ◌<◌, ◌^◌, length, position, IfOk};
 ghost use Rattle.std.specs.Option.{option_copied, option_map};
-ghost use Rattle.catalog_table.specs.Seen.{reply_of};
+ghost use Rattle.catalog_handles.specs.Seen.{reply_of};
 ghost use Rattle.script_lines.specs.Catalogs.{number_of, is_for, book_named, message_at, book_for, handle_shown, handle_meant, handle_reply_shown, message_shown, text_or, refused_by};
 
 use crate::names::part_name;
-use catalog_table::{BookShare, CatalogHandle, CatalogRefusal, CatalogReply};
+use catalog_handles::{BookShare, CatalogHandle, CatalogRefusal, CatalogReply};
 use category_store::{Library, Share};
 use handle_table::Refusal;
-use handles::Handle;
-use lc_base::{Block, ByteText, Category, List};
+use lc_base::{Block, ByteText, Category, Handle, List};
 use mask_compose::Object;
 use msg_catalog::Book;
 use script_out::{Said, Why};

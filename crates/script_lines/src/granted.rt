@@ -4,7 +4,7 @@ ghost use Rattle.std.specs.Prelude.{◌≡◌, ◌+◌, ◌<◌, ◌^◌, ℕ, L
 ghost use Rattle.std.specs.Option.{option_map};
 ghost use Rattle.handle_table.specs.Entry.{History};
 ghost use Rattle.handle_table.specs.Seen.{op_of};
-ghost use Rattle.catalog_table.specs.Entry as catalogs;
+ghost use Rattle.catalog_handles.specs.Entry as catalogs;
 ghost use Rattle.category_store.specs.Library.{opening};
 ghost use Rattle.category_store.specs.Shelf.{IsNumbered, IsInstallable};
 ghost use Rattle.script_lines.specs.Board.{Fitting, TaskMay, Leaves, LeavesLine, LeavesReadBetween, LeavesTurn};
@@ -28,7 +28,7 @@ use crate::variables::{Variable, catalog_variable, locale_variable};
 use crate::wishes::{Wish, wish_of};
 use category_store::{Library, Share};
 use handle_table::Op;
-use handles::Named;
+use lc_base::Named;
 use mask_compose::Object;
 use script_commands::{Command, Read};
 use script_out::{OutLine, Places, Said, Why};

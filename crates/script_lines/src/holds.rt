@@ -8,7 +8,7 @@ ghost use Rattle.script_lines.specs.Holds.{object_held, with_hold, without, hold
 
 use category_store::Share;
 use handle_table::{Op, Reply};
-use handles::{Handle, Named};
+use lc_base::{Handle, Named};
 use mask_compose::Object;
 use std::alloc::AllocError;
 

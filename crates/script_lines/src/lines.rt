@@ -9,7 +9,7 @@ ghost use Rattle.script_lines.specs.Lines.{shown, version_made, line, plain_line
 use crate::names::object_name;
 use category_store::{Library, Share};
 use handle_table::Reply;
-use handles::Handle;
+use lc_base::Handle;
 use script_out::{OutLine, Places, Said, Why};
 use script_words::Categories;
 use std::alloc::{AllocError, Global};

@@ -7,7 +7,7 @@ ghost use Rattle.script_lines.specs.Variables.{bound};
 use crate::board::Side;
 use crate::lines::Caller;
 use crate::variables::{Variable, Variables};
-use handles::Handle;
+use lc_base::Handle;
 use std::alloc::{AllocError, Global};
 
 /// A thread of the script.

@@ -6,7 +6,7 @@ ghost use Rattle.script_lang.specs.declared.bundle.TheConstants.{ROUND_LIMIT};
 ghost use Rattle.script_lines.specs.Seen.{turn_seen, placed_seen};
 ghost use Rattle.script_lines.specs.Turns.{turn_of, in_round, thread_turns, turns_of_threads, round_turns, command_turns};
 
-use handles::Handle;
+use lc_base::Handle;
 use script_commands::{Command, Placed};
 use script_lang::Bundle;
 use std::alloc::{AllocError, Global};

@@ -4,8 +4,7 @@ ghost use Rattle.std.specs.Prelude.{◌≡◌, ◌∷◌, [], ℕ, List, OnOk};
 ghost use Rattle.script_lines.specs.Seen.{variable_seen};
 ghost use Rattle.script_lines.specs.Variables.{locale_variable, catalog_variable, bound, bound_name};
 
-use handles::Handle;
-use lc_base::ByteText;
+use lc_base::{ByteText, Handle};
 use std::alloc::{AllocError, Global};
 use std::collections::BTreeMap;
 use std::marker::Model;
@@ -54,7 +53,7 @@ struct Names {
 
 impl Model for Names {
     ghost use Rattle.std.specs.Prelude.{List, ℕ, map};
-    ghost use Rattle.handles.specs.declared.handle.Handle.{Handle};
+    ghost use Rattle.lc_base.specs.declared.handle.Handle.{Handle};
     ghost use Rattle.script_lines.specs.Variables.{binding_of};
 
     ghost Value = { List (List ℕ × Handle) };

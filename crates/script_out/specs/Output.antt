@@ -11,9 +11,9 @@ use Rattle.script_out.specs.declared.output.Why.{Why}
 use Rattle.script_out.specs.declared.output.Why.TheVariants as whys
 use Rattle.handle_table.specs.declared.op.Refusal.{Refusal}
 use Rattle.handle_table.specs.declared.op.Refusal.TheVariants as refusals
-use Rattle.handles.specs.declared.handle.Handle.{Handle}
-use Rattle.handles.specs.declared.handle.Named.{Named}
-use Rattle.handles.specs.declared.handle.Named.TheVariants.{Global, Of}
+use Rattle.lc_base.specs.declared.handle.Handle.{Handle}
+use Rattle.lc_base.specs.declared.handle.Named.{Named}
+use Rattle.lc_base.specs.declared.handle.Named.TheVariants.{Global, Of}
 use Rattle.script_out.specs.declared.output.OutLine.{OutLine}
 use Rattle.time_cat.specs.declared.parsed.Parsed.{Parsed}
 use Rattle.time_cat.specs.declared.tm.TmField.{TmField}

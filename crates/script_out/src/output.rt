@@ -9,9 +9,8 @@ use crate::quoting::{push_quoted, push_quoted_behind_space};
 use crate::short::{push_behind_space, push_digit, push_short, push_short_number};
 use crate::texts::Texts;
 use handle_table::Refusal;
-use handles::{Handle, Named};
 use itoa::Buffer;
-use lc_base::{ByteText, List};
+use lc_base::{ByteText, Handle, List, Named};
 use std::alloc::{AllocError, Global};
 use time_cat::{Parsed, TmField};
 

@@ -4,7 +4,7 @@ use Rattle.std.specs.Prelude.{zip, All}
 use Rattle.std.proofs.lemmas.Bool.{cases_lt, ne_eqb}
 use Rattle.std.proofs.lemmas.List.Elements.{All-nil, All-cons, All-head, All-tail, All-weaker}
 use Rattle.mask_compose.specs.Parts.{Parts}
-use Rattle.handles.specs.declared.handle.Named.{Named}
+use Rattle.lc_base.specs.declared.handle.Named.{Named}
 use Rattle.handle_table.specs.Entry as table
 use Rattle.handle_table.specs.Entry.{History, Setting}
 use Rattle.handle_table.specs.Answer.{answer, own, IsLegal}
@@ -25,13 +25,13 @@ use Rattle.script_plan.specs.Serial.{setting}
 use Rattle.script_lines.specs.Variables.{bindings_of}
 use Rattle.script_lines.specs.Wishes.{Wish, Calls, ReadsOf, Reads, AsksSelection, AsksName, wish_of, ops_of, OpensCatalog, GetsMessage, ClosesCatalog}
 use Rattle.handle_table.proofs.Isolated.{part_legal, answer_apart, says_part}
-use Rattle.catalog_table.proofs.Apart.{part_legal as catalog_part_legal}
+use Rattle.catalog_handles.proofs.Apart.{part_legal as catalog_part_legal}
 use Rattle.script_plan.proofs.Fronts.{part_says_the_same}
 use Rattle.script_plan.proofs.LineLists.{all_left, all_right}
 use Rattle.script_plan.proofs.PlacedCalls.{place_of, places_of_calls, AreOnce, StandsAt, stands_at, below_legal}
 use Rattle.script_plan.proofs.GoingOn.{below_on, GoesOnFrom, is_at, wished_calls}
 use Rattle.script_lines.specs.Catalogs.{book_for, catalog_setting}
-use Rattle.catalog_table.specs.Entry.{History as CatalogHistory}
+use Rattle.catalog_handles.specs.Entry.{History as CatalogHistory}
 
 -- ---- each call of the threads gets the answer of the part
 

@@ -7,8 +7,8 @@ use Rattle.msg_catalog.specs.declared.book.Message.{Message}
 use Rattle.numeric_cat.specs.NumericValues.{NumericValues}
 use Rattle.compiled_categories.specs.Locale.{Locale, posix_locale}
 use Rattle.category_store.specs.Catalog.{Catalog}
-use Rattle.handles.specs.declared.handle.Handle.{Handle}
-use Rattle.handles.specs.declared.handle.Named.TheVariants as named
+use Rattle.lc_base.specs.declared.handle.Handle.{Handle}
+use Rattle.lc_base.specs.declared.handle.Named.TheVariants as named
 use Rattle.handle_table.specs.declared.op.Refusal.{Refusal}
 use Rattle.handle_table.specs.declared.op.Refusal.TheVariants as refusals
 use Rattle.handle_table.specs.Entry as table

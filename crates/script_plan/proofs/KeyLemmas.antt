@@ -9,15 +9,15 @@ use Rattle.lc_base.specs.declared.block.Block.{Block}
 use Rattle.lc_base.specs.declared.block.Later.{Later}
 use Rattle.lc_base.specs.Reading.{Reads, ◌>>=◌}
 use Rattle.lc_base.proofs.ReadingLemmas.{value_of}
-use Rattle.byte_words.specs.Tables.{first_named}
+use Rattle.lc_base.specs.Tables.{first_named}
 use Rattle.charset.specs.Portable.{Name}
 use Rattle.charset.specs.CodedSet.{CodedSet}
 use Rattle.locale_reader.specs.Source.{source}
 use Rattle.locale_sources.specs.Named.{with_named}
 use Rattle.locale_sources.specs.Sources.{Source}
-use Rattle.source_blocks.specs.Blocks.{Placed as PlacedBlock, locale_block, later_block, is_before, among, merged, by_place}
-use Rattle.source_blocks.specs.Sources.{charsets, charset_named, source_of, sources_of}
-use Rattle.category_copies.specs.Copies.{copy_fault}
+use Rattle.category_store.specs.Blocks.{Placed as PlacedBlock, locale_block, later_block, is_before, among, merged, by_place}
+use Rattle.category_store.specs.Sources.{charsets, charset_named, source_of, sources_of}
+use Rattle.locale_sources.specs.Copies.{copy_fault}
 use Rattle.compiled_categories.specs.Compiled.{locales_of}
 use Rattle.category_store.specs.Catalog.{Catalog}
 use Rattle.category_store.specs.Library.{keys_after, keys_of, catalog_of, unless_fault, catalog_from, catalog_over, catalog, later}

@@ -11,3 +11,9 @@ pub mod PrintsExamples
 pub mod RoundTurns
 pub mod VersionExamples
 pub mod VersionLemmas
+pub mod Alone
+pub mod PrivateExamples
+pub mod Lists
+pub mod Parts
+pub mod Printed
+pub mod Wishes

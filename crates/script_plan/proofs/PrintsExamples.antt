@@ -4,7 +4,7 @@ use Rattle.std.specs.Prelude.{map, codes}
 use Rattle.lc_base.specs.declared.item.Item.TheVariants.{Radixchar}
 use Rattle.handle_table.specs.Entry as table
 use Rattle.handle_table.specs.Entry.{History, Setting}
-use Rattle.handles.specs.declared.handle.Named.TheVariants as named
+use Rattle.lc_base.specs.declared.handle.Named.TheVariants as named
 use Rattle.script_commands.specs.declared.command.Read.TheVariants.{Info}
 use Rattle.script_commands.specs.declared.command.Target.TheVariants as targets
 use Rattle.script_commands.specs.declared.command.Command.TheVariants.{New, Post, ReadOf}

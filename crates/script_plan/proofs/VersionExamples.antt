@@ -5,15 +5,15 @@ use Rattle.std.proofs.lemmas.Option.{same_Some}
 use Rattle.std.proofs.lemmas.List.Elements.{All-nil, All-cons, All-head}
 use Rattle.lc_base.specs.declared.category.Category.TheVariants as categories
 use Rattle.lc_base.specs.declared.item.Item.TheVariants.{Radixchar}
-use Rattle.catalog_table.specs.declared.setting.CatalogSetting.{CatalogSetting}
-use Rattle.catalog_table.specs.Entry.{History as CatalogHistory}
+use Rattle.catalog_handles.specs.declared.setting.CatalogSetting.{CatalogSetting}
+use Rattle.catalog_handles.specs.Entry.{History as CatalogHistory}
 use Rattle.handle_table.specs.declared.op.Refusal.TheVariants as refusals
 use Rattle.handle_table.specs.Entry as table
 use Rattle.handle_table.specs.Entry.{Setting}
 use Rattle.mask_compose.specs.Parts.{Parts}
 use Rattle.handle_table.specs.Answer.{answer}
-use Rattle.handles.specs.declared.handle.Named.{Named}
-use Rattle.handles.specs.declared.handle.Named.TheVariants as named
+use Rattle.lc_base.specs.declared.handle.Named.{Named}
+use Rattle.lc_base.specs.declared.handle.Named.TheVariants as named
 use Rattle.script_words.specs.declared.categories.Categories.TheVariants.{All as AllCategories, One}
 use Rattle.script_commands.specs.declared.command.Read.{Read as Reading}
 use Rattle.script_commands.specs.declared.command.Read.TheVariants.{Info}

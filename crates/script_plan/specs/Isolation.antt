@@ -4,9 +4,9 @@ use Rattle.handle_table.specs.Entry.{History, Setting}
 use Rattle.handle_table.specs.History.{sets, global_at, selection}
 use Rattle.handle_table.specs.Answer.{IsLegal, own}
 use Rattle.handle_table.specs.Isolation.{has_thread, part_of, IsClosed}
-use Rattle.catalog_table.specs.Entry.{History as CatalogHistory}
-use Rattle.catalog_table.specs.Answer as catalog_answers
-use Rattle.catalog_table.specs.Isolation as catalog_isolation
+use Rattle.catalog_handles.specs.Entry.{History as CatalogHistory}
+use Rattle.catalog_handles.specs.Answer as catalog_answers
+use Rattle.catalog_handles.specs.Isolation as catalog_isolation
 use Rattle.script_out.specs.declared.output.OutLine.{OutLine}
 use Rattle.script_plan.specs.Plan.{PlanData}
 use Rattle.script_lines.specs.Holds.{open_holds}

@@ -2,5 +2,7 @@
 #![tactic(auto)]
 
 mod plan;
+mod private;
 
 pub use plan::{Counts, Plan, check, prepare};
+pub use private::{keep_to_themselves, print_alike};

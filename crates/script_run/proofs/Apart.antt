@@ -3,12 +3,12 @@ use Rattle.std.proofs.Common.{◌≡◌, ℕ, suc, ◌+◌, ◌≤◌, Bool, tru
 use Rattle.std.specs.Prelude.{◌==◌, if◌then◌else◌, filter, zip, All}
 use Rattle.std.proofs.lemmas.Bool.Decides.{eqb_tells}
 use Rattle.std.proofs.lemmas.List.Elements.{All-head, All-tail}
-use Rattle.handles.specs.declared.handle.Handle.{Handle}
+use Rattle.lc_base.specs.declared.handle.Handle.{Handle}
 use Rattle.handle_table.specs.Entry.{Entry, History, Setting}
 use Rattle.handle_table.specs.Answer.{own}
 use Rattle.thread_current.specs.Thread.{entries_by}
 use Rattle.script_out.specs.declared.output.OutLine.{OutLine}
-use Rattle.catalog_table.specs.Entry as catalogs
+use Rattle.catalog_handles.specs.Entry as catalogs
 use Rattle.script_lines.specs.Board.{Moments, catalog_op, granted_at}
 use Rattle.script_lines.specs.Variables.{Variable, Bindings, Bound, bindings_of, with_binding, variable_bound, handle_said}
 use Rattle.script_lines.specs.Wishes.{wish_of, ops_of}

@@ -2,11 +2,11 @@
 use Rattle.std.proofs.Common.{◌≡◌, ℕ, ◌+◌, ◌<◌, ◌≤◌, List, [], ◌∷◌, ◌++◌, length, Option, Some, None, sym, ap, subst, ◌∙◌, arith, length-append, append_assoc}
 use Rattle.std.specs.Prelude.{All}
 use Rattle.std.proofs.lemmas.List.Elements.{All-nil, All-cons, All-head, All-tail, All-append, All-weaker}
-use Rattle.catalog_table.specs.declared.setting.CatalogSetting.{CatalogSetting}
-use Rattle.catalog_table.specs.Entry as catalogs
-use Rattle.catalog_table.specs.Entry.{History as CatalogHistory}
-use Rattle.catalog_table.specs.Answer as catalog_answers
-use Rattle.catalog_seats.specs.Reader.{GoesOnFrom}
+use Rattle.catalog_handles.specs.declared.setting.CatalogSetting.{CatalogSetting}
+use Rattle.catalog_handles.specs.Entry as catalogs
+use Rattle.catalog_handles.specs.Entry.{History as CatalogHistory}
+use Rattle.catalog_handles.specs.Answer as catalog_answers
+use Rattle.catalog_handles.specs.Reader.{GoesOnFrom}
 use Rattle.script_lines.specs.Catalogs.{Asked}
 use Rattle.script_run.specs.Timed.{Timed, catalog_places_by, asked_place, asked_in, asked_back, own_lines, stacked, in_rounds_before, in_rounds_to, StandsAsked, HasStanding, IsWithin, IsAskedInRound, AreAsked}
 use Rattle.script_run.specs.Beside.{HasAskedSince}

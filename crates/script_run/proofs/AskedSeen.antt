@@ -8,12 +8,12 @@ use Rattle.turn_gate.specs.Callers.{Gate}
 use Rattle.handle_table.specs.Entry as table
 use Rattle.handle_table.specs.Entry.{History, Setting}
 use Rattle.thread_current.specs.Thread as threads
-use Rattle.catalog_table.specs.declared.setting.CatalogSetting.{CatalogSetting}
-use Rattle.catalog_table.specs.Entry as catalogs
-use Rattle.catalog_table.specs.Entry.{History as CatalogHistory}
-use Rattle.catalog_table.specs.Answer as catalog_answers
-use Rattle.catalog_seats.specs.Reader.{ReaderData, GoesOnFrom, entries_by, SawMore, IsInOrder}
-use Rattle.catalog_seats.proofs.Meeting.{goes_same, as_long}
+use Rattle.catalog_handles.specs.declared.setting.CatalogSetting.{CatalogSetting}
+use Rattle.catalog_handles.specs.Entry as catalogs
+use Rattle.catalog_handles.specs.Entry.{History as CatalogHistory}
+use Rattle.catalog_handles.specs.Answer as catalog_answers
+use Rattle.catalog_handles.specs.Reader.{ReaderData, GoesOnFrom, entries_by, SawMore, IsInOrder}
+use Rattle.catalog_handles.proofs.Meeting.{goes_same, as_long}
 use Rattle.script_lines.specs.Board.{LeftCatalogs}
 use Rattle.script_lines.specs.Catalogs.{Asked, catalog_setting}
 use Rattle.script_seats.specs.declared.seated.Seated.{Seated}

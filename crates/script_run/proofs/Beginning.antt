@@ -11,10 +11,10 @@ use Rattle.turn_gate.specs.Callers.{Gate}
 use Rattle.handle_table.specs.Entry.{History, Setting}
 use Rattle.thread_current.specs.Thread.{Thread, IsInOrder, first_thread}
 use Rattle.script_lines.specs.Holds.{open_holds}
-use Rattle.catalog_table.specs.declared.setting.CatalogSetting.{CatalogSetting}
-use Rattle.catalog_table.specs.Entry.{History as CatalogHistory}
-use Rattle.catalog_seats.specs.Reader as readers
-use Rattle.catalog_seats.specs.Reader.{ReaderData, first_reader}
+use Rattle.catalog_handles.specs.declared.setting.CatalogSetting.{CatalogSetting}
+use Rattle.catalog_handles.specs.Entry.{History as CatalogHistory}
+use Rattle.catalog_handles.specs.Reader as readers
+use Rattle.catalog_handles.specs.Reader.{ReaderData, first_reader}
 use Rattle.script_lines.specs.Variables.{Bindings, bound}
 use Rattle.script_plan.specs.Plan.{PlanData}
 use Rattle.script_seats.specs.declared.seated.Seated.{Seated}

@@ -11,9 +11,9 @@ use Rattle.handle_table.specs.Answer.{IsLegal}
 use Rattle.handle_table.specs.Kept.{AreThreads}
 use Rattle.handle_table.specs.Table.{TableData, StandsFor}
 use Rattle.turn_gate.specs.Callers.{IsSeatOf}
-use Rattle.catalog_table.specs.declared.setting.CatalogSetting.{CatalogSetting}
-use Rattle.catalog_table.specs.Entry.{History as CatalogHistory}
-use Rattle.catalog_seats.proofs.Meeting as reading
+use Rattle.catalog_handles.specs.declared.setting.CatalogSetting.{CatalogSetting}
+use Rattle.catalog_handles.specs.Entry.{History as CatalogHistory}
+use Rattle.catalog_handles.proofs.Meeting as reading
 use Rattle.script_lines.specs.Catalogs.{catalog_setting}
 use Rattle.turn_gate.specs.Ends.{SomeCaller}
 use Rattle.thread_current.specs.Thread.{Thread, thread_of, IsInOrder, SawMore, GoesOnFrom, IsPart, entries_by}

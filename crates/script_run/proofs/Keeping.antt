@@ -2,8 +2,8 @@
 use Rattle.std.proofs.Common.{◌≡◌, List, length, map, refl, sym, ap, ◌∙◌, arith}
 use Rattle.handle_table.specs.Entry.{History}
 use Rattle.thread_current.specs.Thread.{Thread, IsInOrder, SawMore}
-use Rattle.catalog_seats.specs.Reader as readers
-use Rattle.catalog_seats.specs.Reader.{ReaderData}
+use Rattle.catalog_handles.specs.Reader as readers
+use Rattle.catalog_handles.specs.Reader.{ReaderData}
 use Rattle.script_lines.specs.declared.holds.OpenHold.{OpenHold}
 use Rattle.script_lines.specs.declared.thread.Thread.{Thread as ScriptThread}
 use Rattle.script_lines.specs.Holds.{open_holds}

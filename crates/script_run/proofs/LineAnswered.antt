@@ -3,7 +3,7 @@ use Rattle.std.proofs.Common.{◌≡◌, ℕ, ◌<◌, List, [], ◌∷◌, leng
 use Rattle.std.specs.Prelude.{All, option_map}
 use Rattle.std.proofs.lemmas.List.Elements.{All-head, All-tail}
 use Rattle.mask_compose.specs.Parts.{Parts}
-use Rattle.handles.specs.declared.handle.Named.{Named}
+use Rattle.lc_base.specs.declared.handle.Named.{Named}
 use Rattle.handle_table.specs.Entry as table
 use Rattle.handle_table.specs.Entry.{History, Setting}
 use Rattle.handle_table.specs.History.{sets, global, global_at, selection}
@@ -14,7 +14,7 @@ use Rattle.script_words.specs.declared.categories.Categories.TheVariants.{All as
 use Rattle.script_out.specs.declared.output.OutLine.{OutLine}
 use Rattle.script_out.specs.declared.output.Said.TheVariants as said
 use Rattle.script_out.specs.declared.output.Why.{Why}
-use Rattle.catalog_table.specs.Entry as catalogs
+use Rattle.catalog_handles.specs.Entry as catalogs
 use Rattle.script_lines.specs.Catalogs.{object_used, book_for, catalog_setting, open_line}
 use Rattle.script_lines.specs.Board.{catalog_op, granted_at, reads_between, reads_of, reads, opens}
 use Rattle.script_lines.specs.Holds.{object_held, open_holds, held_as}

@@ -8,9 +8,9 @@ use Rattle.std.proofs.lemmas.List.Elements.{All-nil, All-cons, filter-append}
 use Rattle.std.proofs.lemmas.List.Folds.{list_any-append}
 use Rattle.mask_compose.specs.Parts.{Parts}
 use Rattle.category_store.specs.Catalog.{Catalog}
-use Rattle.handles.specs.declared.handle.Handle.{Handle}
-use Rattle.handles.specs.declared.handle.Named.{Named}
-use Rattle.handles.specs.declared.handle.Named.TheVariants.{Global, Of}
+use Rattle.lc_base.specs.declared.handle.Handle.{Handle}
+use Rattle.lc_base.specs.declared.handle.Named.{Named}
+use Rattle.lc_base.specs.declared.handle.Named.TheVariants.{Global, Of}
 use Rattle.handle_table.specs.Entry as table
 use Rattle.handle_table.specs.declared.op.Refusal.{Refusal}
 use Rattle.handle_table.specs.declared.op.Refusal.TheVariants.{NotHeld}
@@ -32,7 +32,7 @@ use Rattle.script_lines.specs.declared.holds.OpenHold.{OpenHold}
 use Rattle.script_lines.specs.declared.holds.HoldChange.{HoldChange}
 use Rattle.script_lines.specs.declared.holds.HoldChange.TheVariants as changes
 use Rattle.script_lines.specs.Holds.{object_held, with_hold, without, hold_change, changed, holds_after, open_holds, held_as, is_of}
-use Rattle.catalog_table.specs.Entry as catalogs
+use Rattle.catalog_handles.specs.Entry as catalogs
 use Rattle.script_lines.specs.Wishes.{Wish, Calls, ReadsOf, Reads, AsksSelection, AsksName, OpensCatalog, GetsMessage, ClosesCatalog, ops_of}
 use Rattle.script_lines.specs.Lines.{Caller, version_made, shown, line, plain_line, entry_line, object_line, held_line}
 use Rattle.script_lines.specs.Names.{object_name}

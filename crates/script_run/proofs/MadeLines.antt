@@ -14,7 +14,7 @@ use Rattle.script_lines.specs.Lines.{Caller}
 use Rattle.script_lines.specs.Outcome.{Outcome}
 use Rattle.script_lines.specs.Variables.{bindings_of}
 use Rattle.script_lines.specs.Wishes.{Wish, wish_of, ops_of}
-use Rattle.catalog_table.specs.Entry as catalogs
+use Rattle.catalog_handles.specs.Entry as catalogs
 use Rattle.script_lines.specs.Board.{catalog_op, granted_at}
 use Rattle.script_lines.specs.Catalogs.{Asked}
 use Rattle.script_plan.specs.Plan.{PlanData, books_of}

@@ -6,10 +6,10 @@ use Rattle.std.proofs.lemmas.Bool.Decides.{eqb_tells}
 use Rattle.std.proofs.Math.Seq.{get_or-append_seam}
 use Rattle.std.proofs.lemmas.List.{get_or_default, get_or_append_left}
 use Rattle.handle_table.specs.Entry.{History}
-use Rattle.catalog_table.specs.Entry.{History as CatalogHistory}
-use Rattle.catalog_seats.specs.Reader as readers
-use Rattle.catalog_seats.specs.Reader.{ReaderData}
-use Rattle.catalog_seats.proofs.Meeting as reading
+use Rattle.catalog_handles.specs.Entry.{History as CatalogHistory}
+use Rattle.catalog_handles.specs.Reader as readers
+use Rattle.catalog_handles.specs.Reader.{ReaderData}
+use Rattle.catalog_handles.proofs.Meeting as reading
 use Rattle.thread_current.specs.Thread.{Thread, IsInOrder, SawMore, GoesOnFrom}
 use Rattle.script_seats.specs.declared.seated.Seated.{Seated}
 use Rattle.script_run.specs.declared.worker.Worker.{Worker}

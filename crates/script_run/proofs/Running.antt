@@ -9,8 +9,8 @@ use Rattle.category_store.specs.Catalog.{Catalog}
 use Rattle.category_store.specs.Library.{opening}
 use Rattle.turn_gate.specs.declared.entry.Terms.{Terms}
 use Rattle.turn_gate.specs.Callers.{Gate}
-use Rattle.catalog_table.specs.declared.setting.CatalogSetting.{CatalogSetting}
-use Rattle.catalog_seats.specs.Reader.{ReaderData, first_reader}
+use Rattle.catalog_handles.specs.declared.setting.CatalogSetting.{CatalogSetting}
+use Rattle.catalog_handles.specs.Reader.{ReaderData, first_reader}
 use Rattle.script_lines.specs.Catalogs.{Books, catalog_setting}
 use Rattle.script_lines.specs.Turns.{Turn, closing_turns}
 use Rattle.handle_table.specs.Entry.{History, Setting}

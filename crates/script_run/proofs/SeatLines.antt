@@ -5,8 +5,8 @@ use Rattle.std.specs.List.{list_any}
 use Rattle.std.proofs.lemmas.List.{reverse-append}
 use Rattle.std.proofs.lemmas.List.Elements.{All-nil, All-cons, All-weaker}
 use Rattle.turn_gate.specs.declared.entry.Terms.{Terms}
-use Rattle.handles.specs.declared.handle.Handle.{Handle}
-use Rattle.handles.specs.declared.handle.Named.TheVariants.{Of}
+use Rattle.lc_base.specs.declared.handle.Handle.{Handle}
+use Rattle.lc_base.specs.declared.handle.Named.TheVariants.{Of}
 use Rattle.handle_table.specs.declared.op.Refusal.TheVariants.{NotHeld}
 use Rattle.handle_table.specs.Entry.{Op, Release, Reply, Released, History, Setting}
 use Rattle.handle_table.specs.History.{holding}
@@ -25,10 +25,10 @@ use Rattle.script_lines.specs.Turns.{Releases, Turn, closing_turn}
 use Rattle.script_lines.specs.Variables.{Variable, Bindings, bound, Bound, bindings_of, bindings_after}
 use Rattle.script_lines.specs.Wishes.{Wish, Calls, ReadsOf, Reads, AsksSelection, AsksName, OpensCatalog, GetsMessage, ClosesCatalog, wish_of}
 use Rattle.script_lines.specs.Board.{Moments, catalog_op, granted_at, AreMomentsOf, LeftCatalogs, LeavesTurn, turn_caller}
-use Rattle.catalog_table.specs.Entry as catalogs
-use Rattle.catalog_table.specs.Entry.{History as CatalogHistory}
-use Rattle.catalog_seats.specs.Reader as readers
-use Rattle.catalog_seats.proofs.Meeting as meeting
+use Rattle.catalog_handles.specs.Entry as catalogs
+use Rattle.catalog_handles.specs.Entry.{History as CatalogHistory}
+use Rattle.catalog_handles.specs.Reader as readers
+use Rattle.catalog_handles.proofs.Meeting as meeting
 use Rattle.script_lines.specs.Catalogs.{Asked, catalog_setting}
 use Rattle.script_plan.specs.Plan.{PlanData, books_of}
 use Rattle.script_plan.specs.Prints.{bound_by}

@@ -5,8 +5,8 @@ use Rattle.std.proofs.lemmas.List.Elements.{All-nil, All-cons}
 use Rattle.lc_base.specs.declared.item.Item.TheVariants.{Radixchar}
 use Rattle.handle_table.specs.Entry as table
 use Rattle.handle_table.specs.Entry.{Entry, History, Setting}
-use Rattle.handles.specs.declared.handle.Named.{Named}
-use Rattle.handles.specs.declared.handle.Named.TheVariants as named
+use Rattle.lc_base.specs.declared.handle.Named.{Named}
+use Rattle.lc_base.specs.declared.handle.Named.TheVariants as named
 use Rattle.script_commands.specs.declared.command.Read.TheVariants.{Info}
 use Rattle.script_commands.specs.declared.command.Target.TheVariants as targets
 use Rattle.script_commands.specs.declared.command.Command.TheVariants.{New, Post, ReadOf}

@@ -7,7 +7,7 @@ use Rattle.std.proofs.lemmas.List.{length-reverse, reverse-append}
 use Rattle.std.proofs.lemmas.List.Elements.{All-nil, All-cons, All-head, All-tail, All-append, All-map, All-weaker, filter-append}
 use Rattle.mask_compose.specs.Parts.{Parts}
 use Rattle.category_store.specs.Catalog.{Catalog}
-use Rattle.handles.specs.declared.handle.Named.{Named}
+use Rattle.lc_base.specs.declared.handle.Named.{Named}
 use Rattle.handle_table.specs.Entry as table
 use Rattle.handle_table.specs.Entry.{History, Setting}
 use Rattle.handle_table.specs.History.{sets, global}
@@ -17,7 +17,7 @@ use Rattle.script_words.specs.declared.categories.Categories.{Categories}
 use Rattle.script_words.specs.declared.categories.Categories.TheVariants.{All as AllCategories}
 use Rattle.script_out.specs.declared.output.OutLine.{OutLine}
 use Rattle.script_out.specs.declared.output.Why.{Why}
-use Rattle.catalog_table.specs.Entry.{History as CatalogHistory}
+use Rattle.catalog_handles.specs.Entry.{History as CatalogHistory}
 use Rattle.script_lines.specs.Catalogs.{Books, Asked, book_for, open_line}
 use Rattle.script_lines.specs.Board.{granted_at, reads_between, reads_of, reads, opens}
 use Rattle.script_lines.specs.Holds.{object_held, open_holds, held_as}

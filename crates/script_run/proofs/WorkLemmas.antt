@@ -9,7 +9,7 @@ use Rattle.turn_gate.specs.Callers.{Caller}
 use Rattle.category_store.specs.declared.share.Share.{Share}
 use Rattle.handle_table.specs.declared.op.Op as ops
 use Rattle.handle_table.specs.declared.op.Reply as replies
-use Rattle.handles.specs.declared.handle.Handle.{Handle}
+use Rattle.lc_base.specs.declared.handle.Handle.{Handle}
 use Rattle.handle_table.specs.Entry.{End, Ended, Setting, History}
 use Rattle.thread_current.specs.Mine.{HeldData}
 use Rattle.thread_current.specs.Thread.{thread_of, IsInOrder, GoesOnFrom, entries_by, before, Answered, holds}

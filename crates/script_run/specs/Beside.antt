@@ -23,9 +23,9 @@ use Rattle.script_lines.specs.Variables.{Bound, bindings_after}
 use Rattle.script_plan.specs.Plan.{PlanData, books_of}
 use Rattle.script_plan.specs.Prints.{bound_by}
 use Rattle.script_seats.specs.declared.seated.Seated.{Seated}
-use Rattle.catalog_table.specs.declared.setting.CatalogSetting.{CatalogSetting}
-use Rattle.catalog_seats.specs.Reader as readers
-use Rattle.catalog_seats.specs.Reader.{ReaderData}
+use Rattle.catalog_handles.specs.declared.setting.CatalogSetting.{CatalogSetting}
+use Rattle.catalog_handles.specs.Reader as readers
+use Rattle.catalog_handles.specs.Reader.{ReaderData}
 use Rattle.script_lines.specs.Catalogs.{Books, catalog_setting}
 use Rattle.script_seats.specs.Seated.{Gates, IsSeatedAt, IsAskingAt, CanCall, MayCall, MayFollow, MayFollowAsked}
 use Rattle.script_run.specs.Timed.{Timed, AreTimed, AreRight, HasStanding, lines_in, task_lines, turns_made, places_by, placed_back, catalog_places_by, asked_in, asked_back}

@@ -17,11 +17,11 @@ use Rattle.script_lines.specs.Holds.{open_holds}
 use Rattle.script_lang.specs.declared.bundle.Bundle.{Bundle}
 use Rattle.script_lines.specs.Turns.{Turn, round_turns, command_turns, closing}
 use Rattle.script_plan.specs.Plan.{PlanData}
-use Rattle.catalog_table.specs.declared.setting.CatalogSetting.{CatalogSetting}
-use Rattle.catalog_table.specs.Entry.{History as CatalogHistory}
-use Rattle.catalog_table.specs.Answer as catalog_answers
-use Rattle.catalog_seats.specs.Reader as readers
-use Rattle.catalog_seats.specs.Reader.{ReaderData}
+use Rattle.catalog_handles.specs.declared.setting.CatalogSetting.{CatalogSetting}
+use Rattle.catalog_handles.specs.Entry.{History as CatalogHistory}
+use Rattle.catalog_handles.specs.Answer as catalog_answers
+use Rattle.catalog_handles.specs.Reader as readers
+use Rattle.catalog_handles.specs.Reader.{ReaderData}
 use Rattle.script_lines.specs.Catalogs.{Books, catalog_setting}
 use Rattle.script_run.specs.declared.worker.Worker.{Worker}
 use Rattle.script_seats.specs.Seated.{Gates}

@@ -7,7 +7,7 @@ ghost use Rattle.turn_gate.specs.Callers.{IsSeatOf};
 ghost use Rattle.thread_current.specs.Thread.{IsThreadOf, IsInOrder, SawMore, GoesOnFrom, first_thread, thread_of};
 ghost use Rattle.script_lines.specs.Seen.{turn_seen};
 ghost use Rattle.script_plan.specs.Isolation.{IsIsolated, AreCatalogsIsolated};
-ghost use Rattle.catalog_seats.specs.Reader as readers;
+ghost use Rattle.catalog_handles.specs.Reader as readers;
 ghost use Rattle.script_plan.specs.Plan.{IsSound};
 ghost use Rattle.script_plan.specs.Prints.{Prints};
 ghost use Rattle.script_plan.specs.Serial.{setting};
@@ -16,8 +16,7 @@ ghost use Rattle.script_run.specs.Beside.{stock};
 ghost use Rattle.script_run.specs.Rounds.{Each, EachTwo, plan_made, mine_of, reader_at, IsFor, IsForAsked, IsFirst, MayWork, HasWorked, HasGiven, IsOfBoth, IsOrderly, HasSeenOf, SeesMore, HasMet, AllMet, AreBetween, SeatSeesMore, AreClosing};
 
 use crate::worker::{Common, Worker};
-use catalog_seats::{Reader, SharedCatalogs};
-use catalog_table::BookShare;
+use catalog_handles::{BookShare, Reader, SharedCatalogs};
 use category_store::Share;
 use lc_base::List;
 use script_lang::Bundle;

@@ -8,8 +8,7 @@ ghost use Rattle.script_run.specs.Timed.{Timed};
 ghost use Rattle.script_seats.specs.Seated.{gates};
 ghost use Rattle.script_run.specs.Beside.{stock, stock_of, CanAdd, AddsLine, Adds, CanWork, IsWorker, WorksOn, CanClose, GivesUp, EndsSeat, Closes, turns_of};
 
-use catalog_seats::SharedCatalogs;
-use catalog_table::BookShare;
+use catalog_handles::{BookShare, SharedCatalogs};
 use category_store::{Library, Share};
 use script_lines::catalogs::Books;
 use script_lines::granted::turn_line;

@@ -2,11 +2,11 @@
 use Rattle.std.proofs.Common.{◌≡◌, ℕ, ◌+◌, ◌∷◌, length, refl, sym, ap, subst, ◌∙◌, arith}
 use Rattle.turn_gate.specs.Callers.{Gate}
 use Rattle.handle_table.specs.Entry.{Setting}
-use Rattle.catalog_table.specs.declared.setting.CatalogSetting.{CatalogSetting}
-use Rattle.catalog_table.specs.Entry as catalogs
-use Rattle.catalog_table.specs.Entry.{History as CatalogHistory}
-use Rattle.catalog_table.specs.Answer as catalog_answers
-use Rattle.catalog_seats.specs.Reader.{GoesOnFrom, entries_by, IsInOrder, Answered}
+use Rattle.catalog_handles.specs.declared.setting.CatalogSetting.{CatalogSetting}
+use Rattle.catalog_handles.specs.Entry as catalogs
+use Rattle.catalog_handles.specs.Entry.{History as CatalogHistory}
+use Rattle.catalog_handles.specs.Answer as catalog_answers
+use Rattle.catalog_handles.specs.Reader.{GoesOnFrom, entries_by, IsInOrder, Answered}
 use Rattle.script_lines.specs.Board.{AnswersCatalog}
 use Rattle.script_lines.specs.Catalogs.{catalog_setting}
 use Rattle.script_seats.specs.declared.seated.Seated.{Seated}

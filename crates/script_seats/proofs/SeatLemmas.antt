@@ -5,9 +5,9 @@ use Rattle.std.specs.List.{list_any}
 use Rattle.turn_gate.specs.declared.entry.Terms.{Terms}
 use Rattle.turn_gate.specs.Callers.{Gate}
 use Rattle.mask_compose.specs.Parts.{Parts}
-use Rattle.handles.specs.declared.handle.Handle.{Handle}
-use Rattle.handles.specs.declared.handle.Named.{Named}
-use Rattle.handles.specs.declared.handle.Named.TheVariants.{Of}
+use Rattle.lc_base.specs.declared.handle.Handle.{Handle}
+use Rattle.lc_base.specs.declared.handle.Named.{Named}
+use Rattle.lc_base.specs.declared.handle.Named.TheVariants.{Of}
 use Rattle.handle_table.specs.declared.op.Refusal.{Refusal}
 use Rattle.handle_table.specs.Entry.{Op, Use, Hold, Release, SetGlobal, Reply, Was, Set, Held, Released, Refused, Entry, History, Setting, is_accepted}
 use Rattle.handle_table.specs.History.{sets, global, global_at}
@@ -21,10 +21,10 @@ use Rattle.script_lines.specs.Outcome.{with_call}
 use Rattle.script_lines.specs.Board.{Answers, Finds}
 use Rattle.handle_table.proofs.Unchanged.{newest_version}
 use Rattle.script_seats.specs.declared.seated.Seated.{Seated}
-use Rattle.catalog_table.specs.Entry.{History as CatalogHistory}
-use Rattle.catalog_table.specs.declared.setting.CatalogSetting.{CatalogSetting}
-use Rattle.catalog_seats.specs.Reader.{ReaderData}
-use Rattle.catalog_seats.specs.Reader as readers
+use Rattle.catalog_handles.specs.Entry.{History as CatalogHistory}
+use Rattle.catalog_handles.specs.declared.setting.CatalogSetting.{CatalogSetting}
+use Rattle.catalog_handles.specs.Reader.{ReaderData}
+use Rattle.catalog_handles.specs.Reader as readers
 use Rattle.script_seats.specs.Seated.{held_data, handed_out, KnowsSeated, IsSeatedAt, IsAskingAt, MayFollow, Gates, HasCalls, HasAsks, CanCall, AnswersSeated, is_held, IsTaken, IsUnheld}
 use Rattle.script_seats.proofs.OwnCalls.{holds_says}
 use Rattle.script_seats.proofs.HoldLists.{holds_of, apart_holds, found_as}

@@ -2,18 +2,18 @@
 use Rattle.std.specs.Prelude.{◌≡◌, ℕ, ◌+◌, ◌≤◌, Bool, true, false, List, [], ◌∷◌, map, length}
 use Rattle.std.specs.List.{list_any}
 use Rattle.turn_gate.specs.Callers.{Gate}
-use Rattle.handles.specs.declared.handle.Handle.{Handle}
-use Rattle.handles.specs.declared.handle.Named.{Named}
-use Rattle.handles.specs.declared.handle.Named.TheVariants.{Of}
+use Rattle.lc_base.specs.declared.handle.Handle.{Handle}
+use Rattle.lc_base.specs.declared.handle.Named.{Named}
+use Rattle.lc_base.specs.declared.handle.Named.TheVariants.{Of}
 use Rattle.handle_table.specs.Entry.{Op, New, Dup, Free, Use, Hold, Release, SetGlobal, Install, Post, Fetch, Pins, End, Reply, History, Setting, names}
 use Rattle.handle_table.specs.Answer.{IsLegal}
 use Rattle.handle_table.specs.Table.{Fits}
 use Rattle.thread_current.specs.Mine.{HeldData}
 use Rattle.thread_current.specs.Thread.{IsThreadOf, IsInOrder, GoesOnFrom, entries_by, Answered}
-use Rattle.catalog_table.specs.declared.setting.CatalogSetting.{CatalogSetting}
-use Rattle.catalog_table.specs.Entry.{History as CatalogHistory}
-use Rattle.catalog_table.specs.Answer as catalog_answers
-use Rattle.catalog_seats.specs.Reader as readers
+use Rattle.catalog_handles.specs.declared.setting.CatalogSetting.{CatalogSetting}
+use Rattle.catalog_handles.specs.Entry.{History as CatalogHistory}
+use Rattle.catalog_handles.specs.Answer as catalog_answers
+use Rattle.catalog_handles.specs.Reader as readers
 use Rattle.script_lines.specs.Catalogs.{catalog_setting}
 use Rattle.script_lines.specs.declared.holds.OpenHold.{OpenHold}
 use Rattle.script_seats.specs.declared.seated.Seated.{Seated}

@@ -8,11 +8,10 @@ ghost use Rattle.handle_table.specs.Table.{Fits};
 ghost use Rattle.thread_current.specs.Thread.{own_object};
 ghost use Rattle.script_seats.specs.Seated.{HasCalls, MayCall, IsPlain, IsChange, AnswersSeated, is_held, IsFirst, IsTaken, IsUnheld};
 
-use catalog_seats::{Reader, SharedCatalogs};
-use catalog_table::{BookShare, CatalogOp, CatalogReply};
+use catalog_handles::{BookShare, CatalogOp, CatalogReply, Reader, SharedCatalogs};
 use category_store::Share;
 use handle_table::{Op, Refusal, Reply};
-use handles::{Handle, Named};
+use lc_base::{Handle, Named};
 use mask_compose::Object;
 use script_lines::board::{Board, Side};
 use script_lines::holds::is_named;
@@ -110,7 +109,7 @@ impl Side for Seated {
 pub trait OneTable {
     ghost use Rattle.turn_gate.specs.Callers.{Gate};
     ghost use Rattle.handle_table.specs.Entry.{Setting};
-    ghost use Rattle.catalog_table.specs.declared.setting.CatalogSetting.{CatalogSetting};
+    ghost use Rattle.catalog_handles.specs.declared.setting.CatalogSetting.{CatalogSetting};
 
     ghost gate: { Gate Setting };
 

@@ -2,10 +2,10 @@
 use Rattle.std.proofs.Common.{◌≡◌, ℕ, List, [], ◌∷◌, ◌++◌, length, Option, Some, None, Result, Ok, Err, refl, sym, ap, ◌∙◌, append_assoc, append-nil}
 use Rattle.std.specs.Prelude.{option_map}
 use Rattle.mask_compose.specs.Parts.{Parts}
-use Rattle.catalog_table.specs.declared.setting.CatalogSetting.{CatalogSetting}
-use Rattle.catalog_table.specs.Entry as catalog
-use Rattle.catalog_table.specs.Entry.{Entry, History as CatalogHistory}
-use Rattle.catalog_table.specs.Answer.{entry, IsLegal, AreThreads}
+use Rattle.catalog_handles.specs.declared.setting.CatalogSetting.{CatalogSetting}
+use Rattle.catalog_handles.specs.Entry as catalog
+use Rattle.catalog_handles.specs.Entry.{Entry, History as CatalogHistory}
+use Rattle.catalog_handles.specs.Answer.{entry, IsLegal, AreThreads}
 use Rattle.category_store.specs.Catalog.{Catalog}
 use Rattle.handle_table.specs.Entry.{History, Setting}
 use Rattle.handle_table.specs.History.{global}

@@ -11,7 +11,7 @@ use Rattle.std.proofs.lemmas.List.FromFn.{length-range_with_len}
 use Rattle.std.proofs.lemmas.List.Kept.{AllPairs-from_increasing}
 use Rattle.mask_compose.specs.Parts.{Parts}
 use Rattle.category_store.specs.Catalog.{Catalog}
-use Rattle.handles.specs.declared.handle.Named.{Named}
+use Rattle.lc_base.specs.declared.handle.Named.{Named}
 use Rattle.handle_table.specs.Entry as table
 use Rattle.handle_table.specs.Entry.{Entry, History, Setting}
 use Rattle.handle_table.specs.History.{sets, global, selection}
@@ -43,10 +43,10 @@ use Rattle.script_serial.proofs.SerialPrints.{serial_is}
 use Rattle.script_lines.specs.Catalogs.{Books, Asked, book_for, catalog_setting, handle_meant, object_used, asked_after, catalogs_after, open_line, message_line, close_line}
 use Rattle.script_serial.proofs.CatalogLines.{GoOnFrom}
 use Rattle.script_serial.proofs.SerialCatalogs.{granted_enters}
-use Rattle.catalog_table.specs.declared.setting.CatalogSetting.{CatalogSetting}
-use Rattle.catalog_table.specs.Entry.{History as CatalogHistory}
-use Rattle.catalog_table.specs.Entry as catalog
-use Rattle.catalog_table.specs.Answer as catalog_answers
+use Rattle.catalog_handles.specs.declared.setting.CatalogSetting.{CatalogSetting}
+use Rattle.catalog_handles.specs.Entry.{History as CatalogHistory}
+use Rattle.catalog_handles.specs.Entry as catalog
+use Rattle.catalog_handles.specs.Answer as catalog_answers
 
 -- ---- numbers that go up and are all there
 

@@ -5,7 +5,7 @@ use Rattle.std.proofs.lemmas.List.Sums.{sum_by_push}
 use Rattle.std.proofs.lemmas.Bool.{eq-eqb, ne_eqb, and_left}
 use Rattle.mask_compose.specs.Parts.{Parts}
 use Rattle.category_store.specs.Catalog.{Catalog}
-use Rattle.handles.specs.declared.handle.Named.{Named}
+use Rattle.lc_base.specs.declared.handle.Named.{Named}
 use Rattle.handle_table.specs.Entry as table
 use Rattle.handle_table.specs.Entry.{History, Setting, is_accepted}
 use Rattle.handle_table.specs.History.{selection, selection_after}
@@ -21,7 +21,7 @@ use Rattle.script_serial.specs.Alone.{AloneSideData, Knows}
 use Rattle.script_lines.specs.Wishes.{Wish, Calls, ReadsOf, Reads, AsksSelection, AsksName, OpensCatalog, GetsMessage, ClosesCatalog}
 use Rattle.script_lines.specs.Catalogs.{Books}
 use Rattle.script_serial.proofs.CatalogLines.{opens_caller}
-use Rattle.catalog_table.specs.Entry.{History as CatalogHistory}
+use Rattle.catalog_handles.specs.Entry.{History as CatalogHistory}
 
 -- ---- whose line it is
 

@@ -6,7 +6,7 @@ use Rattle.std.proofs.lemmas.Bool.{eq-eqb, ne_eqb}
 use Rattle.std.proofs.lemmas.List.Folds.{find-append}
 use Rattle.mask_compose.specs.Parts.{Parts}
 use Rattle.category_store.specs.Catalog.{Catalog}
-use Rattle.handles.specs.declared.handle.Named.{Named}
+use Rattle.lc_base.specs.declared.handle.Named.{Named}
 use Rattle.handle_table.specs.Entry as table
 use Rattle.handle_table.specs.Entry.{Entry, History, Setting}
 use Rattle.handle_table.specs.Answer.{answer, entry, own, IsLegal}
@@ -24,7 +24,7 @@ use Rattle.script_plan.specs.Prints.{TaskLine, with_tasks, bound_by, places_in, 
 use Rattle.script_serial.proofs.SerialLines.{granted_caller, added}
 use Rattle.script_lines.specs.Catalogs.{Books}
 use Rattle.script_serial.proofs.CatalogLines.{opens_places}
-use Rattle.catalog_table.specs.Entry.{History as CatalogHistory}
+use Rattle.catalog_handles.specs.Entry.{History as CatalogHistory}
 use Rattle.script_plan.proofs.GoingOn.{is_at, GoesOnFrom, goes_nowhere, one_entry, goes_on, wished_calls}
 
 -- ---- the calls of a history, each at its place

@@ -6,7 +6,7 @@ use Rattle.std.proofs.lemmas.List.{map-append, append-nil}
 use Rattle.std.proofs.lemmas.Grind.{flat_map-append}
 use Rattle.mask_compose.specs.Parts.{Parts}
 use Rattle.category_store.specs.Catalog.{Catalog}
-use Rattle.handles.specs.declared.handle.Named.{Named}
+use Rattle.lc_base.specs.declared.handle.Named.{Named}
 use Rattle.handle_table.specs.Entry as table
 use Rattle.handle_table.specs.Entry.{History, Setting}
 use Rattle.handle_table.specs.Answer.{answer, own}
@@ -23,7 +23,7 @@ use Rattle.script_plan.specs.Serial.{Run, next_caller, outcome, with_outcome, pl
 use Rattle.script_plan.specs.Prints.{places_in, all_places, caller_of, caller_after, callers_after}
 use Rattle.script_lines.specs.Catalogs.{Books}
 use Rattle.script_serial.proofs.CatalogLines.{opens_caller, opens_places}
-use Rattle.catalog_table.specs.Entry.{History as CatalogHistory}
+use Rattle.catalog_handles.specs.Entry.{History as CatalogHistory}
 
 -- ---- whose line it is
 

@@ -3,7 +3,7 @@ use Rattle.std.proofs.Common.{◌≡◌, ℕ, List, [], ◌∷◌, length, Optio
 use Rattle.std.proofs.lemmas.Option.{same_Some}
 use Rattle.mask_compose.specs.Parts.{Parts}
 use Rattle.category_store.specs.Catalog.{Catalog}
-use Rattle.handles.specs.declared.handle.Named.{Named}
+use Rattle.lc_base.specs.declared.handle.Named.{Named}
 use Rattle.handle_table.specs.Entry as table
 use Rattle.handle_table.specs.Entry.{History, Setting}
 use Rattle.handle_table.specs.History.{sets, global}
@@ -27,7 +27,7 @@ use Rattle.script_serial.proofs.SerialAnswered.{places_so_far}
 use Rattle.script_serial.proofs.SerialPrints.{turns, lines, whole, serial_is, turns_are, serial_prints, serial_in_order, serial_catalogs_in_order}
 use Rattle.script_lines.specs.Catalogs.{Books, Asked, book_for}
 use Rattle.script_serial.proofs.CatalogLines.{open_version}
-use Rattle.catalog_table.specs.Entry.{History as CatalogHistory}
+use Rattle.catalog_handles.specs.Entry.{History as CatalogHistory}
 
 -- a line without a place prints the version of the history
 abbrev PrintsNewest : History → OutLine → Type 0

@@ -24,9 +24,9 @@ use Rattle.script_plan.proofs.GoingOn.{goes_nowhere}
 use Rattle.script_plan.proofs.RoundTurns.{flat_all, AreOf, round_is, rounds_within, closing_round}
 use Rattle.script_lines.specs.Catalogs.{Books, catalog_setting}
 use Rattle.script_serial.proofs.SerialCatalogs.{played_catalogs_legal, played_catalogs_threads, all_turns_entered}
-use Rattle.catalog_table.specs.Answer.{AreThreads, IsLegal as CatalogLegal}
-use Rattle.catalog_table.specs.declared.setting.CatalogSetting.{CatalogSetting}
-use Rattle.catalog_table.specs.Entry.{History as CatalogHistory}
+use Rattle.catalog_handles.specs.Answer.{AreThreads, IsLegal as CatalogLegal}
+use Rattle.catalog_handles.specs.declared.setting.CatalogSetting.{CatalogSetting}
+use Rattle.catalog_handles.specs.Entry.{History as CatalogHistory}
 
 -- ---- turns are in order of their rounds
 

@@ -3,7 +3,7 @@ use Rattle.std.proofs.Common.{◌≡◌, ℕ, suc, Bool, true, false, ◌&&◌, 
 use Rattle.std.specs.Prelude.{◌==◌, if◌then◌else◌}
 use Rattle.mask_compose.specs.Parts.{Parts}
 use Rattle.category_store.specs.Catalog.{Catalog}
-use Rattle.handles.specs.declared.handle.Named.{Named}
+use Rattle.lc_base.specs.declared.handle.Named.{Named}
 use Rattle.handle_table.specs.Entry as table
 use Rattle.handle_table.specs.Entry.{Entry, History, Setting, is_accepted}
 use Rattle.handle_table.specs.History.{sets, global, selection, selection_after}
@@ -19,7 +19,7 @@ use Rattle.script_plan.proofs.GoingOn.{GoesOnFrom, goes_nowhere, one_entry, goes
 use Rattle.script_plan.proofs.VersionLemmas.{UpTo, none_up, some_up, call_version}
 use Rattle.script_lines.specs.Catalogs.{Books, Asked, book_for}
 use Rattle.script_serial.proofs.CatalogLines.{open_version, opens_places}
-use Rattle.catalog_table.specs.Entry.{History as CatalogHistory}
+use Rattle.catalog_handles.specs.Entry.{History as CatalogHistory}
 
 -- ---- what a thread has seen: the history up to its last entry
 

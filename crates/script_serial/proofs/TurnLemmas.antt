@@ -8,8 +8,8 @@ use Rattle.std.proofs.lemmas.List.Elements.{All-nil, All-append, All-filter, All
 use Rattle.std.proofs.lemmas.List.FromFn.{length-range_with_len}
 use Rattle.std.proofs.lemmas.List.Sums.{length-filter, count_by-le-length}
 use Rattle.mask_compose.specs.Parts.{Parts}
-use Rattle.handles.specs.declared.handle.Named.{Named}
-use Rattle.handles.specs.declared.handle.Named.TheVariants.{Global, Of}
+use Rattle.lc_base.specs.declared.handle.Named.{Named}
+use Rattle.lc_base.specs.declared.handle.Named.TheVariants.{Global, Of}
 use Rattle.handle_table.specs.Entry.{History, names, is_accepted}
 use Rattle.script_lang.specs.declared.bundle.Bundle.{Bundle}
 use Rattle.script_commands.specs.declared.command.Placed.{Placed}

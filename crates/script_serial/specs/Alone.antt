@@ -1,12 +1,12 @@
 -- What a thread keeps beside a table that its runner has alone, when it is right, and the table with its catalogs.
 use Rattle.std.specs.Prelude.{◌≡◌, ℕ, List, Option}
 use Rattle.mask_compose.specs.Parts.{Parts}
-use Rattle.handles.specs.declared.handle.Named.{Named}
+use Rattle.lc_base.specs.declared.handle.Named.{Named}
 use Rattle.handle_table.specs.Entry.{History}
 use Rattle.handle_table.specs.History.{selection}
 use Rattle.handle_table.specs.Answer.{own}
 use Rattle.handle_table.specs.Table.{TableData}
-use Rattle.catalog_table.specs.Table.{CatalogsData}
+use Rattle.catalog_handles.specs.Table.{CatalogsData}
 use Rattle.script_lines.specs.declared.holds.OpenHold.{OpenHold}
 use Rattle.script_lines.specs.Holds.{open_holds}
 

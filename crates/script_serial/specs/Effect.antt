@@ -1,5 +1,5 @@
 -- What an accepted op changes of what its thread has selected and holds.
-use Rattle.handles.specs.declared.handle.Named.{Named}
+use Rattle.lc_base.specs.declared.handle.Named.{Named}
 use Rattle.script_lines.specs.declared.holds.HoldChange.{HoldChange}
 use Rattle.script_lines.specs.declared.holds.HoldChange.TheVariants.{Keep}
 use Rattle.script_serial.specs.declared.alone.Effect.{Effect}

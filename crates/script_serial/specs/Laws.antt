@@ -1,8 +1,8 @@
 -- Laws of what scripts print, and of what their threads hold (our own).
 use Rattle.std.specs.Prelude.{◌≡◌, ℕ, List}
 use Rattle.std.specs.Option.{is_some}
-use Rattle.handles.specs.declared.handle.Handle.{Handle}
-use Rattle.handles.specs.declared.handle.Named.TheVariants.{Of}
+use Rattle.lc_base.specs.declared.handle.Handle.{Handle}
+use Rattle.lc_base.specs.declared.handle.Named.TheVariants.{Of}
 use Rattle.handle_table.specs.Entry.{History, Setting}
 use Rattle.handle_table.specs.History.{holding}
 use Rattle.handle_table.specs.Answer.{IsLegal}

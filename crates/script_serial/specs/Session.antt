@@ -4,8 +4,8 @@ use Rattle.category_store.specs.Catalog.{Catalog}
 use Rattle.category_store.specs.Library.{opening}
 use Rattle.handle_table.specs.Entry.{History}
 use Rattle.handle_table.specs.Table.{TableData, StandsFor, steps}
-use Rattle.catalog_table.specs.Entry.{History as CatalogHistory}
-use Rattle.catalog_table.specs.Table.{StandsFor as CatalogsStandFor}
+use Rattle.catalog_handles.specs.Entry.{History as CatalogHistory}
+use Rattle.catalog_handles.specs.Table.{StandsFor as CatalogsStandFor}
 use Rattle.script_lines.specs.declared.thread.Thread.{Thread}
 use Rattle.script_serial.specs.Alone.{AloneSideData, Knows, AloneData}
 use Rattle.script_lines.specs.Thread.{BindsAs}

@@ -2,7 +2,7 @@
 
 ghost use Rattle.std.specs.Prelude.{◌≡◌, ◌+◌, ◌<◌, ◌≤◌, [], OnOk, None, if◌then◌else◌};
 ghost use Rattle.script_lines.specs.Catalogs.{catalog_setting};
-ghost use Rattle.handles.specs.declared.handle.Named.TheVariants as names;
+ghost use Rattle.lc_base.specs.declared.handle.Named.TheVariants as names;
 ghost use Rattle.handle_table.specs.Entry.{is_accepted};
 ghost use Rattle.handle_table.specs.History.{selection_after};
 ghost use Rattle.handle_table.specs.Answer.{own_after};
@@ -10,10 +10,10 @@ ghost use Rattle.handle_table.specs.Seen.{op_of, reply_of};
 ghost use Rattle.script_lines.specs.Holds.{object_held, changed, hold_change};
 ghost use Rattle.script_serial.specs.Effect.{selected_by, change_by};
 
-use catalog_table::{BookShare, CatalogOp, CatalogReply, Catalogs};
+use catalog_handles::{BookShare, CatalogOp, CatalogReply, Catalogs};
 use category_store::Share;
 use handle_table::{Op, Reply, Table};
-use handles::{Handle, Named};
+use lc_base::{Handle, Named};
 use mask_compose::Object;
 use script_lines::board::{Board, Side};
 use script_lines::holds::{HoldChange, OpenHold, change_holds, held_as, hold_change, object_held};

@@ -13,7 +13,7 @@ ghost use Rattle.script_serial.specs.Session.{Follows, AreAt, CatalogsAreAt, Are
 
 use crate::alone::{Alone, AloneSide};
 use crate::closing::closing_turns;
-use catalog_table::Catalogs;
+use catalog_handles::Catalogs;
 use category_store::Library;
 use handle_table::Table;
 use lc_base::List;

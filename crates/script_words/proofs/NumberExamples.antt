@@ -4,8 +4,8 @@ use Rattle.std.specs.Prelude.{pos, negsuc, codes, replicate}
 use Rattle.script_words.specs.Names.{is_thread_name, is_class_name}
 use Rattle.script_words.specs.Spans.{next_word}
 use Rattle.script_words.specs.Tables.{items_table}
-use Rattle.byte_words.specs.Cuts.{cut_at}
-use Rattle.byte_words.specs.Numbers.{decimal_number, few_digits}
+use Rattle.lc_base.specs.Cuts.{cut_at}
+use Rattle.lc_base.specs.Numbers.{decimal_number, few_digits}
 use Rattle.script_words.specs.Words.{text_of_word, quoted_of_word, zone_of_word, behind_front, max_number, variable_of_word, class_of_word}
 use Rattle.script_words.specs.Numbers.{short_number, offset_of_word, three_numbers, amount_of_word}
 

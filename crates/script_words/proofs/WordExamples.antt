@@ -3,8 +3,8 @@ use Rattle.std.proofs.Common.{◌≡◌, ℕ, true, false, List, [], ◌∷◌, 
 use Rattle.std.specs.Prelude.{codes, replicate}
 use Rattle.script_words.specs.Names.{is_formed, is_locale_name, is_part_name, is_charmap_name, is_thread_name}
 use Rattle.script_words.specs.Spans.{Span, whole_line, next_word}
-use Rattle.byte_words.specs.Cuts.{cut_at}
-use Rattle.byte_words.specs.Numbers.{decimal_number}
+use Rattle.lc_base.specs.Cuts.{cut_at}
+use Rattle.lc_base.specs.Numbers.{decimal_number}
 use Rattle.script_words.specs.Words.{text_of_word, categories_of_word, mask_of_word, variable_of_word, handle_of_word}
 use Rattle.script_words.specs.Tables.{items_table}
 

@@ -8,8 +8,8 @@ use Rattle.std.proofs.lemmas.Bool.Decides.{nat_tests}
 use Rattle.std.proofs.lemmas.List.{drop_more}
 use Rattle.std.proofs.lemmas.List.Splits.{slice_split_first}
 use Rattle.script_words.specs.Numbers.{within, signed_units}
-use Rattle.byte_words.specs.Cuts.{cut_at}
-use Rattle.byte_words.proofs.NumberLemmas.{value_after_le}
+use Rattle.lc_base.specs.Cuts.{cut_at}
+use Rattle.lc_base.proofs.NumberLemmas.{value_after_le}
 use Rattle.script_words.specs.Words.{is_comma, with_name, bits_with}
 
 -- ---- numbers

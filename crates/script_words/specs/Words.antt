@@ -3,8 +3,8 @@ use Rattle.std.specs.Prelude.{ℕ, ◌+◌, ◌-◌, ◌*◌, ◌==◌, nat_lt, 
 use Rattle.std.specs.List.{list_all, slice_split}
 use Rattle.std.specs.Option.{option_to_list}
 use Rattle.std.specs.Str.{bytes_eq}
-use Rattle.byte_words.specs.Cuts.{cut_at}
-use Rattle.byte_words.specs.Numbers.{decimal_number}
+use Rattle.lc_base.specs.Cuts.{cut_at}
+use Rattle.lc_base.specs.Numbers.{decimal_number}
 use Rattle.lc_base.specs.declared.category.Category.{Category}
 use Rattle.lc_base.specs.Categories.{categories, category_name}
 use Rattle.lc_base.specs.Mask.{category_bit}

@@ -10,7 +10,7 @@ ghost use Rattle.script_words.specs.Numbers.{short_number, offset_of_word, three
 use crate::given::{
     FRACTION_DIGITS, NUMBER_DIGITS, TIME_DIGITS, WHOLE_DIGITS, WrittenAmount, WrittenNumber,
 };
-use byte_words::{are_digits as all_digits, cut_at, few_digits};
+use lc_base::{are_digits as all_digits, cut_at, few_digits};
 
 /// The magnitude of the least number of 64 bits.
 const MOST_UNITS: u64 = 1 << 63;

@@ -1,11 +1,10 @@
 //! The words of directives and items.
 
 ghost use Rattle.std.specs.Prelude.{◌≡◌};
-ghost use Rattle.byte_words.specs.Tables.{first_named};
+ghost use Rattle.lc_base.specs.Tables.{first_named};
 ghost use Rattle.script_words.specs.Tables.{directives_table, items_table};
 
-use byte_words::first_named;
-use lc_base::Item;
+use lc_base::{Item, first_named};
 
 /// What a line that begins with `.` says.
 #[derive(Clone, Copy, PartialEq, Eq)]

@@ -10,8 +10,7 @@ ghost use Rattle.script_words.specs.Seen.{seen_handle, seen_cell, IsQuoting};
 use crate::categories::Categories;
 use crate::given::{MAX_LIMIT, ZONE_LIMIT};
 use crate::names::{is_class_name, is_locale_name, is_thread_name};
-use byte_words::{cut_at, decimal_number};
-use lc_base::{ByteText, CATEGORIES, CELLS, Category, Mask};
+use lc_base::{ByteText, CATEGORIES, CELLS, Category, Mask, cut_at, decimal_number};
 use std::alloc::{AllocError, Global};
 
 /// What stands before a byte of a quoted text.

@@ -3,11 +3,11 @@ use Rattle.std.proofs.Common.{◌≡◌, ℕ, ◌+◌, List, [], ◌∷◌, true
 use Rattle.std.specs.Prelude.{codes, negsuc}
 use Rattle.std.specs.Fmt.{digits}
 use Rattle.lc_base.specs.declared.place.Place.{Place}
-use Rattle.keyword_lists.specs.declared.source.Value.{Value}
-use Rattle.keyword_lists.specs.declared.source.Value.TheVariants.{Text}
-use Rattle.keyword_lists.specs.declared.source.Entry.{Entry}
-use Rattle.byte_words.specs.Cuts.{cut_at}
-use Rattle.byte_words.specs.Numbers.{few_digits}
+use Rattle.keywords.specs.declared.source.Value.{Value}
+use Rattle.keywords.specs.declared.source.Value.TheVariants.{Text}
+use Rattle.keywords.specs.declared.source.Entry.{Entry}
+use Rattle.lc_base.specs.Cuts.{cut_at}
+use Rattle.lc_base.specs.Numbers.{few_digits}
 use Rattle.time_cat.specs.Conversions.{conversion}
 use Rattle.time_cat.specs.Formats.{pieces, rest_of}
 use Rattle.time_cat.specs.Eras.{year_of, date, end_of, segment}

@@ -2,9 +2,9 @@
 use Rattle.std.proofs.Common.{◌≡◌, ℕ, ◌+◌, List, [], ◌∷◌, Some, None, Ok, Err, refl}
 use Rattle.std.specs.Prelude.{pos, codes}
 use Rattle.lc_base.specs.declared.place.Place.{Place}
-use Rattle.keyword_lists.specs.declared.source.Value.{Value}
-use Rattle.keyword_lists.specs.declared.source.Value.TheVariants.{Text}
-use Rattle.keyword_lists.specs.declared.source.Entry.{Entry}
+use Rattle.keywords.specs.declared.source.Value.{Value}
+use Rattle.keywords.specs.declared.source.Value.TheVariants.{Text}
+use Rattle.keywords.specs.declared.source.Entry.{Entry}
 use Rattle.time_cat.specs.Conversions.{conversion}
 use Rattle.time_cat.specs.Formats.{pieces}
 use Rattle.time_cat.specs.TimeValues.{TimeValues}

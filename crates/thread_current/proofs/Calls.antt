@@ -13,9 +13,9 @@ use Rattle.turn_gate.specs.declared.entry.Terms.{Terms}
 use Rattle.turn_gate.specs.History as turns
 use Rattle.turn_gate.specs.Callers.{Gate, Caller, IsSameCaller, InOrder, first_caller}
 use Rattle.turn_gate.specs.Ends.{IsPartOf}
-use Rattle.handles.specs.declared.handle.Handle.{Handle}
-use Rattle.handles.specs.declared.handle.Named.{Named}
-use Rattle.handles.specs.declared.handle.Named.TheVariants.{Global, Of}
+use Rattle.lc_base.specs.declared.handle.Handle.{Handle}
+use Rattle.lc_base.specs.declared.handle.Named.{Named}
+use Rattle.lc_base.specs.declared.handle.Named.TheVariants.{Global, Of}
 use Rattle.handle_table.specs.Shelf.{from_shelf}
 use Rattle.handle_table.specs.declared.op.Op.{Op as OpOf}
 use Rattle.handle_table.specs.declared.op.Reply.{Reply as ReplyOf}

@@ -5,8 +5,8 @@ use Rattle.atomic_table.specs.Seated.{TableId}
 use Rattle.mask_compose.specs.Parts.{Parts}
 use Rattle.turn_gate.specs.History as turns
 use Rattle.turn_gate.specs.Callers.{Gate}
-use Rattle.handles.specs.declared.handle.Handle.{Handle}
-use Rattle.handles.specs.declared.handle.Named.TheVariants.{Global, Of}
+use Rattle.lc_base.specs.declared.handle.Handle.{Handle}
+use Rattle.lc_base.specs.declared.handle.Named.TheVariants.{Global, Of}
 use Rattle.handle_table.specs.declared.op.Op.{Op}
 use Rattle.handle_table.specs.declared.op.Op.TheVariants as ops
 use Rattle.handle_table.specs.declared.op.Reply.{Reply}

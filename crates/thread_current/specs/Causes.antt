@@ -1,7 +1,7 @@
 -- When a call of a thread is refused, over the history before the call. Each reason comes after the earlier ones of its call.
 use Rattle.std.specs.Prelude.{◌≡◌, ℕ, Option, Some, None, Result, Ok, Err, true, false}
-use Rattle.handles.specs.declared.handle.Named.{Named}
-use Rattle.handles.specs.declared.handle.Named.TheVariants.{Global, Of}
+use Rattle.lc_base.specs.declared.handle.Named.{Named}
+use Rattle.lc_base.specs.declared.handle.Named.TheVariants.{Global, Of}
 use Rattle.handle_table.specs.declared.op.Refusal.{Refusal}
 use Rattle.handle_table.specs.Entry.{History}
 use Rattle.handle_table.specs.History.{made, live, holding}

@@ -5,9 +5,9 @@ use Rattle.turn_gate.specs.declared.entry.Terms.{Terms}
 use Rattle.turn_gate.specs.Callers.{Caller}
 use Rattle.handle_table.specs.declared.op.Op as ops
 use Rattle.handle_table.specs.declared.op.Reply as replies
-use Rattle.handles.specs.declared.handle.Handle.{Handle}
-use Rattle.handles.specs.declared.handle.Named.{Named}
-use Rattle.handles.specs.declared.handle.Named.TheVariants.{Global}
+use Rattle.lc_base.specs.declared.handle.Handle.{Handle}
+use Rattle.lc_base.specs.declared.handle.Named.{Named}
+use Rattle.lc_base.specs.declared.handle.Named.TheVariants.{Global}
 use Rattle.handle_table.specs.Entry.{Setting}
 use Rattle.handle_table.specs.History.{sets, global_at}
 use Rattle.thread_current.specs.Thread.{Thread, selected, own_object, IsInOrder}

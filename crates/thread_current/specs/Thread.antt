@@ -6,8 +6,8 @@ use Rattle.turn_gate.specs.declared.entry.Terms.{Terms}
 use Rattle.turn_gate.specs.Callers.{Gate, Caller}
 use Rattle.handle_table.specs.declared.op.Op as ops
 use Rattle.handle_table.specs.declared.op.Reply as replies
-use Rattle.handles.specs.declared.handle.Handle.{Handle}
-use Rattle.handles.specs.declared.handle.Named.{Named}
+use Rattle.lc_base.specs.declared.handle.Handle.{Handle}
+use Rattle.lc_base.specs.declared.handle.Named.{Named}
 use Rattle.handle_table.specs.Entry.{Op, Use, End, Reply, History, Setting, is_accepted}
 use Rattle.handle_table.specs.History.{selection_after, selection, holding_after, holding}
 use Rattle.handle_table.specs.Kept.{AreThreads}

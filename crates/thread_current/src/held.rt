@@ -2,7 +2,7 @@
 
 ghost use Rattle.std.specs.Prelude.{◌≡◌};
 
-use handles::Handle;
+use lc_base::Handle;
 use mask_compose::{Object, Part};
 use std::marker::Model;
 

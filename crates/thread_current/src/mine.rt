@@ -2,7 +2,7 @@
 
 ghost use Rattle.std.specs.Prelude.{◌≡◌, ◌↔◌, Some};
 ghost use Rattle.std.specs.Option.{option_copied, IsNone};
-ghost use Rattle.handles.specs.declared.handle.Named.TheVariants as names;
+ghost use Rattle.lc_base.specs.declared.handle.Named.TheVariants as names;
 ghost use Rattle.turn_gate.specs.declared.entry.Terms.{Terms};
 ghost use Rattle.handle_table.specs.Entry.{Setting};
 ghost use Rattle.handle_table.specs.History.{sets, global_at};
@@ -10,7 +10,7 @@ ghost use Rattle.thread_current.specs.Mine.{IsUnused};
 ghost use Rattle.thread_current.specs.Thread.{thread_of, selected, own_object, IsInOrder};
 
 use crate::locales::Locales;
-use handles::Named;
+use lc_base::Named;
 use mask_compose::{Object, Part};
 use std::marker::Model;
 use turn_gate::Seat;

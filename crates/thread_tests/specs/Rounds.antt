@@ -1,7 +1,7 @@
 -- The threads of the tests: they hold nothing, and make so many entries more.
 use Rattle.std.specs.Prelude.{◌≡◌, ℕ, ◌+◌, ◌≤◌, length, false}
 use Rattle.turn_gate.specs.Callers.{Gate}
-use Rattle.handles.specs.declared.handle.Handle.{Handle}
+use Rattle.lc_base.specs.declared.handle.Handle.{Handle}
 use Rattle.handle_table.specs.Entry.{Setting}
 use Rattle.thread_current.specs.Thread.{Thread, IsThreadOf, holds}
 

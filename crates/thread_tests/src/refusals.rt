@@ -7,8 +7,7 @@ ghost use Rattle.thread_tests.specs.Rounds.{MayMake};
 
 use crate::threads::{Number, offered};
 use handle_table::Refusal;
-use handles::{Handle, Named};
-use lc_base::{Category, List, Mask};
+use lc_base::{Category, Handle, List, Mask, Named};
 use mask_compose::{Object, Offer};
 use std::alloc::{AllocError, Global};
 use std::process::Abort;

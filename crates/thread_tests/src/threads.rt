@@ -8,8 +8,7 @@ ghost use Rattle.thread_current.specs.Thread.{IsThreadOf, first_thread};
 ghost use Rattle.thread_tests.specs.Rounds.{MayMake};
 
 use handle_table::Table;
-use handles::Named;
-use lc_base::{CATEGORIES, List, Mask};
+use lc_base::{CATEGORIES, List, Mask, Named};
 use mask_compose::{Object, Offer, Part};
 use std::alloc::{AllocError, Global};
 use std::sync::Wait;

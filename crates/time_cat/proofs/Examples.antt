@@ -4,11 +4,11 @@ use Rattle.std.specs.Prelude.{codes, pos, negsuc, replicate}
 use Rattle.lc_base.specs.declared.place.Place.{Place}
 use Rattle.lc_base.specs.declared.reason.Reason.TheVariants.{WrongCount, BadEra, BadFormat, FormatRank, OverLimit}
 use Rattle.lc_base.specs.declared.reason.Limit.TheVariants.{Conversions}
-use Rattle.keyword_lists.specs.declared.source.Value.{Value}
-use Rattle.keyword_lists.specs.declared.source.Value.TheVariants.{Text}
-use Rattle.keyword_lists.specs.declared.source.Entry.{Entry}
-use Rattle.byte_words.specs.Cuts.{cut_at}
-use Rattle.byte_words.specs.Numbers.{few_digits}
+use Rattle.keywords.specs.declared.source.Value.{Value}
+use Rattle.keywords.specs.declared.source.Value.TheVariants.{Text}
+use Rattle.keywords.specs.declared.source.Entry.{Entry}
+use Rattle.lc_base.specs.Cuts.{cut_at}
+use Rattle.lc_base.specs.Numbers.{few_digits}
 use Rattle.time_cat.specs.Conversions.{conversion}
 use Rattle.time_cat.specs.declared.conversion.TimeText.TheVariants.{HalfDayClock, EraDate}
 use Rattle.time_cat.specs.declared.step.Step.TheVariants.{End, Byte, Conv, Bad}

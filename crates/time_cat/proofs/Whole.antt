@@ -12,14 +12,14 @@ use Rattle.lc_base.specs.declared.reason.Reason.TheVariants.{WrongCount, FormatR
 use Rattle.lc_base.specs.declared.reason.Limit.TheVariants.{Conversions}
 use Rattle.lc_base.specs.Reading.{Reads}
 use Rattle.lc_base.proofs.ReadingLemmas.{value_of}
-use Rattle.keyword_lists.specs.declared.source.Value.{Value}
-use Rattle.keyword_lists.specs.declared.source.Value.TheVariants.{Text, Number, Chars, Pair}
-use Rattle.keyword_lists.specs.declared.source.Entry.{Entry}
-use Rattle.keyword_table.specs.declared.row.Rule.{Rule}
-use Rattle.keyword_table.specs.declared.row.Rule.TheVariants.{Names, Format, Segments}
-use Rattle.keyword_table.specs.LookUp.{posix_text, posix_texts}
-use Rattle.keyword_values.specs.Keywords.{operands, texts, texts_or, text_or}
-use Rattle.keyword_values.specs.Rules.{unless}
+use Rattle.keywords.specs.declared.source.Value.{Value}
+use Rattle.keywords.specs.declared.source.Value.TheVariants.{Text, Number, Chars, Pair}
+use Rattle.keywords.specs.declared.source.Entry.{Entry}
+use Rattle.keywords.specs.declared.row.Rule.{Rule}
+use Rattle.keywords.specs.declared.row.Rule.TheVariants.{Names, Format, Segments}
+use Rattle.keywords.specs.LookUp.{posix_text, posix_texts}
+use Rattle.keywords.specs.Keywords.{operands, texts, texts_or, text_or}
+use Rattle.keywords.specs.Rules.{unless}
 use Rattle.time_cat.specs.declared.segment.Segment.{Segment}
 use Rattle.time_cat.specs.declared.texts.NameLists.{NameLists}
 use Rattle.time_cat.specs.declared.texts.FormatTexts.{FormatTexts}

@@ -3,8 +3,8 @@ use Rattle.std.specs.Prelude.{ℕ, ℤ, pos, ◌-ℤ◌, ◌+◌, ◌-◌, ◌==
 use Rattle.std.specs.Int.{is_in_range}
 use Rattle.std.specs.Str.{bytes_eq}
 use Rattle.lc_base.specs.Lines.{◌>>=◌}
-use Rattle.byte_words.specs.Cuts.{cut_at}
-use Rattle.byte_words.specs.Numbers.{few_digits}
+use Rattle.lc_base.specs.Cuts.{cut_at}
+use Rattle.lc_base.specs.Numbers.{few_digits}
 use Rattle.time_cat.specs.declared.segment.Date.{Date}
 use Rattle.time_cat.specs.declared.segment.End.{End}
 use Rattle.time_cat.specs.declared.segment.End.TheVariants.{BeforeAll, On, AfterAll}

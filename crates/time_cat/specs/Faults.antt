@@ -6,13 +6,13 @@ use Rattle.lc_base.specs.declared.reason.Reason.{Reason}
 use Rattle.lc_base.specs.declared.reason.Reason.TheVariants.{WrongCount, BadEra, BadFormat, FormatRank, TooManyDigits, OverLimit}
 use Rattle.lc_base.specs.declared.reason.Limit.TheVariants.{Texts, Conversions}
 use Rattle.lc_base.specs.Reading.{Reads, ◌>>=◌}
-use Rattle.keyword_lists.specs.declared.source.Value.{Value}
-use Rattle.keyword_lists.specs.declared.source.Value.TheVariants.{Text, Number, Chars, Pair}
-use Rattle.keyword_lists.specs.declared.source.Entry.{Entry}
-use Rattle.keyword_table.specs.declared.row.Rule.{Rule}
-use Rattle.keyword_table.specs.declared.row.Rule.TheVariants.{Format, Segments, Digits}
-use Rattle.keyword_values.specs.Keywords.{texts}
-use Rattle.keyword_values.specs.Rules.{text_fault, unless}
+use Rattle.keywords.specs.declared.source.Value.{Value}
+use Rattle.keywords.specs.declared.source.Value.TheVariants.{Text, Number, Chars, Pair}
+use Rattle.keywords.specs.declared.source.Entry.{Entry}
+use Rattle.keywords.specs.declared.row.Rule.{Rule}
+use Rattle.keywords.specs.declared.row.Rule.TheVariants.{Format, Segments, Digits}
+use Rattle.keywords.specs.Keywords.{texts}
+use Rattle.keywords.specs.Rules.{text_fault, unless}
 use Rattle.time_cat.specs.declared.segment.Segment.{Segment}
 use Rattle.time_cat.specs.Formats.{Piece, pieces, is_conversion, has_rank, bad_place}
 use Rattle.time_cat.specs.Eras.{segment}

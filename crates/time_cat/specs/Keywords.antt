@@ -1,9 +1,9 @@
 -- The keywords of LC_TIME, and what their operands are (XBD 7.3.5.2; the ranks and the number of alternative digits are our own).
 use Rattle.std.specs.Prelude.{ℕ, List, Option, Some, None}
 use Rattle.lc_base.specs.declared.category.Category.TheVariants as categories
-use Rattle.keyword_table.specs.declared.row.Rule.{Rule}
-use Rattle.keyword_table.specs.declared.row.Rule.TheVariants.{Names, Format}
-use Rattle.keyword_table.specs.LookUp.{rule_of}
+use Rattle.keywords.specs.declared.row.Rule.{Rule}
+use Rattle.keywords.specs.declared.row.Rule.TheVariants.{Names, Format}
+use Rattle.keywords.specs.LookUp.{rule_of}
 
 -- what the operands of a keyword are: so many names, a format of a rank, segments of eras, or alternative digits
 unfoldable pub takes_of : List ℕ → Option Rule

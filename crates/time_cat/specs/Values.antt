@@ -4,8 +4,8 @@ use Rattle.std.specs.List.{flat_map}
 use Rattle.std.specs.Option.{option_to_list}
 use Rattle.lc_base.specs.declared.category.Category.TheVariants as categories
 use Rattle.lc_base.specs.Reading.{Reads, ◌>>=◌}
-use Rattle.keyword_lists.specs.declared.source.Entry.{Entry}
-use Rattle.keyword_values.specs.Keywords.{text_value, texts_value}
+use Rattle.keywords.specs.declared.source.Entry.{Entry}
+use Rattle.keywords.specs.Keywords.{text_value, texts_value}
 use Rattle.time_cat.specs.declared.segment.Segment.{Segment}
 use Rattle.time_cat.specs.declared.texts.NameLists.{NameLists}
 use Rattle.time_cat.specs.declared.texts.FormatTexts.{FormatTexts}

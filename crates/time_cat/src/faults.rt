@@ -6,12 +6,10 @@ ghost use Rattle.lc_base.specs.Reading.{Gives};
 ghost use Rattle.time_cat.specs.Formats.{pieces, is_conversion, has_rank, bad_place};
 ghost use Rattle.time_cat.specs.Faults.{byte_place, format_reason, segment_reason, list_reason, operand_reason, most_digits, most_bytes, operands_checked, is_wrong_count, line_checked, checked};
 
-use crate::keywords::{fixed_count, takes_of};
 use crate::segment::segment_of;
 use crate::step::{Step, step_here};
-use keyword_lists::{Entry, ValueRef, Values};
-use keyword_table::Rule;
-use keyword_values::{text_count, text_fault, unless};
+use crate::takes::{fixed_count, takes_of};
+use keywords::{Entry, Rule, ValueRef, Values, text_count, text_fault, unless};
 use lc_base::{Limit, Reason, TextFault};
 
 /// The most conversions of a format.

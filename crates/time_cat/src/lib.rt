@@ -4,12 +4,12 @@
 
 mod conversion;
 mod faults;
-mod keywords;
 mod name;
 mod parsed;
 mod segment;
 mod step;
 mod steps;
+mod takes;
 mod texts;
 mod time;
 mod tm;

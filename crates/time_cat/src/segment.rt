@@ -2,12 +2,11 @@
 
 ghost use Rattle.std.specs.Prelude.{◌≡◌, ◌<◌, ◌≤◌, find, IfSome, IfOk, option_map};
 ghost use Rattle.std.specs.Option.{option_copied};
-ghost use Rattle.byte_words.specs.Numbers.{few_digits};
+ghost use Rattle.lc_base.specs.Numbers.{few_digits};
 ghost use Rattle.time_cat.specs.Eras.{within, year_of, date, end_of, direction, segment, date_is_no_later, is_no_later, is_between, contains, distance};
 ghost use Rattle.time_cat.specs.Segments.{whole};
 
-use byte_words::{cut_at, few_digits};
-use lc_base::ByteText;
+use lc_base::{ByteText, cut_at, few_digits};
 use std::alloc::{AllocError, Global};
 
 /// A date.

@@ -7,8 +7,7 @@ ghost use Rattle.time_cat.specs.Values.{spelled, segments_in, names_in, formats_
 
 use crate::name::Name;
 use crate::segment::{Segment, segment_of};
-use keyword_lists::Entry;
-use keyword_values::{text_value, texts_value};
+use keywords::{Entry, text_value, texts_value};
 use lc_base::{ByteText, Category, List};
 use std::alloc::{AllocError, Global};
 

@@ -13,7 +13,7 @@ use crate::faults::check;
 use crate::name::Name;
 use crate::segment::{Date, Segment, segment_at};
 use crate::texts::{FormatTexts, NameLists, digits_in, eras_in, formats_in, name_at, names_in};
-use keyword_lists::Entry;
+use keywords::Entry;
 use lc_base::{ByteText, List, TextFault};
 use std::alloc::{AllocError, Global};
 use std::marker::Model;

@@ -1,6 +1,7 @@
 //! The answers of the commands.
 
 use crate::checking::check_files;
+use crate::{strs, tm_of, word};
 use category_store::{Compiled, Library, Share};
 use charset::Charset;
 use clap::ArgMatches;
@@ -10,15 +11,12 @@ use std::alloc::{AllocError, Global};
 use std::rt::{Env, Files};
 use std::time::Clock;
 use time_cat::Time;
-use tool_commands::{strs, word};
-use tool_explain::explained;
 use tool_files::{Sources, Wanted, charset_of, fault_problem, library_of, load};
+use tool_messages::{Answer, Problem, explained};
 use tool_reads::{
     Categories, class_lines, conv_lines, info_lines, item_categories, lower_lines, money_line,
     number_line, parsed_lines, time_line, upper_lines, usage_problem,
 };
-use tool_times::tm_of;
-use tool_words::{Answer, Problem};
 
 /// What a command answers that runs no script.
 pub fn answer_of<R: Files + Env + Clock + Eprint + AllocGlobal + Clone + Drop>(

@@ -2,13 +2,13 @@
 
 use crate::gathered::Gathered;
 use crate::progress::Progress;
+use crate::strs;
 use clap::ArgMatches;
 use std::alloc::Global;
 use std::rt::Files;
 use std::time::Clock;
 use tool_check::{Checking, check_file};
-use tool_commands::strs;
-use tool_words::{Answer, Problem};
+use tool_messages::{Answer, Problem};
 
 /// Checks files: the status is 1 where one is refused.
 pub fn check_files<R: Files + Clock + Eprint>(

@@ -2,7 +2,7 @@
 
 use lc_base::ByteText;
 use std::alloc::Global;
-use tool_words::{Answer, Problem};
+use tool_messages::{Answer, Problem};
 
 /// What the files so far give.
 #[derive(Drop)]

@@ -1,7 +1,7 @@
 -- What checking gives, case by case.
 use Rattle.std.proofs.Common.{◌≡◌, ℕ, ◌++◌, Bool, true, false, List, [], Result, Ok, Err, IfOk, codes, if◌then◌else◌}
 use Rattle.charset.specs.CodedSet.{CodedSet, set_name}
-use Rattle.tool_words.specs.declared.answer.Problem.{Problem}
+use Rattle.tool_messages.specs.declared.answer.Problem.{Problem}
 use Rattle.tool_check.specs.declared.checked.Checked.{Checked}
 use Rattle.tool_check.specs.Summary.{row, charmap_summary}
 use Rattle.tool_check.specs.Checked.{IsSummary, IsChecked, IsWritten, accepted, refused}

@@ -2,7 +2,7 @@
 use Rattle.std.proofs.Common.{◌≡◌, ℕ, zero, suc, ◌+◌, ◌-◌, ◌<◌, ◌≤◌, ◌^◌, ◌&&◌, Bool, true, false, refl, sym, ap, ◌∙◌, add-zero, add-one, arith, if◌then◌else◌}
 use Rattle.std.specs.Prelude.{Option, None, unwrap_or}
 use Rattle.charset.specs.CodedSet.{CodedSet, has}
-use Rattle.byte_words.specs.Tables.{first_named}
+use Rattle.lc_base.specs.Tables.{first_named}
 use Rattle.charset.specs.Portable.{Name}
 use Rattle.class_ranges.specs.Runs.{HoldsNowhereFrom, IsRunFrom}
 use Rattle.ctype_classes.specs.Classes.{Classes, class_answer, numbered_answer}

@@ -1,7 +1,7 @@
 -- What checking a file adds to what is written (our own).
 use Rattle.std.specs.Prelude.{◌≡◌, ℕ, Bool, true, false, List, [], ◌++◌, Result, Ok, Err}
-use Rattle.tool_words.specs.declared.answer.Problem.{Problem}
-use Rattle.tool_words.specs.declared.answer.Problem.TheVariants.{Memory}
+use Rattle.tool_messages.specs.declared.answer.Problem.{Problem}
+use Rattle.tool_messages.specs.declared.answer.Problem.TheVariants.{Memory}
 use Rattle.tool_check.specs.declared.checked.Checked.{Checked}
 use Rattle.tool_check.specs.declared.checked.Checked.TheVariants.{Accepted, Refused}
 use Rattle.tool_check.specs.Summary.{accepted_line}

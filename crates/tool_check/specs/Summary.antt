@@ -4,9 +4,9 @@ use Rattle.std.specs.List.{flat_map}
 use Rattle.std.specs.Borrow.{Bor}
 use Rattle.std.specs.Fmt.{decimal}
 use Rattle.lc_base.specs.Categories.{category_name}
-use Rattle.keyword_lists.specs.declared.source.Body.{Body}
-use Rattle.keyword_lists.specs.declared.source.Body.TheVariants.{Copy, Entries}
-use Rattle.keyword_lists.specs.declared.source.Section.{Section}
+use Rattle.keywords.specs.declared.source.Body.{Body}
+use Rattle.keywords.specs.declared.source.Body.TheVariants.{Copy, Entries}
+use Rattle.keywords.specs.declared.source.Section.{Section}
 use Rattle.charset.specs.CodedSet.{CodedSet, set_name, has}
 use Rattle.ctype_classes.specs.Classes.{Classes, class_answer, numbered_answer}
 

@@ -1,7 +1,7 @@
 //! Files that are checked.
 
 ghost use Rattle.std.specs.Prelude.{◌≡◌, [], IfOk, IfErr, if◌then◌else◌};
-ghost use Rattle.tool_words.specs.declared.answer.Problem.TheVariants.{Memory};
+ghost use Rattle.tool_messages.specs.declared.answer.Problem.TheVariants.{Memory};
 ghost use Rattle.tool_check.specs.Checked.{BeginsWith, IsSummary, IsChecked, IsWritten, accepted, refused};
 ghost use Rattle.tool_check.specs.Summary.{accepted_line, charmap_summary};
 
@@ -19,7 +19,7 @@ use tool_files::{
     Sources, Wanted, charset_of, fault_message, fault_problem, file_text, library_of, load_with,
     sections_of,
 };
-use tool_words::Problem;
+use tool_messages::Problem;
 
 /// What is checked.
 #[derive(Clone, Copy)]

@@ -2,7 +2,7 @@
 
 use charset::Charset;
 use ctype_classes::Ctype;
-use keyword_lists::{Body, Entry, Section, ValueRef, Values};
+use keywords::{Body, Entry, Section, ValueRef, Values};
 use lc_base::{Block, ByteText, List, TextFault};
 use std::alloc::{AllocError, Global};
 use tool_files::sections_in;

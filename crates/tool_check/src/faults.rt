@@ -10,7 +10,7 @@ use charset::Charset;
 use lc_base::TextFault;
 use std::alloc::Global;
 use tool_files::{Sources, sized_library};
-use tool_words::Problem;
+use tool_messages::Problem;
 
 /// The first fault that is found, and beside it that of each look, where it stands on a line of its own: in
 /// the order of their lines.

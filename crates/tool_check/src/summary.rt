@@ -8,10 +8,10 @@ ghost use Rattle.tool_check.specs.Summary.{row, accepted_line, keyword_count, bo
 
 use charset::Charset;
 use ctype_classes::Ctype;
-use keyword_lists::{Body, Section};
+use keywords::{Body, Section};
 use lc_base::ByteText;
 use std::alloc::AllocError;
-use tool_words::push_number;
+use tool_messages::push_number;
 
 /// The blanks between a name that is empty and what stands behind it.
 const BLANKS: &[u8] = b"               ";

@@ -1,8 +1,8 @@
 -- The problems that faults are told as (our own).
 use Rattle.lc_base.specs.declared.fault.TextFault.{TextFault}
 use Rattle.lc_base.specs.declared.fault.TextFault.TheVariants as faults
-use Rattle.tool_words.specs.declared.answer.Problem.{Problem}
-use Rattle.tool_words.specs.declared.answer.Problem.TheVariants.{Refused, Usage, Memory}
+use Rattle.tool_messages.specs.declared.answer.Problem.{Problem}
+use Rattle.tool_messages.specs.declared.answer.Problem.TheVariants.{Refused, Usage, Memory}
 
 -- a fault with a place is told as a refusal, unless memory is wanting, and want of memory as such
 abbrev pub IsTold : TextFault → Problem → Type 0

@@ -10,7 +10,7 @@ use crate::sources::Sources;
 use category_store::Library;
 use charmap_reader::read_charmap;
 use charset::Charset;
-use keyword_lists::Section;
+use keywords::Section;
 use lc_base::{Block, Limit, List, Place, Reason, TextFault};
 use locale_reader::read_locale;
 use std::alloc::Global;

@@ -3,7 +3,7 @@
 use crate::compiled::sections_in;
 use crate::format::word_at;
 use charset::Charset;
-use keyword_lists::{Body, Section};
+use keywords::{Body, Section};
 use lc_base::{Block, ByteText, Category, Place, TextFault, next_line};
 use std::alloc::{AllocError, Global};
 

@@ -5,7 +5,7 @@ use std::alloc::{AllocError, Global};
 use std::fs;
 use std::io::ErrorKind;
 use std::rt::Files;
-use tool_words::{Problem, push_word};
+use tool_messages::{Problem, push_word};
 
 /// The most bytes of a file.
 pub const FILE_LIMIT: usize = 16_777_216;

@@ -3,7 +3,7 @@
 use crate::format::word_at;
 use lc_base::{Limit, Reason};
 use std::alloc::AllocError;
-use tool_explain::{push_wanted, wanted_of};
+use tool_messages::{push_wanted, wanted_of};
 
 /// Adds what the keyword of a line takes, where an operand is wrong.
 pub fn push_hint_of(out: &mut Vec<u8>, reason: Reason, line: &[u8]) -> Result<(), AllocError> {

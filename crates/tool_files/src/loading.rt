@@ -12,7 +12,7 @@ use locale_sources::is_posix;
 use std::alloc::{AllocError, Global};
 use std::fs;
 use std::rt::Files;
-use tool_words::Problem;
+use tool_messages::Problem;
 
 /// The most files of locales.
 const FILES_MOST: usize = 64;

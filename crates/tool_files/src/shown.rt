@@ -11,8 +11,7 @@ use charset::Charset;
 use lc_base::{Block, ByteText, Place, Reason, TextFault};
 use script_out::push_refusal;
 use std::alloc::{AllocError, Global};
-use tool_explain::{name_of, rule_of};
-use tool_words::{Problem, Spot, line_of, push_fault, push_hints};
+use tool_messages::{Problem, Spot, line_of, name_of, push_fault, push_hints, rule_of};
 
 /// The problem of a fault in files.
 pub fn fault_problem(alloc: Global, sources: &Sources, fault: TextFault) -> Problem

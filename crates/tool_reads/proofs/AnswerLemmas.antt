@@ -1,8 +1,8 @@
 -- What follows from a value or a problem, and words that are answered one by one.
 use Rattle.std.proofs.Common.{◌≡◌, ◌<◌, ◌+◌, map, length, get_or, drop, arith, ℕ, List, [], ◌∷◌, ◌++◌, Option, Some, None, Ok, Err, refl, sym, ap, ◌∙◌, append_assoc}
 use Rattle.std.proofs.lemmas.List.{append-nil, at_drop_more}
-use Rattle.tool_words.specs.declared.answer.Problem.{Problem}
-use Rattle.tool_words.specs.declared.answer.Problem.TheVariants.{Refused, Usage, Memory}
+use Rattle.tool_messages.specs.declared.answer.Problem.{Problem}
+use Rattle.tool_messages.specs.declared.answer.Problem.TheVariants.{Refused, Usage, Memory}
 use Rattle.tool_reads.specs.Answers.{Cause, WrongWord, Defined, Tells, IsOf, beside, and_then, value_or_wrong, all_of, each_of}
 
 -- a problem of the kind that there is

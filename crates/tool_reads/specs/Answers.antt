@@ -1,7 +1,7 @@
 -- What a command of the tool answers: a value, or a problem of one of two kinds; of want of memory nothing is said (our own).
 use Rattle.std.specs.Prelude.{◌≡◌, ℕ, List, [], ◌∷◌, ◌++◌, Option, Some, None, Result, Ok, Err}
-use Rattle.tool_words.specs.declared.answer.Problem.{Problem}
-use Rattle.tool_words.specs.declared.answer.Problem.TheVariants.{Refused, Usage, Memory}
+use Rattle.tool_messages.specs.declared.answer.Problem.{Problem}
+use Rattle.tool_messages.specs.declared.answer.Problem.TheVariants.{Refused, Usage, Memory}
 
 -- a word of the command line is wrong, or what it asks is refused
 pub data Cause : Type 0 where

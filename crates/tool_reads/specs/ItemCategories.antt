@@ -4,7 +4,7 @@ use Rattle.lc_base.specs.declared.category.Category.{Category}
 use Rattle.lc_base.specs.declared.category.Category.TheVariants.{Ctype, Numeric, Monetary, Time, Messages}
 use Rattle.lc_base.specs.declared.item.Item.{Item}
 use Rattle.lc_base.specs.Categories.{categories}
-use Rattle.byte_words.specs.Tables.{first_named}
+use Rattle.lc_base.specs.Tables.{first_named}
 use Rattle.script_words.specs.Tables.{items_table}
 use Rattle.ctype_classes.specs.CtypeValues.{CtypeValues}
 use Rattle.numeric_cat.specs.NumericValues.{NumericValues}

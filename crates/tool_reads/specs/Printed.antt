@@ -19,9 +19,9 @@ use Rattle.strptime_fields.specs.Scans.{Scanned, scan}
 use Rattle.langinfo.specs.declared.conv.Lconv.{Lconv}
 use Rattle.lc_base.specs.declared.item.Item.{Item}
 use Rattle.script_words.specs.Numbers.{Amount, amount_of_word, number_of_word}
-use Rattle.byte_words.specs.Tables.{first_named}
+use Rattle.lc_base.specs.Tables.{first_named}
 use Rattle.script_words.specs.Tables.{items_table}
-use Rattle.byte_words.specs.Numbers.{decimal_number}
+use Rattle.lc_base.specs.Numbers.{decimal_number}
 use Rattle.script_words.specs.Words.{behind_front}
 use Rattle.script_out.specs.Output.{quoted}
 use Rattle.tool_reads.specs.Answers.{NoAnswer, Defined, and_then, all_of, value_or_wrong, each_of, line_of}

@@ -6,13 +6,12 @@ ghost use Rattle.tool_reads.specs.Answers.{Answers, Tells, beside, each_of, valu
 ghost use Rattle.tool_reads.specs.Printed.{case_line, character, character_line, class_line, class_text, numbered, zeros};
 
 use crate::wrong_word::{unknown_problem, usage_problem};
-use byte_words::decimal_number;
 use charset::Charset;
 use ctype_classes::Ctype;
-use lc_base::ByteText;
+use lc_base::{ByteText, decimal_number};
 use script_words::behind_front;
 use std::alloc::{AllocError, Global};
-use tool_words::{Problem, push_number};
+use tool_messages::{Problem, push_number};
 
 /// What a character is.
 const WANTED: &[u8] =

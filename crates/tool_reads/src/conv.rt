@@ -12,7 +12,7 @@ use lc_base::ByteText;
 use monetary_cat::Monetary;
 use numeric_cat::Numeric;
 use std::alloc::{AllocError, Global};
-use tool_words::push_number;
+use tool_messages::push_number;
 
 /// A line `NAME=VALUE` for each field of localeconv, in the order of the standard's structure (XSH localeconv).
 pub fn conv_lines(

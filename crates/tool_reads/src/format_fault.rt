@@ -5,8 +5,7 @@ ghost use Rattle.tool_reads.specs.Answers.{Answers, IsOf, NoAnswer};
 
 use lc_base::ByteText;
 use std::alloc::{AllocError, Global};
-use tool_explain::rule_of;
-use tool_words::{Problem, Spot, push_fault};
+use tool_messages::{Problem, Spot, push_fault, rule_of};
 
 /// The most bytes that a command prints of a format.
 pub const TEXT_MOST: usize = 1_048_576;

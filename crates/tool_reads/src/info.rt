@@ -3,7 +3,7 @@
 ghost use Rattle.std.specs.Prelude.{◌≡◌, ◌++◌, Ok, IfOk, IfErr, OnOk, map};
 ghost use Rattle.langinfo.specs.Items.{info};
 ghost use Rattle.script_out.specs.Output.{quoted};
-ghost use Rattle.byte_words.specs.Tables.{first_named};
+ghost use Rattle.lc_base.specs.Tables.{first_named};
 ghost use Rattle.script_words.specs.Tables.{items_table};
 ghost use Rattle.tool_reads.specs.Answers.{Answers, Tells, beside, each_of, value_or_wrong};
 ghost use Rattle.tool_reads.specs.Printed.{field, info_lines, item_names, named_line, plain_line};
@@ -19,7 +19,7 @@ use script_out::push_quoted;
 use script_words::item_named;
 use std::alloc::{AllocError, Global};
 use time_cat::Time;
-use tool_words::Problem;
+use tool_messages::Problem;
 
 /// What an item is.
 const WANTED: &[u8] =

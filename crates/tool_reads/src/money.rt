@@ -13,7 +13,7 @@ use monetary_cat::Monetary;
 use script_words::amount_of_word;
 use std::alloc::Global;
 use strfmon::{Amount, MoneyFault, strfmon};
-use tool_words::Problem;
+use tool_messages::Problem;
 
 /// What an amount is.
 const WANTED: &[u8] =

@@ -2,7 +2,7 @@
 
 ghost use Rattle.std.specs.Prelude.{◌≡◌, ◌++◌, IfOk, OnOk, map};
 ghost use Rattle.lc_base.specs.Categories.{categories};
-ghost use Rattle.byte_words.specs.Tables.{first_named};
+ghost use Rattle.lc_base.specs.Tables.{first_named};
 ghost use Rattle.script_words.specs.Tables.{items_table};
 ghost use Rattle.tool_reads.specs.ItemCategories.{LocaleValues, AreAlike, category_of, item_categories, item_text, named_categories, of_named};
 

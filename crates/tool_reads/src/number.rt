@@ -15,7 +15,7 @@ use lc_base::ByteText;
 use numeric_cat::Numeric;
 use script_words::number_of_word;
 use std::alloc::Global;
-use tool_words::Problem;
+use tool_messages::Problem;
 
 /// What a number is.
 const WANTED: &[u8] =

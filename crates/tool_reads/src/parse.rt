@@ -9,7 +9,7 @@ use lc_base::ByteText;
 use std::alloc::{AllocError, Global};
 use strptime_fields::{Parsed, ScanFault, strptime};
 use time_cat::Time;
-use tool_words::{Problem, push_number};
+use tool_messages::{Problem, push_number};
 
 /// A line `NAME=VALUE` for each field that a text has, and one for the number of bytes that were read
 /// (XSH strptime). Refused where the format is none, or the text does not meet it.

@@ -8,7 +8,7 @@ use lc_base::ByteText;
 use std::alloc::Global;
 use strftime_fields::{TimeFault, Tm, strftime};
 use time_cat::Time;
-use tool_words::Problem;
+use tool_messages::Problem;
 
 /// The text of a format with a time, and a newline (XSH strftime).
 ///

@@ -5,8 +5,7 @@ ghost use Rattle.tool_reads.specs.Answers.{IsOf, WrongWord, NoAnswer};
 
 use lc_base::ByteText;
 use std::alloc::{AllocError, Global};
-use tool_explain::rule_of;
-use tool_words::{Problem, push_word};
+use tool_messages::{Problem, push_word, rule_of};
 
 /// The problem of a word, with what is wanted.
 pub fn usage_problem(alloc: Global, word: &[u8], wanted: &[u8]) -> Problem

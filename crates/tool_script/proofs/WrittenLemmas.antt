@@ -12,7 +12,7 @@ use Rattle.script_words.specs.declared.stretch.Within.TheVariants.{Bare}
 use Rattle.script_words.specs.declared.table.Directive.{Directive}
 use Rattle.script_words.specs.declared.table.Directive.TheVariants as directives
 use Rattle.script_words.specs.Spans.{Span, whole_line, is_blank, word_length, next_word}
-use Rattle.byte_words.specs.Tables.{first_named}
+use Rattle.lc_base.specs.Tables.{first_named}
 use Rattle.script_words.specs.Tables.{directives_table}
 use Rattle.script_commands.specs.declared.command.Command.{Command}
 use Rattle.script_commands.specs.declared.known.Known.{Known}

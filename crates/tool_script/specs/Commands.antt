@@ -7,7 +7,7 @@ use Rattle.lc_base.specs.Lines.{lines_of}
 use Rattle.script_words.specs.declared.table.Directive.{Directive}
 use Rattle.script_words.specs.declared.table.Directive.TheVariants as directives
 use Rattle.script_words.specs.Spans.{Span, whole_line, next_word}
-use Rattle.byte_words.specs.Tables.{first_named}
+use Rattle.lc_base.specs.Tables.{first_named}
 use Rattle.script_words.specs.Tables.{directives_table}
 use Rattle.script_commands.specs.declared.command.Placed.{Placed}
 use Rattle.script_lang.specs.Reading.{begins_with}

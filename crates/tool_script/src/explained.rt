@@ -12,7 +12,7 @@ use lc_base::{ByteText, List};
 use script_commands::Placed;
 use script_out::{OutLine, Said, Why, push_line};
 use std::alloc::{AllocError, Global};
-use tool_words::push_number;
+use tool_messages::push_number;
 
 /// The words of the reasons for which commands are refused.
 const REASONS: [&[u8]; 18] = [

@@ -2,7 +2,7 @@
 
 ghost use Rattle.std.specs.Prelude.{◌≡◌, ◌^◌, ◌<◌, length, Ok, IfOk, IfErr};
 ghost use Rattle.script_plan.specs.Plan.{PlanData, plan_of};
-ghost use Rattle.tool_words.specs.declared.answer.Problem.TheVariants.{Memory};
+ghost use Rattle.tool_messages.specs.declared.answer.Problem.TheVariants.{Memory};
 ghost use Rattle.tool_script.specs.Explained.{is_refused};
 ghost use Rattle.tool_script.specs.Played.{MayPrint, shown, has_refusal, IsPlayed, MayPlay};
 
@@ -17,7 +17,7 @@ use std::alloc::{AllocError, Global};
 use std::sync::Wait;
 use std::thread::Threads;
 use tool_files::{FILE_LIMIT, text_problem};
-use tool_words::Problem;
+use tool_messages::Problem;
 
 /// The rows of each thread.
 const ROWS: u32 = 16;

@@ -1,6 +1,6 @@
 use Rattle.std.proofs.Common.{◌≡◌, ◌+◌, ◌++◌, [], ◌∷◌, take, ap, ◌∙◌, sym, refl}
 use Rattle.std.proofs.lemmas.List.{take_more}
-use Rattle.keyword_lists.specs.declared.source.Entry.{Entry}
+use Rattle.keywords.specs.declared.source.Entry.{Entry}
 use Rattle.ctype_classes.proofs.LineLemmas.{first_lines_more}
 use Rattle.ctype_classes.proofs.first_lines.first_lines.Goals as goal
 

@@ -1,6 +1,6 @@
 use Rattle.std.proofs.Common.{◌≡◌, ℕ, List, None, subst, sym, ◌∙◌}
 use Rattle.indexmap.proofs.CallerLemmas.{insert_entry-new}
-use Rattle.byte_words.specs.Tables.{first_named}
+use Rattle.lc_base.specs.Tables.{first_named}
 use Rattle.locale_sources.specs.Named.{pairs_of}
 use Rattle.locale_sources.proofs.NamedLemmas.{with_named-some, with_named-none, missing-lookup}
 use Rattle.locale_sources.proofs.named.add_named.Goals as goal

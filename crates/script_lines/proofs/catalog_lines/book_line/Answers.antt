@@ -1,4 +1,4 @@
-use Rattle.catalog_table.specs.Seen.{reply_of}
+use Rattle.catalog_handles.specs.Seen.{reply_of}
 use Rattle.script_lines.specs.Catalogs.{number_of, catalog_setting, not_asked}
 use Rattle.script_lines.specs.Seen.{caller}
 use Rattle.script_lines.proofs.LineLemmas.{book_asked}

@@ -1,7 +1,7 @@
 use Rattle.std.proofs.Common.{◌≡◌, ◌∷◌, List, length, ap, ◌∙◌, arith, subst}
 use Rattle.std.specs.Vec.Iter.{into_iter_items}
 use Rattle.thread_current.specs.Thread.{Thread}
-use Rattle.catalog_seats.specs.Reader.{ReaderData}
+use Rattle.catalog_handles.specs.Reader.{ReaderData}
 use Rattle.script_run.proofs.Beginning.{FirstSoFar, first_next, reader_left}
 use Rattle.script_run.proofs.rounds.new_workers.Goals as goal
 

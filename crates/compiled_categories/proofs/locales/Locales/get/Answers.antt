@@ -1,7 +1,7 @@
 use Rattle.std.proofs.Common.{◌∙◌, ℕ, List, sym, ap}
 use Rattle.std.specs.Prelude.{codes}
-use Rattle.category_copies.specs.declared.rows.LocaleRow.{LocaleRow}
-use Rattle.category_copies.specs.declared.numbers.SourceNumbers.{SourceNumbers}
+use Rattle.locale_sources.specs.declared.rows.LocaleRow.{LocaleRow}
+use Rattle.locale_sources.specs.declared.numbers.SourceNumbers.{SourceNumbers}
 use Rattle.compiled_categories.specs.Locale.{Locale}
 use Rattle.compiled_categories.specs.Kept.{row_at, locale_with}
 use Rattle.compiled_categories.specs.Locale.{locale_among}

@@ -2,8 +2,8 @@ use Rattle.std.proofs.Common.{◌*◌, ◌≤◌, length, replicate, Option, Non
 use Rattle.mask_compose.specs.Parts.{Parts}
 use Rattle.mask_compose.specs.Offer.{Offered}
 use Rattle.global_locale.specs.Versioned.{Versioned}
-use Rattle.handles.specs.declared.handle.Handle.{Handle}
-use Rattle.handles.specs.declared.handle.Named.TheVariants.{Global}
+use Rattle.lc_base.specs.declared.handle.Handle.{Handle}
+use Rattle.lc_base.specs.declared.handle.Named.TheVariants.{Global}
 use Rattle.handle_table.specs.declared.row.Row.{Row}
 use Rattle.handle_table.specs.declared.setting.TheConstants.{MAX_THREADS}
 use Rattle.lc_base.specs.declared.cells.TheConstants.{CELLS}

@@ -1,7 +1,7 @@
 use Rattle.std.proofs.Common.{◌<◌, length, ap, ◌∙◌, arith}
 use Rattle.std.proofs.lemmas.List.{get_or_default}
 use Rattle.std.specs.Prelude.{slice_index_or}
-use Rattle.handles.specs.declared.handle.Named.TheVariants.{Global}
+use Rattle.lc_base.specs.declared.handle.Named.TheVariants.{Global}
 use Rattle.handle_table.specs.Kept.{KeptData}
 use Rattle.handle_table.proofs.KeptSays.{selection_is}
 use Rattle.handle_table.proofs.kept.Kept.selected.Goals as goal

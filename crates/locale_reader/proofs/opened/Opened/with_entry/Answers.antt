@@ -1,7 +1,7 @@
 use Rattle.std.proofs.Common.{Bool, ◌||◌, ◌&&◌, sym, ap, ◌∙◌}
 use Rattle.std.specs.List.{list_any}
 use Rattle.std.specs.Str.{bytes_eq}
-use Rattle.keyword_lists.specs.declared.source.Entry.{Entry}
+use Rattle.keywords.specs.declared.source.Entry.{Entry}
 use Rattle.locale_reader.specs.Opened.{is_charclass, is_text, declares}
 use Rattle.locale_reader.proofs.Lists.{any_push, or_other}
 use Rattle.locale_reader.proofs.opened.Opened.with_entry.Goals as goal

@@ -1,8 +1,8 @@
 use Rattle.std.proofs.Common.{◌<◌, length, refl, sym, subst, arith}
 use Rattle.turn_gate.specs.Callers.{Gate}
-use Rattle.catalog_table.specs.declared.setting.CatalogSetting.{CatalogSetting}
-use Rattle.catalog_table.specs.Seen.{op_of, reply_of}
-use Rattle.catalog_seats.specs.Reader.{IsReaderOf, IsInOrder}
+use Rattle.catalog_handles.specs.declared.setting.CatalogSetting.{CatalogSetting}
+use Rattle.catalog_handles.specs.Seen.{op_of, reply_of}
+use Rattle.catalog_handles.specs.Reader.{IsReaderOf, IsInOrder}
 use Rattle.script_lines.specs.Catalogs.{number_of}
 use Rattle.script_seats.specs.Seated.{gates}
 use Rattle.script_seats.proofs.AskedCalls.{asked_at_all, answers_asked, asked_less}

@@ -1,0 +1,11 @@
+pub mod Examples
+pub mod Numbering
+pub mod Newest
+pub mod Least
+pub mod Says
+pub mod After
+pub mod Replies
+pub mod Apart
+pub mod Refused
+pub mod Calls
+pub mod Meeting

@@ -1,0 +1,11 @@
+pub mod Entry
+pub mod History
+pub mod Answer
+pub mod Causes
+pub mod Lasting
+pub mod Isolation
+pub mod Rows
+pub mod Kept
+pub mod Seen
+pub mod Table
+pub mod Reader

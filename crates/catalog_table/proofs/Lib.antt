@@ -1,9 +1,0 @@
-pub mod Examples
-pub mod Numbering
-pub mod Newest
-pub mod Least
-pub mod Says
-pub mod After
-pub mod Replies
-pub mod Apart
-pub mod Refused

@@ -1,6 +1,0 @@
-use Rattle.std.proofs.Common.{◌≡◌, replicate}
-use Rattle.catalog_table.specs.Rows.{no_row}
-use Rattle.catalog_table.proofs.rows.Rows.new.Given as goal
-
-abbrev pub invariant-loop-i : goal.invariant-loop-i
-invariant-loop-i g l = l.items.items ≡ replicate l._i no_row

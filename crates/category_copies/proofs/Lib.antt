@@ -1,3 +1,0 @@
-mod Examples
-pub mod TableLemmas
-pub mod CopyLemmas

@@ -1,4 +1,0 @@
-use Rattle.category_copies.proofs.table.+repeated.Given as goal
-
-abbrev pub decreases-repeated : goal.decreases-repeated
-decreases-repeated l = l.times

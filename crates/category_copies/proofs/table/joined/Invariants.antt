@@ -1,6 +1,0 @@
-use Rattle.std.proofs.Common.{◌≡◌, map, take}
-use Rattle.category_copies.specs.Tables.{led_on}
-use Rattle.category_copies.proofs.table.joined.Given as goal
-
-abbrev pub invariant-loop-to : goal.invariant-loop-to
-invariant-loop-to l = l.table.items ≡ map (led_on l.second) (take l.to-index l.first)

@@ -1,4 +1,0 @@
-pub mod Tables
-pub mod Copies
-pub mod Ends
-pub mod Rows

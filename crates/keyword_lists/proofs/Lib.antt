@@ -1,2 +1,0 @@
-pub mod CellLemmas
-mod CellExamples

@@ -1,7 +1,0 @@
-use Rattle.std.proofs.Common.{◌≡◌, drop}
-use Rattle.keyword_values.specs.Keywords.{operands}
-use Rattle.keyword_values.proofs.values.operands.Given as goal
-
--- no line so far has the keyword
-abbrev pub invariant-loop-entry : goal.invariant-loop-entry
-invariant-loop-entry l = operands (drop l.entry-index l.entries) l.keyword ≡ operands l.entries l.keyword

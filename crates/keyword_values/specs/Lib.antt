@@ -1,3 +1,0 @@
-pub use Rattle.lc_base.specs.Reading
-pub mod Keywords
-pub mod Rules

@@ -1,0 +1,4 @@
+pub mod CellLemmas
+mod CellExamples
+mod TableExamples
+mod ValueExamples
