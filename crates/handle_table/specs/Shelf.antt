@@ -1,26 +1,14 @@
 -- What the locale names stand for after a history. An op that a search does not name leaves what it
 -- searches for as it was.
-use Rattle.std.specs.Prelude.{ℕ, suc, Bool, not, ◌&&◌, ◌==◌, if◌then◌else◌, List, [], ◌∷◌, slice_index, slice_index_or, Option}
+use Rattle.std.specs.Prelude.{ℕ, suc, Bool, not, ◌&&◌, ◌==◌, if◌then◌else◌, List, [], ◌∷◌, slice_index_or, Option}
 use Rattle.std.specs.List.{find}
 use Rattle.lc_base.specs.declared.category.Category.{Category}
 use Rattle.lc_base.specs.declared.category.Category.TheVariants.{Ctype, Numeric, Monetary, Time, Messages}
-use Rattle.lc_base.specs.Categories.{categories}
+use Rattle.lc_base.specs.Categories.{categories, number_for}
 use Rattle.lc_base.specs.Mask.{includes}
 use Rattle.mask_compose.specs.Parts.{Parts, part_of}
 use Rattle.mask_compose.specs.Offer.{Offered, no_offer}
 use Rattle.handle_table.specs.Entry.{Op, Install, History, Setting, is_accepted}
-
--- the place of a category in their order
-abbrev pub category_index : Category → ℕ
-category_index Ctype = 0
-category_index Numeric = 1
-category_index Monetary = 2
-category_index Time = 3
-category_index Messages = 4
-
--- the number of the locale that is named for a category
-abbrev pub number_for : List ℕ → Category → ℕ
-number_for numbers category = slice_index numbers (category_index category)
 
 -- the POSIX locale's offer: the first opening one
 abbrev pub posix_offer : Setting → Offered

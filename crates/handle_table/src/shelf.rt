@@ -5,12 +5,13 @@ ghost use Rattle.std.specs.List.{find};
 ghost use Rattle.lc_base.specs.declared.category.Category.{Category};
 ghost use Rattle.mask_compose.specs.Offer.{AreOnShelf};
 ghost use Rattle.handle_table.specs.Entry.{History};
-ghost use Rattle.handle_table.specs.Shelf.{category_index, number_for, shelf, part_from_shelf, from_shelf, is_lacking, lacking};
+ghost use Rattle.handle_table.specs.Shelf.{shelf, part_from_shelf, from_shelf, is_lacking, lacking};
+ghost use Rattle.lc_base.specs.Categories.{number_for};
 ghost use Rattle.handle_table.specs.Kept.{Keeps};
 
 use crate::kept::Kept;
 use crate::setting::Setting;
-use lc_base::{CATEGORIES, Category, Mask};
+use lc_base::{CATEGORIES, Category, Mask, number_for};
 use mask_compose::{Object, Offer, Part};
 
 /// The object that a mask and names take from the shelf.
@@ -110,25 +111,4 @@ fn is_lacking<P: Part>(
 {
     let offer = offer_for(setting, kept, names, category);
     mask.has(category) && !offer.available.has(category)
-}
-
-/// The name for a category.
-fn number_for(names: &[u32; 5], category: Category) -> u32
-    ensures { result ≡ number_for names.now category }
-{
-    names[category_index(category)]
-}
-
-/// The place of a category in their order.
-fn category_index(category: Category) -> usize
-    ensures index { result ≡ category_index category }
-    ensures small { result < 5 }
-{
-    match category {
-        Category::Ctype => 0,
-        Category::Numeric => 1,
-        Category::Monetary => 2,
-        Category::Time => 3,
-        Category::Messages => 4,
-    }
 }

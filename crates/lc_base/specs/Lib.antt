@@ -1,7 +1,9 @@
+pub mod Amounts
 pub mod Categories
 pub mod Mask
 pub mod Faults
 pub mod Reading
+pub mod Blanks
 pub mod Bytes
 pub mod Lines
 pub mod Blocks

@@ -2,7 +2,7 @@
 
 ghost use Rattle.std.specs.Prelude.{◌≡◌, ◌<◌, ◌↔◌, true, IsNone, IfSome};
 ghost use Rattle.lc_base.specs.declared.category.Category.{Category};
-ghost use Rattle.lc_base.specs.Categories.{category_name};
+ghost use Rattle.lc_base.specs.Categories.{category_index, category_name, number_for};
 ghost use Rattle.lc_base.specs.Mask.{category_bit, includes};
 
 use std::marker::Model;
@@ -45,6 +45,20 @@ impl Category {
         }
     }
 
+    /// The place of the category in their order, from 0.
+    pub fn index(self) -> usize
+        ensures is { result ≡ category_index self }
+        ensures small { result < 5 }
+    {
+        match self {
+            Category::Ctype => 0,
+            Category::Numeric => 1,
+            Category::Monetary => 2,
+            Category::Time => 3,
+            Category::Messages => 4,
+        }
+    }
+
     /// The name of the category, `LC_CTYPE` and the like.
     pub fn name(self) -> &'static [u8]
         ensures { result.now ≡ category_name self }
@@ -57,6 +71,13 @@ impl Category {
             Category::Messages => b"LC_MESSAGES",
         }
     }
+}
+
+/// The number for a category, of five in their order.
+pub fn number_for(numbers: &[u32; 5], category: Category) -> u32
+    ensures { result ≡ number_for numbers.now category }
+{
+    numbers[category.index()]
 }
 
 /// A set of categories, as newlocale and setlocale take one (XSH newlocale). The empty set is allowed.

@@ -1,6 +1,7 @@
 //! What every crate of the workspace stands on.
 #![tactic(auto)]
 
+mod amount;
 mod block;
 mod category;
 mod cells;
@@ -17,8 +18,9 @@ mod stream;
 mod whole;
 mod words;
 
+pub use amount::Amount;
 pub use block::{Block, Later};
-pub use category::{CATEGORIES, Category, Mask};
+pub use category::{CATEGORIES, Category, Mask, number_for};
 pub use cells::CELLS;
 pub use fault::TextFault;
 pub use handle::{Handle, Named};
@@ -31,4 +33,4 @@ pub use reason::{Class, Limit, LinePart, Reason};
 pub use standard::{StdSink, StdSource};
 pub use stream::{Failed, Sink, Source};
 pub use whole::{ReadRefusal, read_all, write_all};
-pub use words::{are_digits, cut_at, decimal_number, few_digits, first_named};
+pub use words::{are_digits, cut_at, decimal_number, few_digits, first_named, is_blank};

@@ -1,4 +1,4 @@
-//! Words as bytes: tables of names, decimal numbers, and cuts at a byte.
+//! Words as bytes: tables of names, decimal numbers, blanks, and cuts at a byte.
 
 ghost use Rattle.std.specs.Prelude.{◌≡◌, map, ◌<◌, ◌≤◌, ◌^◌, true, IfSome, ◌==◌, length, position, option_map};
 ghost use Rattle.std.specs.Str.{bytes_eq};
@@ -6,6 +6,7 @@ ghost use Rattle.lc_base.specs.Tables.{first_named};
 ghost use Rattle.std.specs.Char.{is_ascii_digit};
 ghost use Rattle.std.specs.List.{list_all};
 ghost use Rattle.lc_base.specs.Numbers.{small_value, decimal_number, few_digits};
+ghost use Rattle.lc_base.specs.Blanks.{is_blank};
 ghost use Rattle.lc_base.specs.Cuts.{cut_at};
 
 /// Whether two words are the same. They are so short that a look at byte after byte tells sooner
@@ -85,6 +86,13 @@ pub fn few_digits(most: usize, digits: &[u8]) -> Option<u32>
         return None;
     }
     decimal_number(digits)
+}
+
+/// Whether a byte is a space or a tab.
+pub fn is_blank(byte: u8) -> bool
+    ensures { result ≡ is_blank byte }
+{
+    byte == b' ' || byte == b'\t'
 }
 
 /// Where the first byte `c` stands.

@@ -8,7 +8,7 @@ use Rattle.lc_base.specs.declared.place.Place.{Place}
 use Rattle.lc_base.specs.declared.reason.Reason.{Reason}
 use Rattle.lc_base.specs.Mask.{category_bit}
 use Rattle.lc_base.specs.Reading.{Reads}
-use Rattle.strfmon.specs.MoneyAmount.{MoneyAmount}
+use Rattle.lc_base.specs.Amounts.{MoneyAmount}
 use Rattle.strfmon.specs.Money.{money}
 use Rattle.strfmon.specs.Refusals.{MoneyRefusal}
 use Rattle.strfmon.specs.Refusals as money_refusals

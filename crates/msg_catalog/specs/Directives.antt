@@ -4,7 +4,8 @@ use Rattle.lc_base.specs.Lines.{◌>>=◌}
 use Rattle.msg_catalog.specs.declared.cursor.Spot.{Spot}
 use Rattle.msg_catalog.specs.declared.directive.Directive.{Directive}
 use Rattle.msg_catalog.specs.declared.directive.Directive.TheVariants.{Comment, Set, DeleteSet, Quote}
-use Rattle.msg_catalog.specs.Words.{is_blank, after_word, past_blanks, ends_word}
+use Rattle.msg_catalog.specs.Words.{after_word, past_blanks, ends_word}
+use Rattle.lc_base.specs.Blanks.{is_blank}
 use Rattle.msg_catalog.specs.Numbers.{number}
 
 -- a number, where the line ends behind it or a blank follows

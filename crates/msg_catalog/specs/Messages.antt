@@ -9,7 +9,7 @@ use Rattle.msg_catalog.specs.declared.directive.Directive.{Directive}
 use Rattle.msg_catalog.specs.declared.directive.Directive.TheVariants.{Comment, Set, DeleteSet, Quote}
 use Rattle.msg_catalog.specs.declared.reader.Draft.{Draft}
 use Rattle.msg_catalog.specs.Spots.{spots, lines}
-use Rattle.msg_catalog.specs.Words.{is_blank}
+use Rattle.lc_base.specs.Blanks.{is_blank}
 use Rattle.msg_catalog.specs.Numbers.{number}
 use Rattle.msg_catalog.specs.Directives.{directive_of}
 use Rattle.msg_catalog.specs.Texts.{Said, text_of}

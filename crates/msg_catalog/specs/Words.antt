@@ -1,10 +1,7 @@
 -- Words and blanks of a line.
-use Rattle.std.specs.Prelude.{ℕ, Bool, true, ◌||◌, ◌==◌, List, [], ◌∷◌, Option, Some, None, if◌then◌else◌}
+use Rattle.std.specs.Prelude.{ℕ, Bool, true, ◌==◌, List, [], ◌∷◌, Option, Some, None, if◌then◌else◌}
 use Rattle.msg_catalog.specs.declared.cursor.Spot.{Spot}
-
--- a space or a tab
-abbrev pub is_blank : ℕ → Bool
-is_blank b = (b == 32) || (b == 9)
+use Rattle.lc_base.specs.Blanks.{is_blank}
 
 -- what follows these bytes, where a line begins with them
 abbrev pub after_word : List ℕ → List Spot → Option (List Spot)

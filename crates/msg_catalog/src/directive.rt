@@ -6,7 +6,8 @@ ghost use Rattle.msg_catalog.specs.Directives.{set_number, quote_sign, directive
 
 use crate::cursor::Cursor;
 use crate::number::number;
-use crate::words::{after_word, ends_word, is_blank, past_blanks};
+use crate::words::{after_word, ends_word, past_blanks};
+use lc_base::is_blank;
 
 /// The largest number of a set.
 const SETS: u32 = 255;

@@ -12,8 +12,7 @@ use crate::cursor::Cursor;
 use crate::directive::{Directive, directive_of};
 use crate::number::number;
 use crate::text::{Text, text_of};
-use crate::words::is_blank;
-use lc_base::{ByteText, Limit, Place, Reason, TextFault};
+use lc_base::{ByteText, Limit, Place, Reason, TextFault, is_blank};
 use std::alloc::Global;
 
 /// The largest number of a message.

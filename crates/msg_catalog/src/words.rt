@@ -2,16 +2,10 @@
 
 ghost use Rattle.std.specs.Prelude.{◌≡◌, option_map};
 ghost use Rattle.msg_catalog.specs.Cursors.{line_of};
-ghost use Rattle.msg_catalog.specs.Words.{is_blank, after_word, past_blanks, ends_word};
+ghost use Rattle.msg_catalog.specs.Words.{after_word, past_blanks, ends_word};
 
 use crate::cursor::Cursor;
-
-/// Whether a byte is a space or a tab.
-pub fn is_blank(byte: u8) -> bool
-    ensures { result ≡ is_blank byte }
-{
-    byte == b' ' || byte == b'\t'
-}
+use lc_base::is_blank;
 
 /// What follows these bytes, where the line begins with them.
 pub fn after_word<'a>(word: &[u8], cursor: Cursor<'a>) -> Option<Cursor<'a>>

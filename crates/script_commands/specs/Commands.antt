@@ -26,7 +26,8 @@ use Rattle.lc_base.specs.Tables.{first_named}
 use Rattle.script_words.specs.Tables.{items_table}
 use Rattle.lc_base.specs.Numbers.{decimal_number}
 use Rattle.script_words.specs.Words.{text_of_word, quoted_of_word, bounded, zone_of_word, behind_front, max_number, categories_of_word, mask_of_word, variable_of_word, class_of_word, key_of_word, cell_number, WrittenHandle, handle_of_word, WrittenCell, cell_of_word}
-use Rattle.script_words.specs.Numbers.{short_number, offset_of_word, three_numbers, Amount, amount_of_word, number_of_word}
+use Rattle.lc_base.specs.Amounts.{MoneyAmount}
+use Rattle.script_words.specs.Numbers.{short_number, offset_of_word, three_numbers, amount_of_word, number_of_word}
 
 -- ---- words of a command
 
@@ -140,7 +141,7 @@ all_read_as read limit (suc n) s = elim (next_word s) [
 ]
 
 -- all that is left are amounts
-unfoldable pub amounts : Span → Reads (List Amount)
+unfoldable pub amounts : Span → Reads (List MoneyAmount)
 amounts s = all_read_as amount_of_word limits.Amounts AMOUNT_LIMIT s
 
 -- all that is left are whole numbers

@@ -19,14 +19,15 @@ use crate::command::{OpenCatalog, Target};
 use crate::known::{Known, lacks_key, thread_number};
 use crate::scope::Scope;
 use lc_base::{
-    ByteText, CELLS, Handle, Item, Limit, LinePart, List, Place, Reason, TextFault, decimal_number,
+    Amount, ByteText, CELLS, Handle, Item, Limit, LinePart, List, Place, Reason, TextFault,
+    decimal_number,
 };
 use script_words::{
     AMOUNT_LIMIT, Categories, CommandText, DEFAULT_MAX, Format, NUMBER_LIMIT, Stretch,
-    WrittenAmount, WrittenNumber, WrittenTime, amount_of_word, behind_front, categories_of_word,
-    cell_number, cell_of_word, class_of_word, handle_of_word, is_thread_name, item_named,
-    key_of_word, mask_of_word, max_number, number_of_word, offset_of_word, quoted_of_word,
-    short_number, text_of_word, three_numbers, variable_of_word, zone_of_word,
+    WrittenNumber, WrittenTime, amount_of_word, behind_front, categories_of_word, cell_number,
+    cell_of_word, class_of_word, handle_of_word, is_thread_name, item_named, key_of_word,
+    mask_of_word, max_number, number_of_word, offset_of_word, quoted_of_word, short_number,
+    text_of_word, three_numbers, variable_of_word, zone_of_word,
 };
 use std::alloc::Global;
 
@@ -338,7 +339,7 @@ pub fn command_text(
 
 /// The amounts to the end of the line.
 #[tactic(auto, unfolding(crate::specs::Commands::amounts))]
-pub fn amounts(alloc: Global, rest: Stretch<'_>) -> Result<List<WrittenAmount>, TextFault>
+pub fn amounts(alloc: Global, rest: Stretch<'_>) -> Result<List<Amount>, TextFault>
     ensures { Gives (λ x. x) result (amounts (span rest.entry)) }
 {
     let mut amounts = Vec::new(alloc);

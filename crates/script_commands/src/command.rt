@@ -1,7 +1,7 @@
 //! The commands of a script.
 
-use lc_base::{ByteText, Handle, Item, List};
-use script_words::{Categories, CommandText, Format, WrittenAmount, WrittenNumber, WrittenTime};
+use lc_base::{Amount, ByteText, Handle, Item, List};
+use script_words::{Categories, CommandText, Format, WrittenNumber, WrittenTime};
 
 /// What a command names.
 #[derive(Debug, Drop)]
@@ -48,7 +48,7 @@ pub enum Read {
         /// The most bytes of the text.
         max: u32,
         format: Format,
-        amounts: List<WrittenAmount>,
+        amounts: List<Amount>,
     },
     /// `time MAX F DATE CLOCK WDAY YDAY OFFSET ZONE`, and `time_l H` with the same: strftime,
     /// strftime_l.

@@ -27,7 +27,7 @@ use Rattle.strptime_fields.specs.Reading.{number as read_number, longest}
 use Rattle.strptime_fields.specs.Scans.{followed}
 use Rattle.category_store.specs.Catalog.{Catalog}
 use Rattle.compiled_categories.specs.Locale.{posix_locale}
-use Rattle.script_words.specs.Numbers.{Amount}
+use Rattle.lc_base.specs.Amounts.{MoneyAmount}
 use Rattle.script_words.specs.declared.given.WrittenTime.{WrittenTime}
 use Rattle.script_commands.specs.declared.command.Read.{Read}
 use Rattle.script_commands.specs.declared.command.Read.TheVariants.{Info, Conv, Class, Upper, Lower, Money, Time, Parse}
@@ -133,7 +133,7 @@ posix_fields = refl
 
 -- ---- formats
 
-abbrev some_dollars : Amount
+abbrev some_dollars : MoneyAmount
 some_dollars = record { units = pos 123450; scale = 2 }
 
 text_of_money : of_a (Money 9 (codes "%n") (some_dollars ∷ [])) ≡ said.Text (codes "$1,234.50")

@@ -1,5 +1,5 @@
 -- What a read of an object replies (XSH nl_langinfo, localeconv, iswctype, towupper, towlower, strfmon, strftime, fprintf and strptime; the words of a refusal are our own).
-use Rattle.std.specs.Prelude.{ℕ, ℤ, Bool, List, [], ◌∷◌, ◌++◌, map, Option, Some, None, Result, Ok, Err}
+use Rattle.std.specs.Prelude.{ℕ, ℤ, Bool, List, [], ◌∷◌, ◌++◌, Option, Some, None, Result, Ok, Err}
 use Rattle.std.specs.Fmt.{decimal}
 use Rattle.std.specs.List.{flat_map}
 use Rattle.lc_base.specs.declared.item.Item.{Item}
@@ -13,7 +13,7 @@ use Rattle.messages_cat.specs.MessagesValues.{MessagesValues}
 use Rattle.time_cat.specs.declared.tm.TmRange.{TmRange}
 use Rattle.time_cat.specs.TimeValues.{TimeValues}
 use Rattle.time_cat.specs.Times.{TmValues, time_of}
-use Rattle.strfmon.specs.MoneyAmount.{MoneyAmount}
+use Rattle.lc_base.specs.Amounts.{MoneyAmount}
 use Rattle.strfmon.specs.Refusals.{MoneyRefusal}
 use Rattle.strfmon.specs.Refusals as money_refusals
 use Rattle.strfmon.specs.Money.{money}
@@ -30,7 +30,6 @@ use Rattle.langinfo.specs.Items.{info}
 use Rattle.langinfo.specs.Conv.{conv}
 use Rattle.category_store.specs.Catalog.{Catalog}
 use Rattle.category_store.specs.Library.{locale_at}
-use Rattle.script_words.specs.Numbers.{Amount}
 use Rattle.script_words.specs.declared.given.WrittenTime.{WrittenTime}
 use Rattle.script_commands.specs.declared.command.Read.{Read}
 use Rattle.script_commands.specs.declared.command.Read.TheVariants as reads
@@ -102,13 +101,6 @@ class_said (Some is) = said.Class is
 
 -- ---- strfmon
 
--- an amount, as strfmon takes it, and several
-abbrev pub amount_given : Amount → MoneyAmount
-amount_given a = record { units = a.units; scale = a.scale }
-
-abbrev pub amounts_given : List Amount → List MoneyAmount
-amounts_given amounts = map (λ (a : Amount). amount_given a) amounts
-
 -- why there is no text of money; a call that lacks memory has no reply
 abbrev pub money_refused : MoneyRefusal → Said
 money_refused (money_refusals.BadFormat at) = said.Refused (whys.BadFormat at)
@@ -119,8 +111,8 @@ abbrev pub money_text_said : Result (List ℕ) MoneyRefusal → Said
 money_text_said (Ok text) = said.Text text
 money_text_said (Err why) = money_refused why
 
-abbrev pub money_said : Catalog → Parts → ℕ → List ℕ → List Amount → Said
-money_said library object max format amounts = money_text_said (money (monetary_in library object) format (amounts_given amounts) max)
+abbrev pub money_said : Catalog → Parts → ℕ → List ℕ → List MoneyAmount → Said
+money_said library object max format amounts = money_text_said (money (monetary_in library object) format amounts max)
 
 -- ---- strftime
 

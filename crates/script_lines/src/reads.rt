@@ -6,22 +6,22 @@ ghost use Rattle.int_format.specs.Ints.{is_number};
 ghost use Rattle.langinfo.specs.Conv.{encoded};
 ghost use Rattle.langinfo.specs.Lent.{lconv_of};
 ghost use Rattle.strfmon.specs.Money.{money};
-ghost use Rattle.script_lines.specs.Reads.{ctype_in, numeric_in, monetary_in, time_in, messages_in, info_said, more_sizes, sizes_text, conv_texts, conv_numbers, fields_said, conv_said, class_said, amount_given, amounts_given, money_text_said, money_said, time_given, time_said, number_said, scanned_said, parse_said, local};
+ghost use Rattle.script_lines.specs.Reads.{ctype_in, numeric_in, monetary_in, time_in, messages_in, info_said, more_sizes, sizes_text, conv_texts, conv_numbers, fields_said, conv_said, class_said, money_text_said, money_said, time_given, time_said, number_said, scanned_said, parse_said, local};
 
 use category_store::{Library, Share};
 use ctype_classes::Ctype;
 use int_format::{IntFault, int_format};
 use langinfo::{LentConv, encoded, lent_conv, nl_langinfo};
-use lc_base::{ByteText, Category, Item, List};
+use lc_base::{Amount, ByteText, Category, Item, List};
 use mask_compose::Object;
 use messages_cat::Messages;
 use monetary_cat::Monetary;
 use numeric_cat::Numeric;
 use script_commands::Read;
 use script_out::{Said, Texts, Why, push_number};
-use script_words::{CommandText, Format, WrittenAmount, WrittenNumber, WrittenTime};
+use script_words::{CommandText, Format, WrittenNumber, WrittenTime};
 use std::alloc::{AllocError, Global};
-use strfmon::{Amount, MoneyFault, strfmon};
+use strfmon::{MoneyFault, strfmon};
 use strftime_fields::{TimeFault, Tm, TmRange, strftime};
 use strptime_fields::{Parsed, ScanFault, strptime};
 use time_cat::Time;
@@ -259,27 +259,6 @@ fn class_said(is: Option<bool>) -> Said
     }
 }
 
-/// An amount, as strfmon takes it.
-fn amount_given(amount: WrittenAmount) -> Amount
-    ensures { result ≡ amount_given amount }
-{
-    match Amount::new(amount.units(), amount.scale()) {
-        Some(amount) => amount,
-        None => unreachable!(),
-    }
-}
-
-/// The amounts, as strfmon takes them.
-fn amounts_given(alloc: Global, amounts: &[WrittenAmount]) -> Result<Vec<Amount>, AllocError>
-    ensures { IfOk result (λ given. given.items ≡ amounts_given amounts.now) }
-{
-    let mut given = Vec::with_capacity(alloc, amounts.len())?;
-    for amount in amounts {
-        given.push(amount_given(*amount))?;
-    }
-    Ok(given)
-}
-
 /// The text of amounts of money, or why there is none.
 fn money_text(
     alloc: Global,
@@ -299,25 +278,19 @@ fn money_text(
     }
 }
 
-/// What the amounts of a command reply. A single one takes no memory for its list.
+/// What the amounts of a command reply.
 fn money_said(
     alloc: Global,
     library: &Library,
     object: &Object<Share>,
     max: u32,
     format: &Format,
-    amounts: &List<WrittenAmount>,
+    amounts: &List<Amount>,
 ) -> Result<Said, AllocError>
     ensures { IfOk result (λ said. said ≡ money_said library.now object.now max format.now amounts.now) }
 {
     let values = monetary_in(library, object);
-    match amounts.as_slice() {
-        [amount] => money_text(alloc, values, max, format, &[amount_given(*amount)]),
-        amounts => {
-            let given = amounts_given(alloc, amounts)?;
-            money_text(alloc, values, max, format, given.as_slice())
-        }
-    }
+    money_text(alloc, values, max, format, amounts.as_slice())
 }
 
 /// The time that is written, or its first field out of its range.

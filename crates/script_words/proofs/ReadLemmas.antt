@@ -3,7 +3,8 @@ use Rattle.std.proofs.Common.{◌≡◌, ℕ, suc, ◌+◌, Bool, true, false, c
 use Rattle.std.specs.Prelude.{option_map}
 use Rattle.std.specs.List.{position_or_len}
 use Rattle.script_words.specs.declared.stretch.Within.TheVariants.{Bare, Quoted}
-use Rattle.script_words.specs.Spans.{is_blank, stops_bare, within_after, word_length}
+use Rattle.script_words.specs.Spans.{stops_bare, within_after, word_length}
+use Rattle.lc_base.specs.Blanks.{is_blank}
 
 -- what was read of a quoted text, and what is still read
 abbrev pub after : List ℕ → Option (List ℕ) → Option (List ℕ)

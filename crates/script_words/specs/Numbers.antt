@@ -4,6 +4,7 @@ use Rattle.std.specs.Char.{is_ascii_digit}
 use Rattle.std.specs.List.{list_all}
 use Rattle.std.specs.Str.Parse.{digits_value}
 use Rattle.script_words.specs.declared.given.TheConstants.{TIME_DIGITS, WHOLE_DIGITS, FRACTION_DIGITS, NUMBER_DIGITS}
+use Rattle.lc_base.specs.Amounts.{MoneyAmount}
 use Rattle.lc_base.specs.Cuts.{cut_at}
 use Rattle.lc_base.specs.Numbers.{few_digits}
 
@@ -30,11 +31,6 @@ three_numbers between w =
 
 -- ---- amounts of money
 
--- an amount: units / 10 ^ scale
-pub record Amount : Type 0 where
-  pub units : ℤ
-  pub scale : ℕ
-
 -- at most so many bytes, all of them digits
 abbrev pub are_digits : ℕ → List ℕ → Bool
 are_digits most ds = nat_le (length ds) most && list_all is_ascii_digit ds
@@ -49,21 +45,21 @@ signed_units true n = if nat_le n (2 ^ 63) then Some (neg_ℤ (pos n)) else None
 signed_units false n = if nat_lt n (2 ^ 63) then Some (pos n) else None
 
 -- the amount of whole digits, of which there is one at least, and fraction digits
-abbrev pub amount_of : Bool → List ℕ → List ℕ → Option Amount
+abbrev pub amount_of : Bool → List ℕ → List ℕ → Option MoneyAmount
 amount_of negative whole fraction =
     if nat_lt 0 (length whole) && are_digits WHOLE_DIGITS whole && are_digits FRACTION_DIGITS fraction
     then option_map (λ units. record { units = units; scale = length fraction }) (signed_units negative (digits_value 10 (whole ++ fraction)))
     else None
 
 -- an amount without its sign: behind a point stands one digit at least
-abbrev pub unsigned_amount : Bool → List ℕ → Option Amount
+abbrev pub unsigned_amount : Bool → List ℕ → Option MoneyAmount
 unsigned_amount negative w = elim (cut_at 46 w) [
   | None ↦ amount_of negative w []
   | Some x ↦ if length x.1 == 0 then None else amount_of negative x.0 x.1
 ]
 
 -- an amount, perhaps behind a `-`
-unfoldable pub amount_of_word : List ℕ → Option Amount
+unfoldable pub amount_of_word : List ℕ → Option MoneyAmount
 amount_of_word [] = None
 amount_of_word (c ∷ cs) = if c == 45 then unsigned_amount true cs else unsigned_amount false (c ∷ cs)
 

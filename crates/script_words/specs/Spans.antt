@@ -5,6 +5,7 @@ use Rattle.lc_base.specs.declared.place.Place.{Place}
 use Rattle.script_words.specs.declared.stretch.Stretch.{Stretch}
 use Rattle.script_words.specs.declared.stretch.Within.{Within}
 use Rattle.script_words.specs.declared.stretch.Within.TheVariants.{Bare, Quoted, Escaped}
+use Rattle.lc_base.specs.Blanks.{is_blank}
 
 -- bytes of a line, with the place of the first
 pub record Span : Type 0 where
@@ -34,10 +35,6 @@ end_of s = record { line = s.place.line; column = s.place.column + length s.byte
 -- what stands behind the first n bytes
 abbrev pub behind : ℕ → Span → Span
 behind n s = record { place = record { line = s.place.line; column = s.place.column + n }; bytes = drop n s.bytes }
-
--- a space or a tab
-abbrev pub is_blank : ℕ → Bool
-is_blank c = (c == 32) || (c == 9)
 
 -- a blank or a quote
 abbrev pub stops_bare : ℕ → Bool

@@ -3,16 +3,11 @@
 ghost use Rattle.std.specs.Prelude.{◌≡◌, ◌≤◌, not, length};
 ghost use Rattle.std.specs.List.{position_or_len};
 ghost use Rattle.script_words.specs.declared.stretch.Within.TheVariants.{Bare};
-ghost use Rattle.script_words.specs.Spans.{is_blank, stops_bare, within_after, ends_word, word_length};
+ghost use Rattle.script_words.specs.Spans.{stops_bare, within_after, ends_word, word_length};
+ghost use Rattle.lc_base.specs.Blanks.{is_blank};
 
 use crate::stretch::Within;
-
-/// Whether a byte is a space or a tab.
-fn is_blank(c: u8) -> bool
-    ensures { result ≡ is_blank c }
-{
-    c == b' ' || c == b'\t'
-}
+use lc_base::is_blank;
 
 /// How many blanks stand in front.
 pub fn blanks(bytes: &[u8]) -> usize

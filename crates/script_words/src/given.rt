@@ -84,53 +84,6 @@ impl Format {
     }
 }
 
-/// An amount of money as it is written: units / 10^scale.
-#[derive(Clone, Copy, Debug)]
-pub struct WrittenAmount {
-    units: i64,
-    scale: u8,
-}
-
-impl Model for WrittenAmount {
-    ghost use Rattle.std.specs.Prelude.{◌≤◌};
-    ghost use Rattle.script_words.specs.declared.given.TheConstants.{FRACTION_DIGITS};
-    ghost use Rattle.script_words.specs.Numbers.{Amount};
-
-    ghost Value = { Amount };
-
-    ghost view = { λ a. record { units = a.units; scale = a.scale } };
-
-    ghost invariant = { λ a. a.scale ≤ FRACTION_DIGITS };
-
-    ghost inverse = { λ a. record { units = a.units; scale = a.scale } };
-}
-
-impl WrittenAmount {
-    ghost use Rattle.script_words.specs.declared.given.TheConstants.{FRACTION_DIGITS};
-
-    /// The amount of units / 10^scale.
-    pub fn new(units: i64, scale: u8) -> WrittenAmount
-        requires { scale ≤ FRACTION_DIGITS }
-        ensures { result ≡ record { units = units; scale = scale } }
-    {
-        WrittenAmount { units, scale }
-    }
-
-    pub fn units(self) -> i64
-        ensures { result ≡ self.units }
-    {
-        self.units
-    }
-
-    /// The number of digits behind the point, at most 18.
-    pub fn scale(self) -> u8
-        ensures is { result ≡ self.scale }
-        ensures small { result ≤ FRACTION_DIGITS }
-    {
-        self.scale
-    }
-}
-
 /// A whole number as it is written, from -2^63 to 2^64 - 1.
 #[derive(Clone, Copy, Debug)]
 pub struct WrittenNumber {

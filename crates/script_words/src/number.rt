@@ -7,10 +7,8 @@ ghost use Rattle.std.specs.Str.Parse.{digits_value_after};
 ghost use Rattle.script_words.specs.declared.given.TheConstants.{FRACTION_DIGITS};
 ghost use Rattle.script_words.specs.Numbers.{short_number, offset_of_word, three_numbers, are_digits, within, signed_units, amount_of, unsigned_amount, amount_of_word, number_of, number_of_word};
 
-use crate::given::{
-    FRACTION_DIGITS, NUMBER_DIGITS, TIME_DIGITS, WHOLE_DIGITS, WrittenAmount, WrittenNumber,
-};
-use lc_base::{are_digits as all_digits, cut_at, few_digits};
+use crate::given::{FRACTION_DIGITS, NUMBER_DIGITS, TIME_DIGITS, WHOLE_DIGITS, WrittenNumber};
+use lc_base::{Amount, are_digits as all_digits, cut_at, few_digits};
 
 /// The magnitude of the least number of 64 bits.
 const MOST_UNITS: u64 = 1 << 63;
@@ -95,7 +93,7 @@ fn signed_units(negative: bool, magnitude: u64) -> Option<i64>
 
 /// The amount of whole digits and fraction digits.
 #[tactic(auto, using(crate::proofs::WordLemmas::value_append, crate::proofs::WordLemmas::no_units_behind, crate::proofs::WordLemmas::no_units, crate::proofs::WordLemmas::within_none, crate::proofs::WordLemmas::within_some))]
-fn amount_of(negative: bool, whole: &[u8], fraction: &[u8]) -> Option<WrittenAmount>
+fn amount_of(negative: bool, whole: &[u8], fraction: &[u8]) -> Option<Amount>
     ensures { result ≡ amount_of negative whole.now fraction.now }
 {
     if whole.is_empty() || !are_digits(WHOLE_DIGITS, whole) {
@@ -107,11 +105,11 @@ fn amount_of(negative: bool, whole: &[u8], fraction: &[u8]) -> Option<WrittenAmo
     let front = number_behind(MOST_UNITS, 0, whole)?;
     let magnitude = number_behind(MOST_UNITS, front, fraction)?;
     let units = signed_units(negative, magnitude)?;
-    Some(WrittenAmount::new(units, fraction.len() as u8))
+    Amount::new(units, fraction.len() as u8)
 }
 
 /// An amount without its sign.
-fn unsigned_amount(negative: bool, word: &[u8]) -> Option<WrittenAmount>
+fn unsigned_amount(negative: bool, word: &[u8]) -> Option<Amount>
     ensures { result ≡ unsigned_amount negative word.now }
 {
     match cut_at(b'.', word) {
@@ -123,7 +121,7 @@ fn unsigned_amount(negative: bool, word: &[u8]) -> Option<WrittenAmount>
 
 /// An amount, perhaps behind a `-`.
 #[tactic(auto, unfolding(crate::specs::Numbers::amount_of_word))]
-pub fn amount_of_word(word: &[u8]) -> Option<WrittenAmount>
+pub fn amount_of_word(word: &[u8]) -> Option<Amount>
     ensures { result ≡ amount_of_word word.now }
 {
     match word {

@@ -1,9 +1,9 @@
 -- Objects over one library: what they are composed of, and the categories of each (XSH newlocale, duplocale).
-use Rattle.std.specs.Prelude.{◌≡◌, ℕ, Bool, not, ◌&&◌, List, slice_get, slice_index, Option, None, Some, unwrap_or, Result, Ok, Err}
+use Rattle.std.specs.Prelude.{◌≡◌, ℕ, Bool, not, ◌&&◌, List, slice_get, Option, None, Some, unwrap_or, Result, Ok, Err}
 use Rattle.std.specs.List.{find}
 use Rattle.lc_base.specs.declared.category.Category.{Category}
 use Rattle.lc_base.specs.declared.category.Category.TheVariants.{Ctype, Numeric, Monetary, Time, Messages}
-use Rattle.lc_base.specs.Categories.{categories}
+use Rattle.lc_base.specs.Categories.{categories, number_for}
 use Rattle.lc_base.specs.Mask.{includes}
 use Rattle.lc_base.specs.Reading.{Reads, ◌>>=◌}
 use Rattle.mask_compose.specs.Parts.{Parts, part_of, composed}
@@ -41,17 +41,6 @@ abbrev pub object_in : List ℕ → Reads Shared
 object_in text = catalog_in text >>= λ library. Ok (first_object library)
 
 -- ---- newlocale
-
-abbrev pub category_index : Category → ℕ
-category_index Ctype = 0
-category_index Numeric = 1
-category_index Monetary = 2
-category_index Time = 3
-category_index Messages = 4
-
--- the name's number for a category
-abbrev pub number_for : List ℕ → Category → ℕ
-number_for ns category = slice_index ns (category_index category)
 
 -- what the name with a number offers
 abbrev pub offer_of : Catalog → ℕ → Offered

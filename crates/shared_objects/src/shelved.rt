@@ -4,10 +4,11 @@ ghost use Rattle.std.specs.Prelude.{◌≡◌, IfOk, ◌<◌};
 ghost use Rattle.std.specs.List.{find};
 ghost use Rattle.lc_base.specs.declared.category.Category.{Category};
 ghost use Rattle.category_store.specs.Library.{locale_at};
-ghost use Rattle.shared_objects.specs.Objects.{category_index, number_for, offer_of, is_lacking, lacking, picked_part, picked};
+ghost use Rattle.shared_objects.specs.Objects.{offer_of, is_lacking, lacking, picked_part, picked};
+ghost use Rattle.lc_base.specs.Categories.{number_for};
 
 use category_store::{Compiled, Library, Share};
-use lc_base::{CATEGORIES, Category, List, Mask};
+use lc_base::{CATEGORIES, Category, List, Mask, number_for};
 use mask_compose::{Object, Offer};
 use std::alloc::{AllocError, Global};
 use std::marker::Model;
@@ -138,26 +139,5 @@ fn no_category() -> Mask
     match Mask::of_bits(0) {
         Some(mask) => mask,
         None => unreachable!(),
-    }
-}
-
-/// The name's number for a category.
-fn number_for(numbers: &[u32; 5], category: Category) -> u32
-    ensures { result ≡ number_for numbers.now category }
-{
-    numbers[category_index(category)]
-}
-
-/// The place of a category in their order.
-fn category_index(category: Category) -> usize
-    ensures index { result ≡ category_index category }
-    ensures small { result < 5 }
-{
-    match category {
-        Category::Ctype => 0,
-        Category::Numeric => 1,
-        Category::Monetary => 2,
-        Category::Time => 3,
-        Category::Messages => 4,
     }
 }

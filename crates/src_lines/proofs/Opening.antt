@@ -8,7 +8,8 @@ use Rattle.src_lines.specs.declared.atom.Atom.TheVariants.{Bare, Number, Made}
 use Rattle.src_lines.specs.declared.text.RunEnd.TheVariants.{AtSeparator}
 use Rattle.src_lines.specs.declared.line.Operand.TheVariants.{Quoted}
 use Rattle.lc_base.specs.declared.reason.Reason.TheVariants.{BadEscape}
-use Rattle.src_lines.specs.Words.{is_blank, blanks}
+use Rattle.src_lines.specs.Words.{blanks}
+use Rattle.lc_base.specs.Blanks.{is_blank}
 use Rattle.src_lines.specs.Places.{Logical, place_at}
 use Rattle.src_lines.specs.Atoms.{digit, decimal, hexadecimal, octal, number, Read, number_atom, escaped, name, name_atom, atom, Item, items, items_from}
 use Rattle.src_lines.specs.Tokens.{has_bare, has_blank, skip, opens, operand, run, text}

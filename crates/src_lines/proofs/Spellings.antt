@@ -15,7 +15,8 @@ use Rattle.src_lines.specs.declared.atom.Atom.{Atom}
 use Rattle.src_lines.specs.declared.atom.Atom.TheVariants.{Bare, Number, Made}
 use Rattle.src_lines.specs.declared.text.RunEnd.TheVariants.{AtSeparator}
 use Rattle.src_lines.specs.declared.operand.TheConstants.{MAX_OPERANDS}
-use Rattle.src_lines.specs.Words.{is_blank, blanks, solid, next_word}
+use Rattle.src_lines.specs.Words.{blanks, solid, next_word}
+use Rattle.lc_base.specs.Blanks.{is_blank}
 use Rattle.src_lines.specs.Places.{Logical, place_at}
 use Rattle.src_lines.specs.Atoms.{is_bare, piece, Item, items, items_from}
 use Rattle.src_lines.specs.Shapes.{starts, stops, before_bare, behind_bare, without_last, shape}

@@ -7,7 +7,7 @@ use Rattle.src_lines.specs.declared.line.OperandPiece.{OperandPiece}
 use Rattle.src_lines.specs.declared.line.OperandPiece.TheVariants.{Byte, Name}
 use Rattle.src_lines.specs.declared.atom.Atom.{Atom}
 use Rattle.src_lines.specs.declared.atom.Atom.TheVariants.{Number, Made}
-use Rattle.src_lines.specs.Words.{is_blank}
+use Rattle.lc_base.specs.Blanks.{is_blank}
 use Rattle.src_lines.specs.Places.{place_at}
 use Rattle.src_lines.specs.Atoms.{digit, hexadecimal, number, escaped, name, name_more, items}
 use Rattle.src_lines.specs.Spelling.{hex_digit, has_meaning, spelled_name, spelled_piece, sole_line, IsPiece}

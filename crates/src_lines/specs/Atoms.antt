@@ -8,7 +8,7 @@ use Rattle.src_lines.specs.declared.line.OperandPiece.TheVariants.{Byte, Name}
 use Rattle.src_lines.specs.declared.atom.Atom.{Atom}
 use Rattle.src_lines.specs.declared.atom.Atom.TheVariants.{Bare, Number, Made}
 use Rattle.src_lines.specs.declared.atom.Notation.{Notation}
-use Rattle.src_lines.specs.Words.{is_blank}
+use Rattle.lc_base.specs.Blanks.{is_blank}
 use Rattle.src_lines.specs.Places.{Logical, place_at}
 
 -- whether an atom is this byte, bare

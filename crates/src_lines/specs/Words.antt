@@ -1,10 +1,7 @@
 -- Words of a line: what stands between blanks.
-use Rattle.std.specs.Prelude.{ℕ, ◌+◌, Bool, ◌||◌, ◌&&◌, ◌==◌, List, [], ◌∷◌, length, take, drop, codes, if◌then◌else◌}
+use Rattle.std.specs.Prelude.{ℕ, ◌+◌, Bool, ◌&&◌, ◌==◌, List, [], ◌∷◌, length, take, drop, codes, if◌then◌else◌}
 use Rattle.std.specs.Str.{bytes_eq}
-
--- a space or a tab
-abbrev pub is_blank : ℕ → Bool
-is_blank b = (b == 32) || (b == 9)
+use Rattle.lc_base.specs.Blanks.{is_blank}
 
 -- how many blanks come first
 abbrev pub blanks : List ℕ → ℕ

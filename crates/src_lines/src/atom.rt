@@ -6,8 +6,7 @@ ghost use Rattle.src_lines.specs.Rows.{line_of};
 
 use crate::line::OperandPiece;
 use crate::row::LogicalLine;
-use crate::words::is_blank;
-use lc_base::{ByteText, Reason};
+use lc_base::{ByteText, Reason, is_blank};
 use std::alloc::{AllocError, Global};
 
 /// The least part of a line that has a meaning of its own.

@@ -13,8 +13,7 @@ use crate::atom::{Atom, next_atom};
 use crate::cells::Atoms;
 use crate::pieces::Pieces;
 use crate::row::LogicalLine;
-use crate::words::is_blank;
-use lc_base::{Reason, TextFault};
+use lc_base::{Reason, TextFault, is_blank};
 use std::alloc::{AllocError, Global};
 
 /// What ends a run.

@@ -1,7 +1,9 @@
 //! Words of a line: what stands between blanks.
 
 ghost use Rattle.std.specs.Prelude.{◌≡◌, ◌+◌, ◌≤◌, length};
-ghost use Rattle.src_lines.specs.Words.{is_blank, blanks, solid, next_word, closes};
+ghost use Rattle.src_lines.specs.Words.{blanks, solid, next_word, closes};
+
+use lc_base::is_blank;
 
 /// The next word of a text.
 #[derive(Clone, Copy)]
@@ -12,13 +14,6 @@ pub struct Word<'a> {
     pub text: &'a [u8],
     /// What follows it.
     pub rest: &'a [u8],
-}
-
-/// Whether a byte is a space or a tab.
-pub fn is_blank(byte: u8) -> bool
-    ensures { result ≡ is_blank byte }
-{
-    byte == b' ' || byte == b'\t'
 }
 
 /// How many blanks come first.

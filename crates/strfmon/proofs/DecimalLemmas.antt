@@ -5,7 +5,7 @@ use Rattle.std.proofs.lemmas.List.{length-append, length-replicate}
 use Rattle.std.proofs.lemmas.Int.Digits.{length-digits_of_step, length-digits_of-le}
 use Rattle.std.specs.Int.Digits.{digits_of}
 use Rattle.digit_groups.specs.Digits.{last_digits}
-use Rattle.strfmon.specs.MoneyAmount.{MoneyAmount}
+use Rattle.lc_base.specs.Amounts.{MoneyAmount}
 use Rattle.strfmon.specs.Decimals.{rounded, digit_count, fraction_digits, fraction_kept, magnitude}
 
 pub few_powers : (e : ℕ) → e ≤ 18 → 10 ^ e ≤ 1000000000000000000

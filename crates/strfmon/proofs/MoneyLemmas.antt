@@ -9,7 +9,7 @@ use Rattle.strfmon.specs.declared.format.Piece.TheVariants.{Literal, Convert}
 use Rattle.strfmon.specs.declared.fault.MoneyFault.{MoneyFault}
 use Rattle.strfmon.specs.declared.fault.MoneyFault.TheVariants as faults
 use Rattle.strfmon.specs.Refusals.{MoneyRefusal, BadFormat, MissingAmount, TooBig}
-use Rattle.strfmon.specs.MoneyAmount.{MoneyAmount}
+use Rattle.lc_base.specs.Amounts.{MoneyAmount}
 use Rattle.std.proofs.lemmas.List.{length-append, length-replicate, append-nil, append_assoc}
 use Rattle.digit_groups.specs.Groups.{grouped}
 use Rattle.monetary_cat.specs.declared.keys.MonText.TheVariants.{MonThousandsSep}

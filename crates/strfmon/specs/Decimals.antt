@@ -3,7 +3,7 @@ use Rattle.std.specs.Prelude.{◌≡◌, ℕ, ◌+◌, ◌-◌, ◌*◌, ◌/◌
 use Rattle.std.specs.Int.Digits.{digits_of}
 use Rattle.digit_groups.specs.Digits.{last_digits}
 use Rattle.strfmon.specs.declared.decimal.Decimal.{Decimal}
-use Rattle.strfmon.specs.MoneyAmount.{MoneyAmount}
+use Rattle.lc_base.specs.Amounts.{MoneyAmount}
 
 -- n / d as a whole number: the nearest one, and of two the even one
 abbrev pub rounded : ℕ → ℕ → ℕ

@@ -1,4 +1,3 @@
-pub mod MoneyAmount
 pub mod Decimals
 pub mod Formats
 pub mod Cells

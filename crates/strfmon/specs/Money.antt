@@ -9,7 +9,7 @@ use Rattle.strfmon.specs.declared.format.Piece.{Piece}
 use Rattle.strfmon.specs.declared.format.Piece.TheVariants.{Literal, Convert}
 use Rattle.strfmon.specs.declared.fault.MoneyFault.{MoneyFault}
 use Rattle.strfmon.specs.declared.fault.MoneyFault.TheVariants as faults
-use Rattle.strfmon.specs.MoneyAmount.{MoneyAmount}
+use Rattle.lc_base.specs.Amounts.{MoneyAmount}
 use Rattle.strfmon.specs.Decimals.{whole_digits, fraction_digits}
 use Rattle.strfmon.specs.Formats.{pieces}
 use Rattle.strfmon.specs.Refusals.{MoneyRefusal, BadFormat, MissingAmount, TooBig}

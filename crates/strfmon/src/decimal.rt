@@ -2,8 +2,9 @@
 
 ghost use Rattle.std.specs.Prelude.{◌≡◌, ◌+◌, ◌^◌, ◌<◌, ◌≤◌};
 ghost use Rattle.strfmon.specs.Decimals.{rounded, digit_count, IsRounded};
+ghost use Rattle.strfmon.specs.Money.{is_negative};
 
-use crate::amount::Amount;
+use lc_base::Amount;
 
 /// An amount whose fraction is rounded.
 #[derive(Clone, Copy, Debug)]
@@ -75,6 +76,14 @@ fn rounded(n: u64, d: u64) -> u64
     } else {
         quotient + 1
     }
+}
+
+/// Whether an amount is below 0, also where it is rounded to 0.
+#[inline(always)]
+pub fn is_negative(amount: Amount) -> bool
+    ensures { result ≡ is_negative amount }
+{
+    amount.units() < 0
 }
 
 #[tactic(auto, using(crate::proofs::DecimalLemmas::part_fits))]

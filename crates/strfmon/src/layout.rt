@@ -7,14 +7,14 @@ ghost use Rattle.strfmon.specs.Decimals.{whole_digits, digit_count};
 ghost use Rattle.strfmon.specs.Looks.{look_of, parts_text};
 ghost use Rattle.strfmon.specs.Money.{precision_of, sizes_of, radix_of, fraction_text, aligned_digits, fill_count, pad_count, text_with, with_spaces, conversion_text};
 ghost use Rattle.strfmon.specs.Shown.{shown_parts};
-ghost use Rattle.strfmon.specs.MoneyAmount.{MoneyAmount};
+ghost use Rattle.lc_base.specs.Amounts.{MoneyAmount};
 ghost use Rattle.strfmon.specs.Seen.{seen};
 
-use crate::amount::Amount;
-use crate::decimal::{Decimal, decimal_of};
+use crate::decimal::{Decimal, decimal_of, is_negative};
 use crate::format::Conversion;
 use crate::look::{Look, given, look_of};
 use digit_groups::width_of;
+use lc_base::Amount;
 use monetary_cat::{MonNumber, MonText, Monetary};
 
 /// How many bytes of each kind stand round an amount, and how many there are in all.
@@ -217,7 +217,7 @@ pub fn laid_out<'a>(m: &'a Monetary, c: &Conversion, amount: Amount) -> Laid<'a>
     ensures within { result.layout.before + result.layout.fill + result.layout.after ≤ result.layout.width }
     ensures fits { result.layout.width + result.field < 2 ^ 127 }
 {
-    let negative = amount.is_negative();
+    let negative = is_negative(amount);
     let own = look_of(m, c, negative);
     let decimal = decimal_of(amount, precision_of(m, c));
     let layout = layout_of(m, c, &own, negative, decimal);

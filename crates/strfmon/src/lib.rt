@@ -8,7 +8,6 @@ ghost use Rattle.strfmon.specs.Refusals.{MoneyRefusal};
 ghost use Rattle.strfmon.specs.declared.format.Piece.{Piece};
 ghost use Rattle.strfmon.specs.declared.fault.MoneyFault.TheVariants.{TooBig, Memory};
 
-mod amount;
 mod cells;
 mod decimal;
 mod fault;
@@ -17,9 +16,9 @@ mod layout;
 mod look;
 mod write;
 
-pub use amount::Amount;
 pub use fault::MoneyFault;
 use format::{Piece, piece_of};
+pub use lc_base::Amount;
 use lc_base::ByteText;
 use monetary_cat::Monetary;
 use std::alloc::Global;

@@ -7,13 +7,13 @@ ghost use Rattle.strfmon.specs.Shown.{shown_fraction, shown_number, shown_parts}
 ghost use Rattle.strfmon.specs.Seen.{seen};
 ghost use Rattle.strfmon.specs.declared.fault.MoneyFault.TheVariants.{TooBig, Memory};
 
-use crate::amount::Amount;
 use crate::decimal::Decimal;
 use crate::fault::MoneyFault;
 use crate::format::{Conversion, is_plain, plain_conversion};
 use crate::layout::{Laid, laid_out, radix_of, sizes_of};
 use crate::look::Look;
 use digit_groups::{write_before, write_digits, write_grouped};
+use lc_base::Amount;
 use monetary_cat::{MonText, Monetary};
 
 /// How many bytes align an amount: spaces before its look, fill bytes before its number, spaces

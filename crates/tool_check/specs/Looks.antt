@@ -8,7 +8,8 @@ use Rattle.lc_base.specs.Lines.{lines_of, ended}
 use Rattle.tool_check.specs.declared.looks.Look.{Look}
 use Rattle.tool_check.specs.declared.looks.Look.TheVariants.{Outside, Section}
 use Rattle.tool_check.specs.declared.looks.Passed.{Passed}
-use Rattle.tool_check.specs.Texts.{is_space, from_word, is_alone, operand, from_mark}
+use Rattle.tool_check.specs.Texts.{from_word, is_alone, operand, from_mark}
+use Rattle.lc_base.specs.Blanks.{is_blank}
 
 -- the looks in their order: what stands outside of sections, and each category
 abbrev pub look_at : ℕ → Look
@@ -45,7 +46,7 @@ closes name line = is_there_alone name (operand (codes "END") line)
 -- a sign, which is one byte from 0x21 to 0x7E, and blanks
 abbrev pub is_sign : List ℕ → Bool
 is_sign [] = false
-is_sign (c ∷ blanks) = nat_le 33 c && nat_le c 126 && list_all is_space blanks
+is_sign (c ∷ blanks) = nat_le 33 c && nat_le c 126 && list_all is_blank blanks
 
 -- whether what stands behind a word is there and is one sign
 abbrev pub is_sign_operand : Option (List ℕ) → Bool

@@ -3,9 +3,10 @@
 ghost use Rattle.std.specs.Prelude.{◌≡◌, not};
 ghost use Rattle.std.specs.List.{list_all, position_or_len};
 ghost use Rattle.std.specs.Option.{option_copied};
-ghost use Rattle.tool_check.specs.Texts.{is_blank, is_space, from_word, is_alone, is_charmap, behind_blank, operand, from_mark};
+ghost use Rattle.tool_check.specs.Texts.{is_blank_or_return, from_word, is_alone, is_charmap, behind_blank, operand, from_mark};
+ghost use Rattle.lc_base.specs.Blanks.{is_blank};
 
-use lc_base::{after, next_line};
+use lc_base::{after, is_blank, next_line};
 
 /// What a text begins with that an editor wrote in UTF-8 with a mark.
 const BYTE_ORDER_MARK: &[u8] = b"\xef\xbb\xbf";
@@ -46,7 +47,7 @@ fn behind_blank(text: &[u8]) -> Option<&[u8]>
     ensures { option_copied result ≡ behind_blank text.now }
 {
     match text {
-        [first, rest @ ..] if is_blank(*first) => Some(rest),
+        [first, rest @ ..] if is_blank_or_return(*first) => Some(rest),
         _ => None,
     }
 }
@@ -57,7 +58,7 @@ pub fn from_word(line: &[u8]) -> &[u8]
 {
     let mut rest = line;
     while let [first, others @ ..] = rest {
-        if !is_blank(*first) {
+        if !is_blank_or_return(*first) {
             return rest;
         }
         rest = others;
@@ -77,6 +78,24 @@ pub fn from_mark(line: &[u8]) -> &[u8]
 
 /// Whether bytes are all blanks.
 fn are_blank(bytes: &[u8]) -> bool
+    ensures { result ≡ list_all is_blank_or_return bytes.now }
+{
+    for byte in bytes {
+        if !is_blank_or_return(*byte) {
+            return false;
+        }
+    }
+    true
+}
+
+fn is_blank_or_return(byte: u8) -> bool
+    ensures { result ≡ is_blank_or_return byte }
+{
+    is_blank(byte) || byte == b'\r'
+}
+
+/// Whether bytes are all spaces and tabs.
+pub fn are_spaces(bytes: &[u8]) -> bool
     ensures { result ≡ list_all is_blank bytes.now }
 {
     for byte in bytes {
@@ -85,28 +104,4 @@ fn are_blank(bytes: &[u8]) -> bool
         }
     }
     true
-}
-
-fn is_blank(byte: u8) -> bool
-    ensures { result ≡ is_blank byte }
-{
-    byte == b' ' || byte == b'\t' || byte == b'\r'
-}
-
-/// Whether bytes are all spaces and tabs.
-pub fn are_spaces(bytes: &[u8]) -> bool
-    ensures { result ≡ list_all is_space bytes.now }
-{
-    for byte in bytes {
-        if !is_space(*byte) {
-            return false;
-        }
-    }
-    true
-}
-
-fn is_space(byte: u8) -> bool
-    ensures { result ≡ is_space byte }
-{
-    byte == b' ' || byte == b'\t'
 }

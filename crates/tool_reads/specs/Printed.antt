@@ -10,7 +10,6 @@ use Rattle.numeric_cat.specs.NumericValues.{NumericValues}
 use Rattle.monetary_cat.specs.MonetaryValues.{MonetaryValues}
 use Rattle.time_cat.specs.TimeValues.{TimeValues}
 use Rattle.time_cat.specs.Times.{TmValues}
-use Rattle.strfmon.specs.MoneyAmount.{MoneyAmount}
 use Rattle.strfmon.specs.Money.{money}
 use Rattle.strftime_fields.specs.Answers.{answer}
 use Rattle.int_format.specs.Ints.{at_most, ints}
@@ -18,7 +17,7 @@ use Rattle.time_cat.specs.declared.parsed.Parsed.{Parsed}
 use Rattle.strptime_fields.specs.Scans.{Scanned, scan}
 use Rattle.langinfo.specs.declared.conv.Lconv.{Lconv}
 use Rattle.lc_base.specs.declared.item.Item.{Item}
-use Rattle.script_words.specs.Numbers.{Amount, amount_of_word, number_of_word}
+use Rattle.script_words.specs.Numbers.{amount_of_word, number_of_word}
 use Rattle.lc_base.specs.Tables.{first_named}
 use Rattle.script_words.specs.Tables.{items_table}
 use Rattle.lc_base.specs.Numbers.{decimal_number}
@@ -32,13 +31,9 @@ most = 1048576
 
 -- ---- formats
 
--- amounts, as strfmon takes them
-abbrev pub amount_given : List ℕ → Option MoneyAmount
-amount_given word = option_map (λ (a : Amount). record { units = a.units; scale = a.scale }) (amount_of_word word)
-
 -- the line of a format with amounts
 abbrev pub money_line : MonetaryValues → List ℕ → List (List ℕ) → Defined (List ℕ)
-money_line values format words = and_then (all_of amount_given words) (λ amounts. line_of (money values format amounts most))
+money_line values format words = and_then (all_of amount_of_word words) (λ amounts. line_of (money values format amounts most))
 
 -- the line of a format with whole numbers
 abbrev pub number_line : NumericValues → List ℕ → List (List ℕ) → Defined (List ℕ)

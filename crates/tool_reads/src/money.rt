@@ -4,7 +4,8 @@ ghost use Rattle.std.specs.Prelude.{◌≡◌, ℕ, List, Result, map};
 ghost use Rattle.strfmon.specs.Refusals.{MoneyRefusal};
 ghost use Rattle.strfmon.specs.Money.{Refuses};
 ghost use Rattle.tool_reads.specs.Answers.{Answers, Tells, all_of, line_of};
-ghost use Rattle.tool_reads.specs.Printed.{amount_given, money_line};
+ghost use Rattle.tool_reads.specs.Printed.{money_line};
+ghost use Rattle.script_words.specs.Numbers.{amount_of_word};
 
 use crate::format_fault::{TEXT_MOST, size_problem, spot_problem, with_newline};
 use crate::wrong_word::usage_problem;
@@ -57,21 +58,14 @@ fn money_problem(alloc: Global, format: &[u8], fault: MoneyFault) -> Problem
 /// The amounts that words are.
 #[tactic(auto, using(crate::proofs::AnswerLemmas::one_more_value, crate::proofs::AnswerLemmas::wrong_value, crate::proofs::AnswerLemmas::last_value, crate::proofs::AnswerLemmas::told))]
 fn amounts_of(alloc: Global, words: &[&str]) -> Result<Vec<Amount>, Problem>
-    ensures { Answers (λ amounts. amounts.items) result (all_of amount_given (map (λ w. w.now) words.entry.now)) }
+    ensures { Answers (λ amounts. amounts.items) result (all_of amount_of_word (map (λ w. w.now) words.entry.now)) }
 {
     let mut amounts = Vec::new(alloc);
     for word in words {
-        match amount_of(word) {
+        match amount_of_word(word.as_bytes()) {
             Some(amount) => amounts.push(amount)?,
             None => return Err(usage_problem(alloc, word.as_bytes(), WANTED)),
         }
     }
     Ok(amounts)
-}
-
-fn amount_of(word: &str) -> Option<Amount>
-    ensures { result ≡ amount_given word.now }
-{
-    let written = amount_of_word(word.as_bytes())?;
-    Amount::new(written.units(), written.scale())
 }

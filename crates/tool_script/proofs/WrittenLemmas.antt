@@ -11,7 +11,8 @@ use Rattle.lc_base.specs.Reading.{Reads, ◌>>=◌}
 use Rattle.script_words.specs.declared.stretch.Within.TheVariants.{Bare}
 use Rattle.script_words.specs.declared.table.Directive.{Directive}
 use Rattle.script_words.specs.declared.table.Directive.TheVariants as directives
-use Rattle.script_words.specs.Spans.{Span, whole_line, is_blank, word_length, next_word}
+use Rattle.script_words.specs.Spans.{Span, whole_line, word_length, next_word}
+use Rattle.lc_base.specs.Blanks.{is_blank}
 use Rattle.lc_base.specs.Tables.{first_named}
 use Rattle.script_words.specs.Tables.{directives_table}
 use Rattle.script_commands.specs.declared.command.Command.{Command}

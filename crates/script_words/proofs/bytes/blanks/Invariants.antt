@@ -1,6 +1,6 @@
 use Rattle.std.proofs.Common.{◌≡◌, ◌+◌, drop, not}
 use Rattle.std.specs.List.{position_or_len}
-use Rattle.script_words.specs.Spans.{is_blank}
+use Rattle.lc_base.specs.Blanks.{is_blank}
 use Rattle.script_words.proofs.bytes.blanks.Given as goal
 
 abbrev pub invariant-loop-i : goal.invariant-loop-i

@@ -1,7 +1,6 @@
 //! Amounts of money.
 
 ghost use Rattle.std.specs.Prelude.{◌≡◌, ◌≤◌, ◌↔◌, IsSome, IfSome};
-ghost use Rattle.strfmon.specs.Money.{is_negative};
 
 use std::marker::Model;
 
@@ -14,7 +13,7 @@ pub struct Amount {
 
 impl Model for Amount {
     ghost use Rattle.std.specs.Prelude.{◌≤◌};
-    ghost use Rattle.strfmon.specs.MoneyAmount.{MoneyAmount};
+    ghost use Rattle.lc_base.specs.Amounts.{MoneyAmount};
 
     ghost Value = { MoneyAmount };
 
@@ -29,8 +28,7 @@ impl Amount {
     /// units / 10^scale. `None` exactly where scale is over 18.
     pub fn new(units: i64, scale: u8) -> Option<Amount>
         ensures some { IsSome result ↔ (scale ≤ 18) }
-        ensures units { IfSome result (λ a. a.units ≡ units) }
-        ensures scale { IfSome result (λ a. a.scale ≡ scale) }
+        ensures is { IfSome result (λ a. a ≡ record { units = units; scale = scale }) }
     {
         if scale > 18 {
             return None;
@@ -38,19 +36,15 @@ impl Amount {
         Some(Amount { units, scale })
     }
 
-    pub(crate) fn units(self) -> i64
+    /// The units.
+    pub fn units(self) -> i64
         ensures { result ≡ self.units }
     {
         self.units
     }
 
-    pub(crate) fn is_negative(self) -> bool
-        ensures { result ≡ is_negative self }
-    {
-        self.units < 0
-    }
-
-    pub(crate) fn scale(self) -> u8
+    /// The number of digits behind the point, at most 18.
+    pub fn scale(self) -> u8
         ensures is { result ≡ self.scale }
         ensures small { result ≤ 18 }
     {
