@@ -51,9 +51,9 @@ pub trait Categories {
         ensures { result.now ≡ messages_of self.now };
 }
 
-/// The categories of a locale by themselves.
-#[derive(Drop)]
-pub struct Given<'a> {
+/// The categories of a locale, lent.
+#[derive(Clone, Copy)]
+pub struct LentCategories<'a> {
     pub ctype: &'a Ctype,
     pub numeric: &'a Numeric,
     pub monetary: &'a Monetary,
@@ -61,7 +61,7 @@ pub struct Given<'a> {
     pub messages: &'a Messages,
 }
 
-impl<'a> Categories for Given<'a> {
+impl<'a> Categories for LentCategories<'a> {
     ghost ctype_of = { λ g. g.ctype.now };
 
     ghost numeric_of = { λ g. g.numeric.now };

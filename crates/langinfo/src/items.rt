@@ -7,7 +7,7 @@ ghost use Rattle.monetary_cat.specs.declared.keys.MonText.TheVariants as texts;
 ghost use Rattle.monetary_cat.specs.declared.keys.MonNumber.TheVariants as numbers;
 ghost use Rattle.langinfo.specs.Items.{info, currency, sign};
 
-use crate::categories::{Categories, Given};
+use crate::categories::{Categories, LentCategories};
 use crate::keyword::{Keyword, keyword_of};
 use ctype_classes::Ctype;
 use lc_base::{ByteText, Item};
@@ -32,7 +32,7 @@ pub fn nl_langinfo(
 ) -> Result<ByteText, AllocError>
     ensures { IfOk result (λ t. t ≡ info ctype.now numeric.now monetary.now time.now messages.now item) }
 {
-    let given = Given {
+    let given = LentCategories {
         ctype,
         numeric,
         monetary,

@@ -6,6 +6,6 @@ mod conv;
 mod items;
 mod keyword;
 
-pub use categories::Categories;
+pub use categories::{Categories, LentCategories};
 pub use conv::{Lconv, LentConv, encoded, lent_conv, localeconv};
 pub use items::{item_text, nl_langinfo};

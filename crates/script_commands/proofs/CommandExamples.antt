@@ -6,7 +6,7 @@ use Rattle.lc_base.specs.declared.reason.Reason.{Reason}
 use Rattle.lc_base.specs.declared.reason.Reason.TheVariants as reasons
 use Rattle.lc_base.specs.declared.reason.LinePart.TheVariants as parts
 use Rattle.lc_base.specs.Reading.{Reads}
-use Rattle.script_words.specs.declared.categories.Categories.TheVariants as chosen
+use Rattle.script_words.specs.declared.categories.CategoryArgument.TheVariants as chosen
 use Rattle.lc_base.specs.declared.item.Item.TheVariants as items
 use Rattle.script_commands.specs.declared.command.Target.TheVariants as targets
 use Rattle.script_commands.specs.declared.command.Command.{Command}

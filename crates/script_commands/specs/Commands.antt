@@ -17,7 +17,7 @@ use Rattle.script_commands.specs.declared.command.Read.TheVariants.{Info, Conv, 
 use Rattle.script_commands.specs.declared.command.Target.{Target}
 use Rattle.script_commands.specs.declared.command.Target.TheVariants.{Global, Variable, Handle}
 use Rattle.script_words.specs.declared.given.TheConstants.{DEFAULT_MAX, AMOUNT_LIMIT, FORMAT_LIMIT, NUMBER_LIMIT, TEXT_LIMIT}
-use Rattle.script_words.specs.declared.given.WrittenTime.{WrittenTime}
+use Rattle.script_words.specs.declared.given.UncheckedTime.{UncheckedTime}
 use Rattle.script_commands.specs.declared.known.Known.{Known}
 use Rattle.script_commands.specs.Known.{lacks_key, thread_number}
 use Rattle.script_words.specs.Names.{is_thread_name}
@@ -157,7 +157,7 @@ unfoldable pub zone : Span → Reads (List ℕ × Span)
 zone s = if is_over s then Ok ([], s) else read_as zone_of_word s
 
 -- a date, a clock, the days of the week and of the year, and the zone; and what follows them
-unfoldable pub moment : Span → Reads (WrittenTime × Span)
+unfoldable pub moment : Span → Reads (UncheckedTime × Span)
 moment s = do
   date ← read_as (three_numbers 45) s
   clock ← read_as (three_numbers 58) date.1

@@ -23,8 +23,8 @@ use lc_base::{
     decimal_number,
 };
 use script_words::{
-    AMOUNT_LIMIT, Categories, CommandText, DEFAULT_MAX, Format, NUMBER_LIMIT, Stretch,
-    WrittenNumber, WrittenTime, amount_of_word, behind_front, categories_of_word, cell_number,
+    AMOUNT_LIMIT, CategoryArgument, CommandText, DEFAULT_MAX, Format, NUMBER_LIMIT, Stretch,
+    UncheckedTime, WrittenNumber, amount_of_word, behind_front, categories_of_word, cell_number,
     cell_of_word, class_of_word, handle_of_word, is_thread_name, item_named, key_of_word,
     mask_of_word, max_number, number_of_word, offset_of_word, quoted_of_word, short_number,
     text_of_word, three_numbers, variable_of_word, zone_of_word,
@@ -103,7 +103,7 @@ pub fn locale(alloc: Global, rest: Stretch<'_>) -> Result<(ByteText, Stretch<'_>
 
 /// The categories of a setlocale, and what follows them.
 #[tactic(auto, unfolding(crate::specs::Commands::read_as))]
-pub fn categories(rest: Stretch<'_>) -> Result<(Categories, Stretch<'_>), TextFault>
+pub fn categories(rest: Stretch<'_>) -> Result<(CategoryArgument, Stretch<'_>), TextFault>
     ensures { Gives (λ x. (x.0, span x.1)) result (read_as categories_of_word (span rest.entry)) }
 {
     let (word, rest) = argument(rest)?;
@@ -433,7 +433,7 @@ fn zone(alloc: Global, rest: Stretch<'_>) -> Result<(ByteText, Stretch<'_>), Tex
 
 /// A date, a clock, the days of the week and of the year, and the zone; and what follows them.
 #[tactic(auto, unfolding(crate::specs::Commands::moment))]
-pub fn moment(alloc: Global, rest: Stretch<'_>) -> Result<(WrittenTime, Stretch<'_>), TextFault>
+pub fn moment(alloc: Global, rest: Stretch<'_>) -> Result<(UncheckedTime, Stretch<'_>), TextFault>
     ensures { Gives (λ x. (x.0, span x.1)) result (moment (span rest.entry)) }
 {
     let ((year, mon, mday), rest) = numbers(b'-', rest)?;
@@ -442,7 +442,7 @@ pub fn moment(alloc: Global, rest: Stretch<'_>) -> Result<(WrittenTime, Stretch<
     let (yday, rest) = number(rest)?;
     let (offset, rest) = offset(rest)?;
     let (zone, rest) = zone(alloc, rest)?;
-    let time = WrittenTime {
+    let time = UncheckedTime {
         year,
         mon,
         mday,

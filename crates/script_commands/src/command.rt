@@ -1,7 +1,7 @@
 //! The commands of a script.
 
 use lc_base::{Amount, ByteText, Handle, Item, List};
-use script_words::{Categories, CommandText, Format, WrittenNumber, WrittenTime};
+use script_words::{CategoryArgument, CommandText, Format, UncheckedTime, WrittenNumber};
 
 /// What a command names.
 #[derive(Debug, Drop)]
@@ -56,7 +56,7 @@ pub enum Read {
         /// The most bytes of the text.
         max: u32,
         format: Format,
-        time: WrittenTime,
+        time: UncheckedTime,
     },
     /// `number MAX F NUMBERS`, `number_l H MAX F NUMBERS`: printf's whole numbers.
     Number {
@@ -106,12 +106,12 @@ pub enum Command {
     /// `setlocale CAT LOC`: setlocale.
     Setlocale {
         /// What is set.
-        categories: Categories,
+        categories: CategoryArgument,
         /// The name of the locale.
         locale: ByteText,
     },
     /// `setlocale CAT`: setlocale that asks for the name.
-    LocaleName(Categories),
+    LocaleName(CategoryArgument),
     /// `install KEY`: the later version with this key is what its name means from now on.
     Install(ByteText),
     /// `post K H`: a handle is put into a cell of the thread.

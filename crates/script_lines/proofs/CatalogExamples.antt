@@ -14,7 +14,7 @@ use Rattle.lc_base.specs.declared.handle.Named.TheVariants.{Of, Global}
 use Rattle.handle_table.specs.declared.op.Refusal.TheVariants as refusals
 use Rattle.handle_table.specs.Entry as table
 use Rattle.handle_table.specs.Entry.{Setting, History}
-use Rattle.script_words.specs.declared.categories.Categories.TheVariants.{All}
+use Rattle.script_words.specs.declared.categories.CategoryArgument.TheVariants.{All}
 use Rattle.script_out.specs.declared.output.OutLine.{OutLine}
 use Rattle.script_out.specs.declared.output.Places.TheVariants as places
 use Rattle.script_out.specs.declared.output.Why.{Why}

@@ -9,8 +9,8 @@ use Rattle.handle_table.specs.Entry.{History, Setting}
 use Rattle.handle_table.specs.History.{sets, global, selection}
 use Rattle.handle_table.specs.Answer.{answer, own}
 use Rattle.script_commands.specs.declared.command.Read.{Read}
-use Rattle.script_words.specs.declared.categories.Categories.{Categories}
-use Rattle.script_words.specs.declared.categories.Categories.TheVariants.{All}
+use Rattle.script_words.specs.declared.categories.CategoryArgument.{CategoryArgument}
+use Rattle.script_words.specs.declared.categories.CategoryArgument.TheVariants.{All}
 use Rattle.script_out.specs.declared.output.OutLine.{OutLine}
 use Rattle.script_out.specs.declared.output.Places.TheVariants as places
 use Rattle.script_out.specs.declared.output.Said.{Said}
@@ -79,7 +79,7 @@ global_leaves c library books later at H caller read number version object reply
       }),
     )
 
-pub name_leaves : (c : Setting) (library : Catalog) (books : Books) (later : History → History → Type 0) (at : History → Type 0) (H : History) (caller : Caller) (categories : Categories) (version : ℕ) (object : Parts) (name : List ℕ) (l : OutLine)
+pub name_leaves : (c : Setting) (library : Catalog) (books : Books) (later : History → History → Type 0) (at : History → Type 0) (H : History) (caller : Caller) (categories : CategoryArgument) (version : ℕ) (object : Parts) (name : List ℕ) (l : OutLine)
     → Finds c later at H version object → name ≡ object_name library object categories → l ≡ line caller places.None (Some version) (said.Name name)
     → LeavesLine c library books later at H caller (Ok (AsksName categories)) l
 name_leaves c library books later at H caller categories version object name l found named printed = (
@@ -97,7 +97,7 @@ name_leaves c library books later at H caller categories version object name l f
 
 -- ---- calls
 
-pub call_leaves : (c : Setting) (library : Catalog) (books : Books) (later : History → History → Type 0) (at : History → Type 0) (H : History) (caller : Caller) (categories : Categories) (op : table.Op) (number place : ℕ) (r : table.Reply) (l : OutLine)
+pub call_leaves : (c : Setting) (library : Catalog) (books : Books) (later : History → History → Type 0) (at : History → Type 0) (H : History) (caller : Caller) (categories : CategoryArgument) (op : table.Op) (number place : ℕ) (r : table.Reply) (l : OutLine)
     → caller.thread ≡ number → Answers c later at number H op place r → l ≡ placed_line library place caller categories r
     → LeavesLine c library books later at H caller (Ok (Calls categories op)) l
 call_leaves c library books later at H caller categories op number place r l own answered printed =

@@ -28,7 +28,7 @@ use Rattle.strptime_fields.specs.Scans.{followed}
 use Rattle.category_store.specs.Catalog.{Catalog}
 use Rattle.compiled_categories.specs.Locale.{posix_locale}
 use Rattle.lc_base.specs.Amounts.{MoneyAmount}
-use Rattle.script_words.specs.declared.given.WrittenTime.{WrittenTime}
+use Rattle.script_words.specs.declared.given.UncheckedTime.{UncheckedTime}
 use Rattle.script_commands.specs.declared.command.Read.{Read}
 use Rattle.script_commands.specs.declared.command.Read.TheVariants.{Info, Conv, Class, Upper, Lower, Money, Time, Parse}
 use Rattle.script_out.specs.declared.output.Said.{Said}
@@ -153,7 +153,7 @@ money_wrong : of_a (Money 0 (codes "%n %Q") []) ≡ said.Refused (whys.BadFormat
 unfolding separated separators last_digits flags_behind number_behind conversion piece pieces cell look_of text_with pieces_text missing
 money_wrong = refl
 
-abbrev noon : ℤ → WrittenTime
+abbrev noon : ℤ → UncheckedTime
 noon mon = record { year = pos 2021; mon = mon; mday = pos 3; hour = pos 12; min = pos 0; sec = pos 0; wday = pos 0; yday = pos 2; offset = Some (negsuc 89); zone = codes "X" }
 
 text_of_time : of_posix (Time 1024 (codes "%F %z %Z") (noon (pos 1))) ≡ said.Text (codes "2021-01-03 -0130 X")

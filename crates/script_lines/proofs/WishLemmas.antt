@@ -11,8 +11,8 @@ use Rattle.lc_base.specs.declared.handle.Named.{Named}
 use Rattle.handle_table.specs.Entry as table
 use Rattle.handle_table.specs.Entry.{Setting}
 use Rattle.handle_table.specs.Table.{Fits}
-use Rattle.script_words.specs.declared.categories.Categories.{Categories}
-use Rattle.script_words.specs.declared.categories.Categories.TheVariants as categories
+use Rattle.script_words.specs.declared.categories.CategoryArgument.{CategoryArgument}
+use Rattle.script_words.specs.declared.categories.CategoryArgument.TheVariants as categories
 use Rattle.script_commands.specs.declared.command.Command.{Command}
 use Rattle.script_commands.specs.declared.command.Command.TheVariants as commands
 use Rattle.script_commands.specs.declared.command.OpenCatalog.{OpenCatalog}
@@ -87,7 +87,7 @@ after_step : {A B : Type 0} (P : B → Type 0) (r : Result A Why) (f : A → Res
 after_step P (Ok x) f h = h x refl
 after_step P (Err why) f h = tt
 
-call_may : (may : table.Op → Type 0) (chosen : Categories) (asks : Asks) → IfOk asks may → IfOk (called chosen asks) (Fitting may)
+call_may : (may : table.Op → Type 0) (chosen : CategoryArgument) (asks : Asks) → IfOk asks may → IfOk (called chosen asks) (Fitting may)
 call_may may chosen (Ok op) fits = fits
 call_may may chosen (Err why) fits = tt
 

@@ -13,8 +13,8 @@ use Rattle.handle_table.specs.Entry.{History, Setting}
 use Rattle.handle_table.specs.History.{sets, global, selection}
 use Rattle.handle_table.specs.Answer.{answer, own}
 use Rattle.script_commands.specs.declared.command.Read.{Read}
-use Rattle.script_words.specs.declared.categories.Categories.{Categories}
-use Rattle.script_words.specs.declared.categories.Categories.TheVariants.{All}
+use Rattle.script_words.specs.declared.categories.CategoryArgument.{CategoryArgument}
+use Rattle.script_words.specs.declared.categories.CategoryArgument.TheVariants.{All}
 use Rattle.script_out.specs.declared.output.OutLine.{OutLine}
 use Rattle.script_out.specs.declared.output.Why.{Why}
 use Rattle.script_out.specs.declared.output.Said.TheVariants as said
@@ -87,7 +87,7 @@ reads c library m at read (Some object) = without_entry m.seen (object_line libr
 reads c library m at read None = without_entry m.first (read_line c library m.first at read None)
 
 -- the name of the global locale with its version
-abbrev pub asks_name : Setting → Catalog → Moments → Caller → Categories → Outcome
+abbrev pub asks_name : Setting → Catalog → Moments → Caller → CategoryArgument → Outcome
 asks_name c library m at categories = without_entry m.first (name_line c library m.first at categories)
 
 -- what a wish asks of the catalogs: a catopen goes by the thread's own object, or by the global locale

@@ -4,7 +4,7 @@ use Rattle.mask_compose.specs.Parts.{Parts}
 use Rattle.category_store.specs.Catalog.{Catalog}
 use Rattle.handle_table.specs.Entry as table
 use Rattle.handle_table.specs.Entry.{History}
-use Rattle.script_words.specs.declared.categories.Categories.{Categories}
+use Rattle.script_words.specs.declared.categories.CategoryArgument.{CategoryArgument}
 use Rattle.script_commands.specs.declared.command.Read.{Read}
 use Rattle.script_out.specs.declared.output.OutLine.{OutLine}
 use Rattle.script_out.specs.declared.output.Places.{Places}
@@ -18,7 +18,7 @@ use Rattle.script_lines.specs.Reads.{local}
 -- ---- replies
 
 -- the printed form of a reply of the table; a change of the global locale prints the name of what the command chose
-abbrev pub shown : Catalog → Categories → table.Reply → Said
+abbrev pub shown : Catalog → CategoryArgument → table.Reply → Said
 shown library categories (table.Made h) = said.Handle h
 shown library categories table.Freed = said.Freed
 shown library categories (table.Was former now) = said.Was former
@@ -63,11 +63,11 @@ abbrev pub plain_line : Caller → Said → OutLine
 plain_line at reply = line at places.None None reply
 
 -- the line of an entry at a place
-abbrev pub placed_line : Catalog → ℕ → Caller → Categories → table.Reply → OutLine
+abbrev pub placed_line : Catalog → ℕ → Caller → CategoryArgument → table.Reply → OutLine
 placed_line library place at categories reply = line at (places.One place) (version_made reply) (shown library categories reply)
 
 -- the line of the next entry
-abbrev pub entry_line : Catalog → History → Caller → Categories → table.Reply → OutLine
+abbrev pub entry_line : Catalog → History → Caller → CategoryArgument → table.Reply → OutLine
 entry_line library H at categories reply = placed_line library (length H) at categories reply
 
 -- the line of a read of an object
@@ -82,5 +82,5 @@ held_line library hold release at read object = line at (places.Two hold release
 abbrev pub global_read_line : Catalog → Caller → Read → ℕ → Parts → OutLine
 global_read_line library at read version object = line at places.None (Some version) (local library object read)
 
-abbrev pub global_name_line : Catalog → Caller → Categories → ℕ → Parts → OutLine
+abbrev pub global_name_line : Catalog → Caller → CategoryArgument → ℕ → Parts → OutLine
 global_name_line library at categories version object = line at places.None (Some version) (said.Name (object_name library object categories))

@@ -9,8 +9,8 @@ use Rattle.handle_table.specs.History.{sets, global, selection}
 use Rattle.handle_table.specs.Answer.{answer, entry, own}
 use Rattle.catalog_handles.specs.Entry as catalogs
 use Rattle.script_commands.specs.declared.command.Read.{Read}
-use Rattle.script_words.specs.declared.categories.Categories.{Categories}
-use Rattle.script_words.specs.declared.categories.Categories.TheVariants.{All}
+use Rattle.script_words.specs.declared.categories.CategoryArgument.{CategoryArgument}
+use Rattle.script_words.specs.declared.categories.CategoryArgument.TheVariants.{All}
 use Rattle.script_out.specs.declared.output.OutLine.{OutLine}
 use Rattle.script_out.specs.declared.output.Why.{Why}
 use Rattle.script_out.specs.declared.output.Said.TheVariants as said
@@ -33,7 +33,7 @@ abbrev pub with_call : Setting → History → ℕ → table.Op → History
 with_call c H thread op = entry c H thread op ∷ H
 
 -- a call, whose line prints its answer
-abbrev pub calls : Setting → Catalog → History → Caller → Categories → table.Op → Outcome
+abbrev pub calls : Setting → Catalog → History → Caller → CategoryArgument → table.Op → Outcome
 calls c library H at categories op = record {
   history = with_call c H at.thread op;
   line = entry_line library H at categories (answer c H at.thread op);
@@ -60,7 +60,7 @@ read_line c library H at read (Some object) = object_line library at read object
 read_line c library H at read None = global_read_line library at read (sets H) (global c H)
 
 -- the name of the global locale with its version, whatever the thread has selected
-abbrev pub name_line : Setting → Catalog → History → Caller → Categories → OutLine
+abbrev pub name_line : Setting → Catalog → History → Caller → CategoryArgument → OutLine
 name_line c library H at categories = global_name_line library at categories (sets H) (global c H)
 
 -- what a wish asks of the catalogs, what they answer after their history, and their history then

@@ -30,7 +30,7 @@ use Rattle.langinfo.specs.Items.{info}
 use Rattle.langinfo.specs.Conv.{conv}
 use Rattle.category_store.specs.Catalog.{Catalog}
 use Rattle.category_store.specs.Library.{locale_at}
-use Rattle.script_words.specs.declared.given.WrittenTime.{WrittenTime}
+use Rattle.script_words.specs.declared.given.UncheckedTime.{UncheckedTime}
 use Rattle.script_commands.specs.declared.command.Read.{Read}
 use Rattle.script_commands.specs.declared.command.Read.TheVariants as reads
 use Rattle.script_out.specs.declared.output.Said.{Said}
@@ -117,7 +117,7 @@ money_said library object max format amounts = money_text_said (money (monetary_
 -- ---- strftime
 
 -- the time that is written, or its first field out of its range
-abbrev pub time_given : WrittenTime → Result TmValues TmRange
+abbrev pub time_given : UncheckedTime → Result TmValues TmRange
 time_given t = time_of t.year t.mon t.mday t.hour t.min t.sec t.wday t.yday t.offset t.zone
 
 -- why a time has no text
@@ -134,7 +134,7 @@ abbrev pub moment_said : TimeValues → ℕ → List ℕ → Result TmValues TmR
 moment_said values max format (Ok tm) = time_text_said (answer values tm format max)
 moment_said values max format (Err range) = said.Refused (whys.TmRange range.field)
 
-abbrev pub time_said : Catalog → Parts → ℕ → List ℕ → WrittenTime → Said
+abbrev pub time_said : Catalog → Parts → ℕ → List ℕ → UncheckedTime → Said
 time_said library object max format t = moment_said (time_in library object) max format (time_given t)
 
 -- ---- fprintf of whole numbers

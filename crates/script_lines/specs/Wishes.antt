@@ -12,8 +12,8 @@ use Rattle.lc_base.specs.declared.handle.Named.TheVariants as names
 use Rattle.handle_table.specs.declared.op.Refusal.TheVariants as refusals
 use Rattle.handle_table.specs.Entry as table
 use Rattle.script_commands.specs.declared.command.Read.{Read}
-use Rattle.script_words.specs.declared.categories.Categories.{Categories}
-use Rattle.script_words.specs.declared.categories.Categories.TheVariants.{All, One}
+use Rattle.script_words.specs.declared.categories.CategoryArgument.{CategoryArgument}
+use Rattle.script_words.specs.declared.categories.CategoryArgument.TheVariants.{All, One}
 use Rattle.script_commands.specs.declared.command.Target.{Target}
 use Rattle.script_commands.specs.declared.command.Target.TheVariants as targets
 use Rattle.script_commands.specs.declared.command.OpenCatalog.{OpenCatalog}
@@ -50,7 +50,7 @@ abbrev pub mask_of : ℕ → Result ℕ Why
 mask_of bits = if nat_lt 31 bits then Err whys.BadMask else Ok bits
 
 -- the mask of a setlocale
-abbrev pub categories_mask : Categories → ℕ
+abbrev pub categories_mask : CategoryArgument → ℕ
 categories_mask All = 31
 categories_mask (One category) = category_bit category
 
@@ -71,7 +71,7 @@ new_op library bindings bits locale base =
 abbrev pub set_op : Catalog → ℕ → List ℕ → Asks
 set_op library mask locale = named_numbers library locale mask >>= λ ns. Ok (table.SetGlobal mask ns)
 
-abbrev pub setlocale_op : Catalog → Categories → List ℕ → Asks
+abbrev pub setlocale_op : Catalog → CategoryArgument → List ℕ → Asks
 setlocale_op library categories locale = set_op library (categories_mask categories) locale
 
 -- what a key installs. No accepted bundle installs a key without a block (`HasItsKeys`), so the first row never arises (`HasVersion`)
@@ -101,16 +101,16 @@ op_on op named = named >>= λ n. Ok (op n)
 -- object or else of the global locale; what is selected; the name of the global locale; a catalog to be opened by its name; the
 -- message of a set and a number in an open catalog, or else the default; a catalog to be closed
 pub data Wish : Type 0 where
-  Calls : Categories → table.Op → Wish
+  Calls : CategoryArgument → table.Op → Wish
   ReadsOf : Named → Read → Wish
   Reads : Read → Wish
   AsksSelection : Wish
-  AsksName : Categories → Wish
+  AsksName : CategoryArgument → Wish
   OpensCatalog : List ℕ → Wish
   GetsMessage : Handle → ℕ → ℕ → List ℕ → Wish
   ClosesCatalog : Handle → Wish
 
-abbrev pub called : Categories → Asks → Result Wish Why
+abbrev pub called : CategoryArgument → Asks → Result Wish Why
 called categories asks = asks >>= λ op. Ok (Calls categories op)
 
 -- a read of what is named

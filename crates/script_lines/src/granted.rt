@@ -32,7 +32,7 @@ use lc_base::Named;
 use mask_compose::Object;
 use script_commands::{Command, Read};
 use script_out::{OutLine, Places, Said, Why};
-use script_words::Categories;
+use script_words::CategoryArgument;
 use std::alloc::{AllocError, Global};
 
 /// The line of a turn of a thread.
@@ -169,7 +169,7 @@ fn call_line<B: Board>(
     board: &mut B,
     side: &mut B::Side,
     at: Caller,
-    categories: Categories,
+    categories: CategoryArgument,
     op: Op<Share>,
 ) -> Result<OutLine, AllocError>
     requires ready { B.ready 1 board.old side.old }
@@ -238,7 +238,7 @@ fn read_between<B: Board>(
             let (release, _) = board.call(side, Op::Release { h: named })?;
             Ok(line(at, Places::Two(place, release), None, said))
         }
-        None => placed_line(alloc, library, at, place, Categories::All, &reply),
+        None => placed_line(alloc, library, at, place, CategoryArgument::All, &reply),
     }
 }
 
@@ -290,7 +290,7 @@ fn name_line<B: Board>(
     board: &mut B,
     side: &mut B::Side,
     at: Caller,
-    categories: Categories,
+    categories: CategoryArgument,
 ) -> Result<OutLine, AllocError>
     requires ready { B.ready 0 board.old side.old }
     requires caller { at.thread ≡ B.Side.number_of side.old }

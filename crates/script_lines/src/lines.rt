@@ -11,7 +11,7 @@ use category_store::{Library, Share};
 use handle_table::Reply;
 use lc_base::Handle;
 use script_out::{OutLine, Places, Said, Why};
-use script_words::Categories;
+use script_words::CategoryArgument;
 use std::alloc::{AllocError, Global};
 
 /// Whose line it is: the round from 1, the thread from 0, and the index of its line from 1.
@@ -52,7 +52,7 @@ pub fn placed_line(
     library: &Library,
     at: Caller,
     place: u64,
-    categories: Categories,
+    categories: CategoryArgument,
     reply: &Reply<Share>,
 ) -> Result<OutLine, AllocError>
     ensures { IfOk result (λ l. l ≡ placed_line library.now place (caller at) categories (reply_of reply.now)) }
@@ -66,7 +66,7 @@ pub fn placed_line(
 fn shown(
     alloc: Global,
     library: &Library,
-    categories: Categories,
+    categories: CategoryArgument,
     reply: &Reply<Share>,
 ) -> Result<Said, AllocError>
     ensures { IfOk result (λ said. said ≡ shown library.now categories (reply_of reply.now)) }

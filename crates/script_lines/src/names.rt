@@ -6,7 +6,7 @@ ghost use Rattle.script_lines.specs.Names.{part_name, joint_name, object_name};
 use category_store::{Library, Share};
 use lc_base::{ByteText, Category};
 use mask_compose::{Object, join_names};
-use script_words::Categories;
+use script_words::CategoryArgument;
 use std::alloc::{AllocError, Global};
 
 /// The name of an object for a category, or for all of them (XSH setlocale).
@@ -14,13 +14,16 @@ pub fn object_name(
     alloc: Global,
     library: &Library,
     object: &Object<Share>,
-    categories: Categories,
+    categories: CategoryArgument,
 ) -> Result<ByteText, AllocError>
     ensures { IfOk result (λ name. name ≡ object_name library.now object.now categories) }
 {
     match categories {
-        Categories::One(category) => ByteText::of(alloc, part_name(library, object, category)),
-        Categories::All => {
+        CategoryArgument::One(category) => ByteText::of(
+            alloc,
+            part_name(library, object, category),
+        ),
+        CategoryArgument::All => {
             let ctype = part_name(library, object, Category::Ctype);
             let numeric = part_name(library, object, Category::Numeric);
             let monetary = part_name(library, object, Category::Monetary);

@@ -19,7 +19,7 @@ use monetary_cat::Monetary;
 use numeric_cat::Numeric;
 use script_commands::Read;
 use script_out::{Said, Texts, Why, push_number};
-use script_words::{CommandText, Format, WrittenNumber, WrittenTime};
+use script_words::{CommandText, Format, UncheckedTime, WrittenNumber};
 use std::alloc::{AllocError, Global};
 use strfmon::{MoneyFault, strfmon};
 use strftime_fields::{TimeFault, Tm, TmRange, strftime};
@@ -294,7 +294,7 @@ fn money_said(
 }
 
 /// The time that is written, or its first field out of its range.
-fn time_given(alloc: Global, time: &WrittenTime) -> Result<Result<Tm, TmRange>, AllocError>
+fn time_given(alloc: Global, time: &UncheckedTime) -> Result<Result<Tm, TmRange>, AllocError>
     ensures { IfOk result (λ given. given ≡ time_given time.now) }
 {
     let zone = ByteText::of(alloc, time.zone.as_bytes())?;
@@ -319,7 +319,7 @@ fn time_said(
     object: &Object<Share>,
     max: u32,
     format: &Format,
-    time: &WrittenTime,
+    time: &UncheckedTime,
 ) -> Result<Said, AllocError>
     ensures { IfOk result (λ said. said ≡ time_said library.now object.now max format.now time.now) }
 {

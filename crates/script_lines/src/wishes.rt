@@ -14,13 +14,13 @@ use handle_table::{Op, Refusal};
 use lc_base::{ByteText, Handle, Mask, Named};
 use script_commands::{Command, OpenCatalog, Read, Target};
 use script_out::Why;
-use script_words::Categories;
+use script_words::CategoryArgument;
 
 /// What a command asks for.
 #[derive(Drop)]
 pub enum Wish<'a> {
     /// A call of the table, with the categories whose name an accepted setlocale prints.
-    Call(Categories, Op<Share>),
+    Call(CategoryArgument, Op<Share>),
     /// A read of what is named.
     ReadOf(Named, &'a Read),
     /// A read of the thread's own object, or else of the global locale.
@@ -28,7 +28,7 @@ pub enum Wish<'a> {
     /// What the thread has selected.
     Selection,
     /// The name of the global locale.
-    Name(Categories),
+    Name(CategoryArgument),
     /// A catalog to be opened by its name.
     OpenCatalog(&'a ByteText),
     /// A message of an open catalog.
@@ -49,12 +49,12 @@ pub fn wish_of<'a>(
     match task {
         Task::Command(command) => wish_of_command(library, variables, command),
         Task::Release(handle) => Ok(Wish::Call(
-            Categories::All,
+            CategoryArgument::All,
             Op::Release {
                 h: Named::Of(handle),
             },
         )),
-        Task::End => Ok(Wish::Call(Categories::All, Op::End)),
+        Task::End => Ok(Wish::Call(CategoryArgument::All, Op::End)),
     }
 }
 
@@ -74,26 +74,29 @@ fn wish_of_command<'a>(
             base,
             ..
         } => called(
-            Categories::All,
+            CategoryArgument::All,
             new_op(library, variables, *mask, locale, base),
         ),
-        Command::Dup { from, .. } => called(Categories::All, dup_op(variables, from)),
-        Command::Free(target) => called(Categories::All, free_op(variables, target)),
-        Command::Use(target) => called(Categories::All, use_op(variables, target)),
+        Command::Dup { from, .. } => called(CategoryArgument::All, dup_op(variables, from)),
+        Command::Free(target) => called(CategoryArgument::All, free_op(variables, target)),
+        Command::Use(target) => called(CategoryArgument::All, use_op(variables, target)),
         Command::Selected => Ok(Wish::Selection),
-        Command::Hold(target) => called(Categories::All, hold_op(variables, target)),
-        Command::Release(target) => called(Categories::All, release_op(variables, target)),
+        Command::Hold(target) => called(CategoryArgument::All, hold_op(variables, target)),
+        Command::Release(target) => called(CategoryArgument::All, release_op(variables, target)),
         Command::Setlocale { categories, locale } => {
             called(*categories, setlocale_op(library, *categories, locale))
         }
         Command::LocaleName(categories) => Ok(Wish::Name(*categories)),
-        Command::Install(key) => called(Categories::All, install_op(library, key)),
+        Command::Install(key) => called(CategoryArgument::All, install_op(library, key)),
         Command::Post {
             cell,
             named: target,
-        } => called(Categories::All, post_op(variables, *cell, target)),
-        Command::Fetch { owner, cell, .. } => called(Categories::All, Ok(fetch_op(*owner, *cell))),
-        Command::Pins(target) => called(Categories::All, pins_op(variables, target)),
+        } => called(CategoryArgument::All, post_op(variables, *cell, target)),
+        Command::Fetch { owner, cell, .. } => called(
+            CategoryArgument::All,
+            Ok(fetch_op(*owner, *cell)),
+        ),
+        Command::Pins(target) => called(CategoryArgument::All, pins_op(variables, target)),
         Command::Read(read) => Ok(Wish::Read(read)),
         Command::ReadOf { object, read } => read_of(variables, object, read),
         Command::CatOpen { name, .. } => Ok(Wish::OpenCatalog(name)),
@@ -109,7 +112,7 @@ fn wish_of_command<'a>(
 
 /// The wish of a call, with the categories whose name it prints.
 #[inline(always)]
-fn called<'a>(categories: Categories, op: Result<Op<Share>, Why>) -> Result<Wish<'a>, Why>
+fn called<'a>(categories: CategoryArgument, op: Result<Op<Share>, Why>) -> Result<Wish<'a>, Why>
     ensures { wished result ≡ called categories (asked op) }
 {
     Ok(Wish::Call(categories, op?))
@@ -232,7 +235,7 @@ fn new_op(
 /// The op of a setlocale, which looks up only the categories that it sets.
 fn setlocale_op(
     library: &Library,
-    categories: Categories,
+    categories: CategoryArgument,
     locale: &ByteText,
 ) -> Result<Op<Share>, Why>
     ensures { asked result ≡ setlocale_op library.now categories locale.now }
@@ -304,12 +307,12 @@ fn mask_of(bits: u32) -> Result<Mask, Why>
 }
 
 /// The mask of the categories of a setlocale.
-fn mask_of_categories(categories: Categories) -> Mask
+fn mask_of_categories(categories: CategoryArgument) -> Mask
     ensures { result ≡ categories_mask categories }
 {
     match categories {
-        Categories::All => Mask::all(),
-        Categories::One(category) => Mask::one(category),
+        CategoryArgument::All => Mask::all(),
+        CategoryArgument::One(category) => Mask::one(category),
     }
 }
 

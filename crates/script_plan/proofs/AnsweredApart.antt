@@ -9,7 +9,7 @@ use Rattle.handle_table.specs.Entry as table
 use Rattle.handle_table.specs.Entry.{History, Setting}
 use Rattle.handle_table.specs.Answer.{answer, own, IsLegal}
 use Rattle.handle_table.specs.Isolation.{has_thread, part_of, IsClosed, SaysOfThreads}
-use Rattle.script_words.specs.declared.categories.Categories.TheVariants.{All as AllCategories}
+use Rattle.script_words.specs.declared.categories.CategoryArgument.TheVariants.{All as AllCategories}
 use Rattle.script_commands.specs.declared.command.Read.{Read}
 use Rattle.script_out.specs.declared.output.OutLine.{OutLine}
 use Rattle.script_out.specs.declared.output.Places.{Places}

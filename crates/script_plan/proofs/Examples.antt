@@ -14,7 +14,7 @@ use Rattle.handle_table.specs.declared.op.Refusal.TheVariants as refusals
 use Rattle.handle_table.specs.Entry as table
 use Rattle.lc_base.specs.declared.item.Item.TheVariants.{Radixchar, Thousep}
 use Rattle.script_commands.specs.declared.command.Read.TheVariants.{Info}
-use Rattle.script_words.specs.declared.categories.Categories.TheVariants.{All, One}
+use Rattle.script_words.specs.declared.categories.CategoryArgument.TheVariants.{All, One}
 use Rattle.script_commands.specs.declared.command.Target.{Target}
 use Rattle.script_commands.specs.declared.command.Target.TheVariants as targets
 use Rattle.script_commands.specs.declared.command.Command.{Command}

@@ -7,7 +7,7 @@ use Rattle.lc_base.specs.declared.item.Item.TheVariants.{Radixchar}
 use Rattle.handle_table.specs.Entry.{Entry, Reply, Made, Held, Released, Posted, Got, Ended, History, Setting, is_accepted}
 use Rattle.handle_table.specs.Answer.{IsLegal}
 use Rattle.handle_table.specs.Isolation.{part_of, replies_of, IsClosed}
-use Rattle.script_words.specs.declared.categories.Categories.TheVariants.{One}
+use Rattle.script_words.specs.declared.categories.CategoryArgument.TheVariants.{One}
 use Rattle.script_commands.specs.declared.command.Read.TheVariants.{Info}
 use Rattle.script_commands.specs.declared.command.Target.TheVariants as targets
 use Rattle.script_commands.specs.declared.command.Command.{Command}

@@ -1,7 +1,7 @@
 -- Commands that keep to their thread, at worked examples.
 use Rattle.std.proofs.Common.{◌≡◌, true, false, List, [], ◌∷◌, Some, None, refl}
 use Rattle.std.specs.Prelude.{codes}
-use Rattle.script_words.specs.declared.categories.Categories.TheVariants.{All}
+use Rattle.script_words.specs.declared.categories.CategoryArgument.TheVariants.{All}
 use Rattle.script_commands.specs.declared.command.Command.{Command}
 use Rattle.script_commands.specs.declared.command.Command.TheVariants.{New, Dup, Free, Use, Selected, Hold, Release, Setlocale, LocaleName, Install, Post, Fetch, Pins, Read, ReadOf}
 use Rattle.script_commands.specs.declared.command.Read.TheVariants.{Conv}

@@ -14,7 +14,7 @@ use Rattle.mask_compose.specs.Parts.{Parts}
 use Rattle.handle_table.specs.Answer.{answer}
 use Rattle.lc_base.specs.declared.handle.Named.{Named}
 use Rattle.lc_base.specs.declared.handle.Named.TheVariants as named
-use Rattle.script_words.specs.declared.categories.Categories.TheVariants.{All as AllCategories, One}
+use Rattle.script_words.specs.declared.categories.CategoryArgument.TheVariants.{All as AllCategories, One}
 use Rattle.script_commands.specs.declared.command.Read.{Read as Reading}
 use Rattle.script_commands.specs.declared.command.Read.TheVariants.{Info}
 use Rattle.script_commands.specs.declared.command.Target.TheVariants as targets

@@ -15,8 +15,8 @@ use Rattle.handle_table.specs.Entry.{History, Setting}
 use Rattle.handle_table.specs.History.{handle_named, object, pins, free_row}
 use Rattle.handle_table.specs.Answer.{reasons, first_reason, made_in, of_handle, reply_to, unless, answer, own}
 use Rattle.handle_table.specs.Isolation.{is_own}
-use Rattle.script_words.specs.declared.categories.Categories.{Categories}
-use Rattle.script_words.specs.declared.categories.Categories.TheVariants.{All as AllCategories}
+use Rattle.script_words.specs.declared.categories.CategoryArgument.{CategoryArgument}
+use Rattle.script_words.specs.declared.categories.CategoryArgument.TheVariants.{All as AllCategories}
 use Rattle.script_commands.specs.declared.command.Command.{Command}
 use Rattle.script_commands.specs.declared.command.Command.TheVariants as commands
 use Rattle.script_commands.specs.declared.command.Read.{Read}
@@ -166,22 +166,22 @@ abbrev IsOwnHandle : ℕ → Option Handle → Type 0
 IsOwnHandle t None = Unit {0}
 IsOwnHandle t (Some h) = h.owner ≡ t
 
-abbrev handle_shown : Catalog → Categories → table.Reply → Option Handle
+abbrev handle_shown : Catalog → CategoryArgument → table.Reply → Option Handle
 handle_shown library categories reply = handle_said (shown library categories reply)
 
-made_own : (library : Catalog) (categories : Categories) (H : History) (t : ℕ) (row : Option ℕ) → IsOwnHandle t (handle_shown library categories (made_in H t row))
+made_own : (library : Catalog) (categories : CategoryArgument) (H : History) (t : ℕ) (row : Option ℕ) → IsOwnHandle t (handle_shown library categories (made_in H t row))
 made_own library categories H t None = tt
 made_own library categories H t (Some row) = refl
 
-based_own : (library : Catalog) (categories : Categories) (t : ℕ) (n : Named) → is_own (t ∷ []) (handle_named n) ≡ true → IsOwnHandle t (handle_shown library categories (of_handle n (λ h. table.Made h)))
+based_own : (library : Catalog) (categories : CategoryArgument) (t : ℕ) (n : Named) → is_own (t ∷ []) (handle_named n) ≡ true → IsOwnHandle t (handle_shown library categories (of_handle n (λ h. table.Made h)))
 based_own library categories t names.Global own = tt
 based_own library categories t (names.Of h) own = sym (thread_is t h.owner own)
 
-pinned_own : (library : Catalog) (categories : Categories) (t : ℕ) (n : Named) (count : Handle → ℕ) → IsOwnHandle t (handle_shown library categories (of_handle n (λ h. table.Pinned (count h))))
+pinned_own : (library : Catalog) (categories : CategoryArgument) (t : ℕ) (n : Named) (count : Handle → ℕ) → IsOwnHandle t (handle_shown library categories (of_handle n (λ h. table.Pinned (count h))))
 pinned_own library categories t names.Global count = tt
 pinned_own library categories t (names.Of h) count = tt
 
-accepted_own : (c : Setting) (library : Catalog) (categories : Categories) (H : History) (t : ℕ) (op : table.Op) → IsPrivate t op → IsOwnHandle t (handle_shown library categories (reply_to c H t op))
+accepted_own : (c : Setting) (library : Catalog) (categories : CategoryArgument) (H : History) (t : ℕ) (op : table.Op) → IsPrivate t op → IsOwnHandle t (handle_shown library categories (reply_to c H t op))
 accepted_own c library categories H t (table.New mask ns None) private = made_own library categories H t (free_row c H t)
 accepted_own c library categories H t (table.New mask ns (Some n)) private = based_own library categories t n private.own
 accepted_own c library categories H t (table.Dup n) private = made_own library categories H t (free_row c H t)
@@ -191,12 +191,12 @@ accepted_own c library categories H t (table.Use n) private = tt
 accepted_own c library categories H t table.End private = tt
 accepted_own c library categories H t _ private = absurd (false≢true private.quiet)
 
-unless_own : (library : Catalog) (categories : Categories) (t : ℕ) (reason : Option Refusal) (reply : table.Reply) → IsOwnHandle t (handle_shown library categories reply)
+unless_own : (library : Catalog) (categories : CategoryArgument) (t : ℕ) (reason : Option Refusal) (reply : table.Reply) → IsOwnHandle t (handle_shown library categories reply)
     → IsOwnHandle t (handle_shown library categories (unless reason reply))
 unless_own library categories t (Some refusal) reply own = tt
 unless_own library categories t None reply own = own
 
-answer_own : (c : Setting) (library : Catalog) (categories : Categories) (H : History) (t : ℕ) (op : table.Op) → IsPrivate t op → IsOwnHandle t (handle_shown library categories (answer c H t op))
+answer_own : (c : Setting) (library : Catalog) (categories : CategoryArgument) (H : History) (t : ℕ) (op : table.Op) → IsPrivate t op → IsOwnHandle t (handle_shown library categories (answer c H t op))
 answer_own c library categories H t op private =
     unless_own library categories t (first_reason (reasons c H t op)) (reply_to c H t op) (accepted_own c library categories H t op private)
 

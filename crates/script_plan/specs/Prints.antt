@@ -17,8 +17,8 @@ use Rattle.catalog_handles.specs.Entry.{History as CatalogHistory}
 use Rattle.catalog_handles.specs.Answer as catalog_answers
 use Rattle.catalog_handles.specs.Answer.{AreThreads}
 use Rattle.script_commands.specs.declared.command.Read.{Read}
-use Rattle.script_words.specs.declared.categories.Categories.{Categories}
-use Rattle.script_words.specs.declared.categories.Categories.TheVariants.{All as AllCategories}
+use Rattle.script_words.specs.declared.categories.CategoryArgument.{CategoryArgument}
+use Rattle.script_words.specs.declared.categories.CategoryArgument.TheVariants.{All as AllCategories}
 use Rattle.script_out.specs.declared.output.OutLine.{OutLine}
 use Rattle.script_out.specs.declared.output.Places.{Places}
 use Rattle.script_out.specs.declared.output.Places.TheVariants as places
@@ -189,7 +189,7 @@ global_of x version = global_at x.setting x.whole version
 -- ---- what a line prints
 
 -- the line of a call prints its answer at its place
-pub record IsCall (x : Around) (at : Caller) (l : OutLine) (categories : Categories) (op : table.Op) : Type 0 where
+pub record IsCall (x : Around) (at : Caller) (l : OutLine) (categories : CategoryArgument) (op : table.Op) : Type 0 where
   pub place : ℕ
   pub is : l ≡ placed_line x.plan.library place at categories (answer x.setting (past x place) at.thread op)
 
@@ -220,7 +220,7 @@ pub record IsGlobalRead (x : Around) (at : Caller) (l : OutLine) (read : Read) :
   pub is : l ≡ global_read_line x.plan.library at read version (global_of x version)
 
 -- the name of the global locale as it was at a version
-pub record IsGlobalName (x : Around) (at : Caller) (l : OutLine) (categories : Categories) : Type 0 where
+pub record IsGlobalName (x : Around) (at : Caller) (l : OutLine) (categories : CategoryArgument) : Type 0 where
   pub version : ℕ
   pub bounds : IsVersion x at version
   pub is : l ≡ global_name_line x.plan.library at categories version (global_of x version)

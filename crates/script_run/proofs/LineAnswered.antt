@@ -9,8 +9,8 @@ use Rattle.handle_table.specs.Entry.{History, Setting}
 use Rattle.handle_table.specs.History.{sets, global, global_at, selection}
 use Rattle.handle_table.specs.Answer.{answer, own}
 use Rattle.script_commands.specs.declared.command.Read.{Read}
-use Rattle.script_words.specs.declared.categories.Categories.{Categories}
-use Rattle.script_words.specs.declared.categories.Categories.TheVariants.{All as AllCategories}
+use Rattle.script_words.specs.declared.categories.CategoryArgument.{CategoryArgument}
+use Rattle.script_words.specs.declared.categories.CategoryArgument.TheVariants.{All as AllCategories}
 use Rattle.script_out.specs.declared.output.OutLine.{OutLine}
 use Rattle.script_out.specs.declared.output.Said.TheVariants as said
 use Rattle.script_out.specs.declared.output.Why.{Why}
@@ -45,7 +45,7 @@ past_at x W t n j = j.pasts (length (oldest n W)) ∙ oldest_again n W
 global_is : (x : Around) (W : History) (t : Timed) → Judges x W t → global_of x (sets (oldest t.moment W)) ≡ global x.setting (oldest t.moment W)
 global_is x W t j = ap (λ (G : History). global_at x.setting G (sets (oldest t.moment W))) j.whole ∙ version_at x.setting t.moment W
 
-call_answered : (x : Around) (W : History) (t : Timed) (categories : Categories) (op : table.Op) → Judges x W t
+call_answered : (x : Around) (W : History) (t : Timed) (categories : CategoryArgument) (op : table.Op) → Judges x W t
     → t.task_line.line ≡ entry_line x.plan.library (oldest t.moment W) (caller_of t.task_line.line) categories (answer x.setting (oldest t.moment W) t.task_line.line.thread op)
     → IsCall x (caller_of t.task_line.line) t.task_line.line categories op
 call_answered x W t categories op j is = record {

@@ -20,8 +20,8 @@ use Rattle.handle_table.proofs.Numbering.{same_itself}
 use Rattle.handle_table.specs.Answer.{answer, own, IsLegal, first_reason, unless}
 use Rattle.thread_current.specs.Thread.{GoesOnFrom, entries_by}
 use Rattle.script_commands.specs.declared.command.Read.{Read}
-use Rattle.script_words.specs.declared.categories.Categories.{Categories}
-use Rattle.script_words.specs.declared.categories.Categories.TheVariants as categories
+use Rattle.script_words.specs.declared.categories.CategoryArgument.{CategoryArgument}
+use Rattle.script_words.specs.declared.categories.CategoryArgument.TheVariants as categories
 use Rattle.script_out.specs.declared.output.OutLine.{OutLine}
 use Rattle.script_out.specs.declared.output.Places.TheVariants as places
 use Rattle.script_out.specs.declared.output.Said.{Said}
@@ -382,7 +382,7 @@ moment_of m at (Ok (OpensCatalog name)) = read_moment m (own m.seen at.thread)
 moment_of m at (Ok (GetsMessage h set message default)) = length m.seen
 moment_of m at (Ok (ClosesCatalog h)) = length m.seen
 
-pub call_step : (c : Setting) (library : Catalog) (books : Books) (at : Caller) (m : Moments) (chosen : Categories) (op : Op) → MayFollow c at.thread m.first m.seen
+pub call_step : (c : Setting) (library : Catalog) (books : Books) (at : Caller) (m : Moments) (chosen : CategoryArgument) (op : Op) → MayFollow c at.thread m.first m.seen
     → IsStep c library books at (Ok (Calls chosen op)) m.seen (calls c library m.first at chosen op) (length m.first) None m.asked
 call_step c library books at m chosen op f =
     let r : Reply = answer c m.first at.thread op in

@@ -13,8 +13,8 @@ use Rattle.handle_table.specs.Entry.{History, Setting}
 use Rattle.handle_table.specs.History.{sets, global}
 use Rattle.handle_table.specs.Answer.{answer, own}
 use Rattle.script_commands.specs.declared.command.Read.{Read}
-use Rattle.script_words.specs.declared.categories.Categories.{Categories}
-use Rattle.script_words.specs.declared.categories.Categories.TheVariants.{All as AllCategories}
+use Rattle.script_words.specs.declared.categories.CategoryArgument.{CategoryArgument}
+use Rattle.script_words.specs.declared.categories.CategoryArgument.TheVariants.{All as AllCategories}
 use Rattle.script_out.specs.declared.output.OutLine.{OutLine}
 use Rattle.script_out.specs.declared.output.Why.{Why}
 use Rattle.catalog_handles.specs.Entry.{History as CatalogHistory}
@@ -39,7 +39,7 @@ use Rattle.script_run.proofs.LineAnswered.{MakesEntries}
 -- ---- the version of one line
 
 -- the line of an entry
-entry_version : (c : Setting) (library : Catalog) (W : History) (u : Timed) (categories : Categories) (op : table.Op) (more : List PlacedCall) → let first = oldest u.moment W in
+entry_version : (c : Setting) (library : Catalog) (W : History) (u : Timed) (categories : CategoryArgument) (op : table.Op) (more : List PlacedCall) → let first = oldest u.moment W in
     u.task_line.line ≡ entry_line library first (caller_of u.task_line.line) categories (answer c first u.task_line.line.thread op)
     → All (IsEntryOf c W) (call_of u.task_line.line.thread (length first, op) ∷ more)
     → UpTo (sets (oldest (end_of u) W)) u.task_line.line.global

@@ -16,7 +16,7 @@ use Rattle.thread_current.specs.Thread.{thread_of, IsInOrder, GoesOnFrom, entrie
 use Rattle.script_out.specs.declared.output.OutLine.{OutLine}
 use Rattle.script_out.specs.declared.output.Places.TheVariants as places
 use Rattle.script_out.specs.declared.output.Said.TheVariants as said
-use Rattle.script_words.specs.declared.categories.Categories.TheVariants as categories
+use Rattle.script_words.specs.declared.categories.CategoryArgument.TheVariants as categories
 use Rattle.script_lines.specs.declared.thread.Thread.{Thread as ScriptThread}
 use Rattle.script_lines.specs.declared.turns.Turn.{Turn as LentTurn}
 use Rattle.script_lines.specs.declared.holds.OpenHold.{OpenHold}

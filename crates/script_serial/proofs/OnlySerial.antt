@@ -16,7 +16,7 @@ use Rattle.handle_table.specs.Entry as table
 use Rattle.handle_table.specs.Entry.{Entry, History, Setting}
 use Rattle.handle_table.specs.History.{sets, global, selection}
 use Rattle.handle_table.specs.Answer.{answer, entry, own, IsLegal}
-use Rattle.script_words.specs.declared.categories.Categories.TheVariants.{All as AllCategories}
+use Rattle.script_words.specs.declared.categories.CategoryArgument.TheVariants.{All as AllCategories}
 use Rattle.script_commands.specs.declared.command.Read.{Read}
 use Rattle.script_out.specs.declared.output.OutLine.{OutLine}
 use Rattle.script_out.specs.declared.output.Places.{Places}

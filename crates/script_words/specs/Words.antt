@@ -8,8 +8,8 @@ use Rattle.lc_base.specs.Numbers.{decimal_number}
 use Rattle.lc_base.specs.declared.category.Category.{Category}
 use Rattle.lc_base.specs.Categories.{categories, category_name}
 use Rattle.lc_base.specs.Mask.{category_bit}
-use Rattle.script_words.specs.declared.categories.Categories.{Categories}
-use Rattle.script_words.specs.declared.categories.Categories.TheVariants.{All, One}
+use Rattle.script_words.specs.declared.categories.CategoryArgument.{CategoryArgument}
+use Rattle.script_words.specs.declared.categories.CategoryArgument.TheVariants.{All, One}
 use Rattle.script_words.specs.declared.word.Quoting.{Quoting}
 use Rattle.script_words.specs.declared.word.Quoting.TheVariants.{Text, Escape, High, Low, Closed}
 use Rattle.script_words.specs.declared.given.TheConstants.{ZONE_LIMIT, MAX_LIMIT}
@@ -88,7 +88,7 @@ abbrev pub category_named : List ℕ → Option Category
 category_named name = find (λ c. bytes_eq (category_name c) name) categories
 
 -- a category, or `LC_ALL`
-unfoldable pub categories_of_word : List ℕ → Option Categories
+unfoldable pub categories_of_word : List ℕ → Option CategoryArgument
 categories_of_word w = if bytes_eq w (codes "LC_ALL") then Some All else option_map (λ c. One c) (category_named w)
 
 -- the bits with that of a category's name

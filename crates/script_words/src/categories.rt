@@ -1,10 +1,10 @@
-//! The categories of a setlocale.
+//! The first argument of setlocale.
 
 use lc_base::Category;
 
-/// The categories of a setlocale.
+/// The categories that a setlocale names (XSH setlocale).
 #[derive(Clone, Copy, Debug, PartialEq, Eq)]
-pub enum Categories {
+pub enum CategoryArgument {
     /// `LC_ALL`.
     All,
     One(Category),

@@ -180,7 +180,7 @@ impl CommandText {
 
 /// A time as it is written, whose fields may be out of range.
 #[derive(Debug)]
-pub struct WrittenTime {
+pub struct UncheckedTime {
     pub year: i32,
     /// From 1.
     pub mon: i32,
@@ -198,9 +198,9 @@ pub struct WrittenTime {
     pub zone: ByteText,
 }
 
-impl Drop for WrittenTime {
+impl Drop for UncheckedTime {
     fn drop(self) {
-        let WrittenTime {
+        let UncheckedTime {
             year: _,
             mon: _,
             mday: _,

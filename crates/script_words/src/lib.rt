@@ -10,10 +10,10 @@ mod stretch;
 mod table;
 mod word;
 
-pub use categories::Categories;
+pub use categories::CategoryArgument;
 pub use given::{
     AMOUNT_LIMIT, CommandText, DEFAULT_MAX, FORMAT_LIMIT, Format, MAX_LIMIT, NUMBER_DIGITS,
-    NUMBER_LIMIT, TEXT_LIMIT, WrittenNumber, WrittenTime, ZONE_LIMIT,
+    NUMBER_LIMIT, TEXT_LIMIT, UncheckedTime, WrittenNumber, ZONE_LIMIT,
 };
 pub use names::{is_charmap_name, is_formed, is_locale_name, is_part_name, is_thread_name};
 pub use number::{amount_of_word, number_of_word, offset_of_word, short_number, three_numbers};

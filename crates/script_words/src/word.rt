@@ -7,7 +7,7 @@ ghost use Rattle.script_words.specs.declared.word.Quoting.TheVariants.{Text};
 ghost use Rattle.script_words.specs.Words.{is_plain_byte, hex_value, quoted_step, is_closed, unquoted, text_of_word, quoted_of_word, zone_of_word, behind_front, max_number, category_named, categories_of_word, with_name, bits_with, is_comma, mask_of_word, variable_of_word, class_of_word, key_of_word, cell_number, handle_of_word, cell_of_word};
 ghost use Rattle.script_words.specs.Seen.{seen_handle, seen_cell, IsQuoting};
 
-use crate::categories::Categories;
+use crate::categories::CategoryArgument;
 use crate::given::{MAX_LIMIT, ZONE_LIMIT};
 use crate::names::{is_class_name, is_locale_name, is_thread_name};
 use lc_base::{ByteText, CATEGORIES, CELLS, Category, Mask, cut_at, decimal_number};
@@ -196,13 +196,13 @@ fn category_named(name: &[u8]) -> Option<Category>
 
 /// A category, or `LC_ALL`.
 #[tactic(auto, unfolding(crate::specs::Words::categories_of_word))]
-pub fn categories_of_word(word: &[u8]) -> Option<Categories>
+pub fn categories_of_word(word: &[u8]) -> Option<CategoryArgument>
     ensures { result ≡ categories_of_word word.now }
 {
     if word == ALL {
-        return Some(Categories::All);
+        return Some(CategoryArgument::All);
     }
-    Some(Categories::One(category_named(word)?))
+    Some(CategoryArgument::One(category_named(word)?))
 }
 
 /// The bits with those of a category's name.

@@ -10,7 +10,7 @@ ghost use Rattle.src_lines.specs.Tokens.{skip, opens, operand, separated, too_ma
 
 use crate::atom::next_atom;
 use crate::line::{Line, Operand};
-use crate::row::{LogicalLine, Mark, advanced};
+use crate::row::{LineStart, LogicalLine, advanced};
 use crate::shape::shape_of;
 use crate::text::{RunEnd, has_bare, run, text};
 use crate::words::{blanks, next_word};
@@ -111,7 +111,7 @@ fn operands_at(
     ensures { Gives (λ v. v.items) result (operands MAX_OPERANDS (place_at (line_of row.now) (length row.now.bytes.now)) (items_from (line_of row.now) start)) }
 {
     let mut found = Vec::new(alloc);
-    let mut mark = Mark {
+    let mut mark = LineStart {
         line: row.line,
         at: 0,
         next: 0,

@@ -46,14 +46,14 @@ impl LogicalLine<'_> {
 /// How far the joins of a line were followed: from the byte `at` on its bytes stand in this line of
 /// the text, up to the join with the number `next`.
 #[derive(Clone, Copy)]
-pub struct Mark {
+pub struct LineStart {
     pub line: u32,
     pub at: usize,
     pub next: usize,
 }
 
 /// Follows the joins up to the byte `k`.
-pub fn advanced(joins: &[Join], mark: Mark, k: usize) -> Mark
+pub fn advanced(joins: &[Join], mark: LineStart, k: usize) -> LineStart
     requires { mark.at ≤ k }
     ensures same { (m : ℕ) → k ≤ m → place_from result.line result.at (drop result.next joins.now) m ≡ place_from mark.line mark.at (drop mark.next joins.now) m }
     ensures here { place_from result.line result.at (drop result.next joins.now) k ≡ record { line = result.line; column = k - result.at + 1 } }
@@ -62,7 +62,7 @@ pub fn advanced(joins: &[Join], mark: Mark, k: usize) -> Mark
     let mut mark = mark;
     while mark.next < joins.len() && joins[mark.next].at as usize <= k {
         let join = joins[mark.next];
-        mark = Mark {
+        mark = LineStart {
             line: join.line,
             at: join.at as usize,
             next: mark.next + 1,
@@ -71,7 +71,7 @@ pub fn advanced(joins: &[Join], mark: Mark, k: usize) -> Mark
     mark
 }
 
-impl Mark {
+impl LineStart {
     /// The place of the byte `k`, before the next join.
     pub fn place(self, k: usize) -> Place
         requires reached { self.at ≤ k }

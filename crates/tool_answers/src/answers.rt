@@ -14,7 +14,7 @@ use time_cat::Time;
 use tool_files::{Sources, Wanted, charset_of, fault_problem, library_of, load};
 use tool_messages::{Answer, Problem, explained};
 use tool_reads::{
-    Categories, class_lines, conv_lines, info_lines, item_categories, lower_lines, money_line,
+    LentCategories, class_lines, conv_lines, info_lines, item_categories, lower_lines, money_line,
     number_line, parsed_lines, time_line, upper_lines, usage_problem,
 };
 
@@ -205,7 +205,7 @@ fn items(
     if name == "conv" {
         return Ok(conv_lines(alloc, locale.numeric(), locale.monetary())?);
     }
-    let categories = Categories {
+    let categories = LentCategories {
         ctype: locale.ctype(),
         numeric: locale.numeric(),
         monetary: locale.monetary(),

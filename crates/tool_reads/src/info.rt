@@ -9,16 +9,11 @@ ghost use Rattle.tool_reads.specs.Answers.{Answers, Tells, beside, each_of, valu
 ghost use Rattle.tool_reads.specs.Printed.{field, info_lines, item_names, named_line, plain_line};
 
 use crate::wrong_word::usage_problem;
-use ctype_classes::Ctype;
-use langinfo::nl_langinfo;
+use langinfo::{LentCategories, nl_langinfo};
 use lc_base::{ByteText, Item};
-use messages_cat::Messages;
-use monetary_cat::Monetary;
-use numeric_cat::Numeric;
 use script_out::push_quoted;
 use script_words::item_named;
 use std::alloc::{AllocError, Global};
-use time_cat::Time;
 use tool_messages::Problem;
 
 /// What an item is.
@@ -84,22 +79,12 @@ const NAMES: [&str; 55] = [
     "ERA_D_T_FMT",
 ];
 
-/// The categories of a locale.
-#[derive(Clone, Copy)]
-pub struct Categories<'a> {
-    pub ctype: &'a Ctype,
-    pub numeric: &'a Numeric,
-    pub monetary: &'a Monetary,
-    pub time: &'a Time,
-    pub messages: &'a Messages,
-}
-
 /// The text of each item in a line; without names each item as `NAME="TEXT"` (XSH nl_langinfo).
 ///
 /// A word that names no item is a wrong word.
 pub fn info_lines(
     alloc: Global,
-    locale: &Categories<'_>,
+    locale: &LentCategories<'_>,
     names: &[&str],
 ) -> Result<ByteText, Problem>
     ensures { Answers (λ lines. lines) result (info_lines (λ item. info locale.entry.now.ctype.now locale.entry.now.numeric.now locale.entry.now.monetary.now locale.entry.now.time.now locale.entry.now.messages.now item) (map (λ name. name.now) names.entry.now)) }
@@ -110,14 +95,18 @@ pub fn info_lines(
     }
 }
 
-fn all_named(alloc: Global, locale: &Categories<'_>) -> Result<ByteText, Problem>
+fn all_named(alloc: Global, locale: &LentCategories<'_>) -> Result<ByteText, Problem>
     ensures { Answers (λ lines. lines) result (each_of (named_line (λ item. info locale.entry.now.ctype.now locale.entry.now.numeric.now locale.entry.now.monetary.now locale.entry.now.time.now locale.entry.now.messages.now item)) item_names) }
 {
     named_lines(alloc, locale, &NAMES)
 }
 
 #[tactic(auto, using(crate::proofs::AnswerLemmas::one_more_line, crate::proofs::AnswerLemmas::no_line, crate::proofs::AnswerLemmas::last_line))]
-fn plain_lines(alloc: Global, locale: &Categories<'_>, names: &[&str]) -> Result<ByteText, Problem>
+fn plain_lines(
+    alloc: Global,
+    locale: &LentCategories<'_>,
+    names: &[&str],
+) -> Result<ByteText, Problem>
     ensures { Answers (λ lines. lines) result (each_of (plain_line (λ item. info locale.entry.now.ctype.now locale.entry.now.numeric.now locale.entry.now.monetary.now locale.entry.now.time.now locale.entry.now.messages.now item)) (map (λ name. name.now) names.entry.now)) }
 {
     let mut lines = Vec::new(alloc);
@@ -131,7 +120,7 @@ fn plain_lines(alloc: Global, locale: &Categories<'_>, names: &[&str]) -> Result
 fn push_plain(
     alloc: Global,
     lines: &mut Vec<u8>,
-    locale: &Categories<'_>,
+    locale: &LentCategories<'_>,
     name: &str,
 ) -> Result<(), Problem>
     ensures added { OnOk result (beside lines.old.items (plain_line (λ item. info locale.entry.now.ctype.now locale.entry.now.numeric.now locale.entry.now.monetary.now locale.entry.now.time.now locale.entry.now.messages.now item) name.now) ≡ Ok lines.new.items) }
@@ -145,7 +134,11 @@ fn push_plain(
 }
 
 #[tactic(auto, using(crate::proofs::AnswerLemmas::one_more_line, crate::proofs::AnswerLemmas::no_line, crate::proofs::AnswerLemmas::last_line))]
-fn named_lines(alloc: Global, locale: &Categories<'_>, names: &[&str]) -> Result<ByteText, Problem>
+fn named_lines(
+    alloc: Global,
+    locale: &LentCategories<'_>,
+    names: &[&str],
+) -> Result<ByteText, Problem>
     ensures { Answers (λ lines. lines) result (each_of (named_line (λ item. info locale.entry.now.ctype.now locale.entry.now.numeric.now locale.entry.now.monetary.now locale.entry.now.time.now locale.entry.now.messages.now item)) (map (λ name. name.now) names.entry.now)) }
 {
     let mut lines = Vec::new(alloc);
@@ -159,7 +152,7 @@ fn named_lines(alloc: Global, locale: &Categories<'_>, names: &[&str]) -> Result
 fn push_named(
     alloc: Global,
     lines: &mut Vec<u8>,
-    locale: &Categories<'_>,
+    locale: &LentCategories<'_>,
     name: &str,
 ) -> Result<(), Problem>
     ensures added { OnOk result (beside lines.old.items (named_line (λ item. info locale.entry.now.ctype.now locale.entry.now.numeric.now locale.entry.now.monetary.now locale.entry.now.time.now locale.entry.now.messages.now item) name.now) ≡ Ok lines.new.items) }
@@ -193,7 +186,7 @@ fn item_of(alloc: Global, name: &str) -> Result<Item, Problem>
     }
 }
 
-fn text_of(alloc: Global, locale: &Categories<'_>, item: Item) -> Result<ByteText, AllocError>
+fn text_of(alloc: Global, locale: &LentCategories<'_>, item: Item) -> Result<ByteText, AllocError>
     ensures { IfOk result (λ text. text ≡ info locale.entry.now.ctype.now locale.entry.now.numeric.now locale.entry.now.monetary.now locale.entry.now.time.now locale.entry.now.messages.now item) }
 {
     nl_langinfo(

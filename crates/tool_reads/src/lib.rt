@@ -14,7 +14,8 @@ mod wrong_word;
 
 pub use characters::{class_lines, lower_lines, upper_lines};
 pub use conv::conv_lines;
-pub use info::{Categories, info_lines};
+pub use info::info_lines;
+pub use langinfo::LentCategories;
 pub use money::money_line;
 pub use needs::item_categories;
 pub use number::number_line;

@@ -1,5 +1,5 @@
 use Rattle.std.proofs.Common.{ap, ◌∙◌}
-use Rattle.script_words.specs.declared.categories.Categories.TheVariants.{All}
+use Rattle.script_words.specs.declared.categories.CategoryArgument.TheVariants.{All}
 use Rattle.script_lines.specs.Wishes.{Asks, called}
 use Rattle.script_lines.proofs.wishes.wish_of_command.Goals as goal
 
