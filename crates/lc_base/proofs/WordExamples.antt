@@ -1,6 +1,11 @@
 -- The definitions on examples.
-use Rattle.std.proofs.Common.{◌≡◌, ℕ, [], ◌∷◌, Some, None, refl}
-use Rattle.std.specs.Prelude.{codes}
+use Rattle.std.proofs.Common.{◌≡◌, ℕ, [], ◌∷◌, true, false, Some, None, refl}
+use Rattle.std.specs.Prelude.{codes, Ok, Err}
+use Rattle.lc_base.specs.declared.category.Category.TheVariants.{Monetary}
+use Rattle.lc_base.specs.declared.refusal.FormatRefusal.TheVariants.{TooBig}
+use Rattle.lc_base.specs.Blanks.{is_blank}
+use Rattle.lc_base.specs.Categories.{number_for}
+use Rattle.lc_base.specs.Limits.{within}
 use Rattle.lc_base.specs.Cuts.{cut_at}
 use Rattle.lc_base.specs.Numbers.{decimal_number, few_digits}
 use Rattle.lc_base.specs.Tables.{first_named}
@@ -43,3 +48,18 @@ three_digits = refl
 
 first_row : first_named {A = ℕ} ((codes "b", 0) ∷ (codes "a", 1) ∷ (codes "a", 2) ∷ []) (codes "a") ≡ Some 1
 first_row = refl
+
+a_tab : is_blank 9 ≡ true
+a_tab = refl
+
+a_return : is_blank 13 ≡ false
+a_return = refl
+
+third_number : number_for (7 ∷ 8 ∷ 9 ∷ 10 ∷ 11 ∷ []) Monetary ≡ 9
+third_number = refl
+
+just_so_long : within 2 (codes "ab") ≡ Ok (codes "ab")
+just_so_long = refl
+
+too_long : within 1 (codes "ab") ≡ Err TooBig
+too_long = refl

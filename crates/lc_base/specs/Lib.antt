@@ -5,6 +5,7 @@ pub mod Faults
 pub mod Reading
 pub mod Blanks
 pub mod Bytes
+pub mod Limits
 pub mod Lines
 pub mod Blocks
 pub mod Counted
