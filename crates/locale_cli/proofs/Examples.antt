@@ -3,7 +3,6 @@ use Rattle.std.proofs.Common.{◌≡◌, ℕ, length, List, [], ◌∷◌, None,
 use Rattle.std.specs.Prelude.{codes}
 use Rattle.std.specs.Fmt.{decimal}
 use Rattle.std.proofs.lemmas.Fmt.{decimal_digit}
-use Rattle.script_plan.proofs.AnsweredApart.{catalogs_isolated}
 use Rattle.locale_cli.specs.declared.words.TheConstants.{DEFAULT_ROWS, MOST_ROWS, DEFAULT_GENERATIONS, MOST_GENERATIONS}
 use Rattle.locale_cli.specs.declared.answer.Status.TheVariants.{Done, TooLarge}
 use Rattle.locale_cli.specs.declared.words.Mode.TheVariants.{Check, Serial, Run}
@@ -174,7 +173,7 @@ some_counts = simp digits
 -- the empty input is a bundle without threads, which has one round
 empty_input : IsAnswer (Serial 16 65535) [] (answer_for (Ok []))
 unfolding bundle_of bundle_with
-empty_input = (Ok [], (refl, catalogs_isolated _ _ _), refl)
+empty_input = (Ok [], refl, refl)
 
 empty_input_counted : IsAnswer Check [] (answer_for (Ok (codes "ok: locales 0 charmaps 0 threads 0 rounds 1 commands 0\n")))
 unfolding bundle_of bundle_with

@@ -10,7 +10,7 @@ use Rattle.script_plan.specs.Plan.{PlanData, counts, plan_of, counts_of}
 use Rattle.script_out.specs.declared.output.OutLine.{OutLine}
 use Rattle.script_plan.specs.Serial.{serial_lines, setting}
 use Rattle.script_plan.specs.Prints.{Prints}
-use Rattle.script_plan.specs.Isolation.{IsIsolated, AreCatalogsIsolated}
+use Rattle.script_plan.specs.Isolation.{IsIsolated}
 use Rattle.locale_cli.specs.declared.words.Mode.{Mode}
 use Rattle.locale_cli.specs.declared.words.Mode.TheVariants.{Check, Serial, Run}
 use Rattle.locale_cli.specs.declared.answer.Status.{Status}
@@ -31,11 +31,10 @@ abbrev pub counts_text : List ℕ → Reads (List ℕ)
 counts_text input = counts_of input >>= λ counts. Ok (counts_line counts)
 
 -- lines that `run` may print: those of one history of the threads' calls, in which threads that share handles with nobody read
--- what they would read without the others; and so of their calls on message catalogs
+-- what they would read without the others
 pub record MayBePrinted (rows generations : ℕ) (plan : PlanData) (lines : List OutLine) : Type 0 where
   pub prints : Prints (setting plan rows generations) plan lines
   pub isolated : IsIsolated (setting plan rows generations) plan lines
-  pub catalogs_isolated : AreCatalogsIsolated (setting plan rows generations) plan lines
 
 -- the lines of a script, whose threads have so many rows, and each row so many generations
 abbrev pub serial_text : ℕ → ℕ → PlanData → List ℕ
@@ -44,8 +43,7 @@ serial_text rows generations plan = printed (serial_lines rows generations plan)
 -- what an accepted bundle may print. `run` prints the lines of one history of its threads' calls: which one it is no clause says
 abbrev pub Outputs : Mode → PlanData → List ℕ → Type 0
 Outputs Check plan text = text ≡ counts_line (counts plan.bundle)
-Outputs (Serial rows generations) plan text =
-    (text ≡ serial_text rows generations plan) × AreCatalogsIsolated (setting plan rows generations) plan (serial_lines rows generations plan)
+Outputs (Serial rows generations) plan text = text ≡ serial_text rows generations plan
 Outputs (Run rows generations) plan text = (lines : List OutLine) × MayBePrinted rows generations plan lines × (text ≡ printed lines plan.bundle.threads)
 
 -- what an input may print, or its first fault

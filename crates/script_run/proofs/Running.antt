@@ -18,13 +18,13 @@ use Rattle.handle_table.specs.Table.{TableData, StandsFor}
 use Rattle.thread_current.specs.Thread.{Thread, first_thread, IsPart}
 use Rattle.script_lang.specs.declared.bundle.Bundle.{Bundle}
 use Rattle.script_out.specs.declared.output.OutLine.{OutLine}
-use Rattle.script_plan.specs.Isolation.{IsIsolated, AreCatalogsIsolated}
+use Rattle.script_plan.specs.Isolation.{IsIsolated}
 use Rattle.script_plan.specs.Plan.{PlanData, books_of}
 use Rattle.script_plan.specs.Prints.{with_tasks, calls_after, history_below, AreAnswered, callers_after, command_calls, all_turns, Prints}
 use Rattle.script_plan.specs.Serial.{setting}
 use Rattle.script_plan.proofs.LineLists.{increasing}
 use Rattle.script_plan.proofs.RoundTurns.{no_turns, no_closing_turns}
-use Rattle.script_plan.proofs.AnsweredApart.{isolated, catalogs_isolated}
+use Rattle.script_plan.proofs.AnsweredApart.{isolated}
 use Rattle.lc_base.specs.declared.block.Block.{Block}
 use Rattle.script_seats.specs.Seated.{Gates}
 use Rattle.script_run.specs.Beside.{stock, stock_of}
@@ -119,9 +119,6 @@ none_prints plan rows generations none =
 
 pub prints_isolated : (plan : PlanData) (rows generations : ℕ) (lines : List OutLine) → Prints (setting plan rows generations) plan lines → IsIsolated (setting plan rows generations) plan lines
 prints_isolated plan rows generations lines prints = isolated (setting plan rows generations) plan lines prints
-
-pub prints_catalogs_isolated : (plan : PlanData) (rows generations : ℕ) (lines : List OutLine) → AreCatalogsIsolated (setting plan rows generations) plan lines
-prints_catalogs_isolated plan rows generations lines = catalogs_isolated (setting plan rows generations) plan lines
 
 -- a list that is not empty
 pub some_of : {X : Type 0} (xs : List X) (b : Bool) → (xs ≡ [] → b ≡ true) → b ≡ false → 0 < length xs

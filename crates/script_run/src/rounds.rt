@@ -6,7 +6,7 @@ ghost use Rattle.category_store.specs.Library.{opening};
 ghost use Rattle.turn_gate.specs.Callers.{IsSeatOf};
 ghost use Rattle.thread_current.specs.Thread.{IsThreadOf, IsInOrder, SawMore, GoesOnFrom, first_thread, thread_of};
 ghost use Rattle.script_lines.specs.Seen.{turn_seen};
-ghost use Rattle.script_plan.specs.Isolation.{IsIsolated, AreCatalogsIsolated};
+ghost use Rattle.script_plan.specs.Isolation.{IsIsolated};
 ghost use Rattle.catalog_handles.specs.Reader as readers;
 ghost use Rattle.script_plan.specs.Plan.{IsSound};
 ghost use Rattle.script_plan.specs.Prints.{Prints};
@@ -50,7 +50,6 @@ pub fn run<R: Threads + Wait + Sync, P: Pause + Sync>(
     requires generations { generations ≤ 2147483647 }
     ensures prints { IfOk result (λ lines. Prints (setting plan.now rows generations) plan.now lines) }
     ensures isolated { IfOk result (λ lines. IsIsolated (setting plan.now rows generations) plan.now lines) }
-    ensures catalogs_isolated { IfOk result (λ lines. AreCatalogsIsolated (setting plan.now rows generations) plan.now lines) }
 {
     let bundle = plan.bundle();
     if bundle.threads.is_empty() {

@@ -5,7 +5,7 @@ ghost use Rattle.category_store.specs.Library.{opening};
 ghost use Rattle.category_store.specs.Shelf.{IsNumbered, IsInstallable};
 ghost use Rattle.handle_table.specs.Table.{StandsFor};
 ghost use Rattle.script_lines.specs.Seen.{turn_seen, TurnFits};
-ghost use Rattle.script_plan.specs.Isolation.{IsIsolated, AreCatalogsIsolated};
+ghost use Rattle.script_plan.specs.Isolation.{IsIsolated};
 ghost use Rattle.script_plan.specs.Plan.{PlanData, IsSound};
 ghost use Rattle.script_plan.specs.Prints.{PrintsInOrder};
 ghost use Rattle.script_plan.specs.Serial.{Run, played, begun, closed, commands_played, serial_lines, setting};
@@ -42,7 +42,6 @@ pub fn serial(
     ensures lines { IfOk result (λ lines. lines ≡ serial_lines rows generations plan.now) }
     ensures prints { IfOk result (λ lines. PrintsInOrder (setting plan.now rows generations) plan.now lines) }
     ensures isolated { IfOk result (λ lines. IsIsolated (setting plan.now rows generations) plan.now lines) }
-    ensures catalogs_isolated { IfOk result (λ lines. AreCatalogsIsolated (setting plan.now rows generations) plan.now lines) }
 {
     let bundle = plan.bundle();
     if bundle.threads.is_empty() {

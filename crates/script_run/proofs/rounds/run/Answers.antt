@@ -10,7 +10,7 @@ use Rattle.script_run.proofs.Beginning.{between_first, as_many_threads, as_many_
 use Rattle.script_run.proofs.Closing.{numbers_of}
 use Rattle.script_seats.specs.Seated.{gates}
 use Rattle.script_run.specs.Rounds.{plan_made}
-use Rattle.script_run.proofs.Running.{blocks_are, terms_for, asked_for, run_prints, none_prints, prints_isolated, prints_catalogs_isolated, some_of, threads_are, readers_are}
+use Rattle.script_run.proofs.Running.{blocks_are, terms_for, asked_for, run_prints, none_prints, prints_isolated, some_of, threads_are, readers_are}
 use Rattle.script_run.proofs.rounds.run.Goals as goal
 
 pub returns-then-is_empty-clause-prints : goal.returns-then-is_empty-clause-prints
@@ -21,9 +21,6 @@ returns-then-is_empty-clause-prints g c =
 
 pub returns-then-is_empty-clause-isolated : goal.returns-then-is_empty-clause-isolated
 returns-then-is_empty-clause-isolated g c = prints_isolated c.args.plan.now c.args.rows c.args.generations c.of.result (returns-then-is_empty-clause-prints g c)
-
-pub returns-then-is_empty-clause-catalogs_isolated : goal.returns-then-is_empty-clause-catalogs_isolated
-returns-then-is_empty-clause-catalogs_isolated g c = prints_catalogs_isolated c.args.plan.now c.args.rows c.args.generations c.of.result
 
 pub new_workers-requires-clause-many : goal.new_workers-requires-clause-many
 new_workers-requires-clause-many g c =
@@ -80,6 +77,3 @@ returns-clause-prints g c =
 
 pub returns-clause-isolated : goal.returns-clause-isolated
 returns-clause-isolated g c = prints_isolated c.args.plan.now c.args.rows c.args.generations c.of-3.result (returns-clause-prints g c)
-
-pub returns-clause-catalogs_isolated : goal.returns-clause-catalogs_isolated
-returns-clause-catalogs_isolated g c = prints_catalogs_isolated c.args.plan.now c.args.rows c.args.generations c.of-3.result

@@ -2,9 +2,7 @@ use Rattle.std.proofs.Common.{◌≡◌, [], sym, ap, ◌∙◌}
 use Rattle.script_lines.specs.Catalogs.{Books}
 use Rattle.script_lang.specs.declared.bundle.Bundle.{Bundle}
 use Rattle.script_serial.proofs.PlayLemmas.{no_lines, serial_lines_are}
-use Rattle.script_plan.specs.Serial.{setting}
 use Rattle.script_serial.proofs.SerialNewest.{printed_in_order}
-use Rattle.script_plan.proofs.AnsweredApart.{catalogs_isolated}
 use Rattle.script_plan.proofs.PlanParts.{sound_parts}
 use Rattle.script_serial.proofs.SerialApart.{printed_isolated}
 use Rattle.script_serial.proofs.script.serial.Goals as goal
@@ -38,9 +36,3 @@ returns-then-is_empty-clause-isolated c = printed_isolated c.args.plan.now c.arg
 
 pub returns-clause-isolated : goal.returns-clause-isolated
 returns-clause-isolated c = printed_isolated c.args.plan.now c.args.rows c.args.generations (returns-clause-lines c)
-
-pub returns-then-is_empty-clause-catalogs_isolated : goal.returns-then-is_empty-clause-catalogs_isolated
-returns-then-is_empty-clause-catalogs_isolated c = catalogs_isolated (setting c.args.plan.now c.args.rows c.args.generations) c.args.plan.now c.of.result
-
-pub returns-clause-catalogs_isolated : goal.returns-clause-catalogs_isolated
-returns-clause-catalogs_isolated c = catalogs_isolated (setting c.args.plan.now c.args.rows c.args.generations) c.args.plan.now c.of-2.result
