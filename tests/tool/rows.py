@@ -1,7 +1,7 @@
 #!/usr/bin/env python3
-"""rows.py [PROGRAM]: whether the table of reasons of tool_explain has a row for each reason of lc_base, with each
+"""rows.py [PROGRAM]: whether the table of reasons of tool_messages has a row for each reason of lc_base, with each
 part and limit, and for each refusal of a command; and whether the man page names each command and each argument
-of tool_commands. With PROGRAM, a built tool, also whether each example that breaks a rule is refused for it, and
+of tool_answers. With PROGRAM, a built tool, also whether each example that breaks a rule is refused for it, and
 each that keeps it is accepted. Prints what is lacking or wrong; the status is 1 where something is."""
 import os
 import re
@@ -19,8 +19,8 @@ def variants(file, name):
     return re.findall(r"^    ([A-Z]\w*)", body, re.M)
 
 
-names = open("crates/tool_explain/src/names.rt").read()
-table = open("crates/tool_explain/src/table.rt").read()
+names = open("crates/tool_messages/src/names.rt").read()
+table = open("crates/tool_messages/src/table.rt").read()
 rows = re.findall(r'^ +name: "([^"]+)",', table, re.M)
 wanted, of_commands = {}, set()
 for enum in ("Reason", "LinePart", "Limit"):
@@ -33,9 +33,9 @@ for file, enum in (("crates/script_out/src/output.rt", "Why"), ("crates/handle_t
         of_commands.add(it)
 lacking = [it for it, row in wanted.items() if row not in rows]
 for it in lacking:
-    print(f"tool_explain has no row for {it}")
+    print(f"tool_messages has no row for {it}")
 if len(set(rows)) != len(rows):
-    print("tool_explain has a row twice")
+    print("tool_messages has a row twice")
     lacking.append("")
 
 
@@ -44,7 +44,7 @@ def quoted(file, form):
 
 
 page = open("docs/man/locale_tool.1").read().replace("\\-", "-")
-for it in quoted("crates/tool_commands/src/rows.rt", r'name: "(\w+)"'):
+for it in quoted("crates/tool_answers/src/rows.rt", r'name: "(\w+)"'):
     if not re.search(rf"\b{it}\b", page):
         print(f"docs/man/locale_tool.1 does not name {it}")
         lacking.append(it)
@@ -101,14 +101,14 @@ def wrong_examples(program):
     wrong, count = [], 0
     if len(list(examples())) != len(rows):
         wrong.append("examples")
-        print("the examples of a row of tool_explain are not read")
+        print("the examples of a row of tool_messages are not read")
     with tempfile.TemporaryDirectory() as folder:
         for name, breaks, keeps in examples():
             for example, is_right in ((breaks, is_refused), (keeps, is_accepted)):
                 tried = forms(name, example)
                 count += bool(tried)
                 if tried and not any(is_right(name, came_of(program, folder, *it)) for it in tried):
-                    print(f"tool_explain has an example of {name} that is not so: {example!r}")
+                    print(f"tool_messages has an example of {name} that is not so: {example!r}")
                     wrong.append(name)
     print(f"examples of reasons: {count - len(wrong)} of {count}")
     return wrong
