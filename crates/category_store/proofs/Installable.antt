@@ -18,7 +18,7 @@ use Rattle.numeric_cat.specs.Numeric.{posix_values}
 use Rattle.monetary_cat.specs.Monetary.{posix_values as posix_money}
 use Rattle.time_cat.specs.Values.{posix_values as posix_times}
 use Rattle.messages_cat.specs.Messages.{posix_values as posix_messages}
-use Rattle.locale_sources.specs.Named.{with_named}
+use Rattle.lc_base.specs.Named.{with_named}
 use Rattle.locale_sources.specs.Sources.{Source}
 use Rattle.locale_sources.specs.Copies.{copy_fault}
 use Rattle.locale_sources.specs.Rows.{available}

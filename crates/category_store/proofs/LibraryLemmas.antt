@@ -7,7 +7,7 @@ use Rattle.lc_base.specs.declared.fault.TextFault.{TextFault}
 use Rattle.lc_base.specs.Reading.{Reads, ◌>>=◌, Gives}
 use Rattle.lc_base.specs.Tables.{first_named}
 use Rattle.charset.specs.Portable.{Name}
-use Rattle.locale_sources.specs.Named.{with_named}
+use Rattle.lc_base.specs.Named.{with_named}
 use Rattle.mask_compose.specs.Offer.{Offered}
 use Rattle.std.proofs.Math.Seq.{take-nil}
 use Rattle.locale_sources.specs.Sources.{Source}

@@ -14,7 +14,7 @@ use Rattle.lc_base.proofs.ReadingLemmas.{value_of}
 use Rattle.mask_compose.specs.Offer.{AreOnShelf}
 use Rattle.lc_base.specs.Tables.{first_named}
 use Rattle.charset.specs.Portable.{Name}
-use Rattle.locale_sources.specs.Named.{with_named}
+use Rattle.lc_base.specs.Named.{with_named}
 use Rattle.locale_sources.specs.Sources.{Source}
 use Rattle.locale_sources.specs.Sections.{is_posix}
 use Rattle.locale_sources.specs.Copies.{copy_fault}

@@ -15,7 +15,7 @@ use Rattle.mask_compose.specs.Parts.{Parts}
 use Rattle.mask_compose.specs.Offer.{Offered, no_offer}
 use Rattle.lc_base.specs.Categories.{categories}
 use Rattle.mask_compose.specs.Names.{mixed_parts}
-use Rattle.locale_sources.specs.Named.{with_named}
+use Rattle.lc_base.specs.Named.{with_named}
 use Rattle.locale_sources.specs.Sources.{Source}
 use Rattle.locale_sources.specs.Sections.{is_posix}
 use Rattle.category_store.specs.Blocks.{by_place}

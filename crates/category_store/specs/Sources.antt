@@ -8,7 +8,7 @@ use Rattle.charset.specs.Portable.{Name}
 use Rattle.charset.specs.CodedSet.{CodedSet, utf8, posix}
 use Rattle.charmap_reader.specs.Charmap.{charmap}
 use Rattle.locale_reader.specs.Source.{source}
-use Rattle.locale_sources.specs.Named.{with_named}
+use Rattle.lc_base.specs.Named.{with_named}
 use Rattle.locale_sources.specs.Sources.{Source}
 use Rattle.category_store.specs.Blocks.{Placed}
 

@@ -3,13 +3,11 @@
 ghost use Rattle.std.specs.Prelude.{◌≡◌, All, IfOk};
 ghost use Rattle.lc_base.specs.Reading.{Gives};
 ghost use Rattle.lc_base.specs.Blocks.{IsSized};
-ghost use Rattle.locale_sources.specs.Named.{pairs_of};
 ghost use Rattle.category_store.specs.Sources.{charsets, charset_named};
 
 use charmap_reader::read_charmap;
 use charset::Charset;
-use lc_base::{Block, List, TextFault};
-use locale_sources::{ByName, add_named, get_named};
+use lc_base::{Block, ByName, List, TextFault};
 use std::alloc::{AllocError, Global};
 use std::marker::Model;
 
@@ -33,11 +31,10 @@ impl Drop for Charsets {
 impl Model for Charsets {
     ghost use Rattle.std.specs.Prelude.{◌≡◌, List, ℕ};
     ghost use Rattle.charset.specs.CodedSet.{CodedSet, utf8, posix};
-    ghost use Rattle.locale_sources.specs.Named.{pairs_of};
 
     ghost Value = { List (List ℕ × CodedSet) };
 
-    ghost view = { λ c. pairs_of c.listed };
+    ghost view = { λ c. c.listed };
 
     ghost invariant = { λ c. (c.unicode ≡ utf8) × (c.portable ≡ posix) };
 }
@@ -53,7 +50,7 @@ impl Charsets {
     }
 
     fn of(alloc: Global, listed: ByName<Charset>) -> Result<Charsets, AllocError>
-        ensures { IfOk result (λ c. c ≡ pairs_of listed) }
+        ensures { IfOk result (λ c. c ≡ listed) }
     {
         Ok(Charsets {
             unicode: Charset::utf8(alloc)?,
@@ -72,7 +69,7 @@ impl Charsets {
         if name == b"POSIX".as_slice() {
             return &self.portable;
         }
-        match get_named(&self.listed, name) {
+        match self.listed.get(name) {
             Some(charset) => charset,
             None => &self.portable,
         }
@@ -81,13 +78,13 @@ impl Charsets {
 
 fn read_charmaps(alloc: Global, charmaps: &[Block]) -> Result<ByName<Charset>, TextFault>
     requires { All IsSized charmaps.now }
-    ensures { Gives (λ c. pairs_of c) result (charsets charmaps.now) }
+    ensures { Gives (λ c. c) result (charsets charmaps.now) }
 {
     let mut listed = ByName::new(alloc);
     for block in charmaps {
         let name = block.name.as_bytes();
         let charset = read_charmap(alloc, name, block.text.as_bytes(), block.first_line)?;
-        add_named(alloc, &mut listed, name, charset)?;
+        listed.add(alloc, name, charset)?;
     }
     Ok(listed)
 }

@@ -4,7 +4,6 @@ ghost use Rattle.std.specs.Prelude.{◌≡◌, ◌+◌, ◌<◌, ◌≤◌, ◌^
 ghost use Rattle.std.specs.Option.{option_copied};
 ghost use Rattle.lc_base.specs.Reading.{Gives};
 ghost use Rattle.mask_compose.specs.Names.{spanned};
-ghost use Rattle.locale_sources.specs.Named.{pairs_of};
 ghost use Rattle.locale_sources.specs.Seen.{source};
 ghost use Rattle.lc_base.specs.Blocks.{IsSized};
 ghost use Rattle.locale_sources.specs.Copies.{locale_numbers, copy_fault};
@@ -16,8 +15,8 @@ use crate::names::{Names, plain_number};
 use crate::share::Share;
 use crate::{Charsets, read_blocks};
 use compiled_categories::{Compiled, Locales};
-use lc_base::{Block, Category, Later, List, Mask, TextFault};
-use locale_sources::{ByName, Source, get_named, read_rows};
+use lc_base::{Block, ByName, Category, Later, List, Mask, TextFault};
+use locale_sources::{Source, read_rows};
 use mask_compose::{Object, Offer, read_names};
 use std::alloc::{AllocError, Global};
 use std::marker::Model;
@@ -39,15 +38,14 @@ impl Drop for Library {
 
 impl Model for Library {
     ghost use Rattle.category_store.specs.Catalog.{Catalog};
-    ghost use Rattle.locale_sources.specs.Named.{pairs_of};
 
     ghost Value = { Catalog };
 
     ghost view = { λ l. record {
       locales = l.locales;
-      names = pairs_of l.names.names;
-      first = pairs_of l.names.first;
-      keys = pairs_of l.names.keys;
+      names = l.names.names;
+      first = l.names.first;
+      keys = l.names.keys;
       native = l.names.native;
     } };
 }
@@ -153,7 +151,7 @@ impl Library {
     fn first_offer(&self, name: &[u8]) -> Offer<Share>
         ensures { result ≡ first_offer self.now name.now }
     {
-        match get_named(&self.names.first, name) {
+        match self.names.first.get(name) {
             Some(number) => self.offer_at(*number),
             None => Offer {
                 object: object_of(Mask::all(), 0),
@@ -173,8 +171,8 @@ impl Library {
     fn name_at(&self, i: usize) -> &[u8]
         ensures { result.now ≡ name_at self.now i }
     {
-        match self.names.names.get_index(i) {
-            Some((name, _)) => name.as_slice(),
+        match self.names.names.name_at(i) {
+            Some(name) => name,
             None => b"",
         }
     }
@@ -197,9 +195,9 @@ impl Library {
     pub fn later(&self, key: &[u8]) -> Option<(u32, Offer<Share>)>
         ensures { result ≡ later self.now key.now }
     {
-        let number = *get_named(&self.names.keys, key)?;
+        let number = *self.names.keys.get(key)?;
         let name = self.compiled(Share { number }).name();
-        let name_number = get_named(&self.names.names, name).copied().unwrap_or(0);
+        let name_number = self.names.names.get(name).copied().unwrap_or(0);
         Some((name_number, self.offer_at(number)))
     }
 }
@@ -246,7 +244,7 @@ fn spanned(text: &[u8], span: (usize, usize)) -> &[u8]
 
 /// Compiles the locales of sources, or refuses the first fault of their copies.
 fn compile(alloc: Global, sources: &[Source<'_>], first: &ByName<u32>) -> Result<Locales, TextFault>
-    requires known { pairs_of first.now ≡ locale_numbers (map source sources.now) }
+    requires known { first.now ≡ locale_numbers (map source sources.now) }
     requires few { length sources.now < 2 ^ 31 }
     ensures { let S = map source sources.now in Gives (λ l. l) result (unless_fault (copy_fault S) (locales_of S)) }
 {

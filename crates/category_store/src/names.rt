@@ -2,12 +2,13 @@
 
 ghost use Rattle.std.specs.Prelude.{◌≡◌, ◌+◌, ◌<◌, ◌≤◌, ◌^◌, length, map, IfOk, OnOk};
 ghost use Rattle.std.specs.Option.{option_copied};
-ghost use Rattle.locale_sources.specs.Named.{pairs_of, with_named};
+ghost use Rattle.lc_base.specs.Named.{with_named};
 ghost use Rattle.locale_sources.specs.Seen.{source};
 ghost use Rattle.locale_sources.specs.Copies.{locale_numbers};
 ghost use Rattle.category_store.specs.Library.{names_of, keys_of, plain_number, native_number};
 
-use locale_sources::{ByName, Source, add_named, get_named, is_posix, locale_numbers};
+use lc_base::ByName;
+use locale_sources::{Source, is_posix, locale_numbers};
 use std::alloc::{AllocError, Global};
 
 /// The names of a library with their numbers.
@@ -41,10 +42,10 @@ impl Names {
         native: Option<&[u8]>,
     ) -> Result<Names, AllocError>
         requires { length sources.now < 2 ^ 31 }
-        ensures names { IfOk result (λ n. pairs_of n.names ≡ names_of (map source sources.now)) }
-        ensures first { IfOk result (λ n. pairs_of n.first ≡ locale_numbers (map source sources.now)) }
-        ensures keys { IfOk result (λ n. pairs_of n.keys ≡ keys_of (map source sources.now)) }
-        ensures native { IfOk result (λ n. n.native ≡ native_number (pairs_of n.names) (option_copied native.entry)) }
+        ensures names { IfOk result (λ n. n.names ≡ names_of (map source sources.now)) }
+        ensures first { IfOk result (λ n. n.first ≡ locale_numbers (map source sources.now)) }
+        ensures keys { IfOk result (λ n. n.keys ≡ keys_of (map source sources.now)) }
+        ensures native { IfOk result (λ n. n.native ≡ native_number n.names (option_copied native.entry)) }
     {
         let names = names_of(alloc, sources)?;
         let first = locale_numbers(alloc, sources)?;
@@ -62,7 +63,7 @@ impl Names {
 /// The names of sources with their numbers, in the order in which they first appear.
 fn names_of(alloc: Global, sources: &[Source<'_>]) -> Result<ByName<u32>, AllocError>
     requires { length sources.now < 2 ^ 31 }
-    ensures { IfOk result (λ named. pairs_of named ≡ names_of (map source sources.now)) }
+    ensures { IfOk result (λ named. named ≡ names_of (map source sources.now)) }
 {
     let mut names = ByName::new(alloc);
     for source in sources {
@@ -73,25 +74,25 @@ fn names_of(alloc: Global, sources: &[Source<'_>]) -> Result<ByName<u32>, AllocE
 
 /// Gives a new name the next number.
 fn add_name(alloc: Global, names: &mut ByName<u32>, name: &[u8]) -> Result<(), AllocError>
-    requires { length (pairs_of names.old) < 2 ^ 31 }
-    ensures named { OnOk result (pairs_of names.new ≡ with_named (pairs_of names.old) name.now (length (pairs_of names.old) + 1)) }
-    ensures few { OnOk result (length (pairs_of names.new) ≤ length (pairs_of names.old) + 1) }
+    requires { length names.old < 2 ^ 31 }
+    ensures named { OnOk result (names.new ≡ with_named names.old name.now (length names.old + 1)) }
+    ensures few { OnOk result (length names.new ≤ length names.old + 1) }
 {
     let number = names.len() as u32 + 1;
-    add_named(alloc, names, name, number)
+    names.add(alloc, name, number)
 }
 
 /// The keys of later versions, with the numbers of their sources.
 fn keys_of(alloc: Global, sources: &[Source<'_>]) -> Result<ByName<u32>, AllocError>
     requires { length sources.now < 2 ^ 31 }
-    ensures { IfOk result (λ named. pairs_of named ≡ keys_of (map source sources.now)) }
+    ensures { IfOk result (λ named. named ≡ keys_of (map source sources.now)) }
 {
     let mut keys = ByName::new(alloc);
     let mut number = 0;
     for source in sources {
         number += 1;
         if let Some(key) = source.key {
-            add_named(alloc, &mut keys, key, number)?;
+            keys.add(alloc, key, number)?;
         }
     }
     Ok(keys)
@@ -99,17 +100,17 @@ fn keys_of(alloc: Global, sources: &[Source<'_>]) -> Result<ByName<u32>, AllocEr
 
 /// The number of a plain name.
 pub fn plain_number(names: &ByName<u32>, name: &[u8]) -> Option<u32>
-    ensures { result ≡ plain_number (pairs_of names.now) name.now }
+    ensures { result ≡ plain_number names.now name.now }
 {
     if is_posix(name) {
         return Some(0);
     }
-    get_named(names, name).copied()
+    names.get(name).copied()
 }
 
 /// The number of the native locale's name.
 fn native_number(names: &ByName<u32>, native: Option<&[u8]>) -> u32
-    ensures { result ≡ native_number (pairs_of names.now) (option_copied native.entry) }
+    ensures { result ≡ native_number names.now (option_copied native.entry) }
 {
     match native {
         None => 0,

@@ -5,7 +5,7 @@ use Rattle.std.specs.Str.{bytes_eq}
 use Rattle.lc_base.specs.Tables.{first_named}
 use Rattle.charset.specs.Portable.{Name}
 use Rattle.class_ranges.specs.Ranges.{Range, covers}
-use Rattle.ctype_classes.specs.Named.{place_of}
+use Rattle.lc_base.specs.Named.{place_of}
 use Rattle.ctype_classes.specs.Classes.{Classes, class_answer, numbered_answer}
 
 -- what is answered by the number of a class is what is answered by its name

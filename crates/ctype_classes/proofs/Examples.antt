@@ -10,7 +10,7 @@ use Rattle.keywords.specs.declared.source.Value.TheVariants.{Text, Number, Chars
 use Rattle.keywords.specs.declared.source.Entry.{Entry}
 use Rattle.keywords.specs.declared.row.Rule.TheVariants.{NotEmpty, Between}
 use Rattle.ctype_classes.specs.Characters.{characters}
-use Rattle.ctype_classes.specs.Named.{place_of}
+use Rattle.lc_base.specs.Named.{place_of}
 use Rattle.ctype_classes.specs.Classes.{Classes, members_of, numbered_answer}
 use Rattle.ctype_classes.specs.Lines.{rule_of_line}
 use Rattle.ctype_classes.specs.Lists.{is_reserved, is_taken, after_operands, classes_of}

@@ -1,6 +1,5 @@
 mod ClassLaw
 mod Examples
-pub mod NamedLemmas
 pub mod LineLemmas
 pub mod CharacterLemmas
 pub mod CaseLemmas

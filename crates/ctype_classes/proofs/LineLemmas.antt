@@ -10,7 +10,7 @@ use Rattle.charset.specs.Portable.{Name}
 use Rattle.keywords.specs.declared.source.Value.{Value}
 use Rattle.keywords.specs.declared.source.Entry.{Entry}
 use Rattle.keywords.specs.Keywords.{operands}
-use Rattle.ctype_classes.specs.Named.{with_named}
+use Rattle.lc_base.specs.Named.{with_named}
 use Rattle.ctype_classes.specs.FirstLines.{AreFirstLines}
 
 abbrev Operands : Type 0

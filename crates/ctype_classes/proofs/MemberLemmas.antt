@@ -20,7 +20,7 @@ use Rattle.keywords.specs.declared.row.Rule.TheVariants.{Free, NotEmpty, EmptyOr
 use Rattle.keywords.specs.Keywords.{operands, texts}
 use Rattle.keywords.specs.Rules.{operands_checked}
 use Rattle.ctype_classes.specs.Lines.{rule_of_line}
-use Rattle.ctype_classes.specs.Named.{with_named}
+use Rattle.lc_base.specs.Named.{with_named}
 use Rattle.ctype_classes.specs.Characters.{characters}
 use Rattle.ctype_classes.specs.Table.{ClassRow, class_table, declared_row}
 use Rattle.ctype_classes.specs.Classes.{Classes, members_of, members_of_all, all_members, listed_members, with_class, with_classes, twelve_classes, class_answer}

@@ -8,7 +8,7 @@ use Rattle.charset.specs.CodedSet.{CodedSet}
 use Rattle.keywords.specs.declared.source.Value.{Value}
 use Rattle.keywords.specs.declared.source.Entry.{Entry}
 use Rattle.keywords.specs.Keywords.{operands, ranges}
-use Rattle.ctype_classes.specs.Named.{with_named}
+use Rattle.lc_base.specs.Named.{with_named}
 use Rattle.ctype_classes.specs.Characters.{characters}
 use Rattle.ctype_classes.specs.Table.{ClassRow, class_table}
 

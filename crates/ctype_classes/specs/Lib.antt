@@ -1,6 +1,5 @@
 pub use Rattle.lc_base.specs.Reading
 pub mod Lines
-pub mod Named
 pub mod Characters
 pub mod Table
 pub mod Classes

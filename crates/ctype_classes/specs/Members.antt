@@ -11,7 +11,7 @@ use Rattle.keywords.specs.declared.row.Rule.{Rule}
 use Rattle.keywords.specs.declared.row.Rule.TheVariants.{ClassNames}
 use Rattle.keywords.specs.Keywords.{operands, texts}
 use Rattle.ctype_classes.specs.Lines.{rule_of_line}
-use Rattle.ctype_classes.specs.Named.{with_named}
+use Rattle.lc_base.specs.Named.{with_named}
 use Rattle.ctype_classes.specs.Table.{ClassRow, class_table, declared_row}
 use Rattle.ctype_classes.specs.Classes.{listed_members}
 

@@ -8,11 +8,11 @@ ghost use Rattle.ctype_classes.specs.Classes.{members_of, members_of_all, all_me
 
 use crate::characters::characters;
 use crate::first_lines::KeywordList;
-use crate::named::ByName;
 use crate::table::{AutomaticMembers, ClassRow, TABLE};
 use charset::Charset;
 use class_ranges::Ranges;
 use keywords::{Values, ranges};
+use lc_base::ByName;
 use std::alloc::{AllocError, Global};
 
 /// Classes with their members.
@@ -83,9 +83,11 @@ pub fn with_class(
 ) -> Result<Classes, AllocError>
     ensures { IfOk result (λ more. more ≡ with_class charset.now list.now classes (row_of row.now)) }
 {
+    let mut classes = classes;
     let members = all_members(alloc, list, &classes, row)?;
     let members = characters(alloc, charset, &members)?;
-    classes.with(alloc, row.name, members)
+    classes.add(alloc, row.name, members)?;
+    Ok(classes)
 }
 
 /// The classes after those of rows.

@@ -4,7 +4,7 @@ ghost use Rattle.std.specs.Prelude.{◌≡◌, ℕ, List, unwrap_or, IfOk, IfSom
 ghost use Rattle.lc_base.specs.Reading.{Gives};
 ghost use Rattle.charset.specs.CodedSet.{set_name};
 ghost use Rattle.ctype_classes.specs.Case.{image, first_image, upper_pairs, lower_pairs};
-ghost use Rattle.ctype_classes.specs.Named.{place_of};
+ghost use Rattle.lc_base.specs.Named.{place_of};
 ghost use Rattle.ctype_classes.specs.Classes.{class_answer, numbered_answer};
 ghost use Rattle.ctype_classes.specs.Members.{membership};
 ghost use Rattle.ctype_classes.specs.Excluded.{is_in, IsFirstExcluded, AreAllApart, Names};

@@ -5,8 +5,8 @@ ghost use Rattle.std.specs.Option.{option_copied};
 ghost use Rattle.keywords.specs.Keywords.{operands};
 ghost use Rattle.ctype_classes.specs.FirstLines.{AreFirstLines};
 
-use crate::named::ByName;
 use keywords::{Entry, Values};
+use lc_base::ByName;
 use std::alloc::{AllocError, Global};
 use std::marker::Model;
 
@@ -35,7 +35,7 @@ fn first_lines<'a>(alloc: Global, entries: &'a [Entry]) -> Result<ByName<&'a Val
 {
     let mut lines = ByName::new(alloc);
     for entry in entries {
-        lines = lines.with(alloc, entry.keyword.as_bytes(), &entry.values)?;
+        lines.add(alloc, entry.keyword.as_bytes(), &entry.values)?;
     }
     Ok(lines)
 }

@@ -8,7 +8,6 @@ mod ctype;
 mod exclusions;
 mod first_lines;
 mod lists;
-mod named;
 mod table;
 
 pub use ctype::Ctype;

@@ -6,3 +6,5 @@ mod Examples
 pub mod Slices
 pub mod NumberLemmas
 mod WordExamples
+pub mod NamedLemmas
+mod NamedExamples

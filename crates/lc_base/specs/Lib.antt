@@ -13,3 +13,4 @@ pub mod Memory
 pub mod Cuts
 pub mod Numbers
 pub mod Tables
+pub mod Named

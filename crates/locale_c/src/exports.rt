@@ -3,7 +3,7 @@
 //! Each takes what a handle holds out, asks it, and puts it back.
 
 ghost use Rattle.std.specs.Prelude.{◌≡◌, ◌<◌, ◌≤◌, ◌^◌, length, None, IsSome};
-ghost use Rattle.ctype_classes.specs.Named.{place_of};
+ghost use Rattle.lc_base.specs.Named.{place_of};
 ghost use Rattle.ctype_classes.specs.Classes.{class_answer, numbered_answer};
 ghost use Rattle.ctype_classes.specs.Case.{image};
 ghost use Rattle.shared_objects.specs.Objects.{object_in, ctype_in};

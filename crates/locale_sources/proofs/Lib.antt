@@ -1,4 +1,3 @@
-pub mod NamedLemmas
 mod CopyExamples
 pub mod TableLemmas
 pub mod CopyLemmas

@@ -12,7 +12,7 @@ use Rattle.lc_base.specs.Tables.{first_named}
 use Rattle.charset.specs.Portable.{Name}
 use Rattle.keywords.specs.declared.source.Section.{Section}
 use Rattle.keywords.specs.declared.source.Body.TheVariants.{Copy, Entries}
-use Rattle.locale_sources.specs.Named.{with_named}
+use Rattle.lc_base.specs.Named.{with_named}
 use Rattle.locale_sources.specs.Sources.{Source}
 use Rattle.locale_sources.specs.Sections.{is_posix, section_at}
 

@@ -1,4 +1,3 @@
-pub mod Named
 pub mod Sources
 pub mod Sections
 pub mod Seen

@@ -2,25 +2,24 @@
 
 ghost use Rattle.std.specs.Prelude.{◌≡◌, ◌+◌, ◌<◌, ◌^◌, length, map, IfOk};
 ghost use Rattle.std.specs.List.{range_with_len};
-ghost use Rattle.locale_sources.specs.Named.{pairs_of};
 ghost use Rattle.locale_sources.specs.Seen.{source};
 ghost use Rattle.locale_sources.specs.Copies.{locale_numbers, target, step};
 
-use crate::{ByName, Source, add_named, get_named, is_posix, section_at};
+use crate::{Source, is_posix, section_at};
 use keywords::Body;
-use lc_base::Category;
+use lc_base::{ByName, Category};
 use std::alloc::{AllocError, Global};
 
 /// The numbers of locales by their names; a later version is none.
 pub fn locale_numbers(alloc: Global, sources: &[Source<'_>]) -> Result<ByName<u32>, AllocError>
     requires { length sources.now < 2 ^ 31 }
-    ensures { IfOk result (λ named. pairs_of named ≡ locale_numbers (map source sources.now)) }
+    ensures { IfOk result (λ named. named ≡ locale_numbers (map source sources.now)) }
 {
     let mut named = ByName::new(alloc);
     let mut number = 1;
     for source in sources {
         if source.key.is_none() {
-            add_named(alloc, &mut named, source.name, number)?;
+            named.add(alloc, source.name, number)?;
         }
         number += 1;
     }
@@ -34,13 +33,13 @@ pub fn target(
     category: Category,
     name: &[u8],
 ) -> Option<u32>
-    requires { pairs_of locales.now ≡ locale_numbers (map source sources.now) }
+    requires { locales.now ≡ locale_numbers (map source sources.now) }
     ensures { result ≡ target (map source sources.now) category name.now }
 {
     if is_posix(name) {
         return Some(0);
     }
-    let number = *get_named(locales, name)?;
+    let number = *locales.get(name)?;
     section_at(sources, category, number)?;
     Some(number)
 }
@@ -52,7 +51,7 @@ fn step(
     category: Category,
     number: u32,
 ) -> Option<u32>
-    requires { pairs_of locales.now ≡ locale_numbers (map source sources.now) }
+    requires { locales.now ≡ locale_numbers (map source sources.now) }
     ensures { result ≡ step (map source sources.now) category number }
 {
     let Some(section) = section_at(sources, category, number) else {
@@ -71,7 +70,7 @@ pub fn steps(
     locales: &ByName<u32>,
     category: Category,
 ) -> Result<Vec<Option<u32>>, AllocError>
-    requires known { pairs_of locales.now ≡ locale_numbers (map source sources.now) }
+    requires known { locales.now ≡ locale_numbers (map source sources.now) }
     requires few { length sources.now < 2 ^ 31 }
     ensures { IfOk result (λ v. v.items ≡ map (step (map source sources.now) category) (range_with_len 0 (length sources.now + 1))) }
 {

@@ -3,16 +3,15 @@
 ghost use Rattle.std.specs.Prelude.{◌≡◌, ◌+◌, ◌<◌, ◌≤◌, ◌^◌, length, map, IfOk};
 ghost use Rattle.std.specs.List.{range_with_len};
 ghost use Rattle.std.specs.Option.{option_copied};
-ghost use Rattle.locale_sources.specs.Named.{pairs_of};
 ghost use Rattle.locale_sources.specs.Seen.{source};
 ghost use Rattle.locale_sources.specs.Copies.{locale_numbers, last, is_copy, is_cycle, end_of, section_fault, sections_fault, copy_fault};
 ghost use Rattle.locale_sources.specs.Ends.{AreEnds, ends_in};
 
 use crate::copies::{steps, target};
 use crate::table::{led, repeated};
-use crate::{ByName, Source, section_at};
+use crate::{Source, section_at};
 use keywords::{Body, Section};
-use lc_base::{Category, Place, Reason};
+use lc_base::{ByName, Category, Place, Reason};
 use std::alloc::{AllocError, Global};
 
 /// For each category where the copies end that begin at each number.
@@ -43,7 +42,7 @@ impl Ends {
         sources: &[Source<'_>],
         locales: &ByName<u32>,
     ) -> Result<Ends, AllocError>
-        requires known { pairs_of locales.now ≡ locale_numbers (map source sources.now) }
+        requires known { locales.now ≡ locale_numbers (map source sources.now) }
         requires few { length sources.now < 2 ^ 31 }
         ensures { IfOk result (AreEnds (map source sources.now)) }
     {
@@ -75,7 +74,7 @@ fn ends_of(
     locales: &ByName<u32>,
     category: Category,
 ) -> Result<Vec<Option<u32>>, AllocError>
-    requires known { pairs_of locales.now ≡ locale_numbers (map source sources.now) }
+    requires known { locales.now ≡ locale_numbers (map source sources.now) }
     requires few { length sources.now < 2 ^ 31 }
     ensures { IfOk result (λ v. v.items ≡ map (last (map source sources.now) category) (range_with_len 0 (length sources.now + 1))) }
 {
@@ -138,7 +137,7 @@ fn section_fault(
     number: u32,
     section: &Section,
 ) -> Option<(Place, Reason)>
-    requires known { pairs_of locales.now ≡ locale_numbers (map source sources.now) }
+    requires known { locales.now ≡ locale_numbers (map source sources.now) }
     requires ends { AreEnds (map source sources.now) ends.now }
     requires within { number ≤ length sources.now }
     ensures { result ≡ section_fault (map source sources.now) number section.now }
@@ -164,7 +163,7 @@ fn sections_fault(
     number: u32,
     sections: &[Section],
 ) -> Option<(Place, Reason)>
-    requires known { pairs_of locales.now ≡ locale_numbers (map source sources.now) }
+    requires known { locales.now ≡ locale_numbers (map source sources.now) }
     requires ends { AreEnds (map source sources.now) ends.now }
     requires within { number ≤ length sources.now }
     ensures { result ≡ sections_fault (map source sources.now) number sections.now }
@@ -183,7 +182,7 @@ pub fn copy_fault(
     locales: &ByName<u32>,
     ends: &Ends,
 ) -> Option<(Place, Reason)>
-    requires known { pairs_of locales.now ≡ locale_numbers (map source sources.now) }
+    requires known { locales.now ≡ locale_numbers (map source sources.now) }
     requires ends { AreEnds (map source sources.now) ends.now }
     requires few { length sources.now < 2 ^ 31 }
     ensures { result ≡ copy_fault (map source sources.now) }

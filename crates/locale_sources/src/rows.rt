@@ -2,7 +2,6 @@
 
 ghost use Rattle.std.specs.Prelude.{◌≡◌, ◌<◌, ◌≤◌, ◌^◌, length, map, IfOk};
 ghost use Rattle.lc_base.specs.Reading.{Gives};
-ghost use Rattle.locale_sources.specs.Named.{pairs_of};
 ghost use Rattle.locale_sources.specs.Seen.{source};
 ghost use Rattle.locale_sources.specs.Copies.{locale_numbers};
 ghost use Rattle.locale_sources.specs.Ends.{AreEnds};
@@ -10,8 +9,8 @@ ghost use Rattle.locale_sources.specs.Rows.{available, bit_at, ends_at, rows_fro
 
 use crate::ends::{Ends, copy_fault, end_of};
 use crate::numbers::SourceNumbers;
-use crate::{ByName, Source, section_at};
-use lc_base::{ByteText, Category, Mask, TextFault};
+use crate::{Source, section_at};
+use lc_base::{ByName, ByteText, Category, Mask, TextFault};
 use std::alloc::{AllocError, Global};
 
 /// A locale: its name, the categories that it has, and where each of them is written.
@@ -113,7 +112,7 @@ pub fn read_rows(
     sources: &[Source<'_>],
     locales: &ByName<u32>,
 ) -> Result<Vec<LocaleRow>, TextFault>
-    requires known { pairs_of locales.now ≡ locale_numbers (map source sources.now) }
+    requires known { locales.now ≡ locale_numbers (map source sources.now) }
     requires few { length sources.now < 2 ^ 31 }
     ensures { Gives (λ v. v.items) result (rows_of (map source sources.now)) }
 {

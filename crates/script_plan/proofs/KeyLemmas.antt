@@ -13,7 +13,7 @@ use Rattle.lc_base.specs.Tables.{first_named}
 use Rattle.charset.specs.Portable.{Name}
 use Rattle.charset.specs.CodedSet.{CodedSet}
 use Rattle.locale_reader.specs.Source.{source}
-use Rattle.locale_sources.specs.Named.{with_named}
+use Rattle.lc_base.specs.Named.{with_named}
 use Rattle.locale_sources.specs.Sources.{Source}
 use Rattle.category_store.specs.Blocks.{Placed as PlacedBlock, locale_block, later_block, is_before, among, merged, by_place}
 use Rattle.category_store.specs.Sources.{charsets, charset_named, source_of, sources_of}

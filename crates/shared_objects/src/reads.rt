@@ -3,7 +3,7 @@
 ghost use Rattle.std.specs.Prelude.{◌≡◌, ℕ, true, [], IfOk, IfSome, OnErr};
 ghost use Rattle.std.specs.Cow.{cow_slice_items};
 ghost use Rattle.std.specs.List.{list_all};
-ghost use Rattle.ctype_classes.specs.Named.{place_of};
+ghost use Rattle.lc_base.specs.Named.{place_of};
 ghost use Rattle.ctype_classes.specs.Classes.{class_answer, numbered_answer};
 ghost use Rattle.ctype_classes.specs.Case.{image};
 ghost use Rattle.strfmon.specs.Money.{money};

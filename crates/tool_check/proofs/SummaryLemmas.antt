@@ -6,8 +6,8 @@ use Rattle.lc_base.specs.Tables.{first_named}
 use Rattle.charset.specs.Portable.{Name}
 use Rattle.class_ranges.specs.Runs.{HoldsNowhereFrom, IsRunFrom}
 use Rattle.ctype_classes.specs.Classes.{Classes, class_answer, numbered_answer}
-use Rattle.ctype_classes.specs.Named.{place_of}
-use Rattle.ctype_classes.proofs.NamedLemmas.{nothing_named}
+use Rattle.lc_base.specs.Named.{place_of}
+use Rattle.lc_base.proofs.NamedLemmas.{nothing_named}
 use Rattle.tool_check.specs.Summary.{count_below, is_in_class, class_count, numbered_count}
 
 count_below-suc : (test : ℕ → Bool) (n : ℕ) → count_below test (suc n) ≡ (if test n then count_below test n + 1 else count_below test n)

@@ -1,7 +1,6 @@
 use Rattle.std.proofs.Common.{◌≡◌, drop}
-use Rattle.locale_sources.specs.Named.{pairs_of}
 use Rattle.category_store.specs.Sources.{charsets, charsets_after}
 use Rattle.category_store.proofs.charsets.read_charmaps.Given as goal
 
 abbrev pub invariant-loop-block : goal.invariant-loop-block
-invariant-loop-block l = charsets l.charmaps ≡ charsets_after (pairs_of l.listed) (drop l.block-index l.charmaps)
+invariant-loop-block l = charsets l.charmaps ≡ charsets_after l.listed (drop l.block-index l.charmaps)

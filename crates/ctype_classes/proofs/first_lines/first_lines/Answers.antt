@@ -9,4 +9,4 @@ loop-entry-preserved c = λ keyword.
     let entry = c.entry-item.result in
     let cut : take (c.loop-entry.entry-index + 1) c.args.entries.now ≡ take c.loop-entry.entry-index c.args.entries.now ++ entry ∷ [] =
     take_more c.args.entries.now c.loop-entry.entry-index entry c.loop-entry-test.true ∙ ap (λ (e : Entry). take c.loop-entry.entry-index c.args.entries.now ++ e ∷ []) (sym c.entry-item.is) in
-    rw (c.in_ok-lines.ensures, c.as_bytes.ensures, cut) (first_lines_more (take c.loop-entry.entry-index c.args.entries.now) c.loop-entry.lines entry _ refl c.loop-entry.invariant keyword)
+    rw (c.in_ok-add.ensures, c.as_bytes.ensures, cut) (first_lines_more (take c.loop-entry.entry-index c.args.entries.now) c.loop-entry.lines entry _ refl c.loop-entry.invariant keyword)
