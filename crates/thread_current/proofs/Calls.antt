@@ -19,6 +19,7 @@ use Rattle.lc_base.specs.declared.handle.Named.TheVariants.{Global, Of}
 use Rattle.handle_table.specs.Shelf.{from_shelf}
 use Rattle.handle_table.specs.declared.op.Op.{Op as OpOf}
 use Rattle.handle_table.specs.declared.op.Reply.{Reply as ReplyOf}
+use Rattle.handle_table.specs.declared.op.Reply.TheVariants as replies
 use Rattle.handle_table.specs.declared.op.Refusal.{Refusal}
 use Rattle.handle_table.specs.Entry.{Op, New, Dup, Free, Use, Hold, Release, SetGlobal, Install, Post, Fetch, Pins, End, Reply, Was, Set, Refused, Entry, History, Setting, is_accepted}
 use Rattle.handle_table.specs.Seen.{op_of, reply_of}
@@ -27,7 +28,7 @@ use Rattle.handle_table.specs.Kept.{AreThreads}
 use Rattle.handle_table.specs.Answer.{answer, own_after, own, target_object, first_reason, reasons, unless, IsLegal}
 use Rattle.handle_table.proofs.Changes.{own_stays}
 use Rattle.thread_current.specs.Seen.{entry_of, entries_of}
-use Rattle.thread_current.specs.Thread.{Thread, thread_of, IsThreadOf, first_thread, IsPart, selected, own_object, GoesOnFrom, entries_by, without_newest, before, IsSameThread, Answered, SawMore, KeepsSelection, KeepsHolds, Keeps, After, IsInOrder, takes_up}
+use Rattle.thread_current.specs.Thread.{Thread, thread_of, IsThreadOf, first_thread, IsPart, selected, own_object, GoesOnFrom, entries_by, without_newest, before, IsSameThread, Answered, SawMore, KeepsSelection, KeepsHolds, Keeps, After, cached_after, Leaves, IsInOrder, takes_up}
 use Rattle.thread_current.specs.Mine.{IsMine, IsUnused}
 use Rattle.thread_current.proofs.Longer.{length_entries, entries_append, sets_rise, version_object}
 
@@ -389,37 +390,18 @@ set_reply gate old new mask numbers place v x a =
 
 -- ---- calls of more than one step
 
--- what an accepted setlocale promises
+-- what an accepted setlocale promises of its reply
 pub record SetDone (gate : Gate Setting) (old new : Thread) (mask : ℕ) (numbers : List ℕ) (place v : ℕ) : Type 0 where
   pub made : Answered gate old new (SetGlobal mask numbers) place (Set v (global_at gate.terms.setting new.seen v))
-  pub in_order : IsInOrder gate.terms new
   pub version : v ≡ sets new.seen
-  pub selection : KeepsSelection old new
-  pub holds : KeepsHolds old new
-  pub cached : new.cached ≡ v
 
-pub set_done : (gate : Gate Setting) (old mid new : Thread) (mask : ℕ) (numbers : List ℕ) (place v : ℕ) (x : Parts) → Answered gate old mid (SetGlobal mask numbers) place (Set v x)
-    → IsInOrder gate.terms mid → After old mid (SetGlobal mask numbers) (Set v x) → KeepsSelection old mid → new ≡ reading v mid → SetDone gate old new mask numbers place v
-set_done gate old mid new mask numbers place v x a is after keeps same =
-    let says = set_reply gate old mid mask numbers place v x a in
-    let P : Thread → Type 0 = λ t. SetDone gate old t mask numbers place v in
-    let b : Answered gate old mid (SetGlobal mask numbers) place (Set v (global_at gate.terms.setting mid.seen v)) =
-    subst (λ (y : Parts). Answered gate old mid (SetGlobal mask numbers) place (Set v y)) says.1 a in
-    subst P (sym same) (record {
-      made = record {
-        same = record { table = b.same.table; terms = b.same.terms; number = b.same.number };
-        later = b.later;
-        place_is = b.place_is;
-        reply_is = b.reply_is;
-        seen = b.seen;
-        calls = b.calls;
-      };
-      in_order = order_reads gate.terms mid v is;
+pub set_done : (gate : Gate Setting) (old new : Thread) (mask : ℕ) (numbers : List ℕ) (place v : ℕ) (x : Parts) → Answered gate old new (SetGlobal mask numbers) place (Set v x)
+    → SetDone gate old new mask numbers place v
+set_done gate old new mask numbers place v x a =
+    let says = set_reply gate old new mask numbers place v x a in record {
+      made = subst (λ (y : Parts). Answered gate old new (SetGlobal mask numbers) place (Set v y)) says.1 a;
       version = says.0;
-      selection = record { selection = keeps.selection; own = keeps.own };
-      holds = after.holds;
-      cached = refl;
-    })
+    }
 
 extends_both : (third second first : History) → GoesOnFrom third second → GoesOnFrom second first → GoesOnFrom third first
 extends_both third second first x y = (x.0 ++ y.0, x.1 ∙ (ap (λ (H : History). x.0 ++ H) y.1 ∙ sym (append_assoc x.0 y.0 first)))
@@ -470,35 +452,74 @@ read_done gate old mid last new v x saw keeps saw' keeps' is version object same
       cached = refl;
     })
 
--- what an accepted Use promises
-pub record UseDone (gate : Gate Setting) (old new : Thread) (n former : Named) (place : ℕ) : Type 0 where
-  pub made : Answered gate old new (Use n) place (Was former (target_object gate.terms.setting (before new) n))
-  pub former_is : former ≡ selected old
-  pub selected : selected new ≡ n
-  pub own : own_object new ≡ target_object gate.terms.setting (before new) n
-  pub holds : KeepsHolds old new
-
-pub use_done : (gate : Gate Setting) (old new : Thread) (n former : Named) (now : Option Parts) (place : ℕ) → Turned gate old new (Use n) place (Was former now)
-    → UseDone gate old new n former place
-use_done gate old new n former now place t =
-    let a = t.answered in
-    let s = before_says gate old new (Use n) place (Was former now) gate.terms a t.was t.is in
-    let says = use_reply gate.terms.setting (before new) old.number n former now a.reply_is in record {
-      made = subst (λ (o : Option Parts). Answered gate old new (Use n) place (Was former o)) says.1 a;
-      former_is = says.0 ∙ s.selection;
-      selected = t.after.selection;
-      own = t.after.own ∙ says.1;
-      holds = t.after.holds;
-    }
-
 -- what a thread keeps beside its seat after an accepted Use
-pub mine_uses : (gate : Gate Setting) (old new : Thread) (n former named : Named) (now taken : Option Parts) (object : Parts) (place : ℕ) → Turned gate old new (Use n) place (Was former now)
-    → IsMine old named taken object → new.cached ≡ old.cached → IsMine new n now object
-mine_uses gate old new n former named now taken object place t m same =
+pub mine_uses : (gate : Gate Setting) (old new : Thread) (n former named : Named) (now taken : Option Parts) (object : Parts) (place : ℕ) (reply : Reply) → Turned gate old new (Use n) place reply
+    → reply ≡ Was former now → IsMine old named taken object → new.cached ≡ old.cached → IsMine new n now object
+mine_uses gate old new n former named now taken object place reply step is m same =
+    let t = subst (Turned gate old new (Use n) place) is step in
     let says = use_reply gate.terms.setting (before new) old.number n former now t.answered.reply_is in
     let both = target_none gate.terms.setting (before new) n in
     mine_with gate old new named n taken now object m t.known t.answered.same.terms t.later same t.is (sym t.after.selection) (sym t.after.own)
     (λ p. both.0 (sym says.1 ∙ p), λ p. says.1 ∙ both.1 p)
+
+module _ {P : Type 0} where
+  -- a reply to a Use that gives no object is a refusal
+  refused_unless : (o : Option Refusal) (former : Named) (now : Option Parts) (r : ReplyOf P) → reply_of r ≡ unless o (Was former now)
+      → ((f : Named) (x : Option Parts) → r ≡ replies.Was f x → ⊥) → (refusal : Refusal) × (reply_of r ≡ Refused refusal)
+  refused_unless (Some refusal) former now r is other = (refusal, is)
+  refused_unless None former now (replies.Was f x) is other = absurd (other f x refl)
+  refused_unless None former now (replies.Made h) is other = absurd (cc is)
+  refused_unless None former now replies.Freed is other = absurd (cc is)
+  refused_unless None former now (replies.Held object) is other = absurd (cc is)
+  refused_unless None former now replies.Released is other = absurd (cc is)
+  refused_unless None former now (replies.Set version object) is other = absurd (cc is)
+  refused_unless None former now (replies.Installed count) is other = absurd (cc is)
+  refused_unless None former now replies.Posted is other = absurd (cc is)
+  refused_unless None former now (replies.Got h) is other = absurd (cc is)
+  refused_unless None former now (replies.Pins count) is other = absurd (cc is)
+  refused_unless None former now replies.Ended is other = absurd (cc is)
+  refused_unless None former now (replies.Refused refusal) is other = absurd (cc is)
+
+  -- what a thread keeps beside its seat after a Use that took up nothing
+  pub mine_refused : (gate : Gate Setting) (old new : Thread) (n named : Named) (taken : Option Parts) (object : Parts) (place : ℕ) (r : ReplyOf P)
+      → Turned gate old new (Use n) place (reply_of r) → ((f : Named) (x : Option Parts) → r ≡ replies.Was f x → ⊥)
+      → IsMine old named taken object → new.cached ≡ old.cached → IsMine new named taken object
+  mine_refused gate old new n named taken object place r step other m same =
+      let c : Setting = gate.terms.setting in
+      let H : History = before new in
+      let why = refused_unless (first_reason (reasons c H old.number (Use n))) (selection H old.number) (target_object c H n) r step.answered.reply_is other in
+      let t = subst (Turned gate old new (Use n) place) why.1 step in
+      mine_later gate old new named taken object m t.known t.answered.same.terms t.later (record { selection = t.after.selection; own = t.after.own }) same t.is
+
+-- what a turn with a Use promises of the thread that the caller sees
+pub record TookUp (gate : Gate Setting) (old new : Thread) (n : Named) (place : ℕ) (reply : Reply) : Type 0 where
+  pub answered : Answered gate old new (Use n) place reply
+  pub in_order : IsInOrder gate.terms new
+  pub before : selection (before new) old.number ≡ selected old
+  pub leaves : Leaves old new (Use n) reply
+
+-- a Use is answered with no version
+use_reads : (o : Option Refusal) (former : Named) (now : Option Parts) (v : ℕ) → cached_after (unless o (Was former now)) v ≡ v
+use_reads None former now v = refl
+use_reads (Some refusal) former now v = refl
+
+pub took_up : (gate self : Gate Setting) (old mine new last : Thread) (n : Named) (place : ℕ) (reply : Reply) → gate ≡ self → old ≡ mine → Turned gate old new (Use n) place reply
+    → new.cached ≡ old.cached → new ≡ last → TookUp self mine last n place reply
+took_up gate self old mine new last n place reply gates mines step cached same =
+    let c : Setting = self.terms.setting in
+    let H : History = before new in
+    let t : ℕ = mine.number in
+    let s = turned_seen gate self old mine new (Use n) place reply gates mines step in
+    let kept : new.cached ≡ mine.cached = subst (λ (u : Thread). new.cached ≡ u.cached) mines cached in
+    let read : cached_after reply mine.cached ≡ mine.cached =
+    ap (λ (r : Reply). cached_after r mine.cached) s.answered.reply_is
+    ∙ use_reads (first_reason (reasons c H t (Use n))) (selection H t) (target_object c H n) mine.cached in
+    subst (λ (u : Thread). TookUp self mine u n place reply) same (record {
+      answered = s.answered;
+      in_order = s.is;
+      before = (before_says self mine new (Use n) place reply self.terms s.answered s.was s.is).selection;
+      leaves = record { after = s.after; cached = kept ∙ sym read };
+    })
 
 -- ---- the first and the last state
 
@@ -527,40 +548,3 @@ module _ {P : Type 0} where
   pub first_threads : (gate : Gate Setting) (n : ℕ) (seats : List (Caller Setting (OpOf P) (ReplyOf P))) → seats ≡ map (first_caller gate) (range_with_len 0 n)
       → map (thread_of 0) seats ≡ map (first_thread gate) (range_with_len 0 n)
   first_threads gate n seats is = ap (map (thread_of 0)) is ∙ map-map (thread_of 0) (first_caller {O = OpOf P} {R = ReplyOf P} gate) (range_with_len 0 n)
-
--- all that a turn with a Use says
-pub record Used (gate : Gate Setting) (old new : Thread) (n former : Named) (now : Option Parts) (object : Parts) (place : ℕ) : Type 0 where
-  pub mine : IsMine new n now object
-  pub done : UseDone gate old new n former place
-  pub is : IsInOrder gate.terms new
-
-pub record UseRefused (gate : Gate Setting) (old new : Thread) (n named : Named) (taken : Option Parts) (object : Parts) (refusal : Refusal) (place : ℕ) : Type 0 where
-  pub mine : IsMine new named taken object
-  pub fault : Answered gate old new (Use n) place (Refused refusal)
-  pub is : IsInOrder gate.terms new
-  pub selection : KeepsSelection old new
-  pub holds : KeepsHolds old new
-
-pub used : (gate self : Gate Setting) (old mine new : Thread) (n former named : Named) (now taken : Option Parts) (object : Parts) (place : ℕ) (reply : Reply) → gate ≡ self → old ≡ mine
-    → Turned gate old new (Use n) place reply → reply ≡ Was former now → new.cached ≡ old.cached → IsMine old named taken object → Used self mine new n former now object place
-used gate self old mine new n former named now taken object place reply gates mines turned is same m =
-    let t = subst (Turned gate old new (Use n) place) is turned in
-    let s = turned_seen gate self old mine new (Use n) place (Was former now) gates mines t in record {
-      mine = mine_uses gate old new n former named now taken object place t m same;
-      done = use_done self mine new n former now place s;
-      is = s.is;
-    }
-
-pub use_refused : (gate self : Gate Setting) (old mine new : Thread) (n named : Named) (taken : Option Parts) (object : Parts) (refusal : Refusal) (place : ℕ) (reply : Reply) → gate ≡ self → old ≡ mine
-    → Turned gate old new (Use n) place reply → reply ≡ Refused refusal → new.cached ≡ old.cached → IsMine old named taken object
-    → UseRefused self mine new n named taken object refusal place
-use_refused gate self old mine new n named taken object refusal place reply gates mines turned is same m =
-    let t = subst (Turned gate old new (Use n) place) is turned in
-    let s = turned_seen gate self old mine new (Use n) place (Refused refusal) gates mines t in
-    let keeps : KeepsSelection old new = record { selection = t.after.selection; own = t.after.own } in record {
-      mine = mine_later gate old new named taken object m t.known t.answered.same.terms t.later keeps same t.is;
-      fault = s.answered;
-      is = s.is;
-      selection = record { selection = s.after.selection; own = s.after.own };
-      holds = s.after.holds;
-    }

@@ -16,7 +16,7 @@ use Rattle.handle_table.specs.Entry as data_of
 use Rattle.handle_table.specs.Answer.{IsLegal}
 use Rattle.thread_current.specs.declared.shared.Fault.{Fault}
 use Rattle.thread_current.specs.Seen.{entries_of, version_after, newest_object, May}
-use Rattle.thread_current.specs.Thread.{Thread, GoesOnFrom, Answered, SawMore, Keeps, KeepsSelection, KeepsHolds}
+use Rattle.thread_current.specs.Thread.{Thread, GoesOnFrom, Answered, Leaves, SawMore, Keeps, KeepsSelection, KeepsHolds}
 use Rattle.thread_current.specs.Causes.{refusal_in, IsNeverMade, IsStale, IsThere, IsHeldAlready}
 
 -- the object whose parts are all this number
@@ -174,3 +174,44 @@ module _ (table : TableId) where
 
   not_the_holds : KeepsHolds (thread 0 making making) (thread 0 held held) → ⊥
   not_the_holds is = let no : true ≡ false = is object in cc no
+
+  -- ---- what calls leave
+
+  -- the thread of this number that read this version last, where all that it has seen are its own calls
+  abbrev with_version : ℕ → ℕ → data_of.History → Thread
+  with_version number version seen = record (thread number seen seen) { cached = version }
+
+  leaves_selected : Leaves (thread 1 [] []) (thread 1 (used ∷ making) (used ∷ [])) (data_of.Use (Of object)) (data_of.Was Global (Some (all_of 7)))
+  leaves_selected = record { after = record { selection = refl; own = refl; holds = λ h. refl }; cached = refl }
+
+  -- a Use that is refused selects nothing
+  abbrev refused_use : data_of.Entry
+  refused_use = by 1 (data_of.Use (Of object)) (data_of.Refused refusals.NeverMade)
+
+  leaves_unselected : Leaves (with_version 1 0 []) (with_version 1 0 (refused_use ∷ [])) (data_of.Use (Of object)) (data_of.Refused refusals.NeverMade)
+  leaves_unselected = record { after = record { selection = refl; own = refl; holds = λ h. refl }; cached = refl }
+
+  not_selected : Leaves (with_version 1 0 []) (thread 1 (used ∷ making) (used ∷ [])) (data_of.Use (Of object)) (data_of.Refused refusals.NeverMade) → ⊥
+  not_selected is = let no : Of object ≡ Global = is.after.selection in cc no
+
+  leaves_held : Leaves (with_version 0 0 making) (with_version 0 0 held) (data_of.Hold (Of object)) (data_of.Held (all_of 7))
+  leaves_held = record { after = record { selection = refl; own = refl; holds = λ h. refl }; cached = refl }
+
+  not_unheld : Leaves (with_version 0 0 making) (with_version 0 0 making) (data_of.Hold (Of object)) (data_of.Held (all_of 7)) → ⊥
+  not_unheld is = let no : false ≡ true = is.after.holds object in cc no
+
+  abbrev released : data_of.History
+  released = by 0 (data_of.Release (Of object)) data_of.Released ∷ held
+
+  leaves_released : Leaves (with_version 0 0 held) (with_version 0 0 released) (data_of.Release (Of object)) data_of.Released
+  leaves_released = record { after = record { selection = refl; own = refl; holds = λ h. refl }; cached = refl }
+
+  -- a thread that changes the global locale has read what it made
+  abbrev changed : data_of.History
+  changed = by 0 (data_of.SetGlobal 31 numbers) (data_of.Set 1 (all_of 7)) ∷ []
+
+  leaves_read : Leaves (with_version 0 0 []) (with_version 0 1 changed) (data_of.SetGlobal 31 numbers) (data_of.Set 1 (all_of 7))
+  leaves_read = record { after = record { selection = refl; own = refl; holds = λ h. refl }; cached = refl }
+
+  not_unread : Leaves (with_version 0 0 []) (with_version 0 0 changed) (data_of.SetGlobal 31 numbers) (data_of.Set 1 (all_of 7)) → ⊥
+  not_unread is = eqb-false 0 1 refl is.cached

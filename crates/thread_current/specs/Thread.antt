@@ -8,7 +8,7 @@ use Rattle.handle_table.specs.declared.op.Op as ops
 use Rattle.handle_table.specs.declared.op.Reply as replies
 use Rattle.lc_base.specs.declared.handle.Handle.{Handle}
 use Rattle.lc_base.specs.declared.handle.Named.{Named}
-use Rattle.handle_table.specs.Entry.{Op, Use, End, Reply, History, Setting, is_accepted}
+use Rattle.handle_table.specs.Entry.{Op, Use, End, Reply, Set, History, Setting, is_accepted}
 use Rattle.handle_table.specs.History.{selection_after, selection, holding_after, holding}
 use Rattle.handle_table.specs.Kept.{AreThreads}
 use Rattle.handle_table.specs.Answer.{answer, own_after, own, IsLegal}
@@ -95,6 +95,17 @@ pub record After (old new : Thread) (op : Op) (reply : Reply) : Type 0 where
   pub selection : selected new ≡ (if is_accepted reply then selection_after op (selected old) else selected old)
   pub own : own_object new ≡ own_after reply (own_object old)
   pub holds : (h : Handle) → holds new h ≡ (if is_accepted reply then holding_after op h (holds old h) else holds old h)
+
+-- the version of the global locale that the thread read last, after its call: an accepted SetGlobal gives the one it made
+abbrev pub cached_after : Reply → ℕ → ℕ
+cached_after (Set version object) before = version
+cached_after _ before = before
+
+-- What a call leaves of its thread, by its op and its reply: what the thread says then, and the version of the global
+-- locale that it read last. A refused call leaves all as it was
+pub record Leaves (old new : Thread) (op : Op) (reply : Reply) : Type 0 where
+  pub after : After old new op reply
+  pub cached : new.cached ≡ cached_after reply old.cached
 
 -- the thread has seen more, or as much, and made no call
 pub record SawMore (old new : Thread) : Type 0 where

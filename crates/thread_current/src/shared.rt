@@ -12,12 +12,12 @@ ghost use Rattle.handle_table.specs.declared.op.Refusal.TheVariants as refusals;
 ghost use Rattle.handle_table.specs.Entry as data_of;
 ghost use Rattle.handle_table.specs.Entry.{same_handle};
 ghost use Rattle.handle_table.specs.Shelf.{lacking};
-ghost use Rattle.handle_table.specs.History.{sets, global_at, holding, free_row, posted};
+ghost use Rattle.handle_table.specs.History.{sets, global_at, selection, holding, free_row, posted};
 ghost use Rattle.handle_table.specs.Answer.{target_object};
 ghost use Rattle.handle_table.specs.Table.{IsOpening, Fits, StandsFor};
 ghost use Rattle.handle_table.specs.Seen.{op_of, reply_of};
 ghost use Rattle.thread_current.specs.Seen.{entries_of};
-ghost use Rattle.thread_current.specs.Thread.{IsThreadOf, IsInOrder, IsPart, After, takes_up, Answered, SawMore, Keeps, KeepsSelection, KeepsHolds, GoesOnFrom, before, selected, own_object, holds, first_thread, thread_of};
+ghost use Rattle.thread_current.specs.Thread.{IsThreadOf, IsInOrder, IsPart, After, Leaves, takes_up, Answered, SawMore, Keeps, KeepsSelection, KeepsHolds, GoesOnFrom, before, selected, own_object, holds, first_thread, thread_of};
 ghost use Rattle.thread_current.specs.Mine.{IsUnused};
 ghost use Rattle.thread_current.specs.Causes.{refusal_in, IsNeverMade, IsStale, IsThere, IsHeldAlready};
 
@@ -80,6 +80,16 @@ fn seat_all<P: Part>(
     Ok(())
 }
 
+// The same object once more, where there is one.
+fn share_any<P: Part>(object: &Option<Object<P>>) -> Option<Object<P>>
+    ensures { result ≡ object.now }
+{
+    match object {
+        Some(object) => Some(object.share()),
+        None => None,
+    }
+}
+
 impl<P: Part> Shared<P> {
     /// A table without objects that threads share, and the threads, each with its own side. Thread i
     /// is number i, and may make at most `quota` entries.
@@ -121,6 +131,36 @@ impl<P: Part> Shared<P> {
         Ok((Shared { turns }, List::of(all)))
     }
 
+    /// Makes one entry by an op that does not end the thread, and gives its place and the reply.
+    ///
+    /// The thread goes by the reply: it has selected what an accepted `Op::Use` named, and read the
+    /// global object that an accepted `Op::SetGlobal` made. A hold that an `Op::Hold` began is given up
+    /// by an `Op::Release`. A thread ends by `end`, which takes it.
+    pub fn call<R: Wait>(&self, rt: &R, mine: &mut Mine<P>, op: Op<P>) -> (u64, Reply<P>)
+        requires thread { IsThreadOf self.now mine.old }
+        requires quota { length mine.old.calls < self.now.terms.quota }
+        requires fits { Fits self.now.terms.setting (op_of op) }
+        requires goes_on { op_of op ≢ data_of.End }
+        ensures made { Answered self.now mine.old mine.new (op_of op) result.0 (reply_of result.1) }
+        ensures in_order { IsInOrder self.now.terms mine.new }
+        ensures leaves { Leaves mine.old mine.new (op_of op) (reply_of result.1) }
+    {
+        match op {
+            Op::Use { to } => self.take_up(rt, mine, to),
+            Op::SetGlobal { mask, names } => self.change(rt, mine, mask, names),
+            Op::New { .. }
+            | Op::Dup { .. }
+            | Op::Free { .. }
+            | Op::Hold { .. }
+            | Op::Release { .. }
+            | Op::Install { .. }
+            | Op::Post { .. }
+            | Op::Fetch { .. }
+            | Op::Pins { .. } => self.enter(rt, mine, op),
+            Op::End => unreachable!(),
+        }
+    }
+
     // Makes one entry, which neither selects anything nor ends the thread.
     fn enter<R: Wait>(&self, rt: &R, mine: &mut Mine<P>, op: Op<P>) -> (u64, Reply<P>)
         requires thread { IsThreadOf self.now mine.old }
@@ -135,6 +175,45 @@ impl<P: Part> Shared<P> {
         ensures cached { mine.new.cached ≡ mine.old.cached }
     {
         self.turns.turn(rt, &mut mine.seat, op)
+    }
+
+    // Makes the entry of a selection, and takes up the object that it gives.
+    fn take_up<R: Wait>(&self, rt: &R, mine: &mut Mine<P>, to: Named) -> (u64, Reply<P>)
+        requires thread { IsThreadOf self.now mine.old }
+        requires quota { length mine.old.calls < self.now.terms.quota }
+        ensures answered { Answered self.now mine.old mine.new (data_of.Use to) result.0 (reply_of result.1) }
+        ensures in_order { IsInOrder self.now.terms mine.new }
+        ensures before { selection (before mine.new) mine.old.number ≡ selected mine.old }
+        ensures leaves { Leaves mine.old mine.new (data_of.Use to) (reply_of result.1) }
+    {
+        let (place, reply) = self.turns.turn(rt, &mut mine.seat, Op::Use { to });
+        if let Reply::Was { now, .. } = &reply {
+            mine.named = to;
+            mine.own = share_any(now);
+        }
+        (place, reply)
+    }
+
+    // Makes the entry of a change of the global locale, and keeps the object that it makes.
+    fn change<R: Wait>(
+        &self,
+        rt: &R,
+        mine: &mut Mine<P>,
+        mask: Mask,
+        names: [u32; 5],
+    ) -> (u64, Reply<P>)
+        requires thread { IsThreadOf self.now mine.old }
+        requires quota { length mine.old.calls < self.now.terms.quota }
+        requires names { AreOnShelf self.now.terms.setting.opening names }
+        ensures answered { Answered self.now mine.old mine.new (data_of.SetGlobal mask names) result.0 (reply_of result.1) }
+        ensures in_order { IsInOrder self.now.terms mine.new }
+        ensures leaves { Leaves mine.old mine.new (data_of.SetGlobal mask names) (reply_of result.1) }
+    {
+        let (place, reply) = self.enter(rt, mine, Op::SetGlobal { mask, names });
+        if let Reply::Set { version, object } = &reply {
+            mine.read(*version, object.share());
+        }
+        (place, reply)
     }
 
     /// Makes an object, or changes the base: in the categories of the mask the parts of the named
@@ -234,13 +313,9 @@ impl<P: Part> Shared<P> {
         ensures never_made { (refusal_in result ≡ Some refusals.NeverMade) ↔ IsNeverMade (before mine.new) to }
         ensures stale { (refusal_in result ≡ Some refusals.Stale) ↔ IsStale (before mine.new) to }
     {
-        let (place, reply) = self.turns.turn(rt, &mut mine.seat, Op::Use { to });
+        let (place, reply) = self.take_up(rt, mine, to);
         match reply {
-            Reply::Was { former, now } => {
-                mine.named = to;
-                mine.own = now;
-                Ok((place, former))
-            }
+            Reply::Was { former, .. } => Ok((place, former)),
             Reply::Refused(refusal) => Err(Fault { place, refusal }),
             _ => unreachable!(),
         }
@@ -268,12 +343,9 @@ impl<P: Part> Shared<P> {
         ensures cached { MatchResult result (λ r. mine.new.cached ≡ r.1) (λ f. mine.new.cached ≡ mine.old.cached) }
         ensures no_data { (k : Category) → (refusal_in result ≡ Some (refusals.NoData k)) ↔ (lacking self.now.terms.setting (before mine.new) mask names ≡ Some k) }
     {
-        let (place, reply) = self.enter(rt, mine, Op::SetGlobal { mask, names });
+        let (place, reply) = self.change(rt, mine, mask, names);
         match reply {
-            Reply::Set { version, object } => {
-                mine.read(version, object);
-                Ok((place, version))
-            }
+            Reply::Set { version, .. } => Ok((place, version)),
             Reply::Refused(refusal) => Err(Fault { place, refusal }),
             _ => unreachable!(),
         }
