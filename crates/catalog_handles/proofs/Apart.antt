@@ -1,18 +1,19 @@
 -- The part of some threads says of them what the whole history says, and answers their calls alike.
 use Rattle.std.proofs.Common.{◌≡◌, ℕ, ◌+◌, Bool, true, false, ◌&&◌, ◌||◌, not, List, [], ◌∷◌, length, Option, None, Some, refl, ap, sym, ◌∙◌, subst, inl, inr}
 use Rattle.std.proofs.lemmas.Bool.{and_right, cases_Bool, false_from_ne_true, false≢true}
-use Rattle.std.specs.Prelude.{if◌then◌else◌, nat_lt}
+use Rattle.std.specs.Prelude.{if◌then◌else◌}
+use Rattle.generations.specs.Kind.{nth}
+use Rattle.generations.specs.Making.{with_handle}
+use Rattle.generations.proofs.Numbering.{same_handles, with_other}
+use Rattle.generations.proofs.Free.{free_row_alike}
 use Rattle.catalog_handles.specs.declared.handle.CatalogHandle.{CatalogHandle}
 use Rattle.catalog_handles.specs.declared.setting.CatalogSetting.{CatalogSetting}
 use Rattle.catalog_handles.specs.declared.op.CatalogRefusal.TheVariants.{NeverMade, Stale}
-use Rattle.catalog_handles.specs.Entry.{Op, Open, Get, Close, Opened, Book, Closed, Entry, History, same_handle, named_by, is_accepted}
-use Rattle.catalog_handles.specs.History.{handle_made, makes_handle, made, op_closes, closes_handle, live, book_opened, book, is_in_row, with_handle, handles, makes, is_free, free_row}
+use Rattle.catalog_handles.specs.Entry.{Op, Open, Get, Close, Opened, Book, Closed, Entry, History, catalog_handles, same_handle, named_by, is_accepted}
+use Rattle.catalog_handles.specs.History.{handle_made, makes_handle, made, op_closes, closes_handle, live, book_opened, book, makings, handles, makes, catalogs, free_row}
 use Rattle.catalog_handles.specs.Answer.{against, unless, opened_in, answer, entry, IsLegal}
 use Rattle.catalog_handles.specs.Isolation.{has_thread, is_owned, is_own, keeps_apart, IsClosed, part_of}
-use Rattle.catalog_handles.specs.Kept.{newest}
-use Rattle.catalog_handles.proofs.Numbering.{nth, IsNew, new_entry, in_row_numbers, same_handles, made_next}
-use Rattle.catalog_handles.proofs.Newest.{free_newest}
-use Rattle.catalog_handles.proofs.Says.{least_same}
+use Rattle.catalog_handles.proofs.Numbering.{new_entry, maker_owns}
 use Rattle.catalog_handles.proofs.After.{made_kept, live_kept, book_kept}
 
 -- what a history says of the threads is what another says of them
@@ -46,30 +47,19 @@ apart_inside S e apart inside =
 not_closed : (S : List ℕ) (op : Op) (h : CatalogHandle) → is_owned S (named_by op) ≡ false → has_thread S h.owner ≡ true → op_closes op h ≡ false
 not_closed S (Close g) h none owned =
     false_from_ne_true (same_handle g h) (λ is.
-    false≢true (sym none ∙ ap (λ (x : CatalogHandle). has_thread S x.owner) (same_handles g h is) ∙ owned))
+    false≢true (sym none ∙ ap (λ (x : CatalogHandle). has_thread S x.owner) (same_handles catalog_handles g h is) ∙ owned))
 not_closed S (Get g) h none owned = refl
 not_closed S (Open number) h none owned = refl
 
 makes_apart : (c : CatalogSetting) (S : List ℕ) (e : Entry) (H : History) (h : CatalogHandle) → IsLegal c (e ∷ H) → has_thread S e.who ≡ false
     → has_thread S h.owner ≡ true → makes_handle e h ≡ false
 makes_apart c S e H h legal outside owned =
-    false_from_ne_true (makes_handle e h) (λ here. is_another S e.who h.owner outside owned (made_next c e H h legal here).0)
+    false_from_ne_true (makes_handle e h) (λ here. is_another S e.who h.owner outside owned (maker_owns c e H h legal here))
 
 closes_apart : (S : List ℕ) (e : Entry) (h : CatalogHandle) → keeps_apart S e ≡ true → has_thread S e.who ≡ false
     → has_thread S h.owner ≡ true → closes_handle e h ≡ false
 closes_apart S e h apart outside owned =
     and_right (is_accepted e.reply) (op_closes e.op h) (not_closed S e.op h (apart_outside S e apart outside) owned)
-
-not_in_row : (b : Bool) (g : CatalogHandle) (hs : List CatalogHandle) → b ≡ false → (if b then g ∷ hs else hs) ≡ hs
-not_in_row true g hs p = absurd (cc p)
-not_in_row false g hs p = refl
-
-handles_if : (c : CatalogSetting) (H : History) (S : List ℕ) (w t r : ℕ) (o : Option CatalogHandle) → IsNew c H w o → has_thread S w ≡ false
-    → has_thread S t ≡ true → with_handle t r o (handles H t r) ≡ handles H t r
-handles_if c H S w t r None new outside inside = refl
-handles_if c H S w t r (Some g) new outside inside =
-    not_in_row (is_in_row t r g) g (handles H t r) (false_from_ne_true (is_in_row t r g) (λ is.
-    is_another S w t outside inside (sym (ap (λ (h : CatalogHandle). h.owner) new.1) ∙ (in_row_numbers t r g is).0)))
 
 -- ---- the part and the whole
 
@@ -81,7 +71,8 @@ same_outside c S e G H legal apart outside same = record {
       ∙ sym (live_kept e H h (makes_apart c S e H h legal outside owned) (closes_apart S e h apart outside owned));
   book = λ h owned. same.book h owned ∙ sym (book_kept e H h (makes_apart c S e H h legal outside owned));
   handles = λ t r owned. same.handles t r owned
-      ∙ sym (handles_if c H S e.who t r (handle_made e.op e.reply) (new_entry c e H legal) outside owned);
+      ∙ sym (with_other catalog_handles (makings H) e.who t r (handle_made e.op e.reply) (handles H t r) (new_entry c e H legal).1
+      (is_another S e.who t outside owned));
 }
 
 same_inside : (S : List ℕ) (e : Entry) (G H : History) → SaysOfThreads S G H → SaysOfThreads S (e ∷ G) (e ∷ H)
@@ -89,19 +80,14 @@ same_inside S e G H same = record {
   made = λ h owned. ap (λ b. makes_handle e h || b) (same.made h owned);
   live = λ h owned. ap (λ b. not (closes_handle e h) && (makes_handle e h || b)) (same.live h owned);
   book = λ h owned. ap (λ n. if makes_handle e h then book_opened e.op n else n) (same.book h owned);
-  handles = λ t r owned. ap (with_handle t r (handle_made e.op e.reply)) (same.handles t r owned);
+  handles = λ t r owned. ap (with_handle catalog_handles t r (handle_made e.op e.reply)) (same.handles t r owned);
 }
 
 -- a free row of a thread of the set is free in both
-free_row_alike : (c : CatalogSetting) (S : List ℕ) (G H : History) (t : ℕ) → IsLegal c G → IsLegal c H → SaysOfThreads S G H → has_thread S t ≡ true
+free_alike : (c : CatalogSetting) (S : List ℕ) (G H : History) (t : ℕ) → SaysOfThreads S G H → has_thread S t ≡ true
     → free_row c G t ≡ free_row c H t
-free_row_alike c S G H t first second same inside =
-    least_same c.rows (is_free c G t) (is_free c H t) (λ r below.
-    let count : makes G t r ≡ makes H t r = ap length (same.handles t r inside) in
-    free_newest c G t r first
-    ∙ ap (λ n. not (live G (nth t r n)) && nat_lt n c.generations) count
-    ∙ ap (λ b. not b && nat_lt (makes H t r) c.generations) (same.live (newest H t r) inside)
-    ∙ sym (free_newest c H t r second))
+free_alike c S G H t same inside =
+    free_row_alike (catalogs c) G H t (λ r. same.handles t r inside) (λ h owns. same.live h (ap (has_thread S) owns ∙ inside))
 
 against_alike : (S : List ℕ) (G H : History) (h : CatalogHandle) → SaysOfThreads S G H → has_thread S h.owner ≡ true → against G h ≡ against H h
 against_alike S G H h same owned =
@@ -110,18 +96,18 @@ against_alike S G H h same owned =
 
 opened_alike : (G H : History) (t : ℕ) (o : Option ℕ) → ((r : ℕ) → makes G t r ≡ makes H t r) → opened_in G t o ≡ opened_in H t o
 opened_alike G H t None same = refl
-opened_alike G H t (Some r) same = ap (λ n. Opened (nth t r (n + 1))) (same r)
+opened_alike G H t (Some r) same = ap (λ n. Opened (nth catalog_handles t r (n + 1))) (same r)
 
 -- a call of a thread of the set that names only its handles is answered alike
-answer_alike : (c : CatalogSetting) (S : List ℕ) (G H : History) (t : ℕ) (op : Op) → IsLegal c G → IsLegal c H → SaysOfThreads S G H
+answer_alike : (c : CatalogSetting) (S : List ℕ) (G H : History) (t : ℕ) (op : Op) → SaysOfThreads S G H
     → has_thread S t ≡ true → is_own S (named_by op) ≡ true → answer c G t op ≡ answer c H t op
-answer_alike c S G H t (Open number) first second same inside own =
-    ap (opened_in G t) (free_row_alike c S G H t first second same inside)
+answer_alike c S G H t (Open number) same inside own =
+    ap (opened_in G t) (free_alike c S G H t same inside)
     ∙ opened_alike G H t (free_row c H t) (λ r. ap length (same.handles t r inside))
-answer_alike c S G H t (Get h) first second same inside own =
+answer_alike c S G H t (Get h) same inside own =
     ap (λ o. unless o (Book (book G h))) (against_alike S G H h same own)
     ∙ ap (λ n. unless (against H h) (Book n)) (same.book h own)
-answer_alike c S G H t (Close h) first second same inside own = ap (λ o. unless o Closed) (against_alike S G H h same own)
+answer_alike c S G H t (Close h) same inside own = ap (λ o. unless o Closed) (against_alike S G H h same own)
 
 -- the part of a legal history that is closed for the threads is legal, and says of them what the whole says
 part_alike : (c : CatalogSetting) (S : List ℕ) (H : History) → IsLegal c H → IsClosed S H → IsLegal c (part_of S H) × SaysOfThreads S (part_of S H) H
@@ -130,7 +116,7 @@ part_alike c S (e ∷ H) legal closed =
     let below = part_alike c S H legal.1 closed.1 in
     elim (cases_Bool (has_thread S e.who)) [
       | inl inside ↦
-          let same = answer_alike c S (part_of S H) H e.who e.op below.0 legal.1 below.1 inside (apart_inside S e closed.0 inside) in
+          let same = answer_alike c S (part_of S H) H e.who e.op below.1 inside (apart_inside S e closed.0 inside) in
           subst (λ G. IsLegal c G × SaysOfThreads S G (e ∷ H)) (sym (ap (λ b. if b then e ∷ part_of S H else part_of S H) inside))
           ((legal.0 ∙ sym same, below.0), same_inside S e (part_of S H) H below.1)
       | inr outside ↦
@@ -145,4 +131,4 @@ pub answer_apart : (c : CatalogSetting) (S : List ℕ) (H : History) (t : ℕ) (
     → IsClosed S (entry c H t op ∷ H) → answer c H t op ≡ answer c (part_of S H) t op
 answer_apart c S H t op legal inside closed =
     let both = part_alike c S H legal closed.1 in
-    sym (answer_alike c S (part_of S H) H t op both.0 legal both.1 inside (apart_inside S (entry c H t op) closed.0 inside))
+    sym (answer_alike c S (part_of S H) H t op both.1 inside (apart_inside S (entry c H t op) closed.0 inside))

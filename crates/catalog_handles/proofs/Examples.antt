@@ -1,5 +1,6 @@
 -- The definitions at worked examples: sessions of a few calls with the replies that are wanted.
 use Rattle.std.proofs.Common.{◌≡◌, ℕ, true, false, List, [], ◌∷◌, None, Some, refl}
+use Rattle.generations.specs.Grid.{GridData}
 use Rattle.catalog_handles.specs.declared.handle.CatalogHandle.{CatalogHandle}
 use Rattle.catalog_handles.specs.declared.setting.CatalogSetting.{CatalogSetting}
 use Rattle.catalog_handles.specs.declared.op.CatalogRefusal.TheVariants.{NeverMade, Stale, TooMany}
@@ -8,7 +9,7 @@ use Rattle.catalog_handles.specs.History.{book, free_row}
 use Rattle.catalog_handles.specs.Answer.{answer, entry}
 use Rattle.catalog_handles.specs.Causes.{IsOfUnmade, IsOfClosed, IsWithoutRow}
 use Rattle.catalog_handles.specs.Isolation.{keeps_apart, IsClosed, part_of}
-use Rattle.catalog_handles.specs.Rows.{RowsData, no_row, says_made, says_book, after_open, after_close}
+use Rattle.catalog_handles.specs.Rows.{RowData, no_row, says_made, says_book, after_open, after_close}
 use Rattle.catalog_handles.specs.Kept.{live_book}
 use Rattle.catalog_handles.specs.Table.{SaysTheSame}
 use Rattle.catalog_handles.proofs.Refused.{refused_changes_nothing}
@@ -133,8 +134,8 @@ accepted_close same = let alive = same.live (handle 0 0 2) in cc alive
 -- ---- rows
 
 -- one row for each of two threads
-abbrev empty_rows : RowsData
-empty_rows = record { threads = 2; width = 1; items = no_row ∷ no_row ∷ [] }
+abbrev empty_rows : GridData RowData
+empty_rows = record { lines = 2; width = 1; items = no_row ∷ no_row ∷ [] }
 
 opened_row : says_book (after_open empty_rows 1 0 7) (handle 1 0 1) ≡ Some 7
 opened_row = refl

@@ -1,7 +1,6 @@
 pub mod Examples
 pub mod Numbering
 pub mod Newest
-pub mod Least
 pub mod Says
 pub mod After
 pub mod Replies

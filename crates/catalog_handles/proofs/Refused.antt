@@ -1,21 +1,20 @@
 -- Each refusal and its cause, and what a refused call leaves.
-use Rattle.std.proofs.Common.{◌≡◌, ℕ, Bool, true, false, ◌&&◌, not, List, [], ◌∷◌, ◌||◌, ◌++◌, length, Option, None, Some, refl, ap, sym, ◌∙◌}
+use Rattle.std.proofs.Common.{◌≡◌, ℕ, Bool, true, false, [], ◌∷◌, ◌++◌, length, Option, None, Some, refl, ap, sym, ◌∙◌}
 use Rattle.std.proofs.lemmas.Bool.{and_left, or_right}
 use Rattle.std.proofs.Math.Logic.{◌↔◌}
-use Rattle.std.specs.Prelude.{if◌then◌else◌, nat_lt}
-use Rattle.std.specs.List.{list_any}
+use Rattle.std.specs.Prelude.{if◌then◌else◌}
+use Rattle.generations.proofs.Free.{free_row_alike}
 use Rattle.catalog_handles.specs.declared.handle.CatalogHandle.{CatalogHandle}
 use Rattle.catalog_handles.specs.declared.setting.CatalogSetting.{CatalogSetting}
 use Rattle.catalog_handles.specs.declared.op.CatalogRefusal.{CatalogRefusal}
 use Rattle.catalog_handles.specs.declared.op.CatalogRefusal.TheVariants.{NeverMade, Stale, TooMany}
 use Rattle.catalog_handles.specs.Entry.{Op, Open, Get, Close, Reply, Book, Closed, Refused, Entry, History, is_accepted}
-use Rattle.catalog_handles.specs.History.{makes_handle, made, op_closes, live, book, handles, is_free, free_row}
+use Rattle.catalog_handles.specs.History.{makes_handle, made, op_closes, live, book, catalogs, free_row}
 use Rattle.catalog_handles.specs.Answer.{unless, opened_in, answer, IsLegal}
 use Rattle.catalog_handles.specs.Causes.{IsOfUnmade, IsOfClosed, IsWithoutRow}
 use Rattle.catalog_handles.specs.Table.{SaysTheSame}
 use Rattle.catalog_handles.proofs.Numbering.{made_once}
 use Rattle.catalog_handles.proofs.Newest.{closed_for_good}
-use Rattle.catalog_handles.proofs.Says.{least_same}
 use Rattle.catalog_handles.proofs.After.{refused_makes, none_made, handles_kept, made_kept, live_kept, book_kept}
 
 -- ---- causes
@@ -68,10 +67,6 @@ full_is c H t (Close h) = spare_by (made H h) (live H h) Closed (λ p. absurd (c
 
 -- ---- what a refused call leaves
 
-any_same : (p q : CatalogHandle → Bool) (hs : List CatalogHandle) → ((h : CatalogHandle) → p h ≡ q h) → list_any p hs ≡ list_any q hs
-any_same p q [] same = refl
-any_same p q (h ∷ hs) same = ap (λ b. b || list_any p hs) (same h) ∙ ap (λ b. q h || b) (any_same p q hs same)
-
 pub refused_changes_nothing : (c : CatalogSetting) (e : Entry) (H : History) → is_accepted e.reply ≡ false → SaysTheSame c (e ∷ H) H
 refused_changes_nothing c e H refused =
     let none = refused_makes e.op e.reply refused in
@@ -80,9 +75,7 @@ refused_changes_nothing c e H refused =
       live = alive;
       book = λ h. book_kept e H h (none_made e h none);
       makes = λ t r. ap length (handles_kept e H t r none);
-      free_row = λ t. least_same c.rows (is_free c (e ∷ H) t) (is_free c H t) (λ r below.
-          ap (λ hs. not (list_any (live (e ∷ H)) hs) && nat_lt (length hs) c.generations) (handles_kept e H t r none)
-          ∙ ap (λ b. not b && nat_lt (length (handles H t r)) c.generations) (any_same (live (e ∷ H)) (live H) (handles H t r) alive));
+      free_row = λ t. free_row_alike (catalogs c) (e ∷ H) H t (λ r. handles_kept e H t r none) (λ h owns. alive h);
     }
 
 -- ---- what lasts

@@ -1,16 +1,17 @@
 -- What is replied by the rows is the answer of the history.
 use Rattle.std.proofs.Common.{◌≡◌, ℕ, ◌+◌, Bool, true, false, Option, None, Some, is_some, refl, ap, sym, ◌∙◌}
 use Rattle.std.specs.Prelude.{if◌then◌else◌}
+use Rattle.generations.specs.Kind.{nth}
+use Rattle.generations.specs.Grid.{GridData}
 use Rattle.catalog_handles.specs.declared.handle.CatalogHandle.{CatalogHandle}
 use Rattle.catalog_handles.specs.declared.setting.CatalogSetting.{CatalogSetting}
 use Rattle.catalog_handles.specs.declared.op.CatalogRefusal.{CatalogRefusal}
 use Rattle.catalog_handles.specs.declared.op.CatalogRefusal.TheVariants.{NeverMade, Stale}
-use Rattle.catalog_handles.specs.Entry.{Reply, Opened, Book, Closed, Refused, History}
+use Rattle.catalog_handles.specs.Entry.{Reply, Opened, Book, Closed, Refused, History, catalog_handles}
 use Rattle.catalog_handles.specs.History.{made, live, book, makes}
 use Rattle.catalog_handles.specs.Answer.{against, unless, opened_in}
-use Rattle.catalog_handles.specs.Rows.{RowsData, row_at, says_made, says_book}
+use Rattle.catalog_handles.specs.Rows.{RowData, row_at, says_made, says_book}
 use Rattle.catalog_handles.specs.Kept.{Keeps}
-use Rattle.catalog_handles.proofs.Numbering.{nth}
 use Rattle.catalog_handles.proofs.Says.{made_said, book_said}
 use Rattle.catalog_handles.proofs.After.{against_live}
 
@@ -18,7 +19,7 @@ use Rattle.catalog_handles.proofs.After.{against_live}
 abbrev pub reason : Bool → CatalogRefusal
 reason a = if a then Stale else NeverMade
 
-pub reason_said : (c : CatalogSetting) (H : History) (rows : RowsData) (h : CatalogHandle) (b : Bool) → Keeps c H rows → b ≡ says_made rows h
+pub reason_said : (c : CatalogSetting) (H : History) (rows : GridData RowData) (h : CatalogHandle) (b : Bool) → Keeps c H rows → b ≡ says_made rows h
     → reason b ≡ reason (made H h)
 reason_said c H rows h b k is = ap reason (is ∙ made_said c H rows h k)
 
@@ -40,14 +41,14 @@ against_closed H h closed =
     ap (λ b. if made H h then (if b then None else Some Stale) else Some NeverMade) closed ∙ refused_by (made H h)
 
 -- a handle with a catalog is live, and its Get gives the catalog
-pub get_found : (c : CatalogSetting) (H : History) (rows : RowsData) (h : CatalogHandle) (n : ℕ) → Keeps c H rows → Some n ≡ says_book rows h
+pub get_found : (c : CatalogSetting) (H : History) (rows : GridData RowData) (h : CatalogHandle) (n : ℕ) → Keeps c H rows → Some n ≡ says_book rows h
     → Book n ≡ unless (against H h) (Book (book H h))
 get_found c H rows h n k is =
     let found = found_live (live H h) n (book H h) (is ∙ book_said c H rows h k) in
     ap (λ m. Book m) found.1 ∙ ap (λ o. unless o (Book (book H h))) (sym (against_live H h found.0))
 
 -- one without is refused
-pub refused_found : (c : CatalogSetting) (H : History) (rows : RowsData) (h : CatalogHandle) (r : CatalogRefusal) (reply : Reply) → Keeps c H rows
+pub refused_found : (c : CatalogSetting) (H : History) (rows : GridData RowData) (h : CatalogHandle) (r : CatalogRefusal) (reply : Reply) → Keeps c H rows
     → None ≡ says_book rows h → r ≡ reason (made H h) → Refused r ≡ unless (against H h) reply
 refused_found c H rows h r reply k is why =
     let closed = found_none (live H h) (book H h) (is ∙ book_said c H rows h k) in
@@ -62,7 +63,7 @@ none_is (Some n) is = absurd (cc is)
 none_is None is = refl
 
 -- a Close of a handle with a catalog is accepted
-pub close_found : (c : CatalogSetting) (H : History) (rows : RowsData) (h : CatalogHandle) → Keeps c H rows → true ≡ is_some (says_book rows h)
+pub close_found : (c : CatalogSetting) (H : History) (rows : GridData RowData) (h : CatalogHandle) → Keeps c H rows → true ≡ is_some (says_book rows h)
     → Closed ≡ unless (against H h) Closed
 close_found c H rows h k is =
     let some = some_is (says_book rows h) is in
@@ -70,12 +71,12 @@ close_found c H rows h k is =
     ap (λ o. unless o Closed) (sym (against_live H h found.0))
 
 -- one of another handle is refused
-pub close_refused : (c : CatalogSetting) (H : History) (rows : RowsData) (h : CatalogHandle) (r : CatalogRefusal) → Keeps c H rows
+pub close_refused : (c : CatalogSetting) (H : History) (rows : GridData RowData) (h : CatalogHandle) (r : CatalogRefusal) → Keeps c H rows
     → false ≡ is_some (says_book rows h) → r ≡ reason (made H h) → Refused r ≡ unless (against H h) Closed
 close_refused c H rows h r k is why = refused_found c H rows h r Closed k (none_is (says_book rows h) is) why
 
 -- an Open in a free row gives the next handle of the row
-pub opened_found : (H : History) (w r n : ℕ) (rows : RowsData) (o : Option ℕ) → o ≡ Some r → (row_at rows w r).makes ≡ makes H w r
-    → n ≡ (row_at rows w r).makes + 1 → Opened (nth w r n) ≡ opened_in H w o
+pub opened_found : (H : History) (w r n : ℕ) (rows : GridData RowData) (o : Option ℕ) → o ≡ Some r → (row_at rows w r).makes ≡ makes H w r
+    → n ≡ (row_at rows w r).makes + 1 → Opened (nth catalog_handles w r n) ≡ opened_in H w o
 opened_found H w r n rows o is count next =
-    ap (λ m. Opened (nth w r m)) (next ∙ ap (λ m. m + 1) count) ∙ ap (opened_in H w) (sym is)
+    ap (λ m. Opened (nth catalog_handles w r m)) (next ∙ ap (λ m. m + 1) count) ∙ ap (opened_in H w) (sym is)

@@ -1,11 +1,12 @@
 -- What is replied to an op after a history, and the histories that there are.
-use Rattle.std.specs.Prelude.{◌≡◌, ℕ, ◌+◌, ◌<◌, if◌then◌else◌, [], ◌∷◌, Option, None, Some}
+use Rattle.std.specs.Prelude.{◌≡◌, ℕ, ◌+◌, if◌then◌else◌, [], ◌∷◌, Option, None, Some}
+use Rattle.generations.specs.Making as generations
 use Rattle.catalog_handles.specs.declared.handle.CatalogHandle.{CatalogHandle}
 use Rattle.catalog_handles.specs.declared.setting.CatalogSetting.{CatalogSetting}
 use Rattle.catalog_handles.specs.declared.op.CatalogRefusal.{CatalogRefusal}
 use Rattle.catalog_handles.specs.declared.op.CatalogRefusal.TheVariants.{NeverMade, Stale, TooMany}
 use Rattle.catalog_handles.specs.Entry.{Op, Open, Get, Close, Reply, Opened, Book, Closed, Refused, Entry, History}
-use Rattle.catalog_handles.specs.History.{made, live, book, makes, free_row}
+use Rattle.catalog_handles.specs.History.{makings, made, live, book, makes, free_row}
 
 -- what is against the use of a handle: no entry made it, or it was closed
 abbrev pub against : History → CatalogHandle → Option CatalogRefusal
@@ -38,5 +39,4 @@ IsLegal c (e ∷ H) = (e.reply ≡ answer c H e.who e.op) × IsLegal c H
 
 -- the callers of a history are among the first n threads
 abbrev pub AreThreads : ℕ → History → Type 0
-AreThreads n [] = Unit {0}
-AreThreads n (e ∷ H) = (e.who < n) × AreThreads n H
+AreThreads n H = generations.AreThreads n (makings H)

@@ -1,5 +1,7 @@
 -- One entry of a history: who called, what was asked and what was replied, as plain data.
-use Rattle.std.specs.Prelude.{ℕ, List, Option, Some, None, Bool, true, false, ◌==◌, ◌&&◌}
+use Rattle.std.specs.Prelude.{ℕ, List, Option, Some, None, Bool, true, false, refl}
+use Rattle.generations.specs.Kind.{Kind}
+use Rattle.generations.specs.Kind as generations
 use Rattle.catalog_handles.specs.declared.handle.CatalogHandle.{CatalogHandle}
 use Rattle.catalog_handles.specs.declared.op.CatalogRefusal.{CatalogRefusal}
 
@@ -27,9 +29,18 @@ pub record Entry : Type 0 where
 abbrev pub History : Type 0
 History = List Entry
 
+-- catalog handles by their numbers
+abbrev pub catalog_handles : Kind CatalogHandle
+catalog_handles = record {
+  numbers = λ h. record { owner = h.owner; row = h.row; generation = h.generation };
+  handle_of = λ n. record { owner = n.owner; row = n.row; generation = n.generation };
+  same_handle = λ h. refl;
+  same_numbers = λ n. refl;
+}
+
 -- whether two handles are one
 abbrev pub same_handle : CatalogHandle → CatalogHandle → Bool
-same_handle g h = g.owner == h.owner && g.row == h.row && g.generation == h.generation
+same_handle g h = generations.same_handle catalog_handles g h
 
 -- the handle that an op names, or none
 abbrev pub named_by : Op → Option CatalogHandle

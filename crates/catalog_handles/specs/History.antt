@@ -1,29 +1,33 @@
 -- What a history says. Each is a search from the newest entry to the oldest; no entry's effect is stored.
-use Rattle.std.specs.Prelude.{ℕ, zero, suc, Bool, false, ◌==◌, nat_lt, not, ◌&&◌, ◌||◌, if◌then◌else◌, List, [], ◌∷◌, length, Option, None, Some}
-use Rattle.std.specs.List.{list_any}
-use Rattle.std.specs.Option.{option_or}
+use Rattle.std.specs.Prelude.{ℕ, Bool, false, not, ◌&&◌, ◌||◌, if◌then◌else◌, List, [], ◌∷◌, map, Option, None, Some}
+use Rattle.generations.specs.Making.{Making}
+use Rattle.generations.specs.Making as generations
+use Rattle.generations.specs.Store.{Store}
+use Rattle.generations.specs.Store as stores
 use Rattle.catalog_handles.specs.declared.handle.CatalogHandle.{CatalogHandle}
 use Rattle.catalog_handles.specs.declared.setting.CatalogSetting.{CatalogSetting}
-use Rattle.catalog_handles.specs.Entry.{Op, Open, Close, Reply, Opened, Entry, History, same_handle, is_accepted}
+use Rattle.catalog_handles.specs.Entry.{Op, Open, Close, Reply, Opened, Entry, History, catalog_handles, same_handle, is_accepted}
 
 -- the handle that an op made, by its reply: an accepted Open makes one, and no other op does
 abbrev pub handle_made : Op → Reply → Option CatalogHandle
 handle_made (Open book) (Opened h) = Some h
 handle_made _ _ = None
 
--- whether there is a handle, and it is this one
-abbrev pub is_handle : Option CatalogHandle → CatalogHandle → Bool
-is_handle None h = false
-is_handle (Some g) h = same_handle g h
+-- what an entry made
+abbrev pub making : Entry → Making CatalogHandle
+making e = record { who = e.who; handle = handle_made e.op e.reply }
+
+-- what was made in a history
+abbrev pub makings : History → List (Making CatalogHandle)
+makings H = map making H
 
 -- whether the entry made the handle
 abbrev pub makes_handle : Entry → CatalogHandle → Bool
-makes_handle e h = is_handle (handle_made e.op e.reply) h
+makes_handle e h = generations.is_handle catalog_handles (handle_made e.op e.reply) h
 
 -- whether an entry made the handle
 abbrev pub made : History → CatalogHandle → Bool
-made [] h = false
-made (e ∷ H) h = makes_handle e h || made H h
+made H h = generations.made catalog_handles (makings H) h
 
 -- whether the op, once accepted, closes the handle
 abbrev pub op_closes : Op → CatalogHandle → Bool
@@ -49,33 +53,22 @@ abbrev pub book : History → CatalogHandle → ℕ
 book [] h = 0
 book (e ∷ H) h = if makes_handle e h then book_opened e.op (book H h) else book H h
 
--- whether the handle is one of this thread in this row
-abbrev pub is_in_row : ℕ → ℕ → CatalogHandle → Bool
-is_in_row t r h = h.owner == t && h.row == r
-
--- the handle, if there is one of this thread in this row, before the others
-abbrev pub with_handle : ℕ → ℕ → Option CatalogHandle → List CatalogHandle → List CatalogHandle
-with_handle t r None hs = hs
-with_handle t r (Some h) hs = if is_in_row t r h then h ∷ hs else hs
-
 -- the handles that were made for a thread in a row, the newest first
 abbrev pub handles : History → ℕ → ℕ → List CatalogHandle
-handles [] t r = []
-handles (e ∷ H) t r = with_handle t r (handle_made e.op e.reply) (handles H t r)
+handles H t r = generations.handles catalog_handles (makings H) t r
 
 -- how many handles were made for a thread in a row
 abbrev pub makes : History → ℕ → ℕ → ℕ
-makes H t r = length (handles H t r)
+makes H t r = generations.makes catalog_handles (makings H) t r
+
+-- the rows of the setting: a handle is kept while it is live
+abbrev pub catalogs : CatalogSetting → Store CatalogHandle Entry
+catalogs c = record { kind = catalog_handles; making = making; is_kept = live; rows = c.rows; generations = c.generations }
 
 -- a row of a thread is free where none of its handles is live, and it has generations left
 abbrev pub is_free : CatalogSetting → History → ℕ → ℕ → Bool
-is_free c H t r = not (list_any (live H) (handles H t r)) && nat_lt (makes H t r) c.generations
-
--- the least number below n that passes the test
-abbrev pub least_below : ℕ → (ℕ → Bool) → Option ℕ
-least_below zero p = None
-least_below (suc n) p = option_or (least_below n p) (if p n then Some n else None)
+is_free c H t r = stores.is_free (catalogs c) H t r
 
 -- the least free row of a thread, or none
 abbrev pub free_row : CatalogSetting → History → ℕ → Option ℕ
-free_row c H t = least_below c.rows (is_free c H t)
+free_row c H t = stores.free_row (catalogs c) H t

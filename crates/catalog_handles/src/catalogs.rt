@@ -4,8 +4,10 @@ ghost use Rattle.std.specs.Prelude.{◌≡◌, ◌↔◌, ℕ, ◌<◌, ◌≤�
 
 use crate::handle::CatalogHandle;
 use crate::op::{CatalogOp, CatalogRefusal, CatalogReply};
-use crate::rows::Rows;
+use crate::row::Row;
+use crate::rows::{book, close, empty_rows, open};
 use crate::setting::CatalogSetting;
+use generations::Grid;
 use mask_compose::Part;
 use std::alloc::{AllocError, Global};
 use std::marker::Model;
@@ -16,7 +18,7 @@ use turn_gate::Machine;
 /// A step takes no memory, and no longer than the rows of a thread ask for.
 pub struct Catalogs<B: Part> {
     setting: CatalogSetting,
-    rows: Rows<B>,
+    rows: Grid<Row<B>>,
 }
 
 impl<B: Part> Drop for Catalogs<B> {
@@ -72,7 +74,7 @@ impl<B: Part> Catalogs<B> {
                 rows,
                 generations,
             },
-            rows: Rows::new(alloc, threads, rows)?,
+            rows: empty_rows(alloc, threads, rows)?,
         })
     }
 
@@ -137,7 +139,7 @@ impl<B: Part> Catalogs<B> {
             Some(row) => CatalogReply::Opened(CatalogHandle {
                 owner: who,
                 row,
-                generation: self.rows.open(who, row, book),
+                generation: open(&mut self.rows, who, row, book),
             }),
             None => CatalogReply::Refused(CatalogRefusal::TooMany),
         }
@@ -148,7 +150,7 @@ impl<B: Part> Catalogs<B> {
         ensures { (H : History) (who : ℕ) → StandsFor self.now H →
             reply_of B.number result ≡ answer self.now.setting H who (Get h) }
     {
-        match self.rows.book(h) {
+        match book(&self.rows, h) {
             Some(book) => CatalogReply::Book(book),
             None => CatalogReply::Refused(self.refusal(h)),
         }
@@ -163,7 +165,7 @@ impl<B: Part> Catalogs<B> {
         ensures setting { self.new.setting ≡ self.old.setting }
     {
         let refusal = self.refusal(h);
-        if self.rows.close(h) {
+        if close(&mut self.rows, h) {
             CatalogReply::Closed
         } else {
             CatalogReply::Refused(refusal)
@@ -175,7 +177,7 @@ impl<B: Part> Catalogs<B> {
         ensures { (H : History) → StandsFor self.now H →
             result ≡ (if made H h then Stale else NeverMade) }
     {
-        if self.rows.is_made(h) {
+        if self.rows.is_made(h.numbers()) {
             CatalogRefusal::Stale
         } else {
             CatalogRefusal::NeverMade

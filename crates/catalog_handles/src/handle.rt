@@ -1,5 +1,10 @@
 //! Handles of catalogs.
 
+ghost use Rattle.std.specs.Prelude.{◌≡◌};
+ghost use Rattle.catalog_handles.specs.Entry.{catalog_handles};
+
+use generations::Numbers;
+
 /// A message catalog descriptor (XSH catopen): the `generation`-th that its owner got in a row.
 #[derive(Clone, Copy, Debug, PartialEq, Eq)]
 pub struct CatalogHandle {
@@ -9,4 +14,17 @@ pub struct CatalogHandle {
     pub row: u32,
     /// How many handles the owner had got in the row, this one included.
     pub generation: u32,
+}
+
+impl CatalogHandle {
+    /// The numbers of the handle.
+    pub(crate) fn numbers(self) -> Numbers
+        ensures { result ≡ catalog_handles.numbers self }
+    {
+        Numbers {
+            owner: self.owner,
+            row: self.row,
+            generation: self.generation,
+        }
+    }
 }

@@ -1,13 +1,13 @@
 //! One row of a thread.
 
 ghost use Rattle.std.specs.Prelude.{◌≡◌, ◌<◌};
-ghost use Rattle.catalog_handles.specs.Rows.{no_row, opened, closed, is_free_row};
+ghost use Rattle.catalog_handles.specs.Rows.{no_row, opened, closed};
 
+use generations::HandleRow;
 use mask_compose::Part;
 use std::marker::Model;
 
-/// What is kept of a row. Of the handles that were made in it only the newest can be live, since a
-/// row is used again only when it is not.
+/// What is kept of a row.
 pub struct Row<B: Part> {
     /// How many handles were made in the row.
     pub makes: u32,
@@ -61,11 +61,18 @@ impl<B: Part> Row<B> {
             book: None,
         }
     }
+}
 
-    /// Whether a new handle may stand in the row.
-    pub fn is_free(&self, generations: u32) -> bool
-        ensures { result ≡ is_free_row generations self.now }
-    {
-        self.book.is_none() && self.makes < generations
+impl<B: Part> HandleRow for Row<B> {
+    ghost use Rattle.catalog_handles.specs.Rows.{counts};
+
+    ghost counts = { counts };
+
+    fn makes(&self) -> u32 {
+        self.makes
+    }
+
+    fn is_kept(&self) -> bool {
+        self.book.is_some()
     }
 }

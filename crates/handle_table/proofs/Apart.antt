@@ -1,23 +1,23 @@
 -- An entry that keeps some threads apart, and what one of another thread leaves of what a history says of them.
-use Rattle.std.proofs.Common.{◌≡◌, ℕ, ◌+◌, Bool, true, false, ◌==◌, ◌&&◌, ◌||◌, not, List, [], ◌∷◌, length, Option, None, Some, refl, ap, sym, ◌∙◌, inl, inr}
+use Rattle.std.proofs.Common.{◌≡◌, ℕ, ◌+◌, Bool, true, false, ◌==◌, ◌&&◌, ◌||◌, not, List, [], ◌∷◌, Some, refl, ap, sym, ◌∙◌, inl, inr}
 use Rattle.std.proofs.lemmas.Bool.{eqb-true, and_parts, and_right, or_from, cases_Bool, cond_both, false_from_ne_true, false≢true}
 use Rattle.std.specs.Prelude.{if◌then◌else◌, nat_lt}
-use Rattle.std.specs.List.{list_any}
 use Rattle.mask_compose.specs.Parts.{Parts}
 use Rattle.mask_compose.specs.Offer.{Offered}
+use Rattle.generations.proofs.Numbering.{with_other}
+use Rattle.generations.proofs.Free.{free_row_alike}
 use Rattle.lc_base.specs.declared.handle.Handle.{Handle}
 use Rattle.lc_base.specs.declared.handle.Named.{Named}
-use Rattle.handle_table.specs.Entry.{Op, New, Free, Use, Hold, Release, SetGlobal, Install, End, Entry, History, Setting, names, is_accepted}
+use Rattle.handle_table.specs.Entry.{Op, New, Free, Use, Hold, Release, SetGlobal, Install, End, Entry, History, Setting, names, is_accepted, object_handles}
 use Rattle.handle_table.specs.Shelf.{offer_after, shelf, installs_after, installs}
-use Rattle.handle_table.specs.History.{handle_made, makes_handle, made, op_frees, frees_handle, live, is_in_row, with_handle, handles, makes, sets_after, sets, global_after, global, object, selection_after, selection, holding_after, holding, pins, is_kept, is_free, free_row, handle_named, posted}
+use Rattle.handle_table.specs.History.{handle_made, makes_handle, made, op_frees, frees_handle, live, makings, handles, sets_after, sets, global_after, global, object, selection_after, selection, holding_after, holding, pins, objects, free_row, handle_named, posted}
 use Rattle.handle_table.specs.Answer.{IsLegal, own}
 use Rattle.handle_table.specs.Table.{has_base}
 use Rattle.handle_table.specs.Isolation.{has_thread, named_by, fetched_from, is_owned, is_own, is_own_cell, keeps_apart, IsClosed, is_for_all}
-use Rattle.handle_table.proofs.Numbering.{IsNew, new_entry, in_row_numbers, made_next}
+use Rattle.handle_table.proofs.Numbering.{new_entry, maker_owns}
 use Rattle.handle_table.proofs.Gone.{names_handle}
 use Rattle.handle_table.proofs.Pinned.{bit, ways, sum_same, pins_counted}
 use Rattle.handle_table.proofs.Changes.{selection_of_other, holding_of_other, posted_of_other, own_of_other, object_unmade, same_either}
-use Rattle.handle_table.proofs.Unchanged.{least_same}
 
 -- ---- what an entry names
 
@@ -101,7 +101,7 @@ never_held S (e ∷ H) t h closed outside owned =
 pub makes_apart : (c : Setting) (S : List ℕ) (e : Entry) (H : History) (h : Handle) → IsLegal c (e ∷ H) → has_thread S e.who ≡ false
     → has_thread S h.owner ≡ true → makes_handle e h ≡ false
 makes_apart c S e H h legal outside owned =
-    false_from_ne_true (makes_handle e h) (λ here. is_another S e.who h.owner outside owned (made_next c e H h legal here).0)
+    false_from_ne_true (makes_handle e h) (λ here. is_another S e.who h.owner outside owned (maker_owns c e H h legal here))
 
 pub made_apart : (c : Setting) (S : List ℕ) (e : Entry) (H : History) (h : Handle) → IsLegal c (e ∷ H) → has_thread S e.who ≡ false
     → has_thread S h.owner ≡ true → made (e ∷ H) h ≡ made H h
@@ -119,18 +119,11 @@ pub object_apart : (c : Setting) (S : List ℕ) (e : Entry) (H : History) (h : H
 object_apart c S e H h legal apart outside owned =
     object_unmade c e H h legal (makes_apart c S e H h legal outside owned) (unbased S e.op h (apart_outside S e apart outside) owned)
 
-handles_with : (c : Setting) (S : List ℕ) (H : History) (w t r : ℕ) (o : Option Handle) (hs : List Handle) → IsNew c H w o
-    → has_thread S w ≡ false → has_thread S t ≡ true → with_handle t r o hs ≡ hs
-handles_with c S H w t r None hs new outside inside = refl
-handles_with c S H w t r (Some g) hs new outside inside =
-    ap (λ b. if b then g ∷ hs else hs) (false_from_ne_true (is_in_row t r g) (λ is.
-    is_another S w t outside inside (sym (ap (λ (x : Handle). x.owner) new.1) ∙ (in_row_numbers t r g is).0)))
-
 -- it makes no handle in a row of a thread of the set
 pub handles_apart : (c : Setting) (S : List ℕ) (e : Entry) (H : History) (t r : ℕ) → IsLegal c (e ∷ H) → has_thread S e.who ≡ false
     → has_thread S t ≡ true → handles (e ∷ H) t r ≡ handles H t r
 handles_apart c S e H t r legal outside inside =
-    handles_with c S H e.who t r (handle_made e.op e.reply) (handles H t r) (new_entry c e H legal) outside inside
+    with_other object_handles (makings H) e.who t r (handle_made e.op e.reply) (handles H t r) (new_entry c e H legal).1 (is_another S e.who t outside inside)
 
 pub selection_apart : (S : List ℕ) (e : Entry) (H : History) (t : ℕ) → has_thread S e.who ≡ false → has_thread S t ≡ true
     → selection (e ∷ H) t ≡ selection H t
@@ -173,33 +166,12 @@ pins_alike c S G H h alike closed_g closed_h owned =
     ∙ sum_same (ways G h) (ways H h) c.threads (λ t lt. ways_alike S G H t h alike closed_g closed_h owned)
     ∙ sym (pins_counted c H h)
 
-any_if_owner : (t : ℕ) (p q : Handle → Bool) (g : Handle) (hs : List Handle) (b : Bool) → (b ≡ true → g.owner ≡ t)
-    → ((h : Handle) → h.owner ≡ t → p h ≡ q h) → list_any p hs ≡ list_any q hs
-    → list_any p (if b then g ∷ hs else hs) ≡ list_any q (if b then g ∷ hs else hs)
-any_if_owner t p q g hs false owner each same = same
-any_if_owner t p q g hs true owner each same =
-    ap (λ b. b || list_any p hs) (each g (owner refl)) ∙ ap (λ b. q g || b) same
-
-any_with_owner : (t r : ℕ) (p q : Handle → Bool) (o : Option Handle) (hs : List Handle) → ((h : Handle) → h.owner ≡ t → p h ≡ q h)
-    → list_any p hs ≡ list_any q hs → list_any p (with_handle t r o hs) ≡ list_any q (with_handle t r o hs)
-any_with_owner t r p q None hs each same = same
-any_with_owner t r p q (Some g) hs each same = any_if_owner t p q g hs (is_in_row t r g) (λ is. (in_row_numbers t r g is).0) each same
-
--- two tests that agree on the handles of a thread agree on its rows
-any_of_owner : (t r : ℕ) (p q : Handle → Bool) (H : History) → ((h : Handle) → h.owner ≡ t → p h ≡ q h)
-    → list_any p (handles H t r) ≡ list_any q (handles H t r)
-any_of_owner t r p q [] each = refl
-any_of_owner t r p q (e ∷ H) each = any_with_owner t r p q (handle_made e.op e.reply) (handles H t r) each (any_of_owner t r p q H each)
-
-pub free_row_alike : (c : Setting) (G H : History) (t : ℕ) → ((r : ℕ) → handles G t r ≡ handles H t r)
+pub free_alike : (c : Setting) (G H : History) (t : ℕ) → ((r : ℕ) → handles G t r ≡ handles H t r)
     → ((h : Handle) → h.owner ≡ t → (live G h ≡ live H h) × (pins c G h ≡ pins c H h)) → free_row c G t ≡ free_row c H t
-free_row_alike c G H t same kept =
-    least_same (is_free c G t) (is_free c H t) c.rows (λ r.
-    ap (λ hs. not (list_any (is_kept c G) hs) && nat_lt (length hs) c.generations) (same r)
-    ∙ ap (λ b. not b && nat_lt (makes H t r) c.generations)
-    (any_of_owner t r (is_kept c G) (is_kept c H) H (λ h owner.
-    let alike = kept h owner in
-    ap (λ b. b || nat_lt 0 (pins c G h)) alike.0 ∙ ap (λ n. live H h || nat_lt 0 n) alike.1)))
+free_alike c G H t same kept =
+    free_row_alike (objects c) G H t same (λ h owns.
+    let alike = kept h owns in
+    ap (λ b. b || nat_lt 0 (pins c G h)) alike.0 ∙ ap (λ n. live H h || nat_lt 0 n) alike.1)
 
 -- ---- one search each: what all threads see is left by what is no SetGlobal and no Install
 

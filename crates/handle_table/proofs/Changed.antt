@@ -1,21 +1,24 @@
 -- Rows after a change of the one whose newest handle is named.
 use Rattle.std.proofs.Common.{◌≡◌, ℕ, ◌*◌, ◌<◌, Bool, true, false, ◌==◌, length, refl, ap, sym, ◌∙◌, inl, inr, arith}
-use Rattle.std.proofs.lemmas.Bool.{eqb-true, eq-eqb, lt-ltb, ltb-true, and_parts, and_from, cases_Bool, false_from_ne_true, false≢true}
+use Rattle.std.proofs.lemmas.Bool.{eq-eqb, lt-ltb, and_from, cases_Bool, false_from_ne_true, false≢true}
 use Rattle.std.proofs.lemmas.List.{length-set, length-map, get_or-map}
 use Rattle.std.proofs.lemmas.Nat.{mul-add-lt}
 use Rattle.std.proofs.Math.Nat.{mul_comm}
 use Rattle.std.specs.Prelude.{if◌then◌else◌, nat_lt}
+use Rattle.generations.specs.Kind.{nth}
+use Rattle.generations.specs.Rows.{is_inside}
+use Rattle.generations.proofs.Says.{newest_is}
+use Rattle.generations.proofs.Places.{cell_here, cell_elsewhere}
 use Rattle.lc_base.specs.declared.handle.Handle.{Handle}
 use Rattle.lc_base.specs.declared.handle.Named.{Named}
 use Rattle.lc_base.specs.declared.handle.Named.TheVariants.{Global, Of}
 use Rattle.handle_table.specs.declared.row.Row.{Row}
-use Rattle.handle_table.specs.Entry.{Setting, names, same_handle}
-use Rattle.handle_table.specs.Grid.{GridData, place, with_cell}
+use Rattle.handle_table.specs.Entry.{Setting, names, same_handle, object_handles}
+use Rattle.generations.specs.Grid.{GridData, place, with_cell}
 use Rattle.handle_table.specs.Row.{no_row, let_go}
-use Rattle.handle_table.specs.Rows.{row_at, is_inside, is_newest, changed, all_let_go}
+use Rattle.handle_table.specs.Rows.{counts, row_at, is_newest, changed, all_let_go}
 use Rattle.handle_table.specs.Kept.{HasLines}
-use Rattle.handle_table.proofs.Numbering.{nth, same_handles, same_itself}
-use Rattle.handle_table.proofs.Places.{cell_here, cell_elsewhere}
+use Rattle.handle_table.proofs.Numbering.{same_handles, same_itself}
 
 -- a grid with another value has the same lines
 pub shape_with : {A : Type 0} (c : Setting) (n : ℕ) (g : GridData A) (t r : ℕ) (x : A) → HasLines c n g → HasLines c n (with_cell g t r x)
@@ -27,21 +30,11 @@ shape_with c n g t r x shape = record {
 
 -- the newest handle of a row, as the rows have it
 abbrev pub last_handle : GridData Row → ℕ → ℕ → Handle
-last_handle rows t r = nth t r (row_at rows t r).makes
-
-pub newest_is : (rows : GridData Row) (h : Handle) → is_newest rows h ≡ true
-    → (h.owner < rows.lines) × (h.row < rows.width) × (h ≡ last_handle rows h.owner h.row)
-newest_is rows h is =
-    let parts = and_parts (is_inside rows h) ((row_at rows h.owner h.row).makes == h.generation) is in
-    let inside = and_parts (nat_lt h.owner rows.lines) (nat_lt h.row rows.width) parts.0 in (
-      ltb-true h.owner rows.lines inside.0,
-      ltb-true h.row rows.width inside.1,
-      ap (nth h.owner h.row) (sym (eqb-true (row_at rows h.owner h.row).makes h.generation parts.1)),
-    )
+last_handle rows t r = nth object_handles t r (row_at rows t r).makes
 
 pub is_newest_last : (rows : GridData Row) (t r : ℕ) → t < rows.lines → r < rows.width → is_newest rows (last_handle rows t r) ≡ true
 is_newest_last rows t r line column =
-    and_from (is_inside rows (last_handle rows t r)) ((row_at rows t r).makes == (row_at rows t r).makes)
+    and_from (is_inside rows (object_handles.numbers (last_handle rows t r))) ((row_at rows t r).makes == (row_at rows t r).makes)
     (and_from (nat_lt t rows.lines) (nat_lt r rows.width) (lt-ltb t rows.lines line) (lt-ltb r rows.width column))
     (eq-eqb (row_at rows t r).makes (row_at rows t r).makes refl)
 
@@ -62,7 +55,7 @@ changed_here f rows h t r false un full line column =
     (false_from_ne_true (same_handle h (last_handle rows t r)) (λ same.
     false≢true (sym un ∙ ap (is_newest rows) (same_handles h (last_handle rows t r) same) ∙ is_newest_last rows t r line column))))
 changed_here f rows h t r true is full line column =
-    let newest = newest_is rows h is in
+    let newest = newest_is object_handles counts rows h is in
     elim (cases_Bool (same_handle h (last_handle rows t r))) [
       | inl same ↦
           let one = same_handles h (last_handle rows t r) same in

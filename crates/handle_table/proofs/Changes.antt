@@ -3,13 +3,14 @@ use Rattle.std.proofs.Common.{◌≡◌, ℕ, ◌+◌, ◌<◌, Bool, true, fals
 use Rattle.std.proofs.lemmas.Bool.{eq-eqb, ne_eqb, and_from, and_left, or_right, false≢true}
 use Rattle.std.specs.Prelude.{if◌then◌else◌}
 use Rattle.mask_compose.specs.Parts.{Parts, composed}
+use Rattle.generations.specs.Making.{is_handle, with_handle}
 use Rattle.lc_base.specs.declared.handle.Handle.{Handle}
 use Rattle.lc_base.specs.declared.handle.Named.{Named}
 use Rattle.lc_base.specs.declared.handle.Named.TheVariants.{Global, Of}
 use Rattle.handle_table.specs.declared.op.Refusal.{Refusal}
-use Rattle.handle_table.specs.Entry.{Op, New, Dup, Free, Use, Hold, Release, SetGlobal, Install, Post, Fetch, Pins, End, Reply, Made, Freed, Was, Held, Released, Set, Installed, Posted, Got, Pinned, Ended, Refused, Entry, History, Setting, names, is_accepted}
+use Rattle.handle_table.specs.Entry.{Op, New, Dup, Free, Use, Hold, Release, SetGlobal, Install, Post, Fetch, Pins, End, Reply, Made, Freed, Was, Held, Released, Set, Installed, Posted, Got, Pinned, Ended, Refused, Entry, History, Setting, names, is_accepted, object_handles}
 use Rattle.handle_table.specs.Shelf.{offer_after, shelf, installs_after, installs, from_shelf}
-use Rattle.handle_table.specs.History.{handle_in, handle_made, is_handle, makes_handle, made, frees_handle, live, with_handle, handles, sets_after, sets, global_after, global, object_after, replies_with, object, selection_after, selection, holding_after, holding, pins, free_row, posted_after, posted}
+use Rattle.handle_table.specs.History.{handle_in, handle_made, makes_handle, made, frees_handle, live, handles, sets_after, sets, global_after, global, object_after, replies_with, object, selection_after, selection, holding_after, holding, pins, free_row, posted_after, posted}
 use Rattle.handle_table.specs.Answer.{first_reason, reasons, of_handle, made_in, got, reply_to, unless, answer, IsLegal, own_after, own}
 use Rattle.handle_table.specs.Table.{has_base}
 use Rattle.handle_table.proofs.Numbering.{made_once, same_handles, same_itself}
@@ -102,7 +103,7 @@ pins_after c e H h caller =
 
 -- a reply that is a handle, in words of what it makes
 with_base : (c : Setting) (H : History) (t mask : ℕ) (numbers : List ℕ) (n : Named) (h : Handle) (r : Option Refusal)
-    → is_handle (handle_in (unless r (of_handle n (λ g. Made g)))) h ≡ true → (r ≡ None) × (n ≡ Of h)
+    → is_handle object_handles (handle_in (unless r (of_handle n (λ g. Made g)))) h ≡ true → (r ≡ None) × (n ≡ Of h)
 with_base c H t mask numbers n h (Some refusal) p = absurd (cc p)
 with_base c H t mask numbers Global h None p = absurd (cc p)
 with_base c H t mask numbers (Of g) h None p = (refl, ap (λ x. Of x) (same_handles g h p))
@@ -122,7 +123,7 @@ object_kept : (c : Setting) (e : Entry) (H : History) (h : Handle) (op : Op) →
     → (if replies_with e.reply h then object_after c H (object c H) op h else object c H h) ≡ object c H h
 object_kept c e H h (New mask numbers None) is legal un other =
     object_if (replies_with e.reply h) _ _ (λ answers.
-    absurd (false≢true (sym un ∙ ap (λ o. is_handle (handle_made o e.reply) h) is ∙ answers)))
+    absurd (false≢true (sym un ∙ ap (λ o. is_handle object_handles (handle_made o e.reply) h) is ∙ answers)))
 object_kept c e H h (New mask numbers (Some n)) is legal un other =
     object_if (replies_with e.reply h) _ _ (λ answers.
     let reply : e.reply ≡ answer c H e.who (New mask numbers (Some n)) = legal.0 ∙ ap (answer c H e.who) is in
@@ -130,7 +131,7 @@ object_kept c e H h (New mask numbers (Some n)) is legal un other =
     absurd (false≢true (sym other ∙ named_base n h base.1)))
 object_kept c e H h (Dup n) is legal un other =
     object_if (replies_with e.reply h) _ _ (λ answers.
-    absurd (false≢true (sym un ∙ ap (λ o. is_handle (handle_made o e.reply) h) is ∙ answers)))
+    absurd (false≢true (sym un ∙ ap (λ o. is_handle object_handles (handle_made o e.reply) h) is ∙ answers)))
 object_kept c e H h (Free n) is legal un other = same_either (replies_with e.reply h) (object c H h)
 object_kept c e H h (Use n) is legal un other = same_either (replies_with e.reply h) (object c H h)
 object_kept c e H h (Hold n) is legal un other = same_either (replies_with e.reply h) (object c H h)
@@ -318,13 +319,13 @@ refused_makes End reply refused = refl
 
 -- an entry that makes no handle makes none of a row
 pub handles_kept : (e : Entry) (H : History) (t r : ℕ) → handle_made e.op e.reply ≡ None → handles (e ∷ H) t r ≡ handles H t r
-handles_kept e H t r none = ap (λ o. with_handle t r o (handles H t r)) none
+handles_kept e H t r none = ap (λ o. with_handle object_handles t r o (handles H t r)) none
 
 -- an entry that makes no handle leaves what was made
 pub made_kept : (e : Entry) (H : History) (h : Handle) → handle_made e.op e.reply ≡ None → made (e ∷ H) h ≡ made H h
-made_kept e H h none = ap (λ o. is_handle o h || made H h) none
+made_kept e H h none = ap (λ o. is_handle object_handles o h || made H h) none
 
 -- an entry that makes no handle leaves a handle live unless it frees it
 pub live_kept : (e : Entry) (H : History) (h : Handle) → handle_made e.op e.reply ≡ None → frees_handle e h ≡ false → live (e ∷ H) h ≡ live H h
 live_kept e H h none un =
-    ap (λ b. not b && (makes_handle e h || live H h)) un ∙ ap (λ o. is_handle o h || live H h) none
+    ap (λ b. not b && (makes_handle e h || live H h)) un ∙ ap (λ o. is_handle object_handles o h || live H h) none

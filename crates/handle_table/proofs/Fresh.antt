@@ -13,7 +13,7 @@ use Rattle.lc_base.specs.declared.cells.TheConstants.{CELLS}
 use Rattle.handle_table.specs.Entry.{Setting}
 use Rattle.handle_table.specs.Shelf.{posix, opening_offer}
 use Rattle.handle_table.specs.History.{pins}
-use Rattle.handle_table.specs.Grid.{GridData, place, cell}
+use Rattle.generations.specs.Grid.{GridData, place, cell}
 use Rattle.handle_table.specs.Row.{no_row, is_held}
 use Rattle.handle_table.specs.Rows.{row_at}
 use Rattle.handle_table.specs.Kept.{newest, RowStands, HasLines, KeptData, Keeps}

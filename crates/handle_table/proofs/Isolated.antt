@@ -11,17 +11,18 @@ use Rattle.lc_base.specs.Mask.{includes}
 use Rattle.mask_compose.specs.Parts.{Parts, composed}
 use Rattle.mask_compose.specs.Parts as objects
 use Rattle.mask_compose.specs.Offer.{Offered}
+use Rattle.generations.specs.Making.{with_handle}
 use Rattle.lc_base.specs.declared.handle.Handle.{Handle}
 use Rattle.lc_base.specs.declared.handle.Named.{Named}
 use Rattle.lc_base.specs.declared.handle.Named.TheVariants.{Global, Of}
 use Rattle.handle_table.specs.declared.op.Refusal.TheVariants.{NoData, NeverMade, Stale, AlreadyHeld, NotHeld}
-use Rattle.handle_table.specs.Entry.{Op, New, Dup, Free, Use, Hold, Release, SetGlobal, Install, Post, Fetch, Pins, End, Made, Was, Held, Set, Pinned, Installed, Entry, History, Setting, is_accepted}
+use Rattle.handle_table.specs.Entry.{Op, New, Dup, Free, Use, Hold, Release, SetGlobal, Install, Post, Fetch, Pins, End, Made, Was, Held, Set, Pinned, Installed, Entry, History, Setting, is_accepted, object_handles}
 use Rattle.handle_table.specs.Shelf.{posix, offer_after, shelf, installs_after, installs, part_from_shelf, from_shelf, is_lacking, lacking}
-use Rattle.handle_table.specs.History.{handle_made, makes_handle, made, frees_handle, live, with_handle, handles, sets_after, sets, global_after, global, global_at, object_named, object_after, replies_with, object, selection_after, selection, holding_after, holding, pins, free_row, handle_named, posted_after, posted}
+use Rattle.handle_table.specs.History.{handle_made, makes_handle, made, frees_handle, live, handles, sets_after, sets, global_after, global, global_at, object_named, object_after, replies_with, object, selection_after, selection, holding_after, holding, pins, free_row, handle_named, posted_after, posted}
 use Rattle.handle_table.specs.Answer.{no_data, never_made, stale, too_many, already_held, not_held, empty_cell, reasons, first_reason, made_in, target_object, of_handle, got, reply_to, unless, answer, entry, IsLegal, own_after, own}
 use Rattle.handle_table.specs.Isolation.{has_thread, named_by, fetched_from, is_own, is_own_cell, keeps_apart, IsClosed, is_for_all, is_in_part, part_of, calls_of, replies_of, SaysOfThreads}
 use Rattle.handle_table.proofs.Unchanged.{fewer_sets}
-use Rattle.handle_table.proofs.Apart.{apart_inside, made_apart, live_apart, object_apart, handles_apart, selection_apart, own_apart, holding_apart, posted_apart, HoldOnAlike, pins_alike, free_row_alike, shelf_apart, installs_apart, sets_apart, global_apart}
+use Rattle.handle_table.proofs.Apart.{apart_inside, made_apart, live_apart, object_apart, handles_apart, selection_apart, own_apart, holding_apart, posted_apart, HoldOnAlike, pins_alike, free_alike, shelf_apart, installs_apart, sets_apart, global_apart}
 
 -- ---- one entry more, in both
 
@@ -153,7 +154,7 @@ module _ (c : Setting) (S : List ℕ) where
   pub handles_part : (H : History) → IsLegal c H → IsClosed S H → (t r : ℕ) → has_thread S t ≡ true → handles (part_of S H) t r ≡ handles H t r
   handles_part H legal closed t r inside =
       part_says c S (λ G. handles G t r) (λ e G l apart outside own. handles_apart c S e G t r l outside inside)
-      (λ e F G same. ap (with_handle t r (handle_made e.op e.reply)) same) H legal closed
+      (λ e F G same. ap (with_handle object_handles t r (handle_made e.op e.reply)) same) H legal closed
 
   pub selection_part : (H : History) → IsLegal c H → IsClosed S H → (t : ℕ) → has_thread S t ≡ true → selection (part_of S H) t ≡ selection H t
   selection_part H legal closed t inside =
@@ -208,7 +209,7 @@ module _ (c : Setting) (S : List ℕ) where
 
   pub free_row_part : (H : History) → IsLegal c H → IsClosed S H → (t : ℕ) → has_thread S t ≡ true → free_row c (part_of S H) t ≡ free_row c H t
   free_row_part H legal closed t inside =
-      free_row_alike c (part_of S H) H t (λ r. handles_part H legal closed t r inside) (λ h owner.
+      free_alike c (part_of S H) H t (λ r. handles_part H legal closed t r inside) (λ h owner.
       let owned : has_thread S h.owner ≡ true = ap (has_thread S) owner ∙ inside in
       (live_part H legal closed h owned, pins_part H legal closed h owned))
 

@@ -4,12 +4,14 @@ use Rattle.std.proofs.lemmas.Bool.{and_right}
 use Rattle.std.specs.Prelude.{if◌then◌else◌}
 use Rattle.mask_compose.specs.Parts.{Parts, composed}
 use Rattle.mask_compose.specs.Offer.{Offered}
+use Rattle.generations.specs.Kind.{nth}
+use Rattle.generations.proofs.Least.{least_passes}
 use Rattle.lc_base.specs.declared.handle.Handle.{Handle}
 use Rattle.lc_base.specs.declared.handle.Named.{Named}
 use Rattle.lc_base.specs.declared.handle.Named.TheVariants.{Global, Of}
 use Rattle.handle_table.specs.declared.op.Refusal.{Refusal}
 use Rattle.handle_table.specs.declared.op.Refusal.TheVariants.{AlreadyHeld, NotHeld}
-use Rattle.handle_table.specs.Entry.{Op, New, Dup, Free, Use, Hold, Release, SetGlobal, Install, Fetch, Pins, End, Entry, History, Setting, names, is_accepted}
+use Rattle.handle_table.specs.Entry.{Op, New, Dup, Free, Use, Hold, Release, SetGlobal, Install, Fetch, Pins, End, Entry, History, Setting, names, is_accepted, object_handles}
 use Rattle.handle_table.specs.Shelf.{posix, shelf, installs, from_shelf}
 use Rattle.handle_table.specs.History.{handle_in, makes, live, object_named, replies_with, object, selection, holding, posted, sets, global, is_free, free_row}
 use Rattle.handle_table.specs.Answer.{no_data, never_made, stale, global_handle, already_held, not_held, first_reason, reasons, unless, made_in, reply_to, answer, entry}
@@ -17,9 +19,8 @@ use Rattle.handle_table.specs.Row.{pinned, unpinned}
 use Rattle.handle_table.specs.Rows.{changed, all_let_go}
 use Rattle.handle_table.specs.Kept.{RowsStand, KeptData, Keeps}
 use Rattle.handle_table.specs.Effects.{after_make, after_rebuild, after_free, after_use, after_hold, after_release, after_set, after_install, after_end}
-use Rattle.handle_table.proofs.Numbering.{nth, same_itself}
+use Rattle.handle_table.proofs.Numbering.{same_itself}
 use Rattle.handle_table.proofs.Gone.{no_reason, names_handle, not_refused}
-use Rattle.handle_table.proofs.Newest.{least_passes}
 use Rattle.handle_table.proofs.Changes.{object_stays, object_refused, posted_refused, shelf_refused, installs_refused, sets_refused, global_refused, refused_makes, same_either}
 use Rattle.handle_table.proofs.Same.{MakesNext, rows_kept, same_refused, same_quiet, same_holders, rows_of_make}
 use Rattle.handle_table.proofs.RowsOf.{rows_of_use, rows_of_hold, rows_of_release, rows_of_end, rows_of_free}
@@ -289,12 +290,12 @@ keeps_new c H w q mask numbers x kept caller none free is k =
       frees_none = λ h. and_right (is_accepted e.reply) false refl;
       holders = same_holders e H refl;
     } in
-    let answers : replies_with e.reply (nth w q (makes H w q + 1)) ≡ true =
-    ap (λ r. replies_with (unless r (made_in H w (free_row c H w))) (nth w q (makes H w q + 1))) none
-    ∙ ap (λ o. replies_with (made_in H w o) (nth w q (makes H w q + 1))) free ∙ same_itself (nth w q (makes H w q + 1))
+    let answers : replies_with e.reply (nth object_handles w q (makes H w q + 1)) ≡ true =
+    ap (λ r. replies_with (unless r (made_in H w (free_row c H w))) (nth object_handles w q (makes H w q + 1))) none
+    ∙ ap (λ o. replies_with (made_in H w o) (nth object_handles w q (makes H w q + 1))) free ∙ same_itself (nth object_handles w q (makes H w q + 1))
     in
-    let made_object : object c (e ∷ H) (nth w q (makes H w q + 1)) ≡ x =
-    ap (λ b. if b then composed mask (from_shelf c H mask numbers) (posix c) else object c H (nth w q (makes H w q + 1))) answers ∙ sym is
+    let made_object : object c (e ∷ H) (nth object_handles w q (makes H w q + 1)) ≡ x =
+    ap (λ b. if b then composed mask (from_shelf c H mask numbers) (posix c) else object c H (nth object_handles w q (makes H w q + 1))) answers ∙ sym is
     in
     let row = (least_passes c.rows q (is_free c H w) free).1 in record {
       legal = (refl, k.legal);
@@ -325,12 +326,12 @@ keeps_dup c H w q n x kept caller none free is k =
       frees_none = λ h. and_right (is_accepted e.reply) false refl;
       holders = same_holders e H refl;
     } in
-    let answers : replies_with e.reply (nth w q (makes H w q + 1)) ≡ true =
-    ap (λ r. replies_with (unless r (made_in H w (free_row c H w))) (nth w q (makes H w q + 1))) none
-    ∙ ap (λ o. replies_with (made_in H w o) (nth w q (makes H w q + 1))) free ∙ same_itself (nth w q (makes H w q + 1))
+    let answers : replies_with e.reply (nth object_handles w q (makes H w q + 1)) ≡ true =
+    ap (λ r. replies_with (unless r (made_in H w (free_row c H w))) (nth object_handles w q (makes H w q + 1))) none
+    ∙ ap (λ o. replies_with (made_in H w o) (nth object_handles w q (makes H w q + 1))) free ∙ same_itself (nth object_handles w q (makes H w q + 1))
     in
-    let made_object : object c (e ∷ H) (nth w q (makes H w q + 1)) ≡ x =
-    ap (λ b. if b then object_named (object c H) (global c H) n else object c H (nth w q (makes H w q + 1))) answers ∙ sym is
+    let made_object : object c (e ∷ H) (nth object_handles w q (makes H w q + 1)) ≡ x =
+    ap (λ b. if b then object_named (object c H) (global c H) n else object c H (nth object_handles w q (makes H w q + 1))) answers ∙ sym is
     in
     let row = (least_passes c.rows q (is_free c H w) free).1 in record {
       legal = (refl, k.legal);

@@ -1,18 +1,19 @@
 -- What is kept of handles is what the history says.
 use Rattle.std.proofs.Common.{◌≡◌, ℕ, ◌<◌, ◌≤◌, true, Option, None, Some, sym, arith}
-use Rattle.std.proofs.lemmas.Bool.{and_parts, ltb-true}
-use Rattle.std.specs.Prelude.{slice_index_or, nat_lt, not, ◌||◌, IfSome}
+use Rattle.std.specs.Prelude.{slice_index_or, IfSome}
 use Rattle.mask_compose.specs.Offer.{no_offer}
+use Rattle.generations.specs.Least.{least_below}
+use Rattle.generations.specs.Rows.{is_free_row}
+use Rattle.generations.proofs.Says.{free_row_has}
 use Rattle.lc_base.specs.declared.handle.Handle.{Handle}
 use Rattle.lc_base.specs.declared.handle.Named.TheVariants.{Global}
 use Rattle.handle_table.specs.declared.row.Row.{Row}
 use Rattle.lc_base.specs.declared.cells.TheConstants.{CELLS}
 use Rattle.handle_table.specs.Entry.{History, Setting}
-use Rattle.handle_table.specs.History.{made, live, holding, pins, free_row, selection, posted, object, least_below}
-use Rattle.handle_table.specs.Grid.{GridData, cell}
-use Rattle.handle_table.specs.Rows.{row_at, says_made, says_live, says_held, says_pins, is_free_row}
+use Rattle.handle_table.specs.History.{made, live, holding, pins, free_row, selection, posted, object}
+use Rattle.generations.specs.Grid.{GridData, cell}
+use Rattle.handle_table.specs.Rows.{counts, row_at, says_made, says_live, says_held, says_pins}
 use Rattle.handle_table.specs.Kept.{KeptData, Keeps}
-use Rattle.handle_table.proofs.Newest.{least_passes}
 use Rattle.handle_table.proofs.Says.{made_said, live_said, held_said, pins_said, free_row_said, object_said}
 
 pub made_is : (c : Setting) (H : History) (kept : KeptData) (h : Handle) → Keeps c H kept → says_made kept.rows h ≡ made H h
@@ -31,18 +32,10 @@ pub pins_is : (c : Setting) (H : History) (kept : KeptData) (h : Handle) → Kee
 pins_is c H kept h k = pins_said c H kept.rows h k.legal k.callers k.rows
 
 pub free_row_is : (c : Setting) (H : History) (kept : KeptData) (w : ℕ) → w < kept.rows.lines → Keeps c H kept
-    → least_below kept.rows.width (λ r. is_free_row c.generations (row_at kept.rows w r)) ≡ free_row c H w
+    → least_below kept.rows.width (λ r. is_free_row counts c.generations (row_at kept.rows w r)) ≡ free_row c H w
 free_row_is c H kept w line k =
     let lines = k.rows.shape.lines in
     free_row_said c H kept.rows w k.legal k.rows (omega arith)
-
--- the least row that may be used is one of the thread's, and has generations left
-pub free_row_has : (generations : ℕ) (rows : GridData Row) (w r : ℕ) → least_below rows.width (λ q. is_free_row generations (row_at rows w q)) ≡ Some r
-    → (r < rows.width) × ((row_at rows w r).makes < generations)
-free_row_has generations rows w r is =
-    let row : Row = row_at rows w r in
-    let passes = least_passes rows.width r (λ q. is_free_row generations (row_at rows w q)) is in
-    (passes.1, ltb-true row.makes generations (and_parts (not (row.is_live || nat_lt 0 row.pins)) (nat_lt row.makes generations) passes.0).1)
 
 pub selection_is : (c : Setting) (H : History) (kept : KeptData) (w : ℕ) → w < kept.rows.lines → Keeps c H kept
     → slice_index_or kept.selections w Global ≡ selection H w
@@ -67,12 +60,12 @@ object_is c H kept h k alive =
     let column : h.row < c.rows = place.1 in
     (omega arith, omega arith, place.3)
 
-pub if_free_inside : (generations : ℕ) (rows : GridData Row) (w : ℕ) (o : Option ℕ) → o ≡ least_below rows.width (λ q. is_free_row generations (row_at rows w q))
+pub if_free_inside : (generations : ℕ) (rows : GridData Row) (w : ℕ) (o : Option ℕ) → o ≡ least_below rows.width (λ q. is_free_row counts generations (row_at rows w q))
     → IfSome o (λ r. r < rows.width)
 if_free_inside generations rows w None is = tt
-if_free_inside generations rows w (Some r) is = (free_row_has generations rows w r (sym is)).0
+if_free_inside generations rows w (Some r) is = (free_row_has counts generations rows w r (sym is)).0
 
 pub if_free_makes : (generations limit : ℕ) (rows : GridData Row) (w : ℕ) (o : Option ℕ) → generations ≤ limit
-    → o ≡ least_below rows.width (λ q. is_free_row generations (row_at rows w q)) → IfSome o (λ r. (row_at rows w r).makes < limit)
+    → o ≡ least_below rows.width (λ q. is_free_row counts generations (row_at rows w q)) → IfSome o (λ r. (row_at rows w r).makes < limit)
 if_free_makes generations limit rows w None most is = tt
-if_free_makes generations limit rows w (Some r) most is = let below = (free_row_has generations rows w r (sym is)).1 in omega arith
+if_free_makes generations limit rows w (Some r) most is = let below = (free_row_has counts generations rows w r (sym is)).1 in omega arith

@@ -1,138 +1,32 @@
 -- Of a row's handles only the newest is live or held on to.
-use Rattle.std.proofs.Common.{◌≡◌, ℕ, zero, suc, ◌≤◌, ◌<◌, ◌⊎◌, Bool, true, false, ◌&&◌, ◌||◌, not, List, [], ◌∷◌, length, Option, None, Some, refl, ap, sym, ◌∙◌, inl, inr, arith}
-use Rattle.std.proofs.lemmas.Bool.{and_parts, or_parts, or_from, or_cases, cases_eq, cases_lt, cases_Bool, false_from_ne_true, not-true}
-use Rattle.std.specs.Prelude.{if◌then◌else◌, nat_lt}
-use Rattle.std.specs.List.{list_any}
-use Rattle.std.specs.Option.{option_or}
-use Rattle.lc_base.specs.declared.handle.Handle.{Handle}
-use Rattle.handle_table.specs.Entry.{Entry, History, Setting}
-use Rattle.handle_table.specs.History.{handle_made, makes_handle, made, is_in_row, with_handle, handles, makes, is_kept, least_below, is_free}
+use Rattle.std.proofs.Common.{◌≡◌, ℕ, ◌&&◌, not, [], ◌∷◌}
+use Rattle.std.specs.Prelude.{nat_lt}
+use Rattle.generations.specs.Store.{NoneComesBack, IsInOrder}
+use Rattle.generations.proofs.Newest as rows
+use Rattle.handle_table.specs.Entry.{History, Setting}
+use Rattle.handle_table.specs.History.{makes, is_kept, objects, is_free}
 use Rattle.handle_table.specs.Answer.{IsLegal}
-use Rattle.handle_table.proofs.Numbering.{nth, numbered, IsNew, new_entry, in_row_numbers, handles_numbered, made_next, made_within}
-use Rattle.handle_table.specs.Kept.{AreThreads}
-use Rattle.handle_table.proofs.Gone.{IsGone, gone_stays, unmade_gone}
+use Rattle.handle_table.specs.Kept.{newest}
+use Rattle.handle_table.proofs.Numbering.{all_new}
+use Rattle.handle_table.proofs.Gone.{gone_stays, unmade_gone}
 use Rattle.handle_table.proofs.Pinned.{gone_unkept, unkept_gone}
 
--- the newest handle of a row; with generation 0, which is never made, where there is none
-abbrev pub newest : History → ℕ → ℕ → Handle
-newest H t r = nth t r (makes H t r)
+none_back : (c : Setting) (H : History) → IsLegal c H → NoneComesBack (objects c) H
+none_back c [] legal = tt
+none_back c (e ∷ H) legal = (
+  λ h before un. gone_unkept c (e ∷ H) h (gone_stays c e H h legal before (unkept_gone c H h un)),
+  none_back c H legal.1,
+)
 
-found_or : (n r : ℕ) (b : Bool) (o : Option ℕ) → option_or o (if b then Some n else None) ≡ Some r
-    → (o ≡ Some r) ⊎ ((b ≡ true) × (n ≡ r))
-found_or n r b (Some k) p = inl p
-found_or n r true None p = inr (refl, cc p)
-found_or n r false None p = absurd (cc p)
-
--- the least number that passes a test passes it
-pub least_passes : (n r : ℕ) (p : ℕ → Bool) → least_below n p ≡ Some r → (p r ≡ true) × (r < n)
-least_passes zero r p is = absurd (cc is)
-least_passes (suc n) r p is =
-    elim (found_or n r (p n) (least_below n p) is) [
-      | inl earlier ↦ let below = least_passes n r p earlier in (below.0, omega arith)
-      | inr here ↦ (ap p (sym here.1) ∙ here.0, omega arith)
-    ]
-
-grown_if : (b : Bool) (g : Handle) (hs : List Handle) → length hs < length (if b then g ∷ hs else hs) → b ≡ true
-grown_if true g hs p = refl
-grown_if false g hs p = absurd (omega arith)
-
-grown_with : (c : Setting) (H : History) (who t r : ℕ) (o : Option Handle) → IsNew c H who o
-    → makes H t r < length (with_handle t r o (handles H t r)) → is_free c H t r ≡ true
-grown_with c H who t r None new more = absurd (omega arith)
-grown_with c H who t r (Some g) new more =
-    let numbers = in_row_numbers t r g (grown_if (is_in_row t r g) g (handles H t r) more) in
-    let owner : who ≡ t = sym (ap (λ (h : Handle). h.owner) new.1) ∙ numbers.0 in
-    let free = least_passes c.rows g.row (is_free c H who) new.0 in
-    ap (λ n. is_free c H n r) (sym owner) ∙ ap (is_free c H who) (sym numbers.1) ∙ free.0
-
--- a row in which an entry makes a handle was free
-pub grown_free : (c : Setting) (e : Entry) (H : History) (t r : ℕ) → IsLegal c (e ∷ H) → makes H t r < makes (e ∷ H) t r → is_free c H t r ≡ true
-grown_free c e H t r legal more = grown_with c H e.who t r (handle_made e.op e.reply) (new_entry c e H legal) more
-
--- where no handle of a row passes a test, its n-th does not
-none_numbered : (t r m n : ℕ) (p : Handle → Bool) → list_any p (numbered t r m) ≡ false → 1 ≤ n → n ≤ m → p (nth t r n) ≡ false
-none_numbered t r zero n p none some below = absurd (omega arith)
-none_numbered t r (suc m) n p none some below =
-    let parts = or_parts (p (nth t r (suc m))) (list_any p (numbered t r m)) none in
-    elim (cases_eq n (suc m)) [
-      | inl is ↦ ap (λ k. p (nth t r k)) is ∙ parts.0
-      | inr other ↦ none_numbered t r m n p parts.1 some (omega arith)
-    ]
-
--- no handle of a free row is kept
-pub free_gone : (c : Setting) (H : History) (h : Handle) → IsLegal c H → is_free c H h.owner h.row ≡ true → made H h ≡ true → IsGone c H h
-free_gone c H h legal free before =
-    let parts = and_parts (not (list_any (is_kept c H) (handles H h.owner h.row))) (nat_lt (makes H h.owner h.row) c.generations) free in
-    let none = not-true (list_any (is_kept c H) (handles H h.owner h.row)) parts.0 in
-    let within = made_within c H legal h before in
-    unkept_gone c H h
-    (none_numbered h.owner h.row (makes H h.owner h.row) h.generation (is_kept c H)
-    (ap (list_any (is_kept c H)) (sym (handles_numbered c H legal h.owner h.row)) ∙ none) within.0 within.1)
-
--- a handle that is not the newest of its row is neither live nor held on to
-pub older_gone : (c : Setting) (H : History) (h : Handle) → IsLegal c H → made H h ≡ true → h.generation < makes H h.owner h.row → IsGone c H h
-older_gone c [] h legal before older = absurd (cc before)
-older_gone c (e ∷ H) h legal before older =
-    elim (or_cases (makes_handle e h) (made H h) before) [
-      | inl here ↦ let next = made_next c e H h legal here in absurd (omega arith)
-      | inr earlier ↦
-          gone_stays c e H h legal earlier (elim (cases_lt h.generation (makes H h.owner h.row)) [
-            | inl already ↦ older_gone c H h legal.1 earlier already
-            | inr last ↦ free_gone c H h legal.1 (grown_free c e H h.owner h.row legal (omega arith)) earlier
-          ])
-    ]
-
--- a handle whose generation is not the last of its row is neither live nor held on to, whether it was made or not
-pub other_gone : (c : Setting) (H : History) (h : Handle) → IsLegal c H → (h.generation ≡ makes H h.owner h.row → ⊥) → IsGone c H h
-other_gone c H h legal other =
-    elim (cases_Bool (made H h)) [
-      | inl before ↦
-          let within = made_within c H legal h before in
-          older_gone c H h legal before (omega (arith, λ (e : h.generation ≡ makes H h.owner h.row). other e))
-      | inr un ↦ unmade_gone c H h legal un
-    ]
-
-none_below : (t r n : ℕ) (p : Handle → Bool) → ((k : ℕ) → k < suc n → p (nth t r k) ≡ false) → list_any p (numbered t r n) ≡ false
-none_below t r zero p none = refl
-none_below t r (suc n) p none =
-    or_from (p (nth t r (suc n))) (list_any p (numbered t r n)) (none (suc n) (omega arith)) (none_below t r n p (λ k lt. none k (omega arith)))
-
-or_none : (b : Bool) → (b || false) ≡ b
-or_none true = refl
-or_none false = refl
-
-kept_numbered : (c : Setting) (H : History) (t r n : ℕ) → IsLegal c H → makes H t r ≡ n
-    → list_any (is_kept c H) (numbered t r n) ≡ is_kept c H (nth t r n)
-kept_numbered c H t r zero legal is =
-    let none : made H (nth t r 0) ≡ false =
-    false_from_ne_true (made H (nth t r 0)) (λ before. let within = made_within c H legal (nth t r 0) before in omega arith)
-    in
-    sym (gone_unkept c H (nth t r 0) (unmade_gone c H (nth t r 0) legal none))
-kept_numbered c H t r (suc n) legal is =
-    ap (λ b. is_kept c H (nth t r (suc n)) || b)
-    (none_below t r n (is_kept c H) (λ k lt. gone_unkept c H (nth t r k) (other_gone c H (nth t r k) legal (λ e. omega arith))))
-    ∙ or_none (is_kept c H (nth t r (suc n)))
-
--- a row has a kept handle where its newest is kept
-pub row_kept : (c : Setting) (H : History) (t r : ℕ) → IsLegal c H → list_any (is_kept c H) (handles H t r) ≡ is_kept c H (newest H t r)
-row_kept c H t r legal =
-    ap (list_any (is_kept c H)) (handles_numbered c H legal t r) ∙ kept_numbered c H t r (makes H t r) legal refl
+-- a legal history is one that rows have
+pub in_order : (c : Setting) (H : History) → IsLegal c H → IsInOrder (objects c) H
+in_order c H legal = record {
+  new = all_new c H legal;
+  gone = none_back c H legal;
+  known = λ h un. gone_unkept c H h (unmade_gone c H h legal un);
+}
 
 -- a row is free where its newest handle is not kept, and it has generations left
 pub free_newest : (c : Setting) (H : History) (t r : ℕ) → IsLegal c H
     → is_free c H t r ≡ (not (is_kept c H (newest H t r)) && nat_lt (makes H t r) c.generations)
-free_newest c H t r legal = ap (λ b. not b && nat_lt (makes H t r) c.generations) (row_kept c H t r legal)
-
--- a handle that was made is of one of the table's threads, in one of its rows
-pub made_in_table : (c : Setting) (H : History) (h : Handle) → IsLegal c H → AreThreads c.threads H → made H h ≡ true
-    → (h.owner < c.threads) × (h.row < c.rows)
-made_in_table c [] h legal callers before = absurd (cc before)
-made_in_table c (e ∷ H) h legal callers before =
-    elim (or_cases (makes_handle e h) (made H h) before) [
-      | inl here ↦
-          let next = made_next c e H h legal here in
-          let free = least_passes c.rows h.row (is_free c H h.owner) next.3 in
-          let caller = callers.0 in
-          (omega arith, free.1)
-      | inr earlier ↦ made_in_table c H h legal.1 callers.1 earlier
-    ]
+free_newest c H t r legal = rows.free_newest (objects c) H t r (in_order c H legal)

@@ -6,21 +6,23 @@ use Rattle.std.specs.Prelude.{if◌then◌else◌, slice_set, slice_index_or, un
 use Rattle.mask_compose.specs.Parts.{Parts, composed}
 use Rattle.mask_compose.specs.Offer.{Offered, no_offer}
 use Rattle.global_locale.specs.Versioned.{Versioned}
+use Rattle.generations.specs.Kind.{nth}
+use Rattle.generations.specs.Making.{is_handle}
+use Rattle.generations.proofs.Places.{cell_here, cell_elsewhere}
 use Rattle.lc_base.specs.declared.handle.Handle.{Handle}
 use Rattle.lc_base.specs.declared.handle.Named.{Named}
 use Rattle.lc_base.specs.declared.handle.Named.TheVariants.{Global, Of}
-use Rattle.handle_table.specs.Entry.{New, SetGlobal, Install, Entry, History, Setting, is_accepted, same_handle}
+use Rattle.handle_table.specs.Entry.{New, SetGlobal, Install, Entry, History, Setting, is_accepted, same_handle, object_handles}
 use Rattle.handle_table.specs.Shelf.{opening_offer, shelf, from_shelf}
-use Rattle.handle_table.specs.History.{handle_made, is_handle, makes_handle, made, makes, object, selection_after, selection, is_kept, posted, sets, global}
+use Rattle.handle_table.specs.History.{handle_made, makes_handle, made, makes, object, selection_after, selection, is_kept, posted, sets, global}
 use Rattle.handle_table.specs.Answer.{answer, entry, IsLegal}
-use Rattle.handle_table.specs.Grid.{GridData, cell, with_cell}
+use Rattle.generations.specs.Grid.{GridData, cell, with_cell}
 use Rattle.handle_table.specs.Kept.{newest, ObjectsStand, SelectionsStand, CellsStand, ShelfStands, GlobalStands}
-use Rattle.handle_table.proofs.Numbering.{nth, same_handles}
+use Rattle.handle_table.proofs.Numbering.{same_handles}
 use Rattle.handle_table.proofs.Gone.{gone_stays, unmade_gone}
 use Rattle.handle_table.proofs.Pinned.{gone_unkept, unkept_gone}
 use Rattle.handle_table.proofs.Changes.{object_stays, object_rebuilt, selection_of_other, selection_of_caller, sets_accepted, global_accepted, handles_kept, made_kept}
 use Rattle.handle_table.proofs.Same.{MakesNext, cases_place, more_in_row, same_elsewhere}
-use Rattle.handle_table.proofs.Places.{cell_here, cell_elsewhere}
 use Rattle.handle_table.proofs.Changed.{shape_with, if_true, if_false}
 
 -- ---- objects
@@ -48,7 +50,7 @@ pub objects_kept : (c : Setting) (e : Entry) (H : History) (objects : GridData P
 objects_kept c e H objects legal none same s = record {
   shape = s.shape;
   each = λ t r line column kept.
-      let still : newest (e ∷ H) t r ≡ newest H t r = ap (λ hs. nth t r (length hs)) (handles_kept e H t r none) in
+      let still : newest (e ∷ H) t r ≡ newest H t r = ap (λ hs. nth object_handles t r (length hs)) (handles_kept e H t r none) in
       let after : is_kept c (e ∷ H) (newest H t r) ≡ true = ap (is_kept c (e ∷ H)) (sym still) ∙ kept in
       let before : made H (newest H t r) ≡ true =
       sym (made_kept e H (newest H t r) none) ∙ kept_made c (e ∷ H) (newest H t r) legal after
@@ -89,7 +91,7 @@ objects_of_base c H w mask numbers b objects x legal accepted owner row last is 
 
 -- an entry that makes a handle gives it its object
 pub objects_of_make : (c : Setting) (e : Entry) (H : History) (w q : ℕ) (objects : GridData Parts) (x : Parts) → IsLegal c (e ∷ H)
-    → w < c.threads → q < c.rows → MakesNext c e H w q → x ≡ object c (e ∷ H) (nth w q (makes H w q + 1))
+    → w < c.threads → q < c.rows → MakesNext c e H w q → x ≡ object c (e ∷ H) (nth object_handles w q (makes H w q + 1))
     → ((h : Handle) → made H h ≡ true → object c (e ∷ H) h ≡ object c H h)
     → ObjectsStand c H objects → ObjectsStand c (e ∷ H) (with_cell objects w q x)
 objects_of_make c e H w q objects x legal caller row next is same s =
@@ -105,15 +107,15 @@ objects_of_make c e H w q objects x legal caller row next is same s =
                 ∙ cell_here objects w q x no_offer.object s.shape.full (omega arith) (omega arith)
                 ∙ is
                 ∙ sym (ap (λ n. object c G (newest G n r)) here.0 ∙ ap (λ n. object c G (newest G w n)) here.1
-                ∙ ap (λ n. object c G (nth w q n)) (more_in_row c e H w q next))
+                ∙ ap (λ n. object c G (nth object_handles w q n)) (more_in_row c e H w q next))
             | inr apart ↦
-                let still : newest G t r ≡ newest H t r = ap (nth t r) (same_elsewhere c e H w q t r next apart) in
+                let still : newest G t r ≡ newest H t r = ap (nth object_handles t r) (same_elsewhere c e H w q t r next apart) in
                 let after : is_kept c G (newest H t r) ≡ true = ap (is_kept c G) (sym still) ∙ kept in
                 let before : made H (newest H t r) ≡ true =
                 elim (or_cases (makes_handle e (newest H t r)) (made H (newest H t r)) (kept_made c G (newest H t r) legal after)) [
                   | inr earlier ↦ earlier
                   | inl new ↦
-                      let one = same_handles (nth w q (makes H w q + 1)) (newest H t r) (ap (λ o. is_handle o (newest H t r)) (sym next.makes) ∙ new) in
+                      let one = same_handles (nth object_handles w q (makes H w q + 1)) (newest H t r) (ap (λ o. is_handle object_handles o (newest H t r)) (sym next.makes) ∙ new) in
                       absurd (apart (sym (ap (λ (g : Handle). g.owner) one), sym (ap (λ (g : Handle). g.row) one)))
                 ]
                 in

@@ -3,18 +3,18 @@ use Rattle.std.proofs.Common.{◌≡◌, ℕ, ◌+◌, ◌*◌, ◌-◌, ◌^◌
 use Rattle.std.proofs.lemmas.Bool.{and_right, cases_eq}
 use Rattle.std.proofs.lemmas.List.{length-set}
 use Rattle.std.specs.Prelude.{if◌then◌else◌, min, slice_set}
+use Rattle.generations.specs.Kind.{nth}
 use Rattle.lc_base.specs.declared.handle.Handle.{Handle}
 use Rattle.lc_base.specs.declared.handle.Named.{Named}
 use Rattle.handle_table.specs.declared.row.Row.{Row}
 use Rattle.handle_table.specs.declared.setting.TheConstants.{MAX_THREADS}
-use Rattle.handle_table.specs.Entry.{Free, Use, Hold, Release, End, Entry, History, Setting, names, is_accepted}
+use Rattle.handle_table.specs.Entry.{Free, Use, Hold, Release, End, Entry, History, Setting, names, is_accepted, object_handles}
 use Rattle.handle_table.specs.History.{makes, live, selection, holding, pins}
 use Rattle.handle_table.specs.Answer.{answer, entry}
-use Rattle.handle_table.specs.Grid.{GridData}
+use Rattle.generations.specs.Grid.{GridData}
 use Rattle.handle_table.specs.Row.{pinned, unpinned, is_held, opened, closed, let_go, freed}
 use Rattle.handle_table.specs.Rows.{row_at, changed, all_let_go}
 use Rattle.handle_table.specs.Kept.{newest, RowStands, HasLines, RowsStand}
-use Rattle.handle_table.proofs.Numbering.{nth}
 use Rattle.handle_table.proofs.Pinned.{bit, bit_few, ways, part_below, sum_at_most, pins_counted}
 use Rattle.handle_table.proofs.Changes.{selection_of_caller, holding_of_caller, holding_of_other, pins_after, live_kept, same_either}
 use Rattle.handle_table.proofs.Changed.{row_changed, shape_changed, row_let_go, shape_let_go}
@@ -230,7 +230,7 @@ changed_at c H f rows n t r shape same line column =
     let lines = shape.lines in
     let width = shape.width in
     row_changed f rows n t r shape.full (omega arith) (omega arith)
-    ∙ ap (λ m. if names n (nth t r m) then f (row_at rows t r) else row_at rows t r) same
+    ∙ ap (λ m. if names n (nth object_handles t r m) then f (row_at rows t r) else row_at rows t r) same
 
 makes_if : (a : Bool) (row : Row) → (if a then unpinned row else row).makes ≡ row.makes
 makes_if true row = refl

@@ -1,23 +1,27 @@
 -- Entries that leave handles, selections and Holds as they were, and rows after a new handle.
-use Rattle.std.proofs.Common.{◌≡◌, ℕ, ◌+◌, ◌<◌, ◌⊎◌, Bool, true, false, ◌==◌, ◌&&◌, ◌||◌, not, ◌∷◌, length, None, Some, refl, ap, sym, ◌∙◌, subst, inl, inr, arith, add-one}
-use Rattle.std.proofs.lemmas.Bool.{eq-eqb, and_parts, and_from, and_left, and_right, or_left, cases_eq, false_from_ne_true, not-true}
+use Rattle.std.proofs.Common.{◌≡◌, ℕ, ◌+◌, ◌<◌, ◌⊎◌, Bool, true, false, ◌==◌, ◌&&◌, ◌||◌, not, ◌∷◌, length, None, Some, refl, ap, sym, ◌∙◌, subst, inl, inr, arith}
+use Rattle.std.proofs.lemmas.Bool.{and_parts, and_left, and_right, or_left, cases_eq, false_from_ne_true, not-true}
 use Rattle.std.specs.Prelude.{if◌then◌else◌, nat_lt}
+use Rattle.generations.specs.Kind.{nth}
+use Rattle.generations.specs.Making.{is_handle}
+use Rattle.generations.proofs.Least.{least_passes}
+use Rattle.generations.proofs.Places.{cell_here, cell_elsewhere}
+use Rattle.generations.proofs.Numbering as numbering
 use Rattle.lc_base.specs.declared.handle.Handle.{Handle}
 use Rattle.lc_base.specs.declared.handle.Named.{Named}
 use Rattle.handle_table.specs.declared.row.Row.{Row}
-use Rattle.handle_table.specs.Entry.{Op, New, Dup, Free, Use, Hold, Release, SetGlobal, Install, Post, Fetch, Pins, End, Reply, Entry, History, Setting, names, is_accepted, same_handle}
-use Rattle.handle_table.specs.History.{handle_made, is_handle, makes_handle, made, op_frees, frees_handle, live, is_in_row, with_handle, handles, makes, selection_after, selection, holding_after, holding, pins, is_kept, is_free, free_row}
+use Rattle.handle_table.specs.Entry.{Op, New, Dup, Free, Use, Hold, Release, SetGlobal, Install, Post, Fetch, Pins, End, Reply, Entry, History, Setting, names, is_accepted, same_handle, object_handles}
+use Rattle.handle_table.specs.History.{handle_made, making, makings, makes_handle, made, op_frees, frees_handle, live, makes, selection_after, selection, holding_after, holding, pins, is_kept, is_free, free_row}
 use Rattle.handle_table.specs.Answer.{IsLegal}
-use Rattle.handle_table.specs.Grid.{GridData, with_cell}
+use Rattle.generations.specs.Grid.{GridData, with_cell}
 use Rattle.handle_table.specs.Row.{no_row, with_next}
 use Rattle.handle_table.specs.Rows.{row_at}
 use Rattle.handle_table.specs.Kept.{newest, RowStands, RowsStand}
-use Rattle.handle_table.proofs.Numbering.{nth, same_handles, same_itself, made_within, in_row_numbers}
+use Rattle.handle_table.proofs.Numbering.{same_handles, same_itself, made_within}
 use Rattle.handle_table.proofs.Gone.{IsGone, unmade_gone}
 use Rattle.handle_table.proofs.Pinned.{bit, ways, sum_same, pins_counted, gone_unpinned, unkept_gone}
-use Rattle.handle_table.proofs.Newest.{least_passes, free_newest}
+use Rattle.handle_table.proofs.Newest.{free_newest}
 use Rattle.handle_table.proofs.Changes.{same_either, selection_refused, holding_refused, refused_makes, handles_kept, live_kept}
-use Rattle.handle_table.proofs.Places.{cell_here, cell_elsewhere}
 use Rattle.handle_table.proofs.Changed.{shape_with}
 
 -- two histories say the same of who holds on to what
@@ -41,7 +45,7 @@ pub record SameHandles (H G : History) : Type 0 where
 
 same_stands : (c : Setting) (H G : History) (t r : ℕ) (row : Row) → SameHandles H G → RowStands c H t r row → RowStands c G t r row
 same_stands c H G t r row same s =
-    let newest_is : newest G t r ≡ newest H t r = ap (nth t r) (same.makes t r) in record {
+    let newest_is : newest G t r ≡ newest H t r = ap (nth object_handles t r) (same.makes t r) in record {
       marks = s.marks;
       makes = s.makes ∙ sym (same.makes t r);
       live = s.live ∙ sym (ap (live G) newest_is ∙ same.live (newest H t r));
@@ -182,55 +186,43 @@ cases_place t r w q =
       | inr other ↦ inr (λ both. other both.0)
     ]
 
-other_row : (t r w q n : ℕ) → ((t ≡ w) × (r ≡ q) → ⊥) → is_in_row t r (nth w q n) ≡ false
-other_row t r w q n apart =
-    false_from_ne_true (is_in_row t r (nth w q n)) (λ here.
-    let numbers = in_row_numbers t r (nth w q n) here in
-    apart (sym numbers.0, sym numbers.1))
-
 -- what the rows need to know of an entry that makes the next handle of a free row
 pub record MakesNext (c : Setting) (e : Entry) (H : History) (w q : ℕ) : Type 0 where
   pub free : free_row c H w ≡ Some q
-  pub makes : handle_made e.op e.reply ≡ Some (nth w q (makes H w q + 1))
+  pub makes : handle_made e.op e.reply ≡ Some (nth object_handles w q (makes H w q + 1))
   pub frees_none : (h : Handle) → frees_handle e h ≡ false
   pub holders : SameHolders H (e ∷ H)
 
 -- its row has one handle more
 pub more_in_row : (c : Setting) (e : Entry) (H : History) (w q : ℕ) → MakesNext c e H w q → makes (e ∷ H) w q ≡ makes H w q + 1
-more_in_row c e H w q next =
-    ap (λ o. length (with_handle w q o (handles H w q))) next.makes
-    ∙ ap (λ b. length (if b then nth w q (makes H w q + 1) ∷ handles H w q else handles H w q))
-    (and_from (w == w) (q == q) (eq-eqb w w refl) (eq-eqb q q refl))
-    ∙ sym (add-one (makes H w q))
+more_in_row c e H w q next = numbering.more_in_row object_handles (making e) (makings H) w q next.makes
 
 -- the other rows have as many as before
 pub same_elsewhere : (c : Setting) (e : Entry) (H : History) (w q t r : ℕ) → MakesNext c e H w q → ((t ≡ w) × (r ≡ q) → ⊥)
     → makes (e ∷ H) t r ≡ makes H t r
-same_elsewhere c e H w q t r next apart =
-    ap (λ o. length (with_handle t r o (handles H t r))) next.makes
-    ∙ ap (λ b. length (if b then nth w q (makes H w q + 1) ∷ handles H t r else handles H t r)) (other_row t r w q (makes H w q + 1) apart)
+same_elsewhere c e H w q t r next apart = numbering.same_elsewhere object_handles (making e) (makings H) w q t r next.makes apart
 
 -- the new handle is live
-pub new_live : (c : Setting) (e : Entry) (H : History) (w q : ℕ) → MakesNext c e H w q → live (e ∷ H) (nth w q (makes H w q + 1)) ≡ true
+pub new_live : (c : Setting) (e : Entry) (H : History) (w q : ℕ) → MakesNext c e H w q → live (e ∷ H) (nth object_handles w q (makes H w q + 1)) ≡ true
 new_live c e H w q next =
-    let g : Handle = nth w q (makes H w q + 1) in
+    let g : Handle = nth object_handles w q (makes H w q + 1) in
     ap (λ b. not b && (makes_handle e g || live H g)) (next.frees_none g)
-    ∙ ap (λ o. is_handle o g || live H g) next.makes
+    ∙ ap (λ o. is_handle object_handles o g || live H g) next.makes
     ∙ or_left (same_handle g g) (live H g) (same_itself g)
 
 -- another handle is live where it was
 pub other_live : (c : Setting) (e : Entry) (H : History) (w q : ℕ) (h : Handle) → MakesNext c e H w q
-    → same_handle (nth w q (makes H w q + 1)) h ≡ false → live (e ∷ H) h ≡ live H h
+    → same_handle (nth object_handles w q (makes H w q + 1)) h ≡ false → live (e ∷ H) h ≡ live H h
 other_live c e H w q h next other =
     ap (λ b. not b && (makes_handle e h || live H h)) (next.frees_none h)
-    ∙ ap (λ o. is_handle o h || live H h) next.makes
+    ∙ ap (λ o. is_handle object_handles o h || live H h) next.makes
     ∙ ap (λ b. b || live H h) other
 
 -- the new handle was not made before
-new_unmade : (c : Setting) (H : History) (w q : ℕ) → IsLegal c H → made H (nth w q (makes H w q + 1)) ≡ false
+new_unmade : (c : Setting) (H : History) (w q : ℕ) → IsLegal c H → made H (nth object_handles w q (makes H w q + 1)) ≡ false
 new_unmade c H w q legal =
-    false_from_ne_true (made H (nth w q (makes H w q + 1))) (λ before.
-    let within = made_within c H legal (nth w q (makes H w q + 1)) before in
+    false_from_ne_true (made H (nth object_handles w q (makes H w q + 1))) (λ before.
+    let within = made_within c H legal (nth object_handles w q (makes H w q + 1)) before in
     omega arith)
 
 -- nothing of a free row's newest handle is kept
@@ -245,7 +237,7 @@ pub rows_of_make : (c : Setting) (e : Entry) (H : History) (w q : ℕ) (rows : G
     → MakesNext c e H w q → RowsStand c H rows → RowsStand c (e ∷ H) (with_cell rows w q (with_next (row_at rows w q)))
 rows_of_make c e H w q rows legal caller next s =
     let G : History = e ∷ H in
-    let g : Handle = nth w q (makes H w q + 1) in
+    let g : Handle = nth object_handles w q (makes H w q + 1) in
     let lines = s.shape.lines in
     let width = s.shape.width in
     let column : q < c.rows = (least_passes c.rows q (is_free c H w) next.free).1 in
@@ -253,7 +245,7 @@ rows_of_make c e H w q rows legal caller next s =
     let gone = newest_gone c e H w q legal next in
     let unmade = unmade_gone c H g legal (new_unmade c H w q legal) in
     let more = more_in_row c e H w q next in
-    let newest_is : newest G w q ≡ g = ap (nth w q) more in record {
+    let newest_is : newest G w q ≡ g = ap (nth object_handles w q) more in record {
       few = s.few;
       shape = shape_with c c.rows rows w q (with_next (row_at rows w q)) s.shape;
       each = λ t r line other_column.
@@ -274,7 +266,7 @@ rows_of_make c e H w q rows legal caller next s =
             | inr apart ↦
                 let before = s.each t r line other_column in
                 let same = same_elsewhere c e H w q t r next apart in
-                let still : newest G t r ≡ newest H t r = ap (nth t r) same in
+                let still : newest G t r ≡ newest H t r = ap (nth object_handles t r) same in
                 let not_new : same_handle g (newest H t r) ≡ false =
                 false_from_ne_true (same_handle g (newest H t r)) (λ is.
                 let one = same_handles g (newest H t r) is in

@@ -1,28 +1,17 @@
 -- A refused entry changes nothing of what a history says, and the newest version of the global locale is
 -- the global locale.
-use Rattle.std.proofs.Common.{◌≡◌, ℕ, zero, suc, ◌+◌, ◌≤◌, Bool, true, false, ◌&&◌, ◌||◌, not, List, [], ◌∷◌, ◌++◌, length, None, Some, refl, ap, sym, ◌∙◌, arith}
-use Rattle.std.specs.List.{list_any}
-use Rattle.std.specs.Option.{option_or}
+use Rattle.std.proofs.Common.{◌≡◌, ℕ, suc, ◌+◌, ◌≤◌, Bool, true, false, ◌&&◌, ◌||◌, [], ◌∷◌, ◌++◌, length, refl, ap, sym, ◌∙◌, arith}
 use Rattle.std.specs.Prelude.{if◌then◌else◌, nat_lt, nat_le}
 use Rattle.std.proofs.lemmas.Bool.{le-leb, lt-leb}
+use Rattle.generations.proofs.Free.{free_row_alike}
 use Rattle.lc_base.specs.declared.handle.Handle.{Handle}
 use Rattle.handle_table.specs.Entry.{Op, New, Dup, Free, Use, Hold, Release, SetGlobal, Install, Post, Fetch, Pins, End, Entry, History, Setting, names, is_accepted}
-use Rattle.handle_table.specs.History.{op_frees, live, makes, handles, pins, holding, selection, is_kept, is_free, least_below, sets, sets_after, global, global_after, global_at}
+use Rattle.handle_table.specs.History.{op_frees, live, pins, holding, selection, is_kept, objects, sets, sets_after, global, global_after, global_at}
 use Rattle.handle_table.specs.Table.{SaysTheSame}
 use Rattle.handle_table.proofs.Pinned.{bit, ways, sum_same, pins_counted}
 use Rattle.handle_table.proofs.Changes.{selection_refused, holding_refused, posted_refused, object_refused, own_refused, shelf_refused, installs_refused, sets_refused, global_refused, refused_makes, handles_kept, made_kept, live_kept}
 
 -- ---- pins and free rows of a refused entry
-
-any_same : (p q : Handle → Bool) (hs : List Handle) → ((h : Handle) → p h ≡ q h) → list_any p hs ≡ list_any q hs
-any_same p q [] same = refl
-any_same p q (h ∷ hs) same = ap (λ b. b || list_any p hs) (same h) ∙ ap (λ b. q h || b) (any_same p q hs same)
-
-pub least_same : (p q : ℕ → Bool) (n : ℕ) → ((r : ℕ) → p r ≡ q r) → least_below n p ≡ least_below n q
-least_same p q zero same = refl
-least_same p q (suc n) same =
-    ap (λ o. option_or o (if p n then Some n else None)) (least_same p q n same)
-    ∙ ap (λ b. option_or (least_below n q) (if b then Some n else None)) (same n)
 
 live_refused : (e : Entry) (H : History) (h : Handle) → is_accepted e.reply ≡ false → live (e ∷ H) h ≡ live H h
 live_refused e H h refused =
@@ -41,12 +30,6 @@ kept_refused c e H h refused =
     ap (λ b. b || nat_lt 0 (pins c (e ∷ H) h)) (live_refused e H h refused)
     ∙ ap (λ n. live H h || nat_lt 0 n) (pins_refused c e H h refused)
 
-free_refused : (c : Setting) (e : Entry) (H : History) (t r : ℕ) → is_accepted e.reply ≡ false → is_free c (e ∷ H) t r ≡ is_free c H t r
-free_refused c e H t r refused =
-    ap (λ hs. not (list_any (is_kept c (e ∷ H)) hs) && nat_lt (length hs) c.generations) (handles_kept e H t r (refused_makes e.op e.reply refused))
-    ∙ ap (λ b. not b && nat_lt (makes H t r) c.generations)
-    (any_same (is_kept c (e ∷ H)) (is_kept c H) (handles H t r) (λ h. kept_refused c e H h refused))
-
 -- a refused entry changes nothing
 pub refused_changes_nothing : (c : Setting) (e : Entry) (H : History) → is_accepted e.reply ≡ false → SaysTheSame c (e ∷ H) H
 refused_changes_nothing c e H refused = record {
@@ -62,7 +45,7 @@ refused_changes_nothing c e H refused = record {
   own = λ t. own_refused e H t refused;
   holding = λ t h. holding_refused e H t h refused;
   pins = λ h. pins_refused c e H h refused;
-  free_row = λ t. least_same (is_free c (e ∷ H) t) (is_free c H t) c.rows (λ r. free_refused c e H t r refused);
+  free_row = λ t. free_row_alike (objects c) (e ∷ H) H t (λ r. handles_kept e H t r (refused_makes e.op e.reply refused)) (λ h owns. kept_refused c e H h refused);
   posted = λ t k. posted_refused e H t k refused;
 }
 

@@ -5,7 +5,7 @@ use Rattle.mask_compose.specs.Offer.{Offered}
 use Rattle.lc_base.specs.declared.handle.Handle.{Handle}
 use Rattle.lc_base.specs.declared.handle.Named.{Named}
 use Rattle.lc_base.specs.declared.handle.Named.TheVariants.{Global}
-use Rattle.handle_table.specs.Grid.{with_cell}
+use Rattle.generations.specs.Grid.{with_cell}
 use Rattle.handle_table.specs.History.{handle_named}
 use Rattle.handle_table.specs.Row.{pinned, unpinned, opened, closed, freed, with_next}
 use Rattle.handle_table.specs.Rows.{row_at, changed, all_let_go}

@@ -1,5 +1,7 @@
 -- One entry of a history: who called, what was asked and what was replied, as plain data.
-use Rattle.std.specs.Prelude.{ℕ, List, Option, Bool, true, false, ◌==◌, ◌&&◌}
+use Rattle.std.specs.Prelude.{ℕ, List, Option, Bool, true, false, refl}
+use Rattle.generations.specs.Kind.{Kind}
+use Rattle.generations.specs.Kind as generations
 use Rattle.mask_compose.specs.Parts.{Parts}
 use Rattle.mask_compose.specs.Offer.{Offered}
 use Rattle.lc_base.specs.declared.handle.Handle.{Handle}
@@ -57,9 +59,18 @@ pub record Setting : Type 0 where
   pub generations : ℕ
   pub opening : List Offered
 
+-- handles of locale objects by their numbers
+abbrev pub object_handles : Kind Handle
+object_handles = record {
+  numbers = λ h. record { owner = h.owner; row = h.row; generation = h.generation };
+  handle_of = λ n. record { owner = n.owner; row = n.row; generation = n.generation };
+  same_handle = λ h. refl;
+  same_numbers = λ n. refl;
+}
+
 -- whether two handles are one
 abbrev pub same_handle : Handle → Handle → Bool
-same_handle g h = g.owner == h.owner && g.row == h.row && g.generation == h.generation
+same_handle g h = generations.same_handle object_handles g h
 
 -- whether a name is that of the handle
 abbrev pub names : Named → Handle → Bool

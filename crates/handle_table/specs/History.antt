@@ -1,14 +1,16 @@
 -- What a history says. Each is a search from the newest entry to the oldest; no entry's effect is stored.
 -- How an answer changes when an entry is added is the second equation of its search. An op that a search
 -- does not name leaves what it searches for as it was.
-use Rattle.std.specs.Prelude.{ℕ, zero, suc, Bool, false, ◌==◌, nat_lt, nat_le, not, ◌&&◌, ◌||◌, if◌then◌else◌, List, [], ◌∷◌, ◌++◌, length, Option, None, Some}
-use Rattle.std.specs.List.{list_any}
-use Rattle.std.specs.Option.{option_or}
+use Rattle.std.specs.Prelude.{ℕ, zero, suc, Bool, false, ◌==◌, nat_lt, nat_le, not, ◌&&◌, ◌||◌, if◌then◌else◌, List, [], ◌∷◌, ◌++◌, length, map, Option, None, Some}
+use Rattle.generations.specs.Making.{Making}
+use Rattle.generations.specs.Making as generations
+use Rattle.generations.specs.Store.{Store}
+use Rattle.generations.specs.Store as stores
 use Rattle.mask_compose.specs.Parts.{Parts, composed}
 use Rattle.lc_base.specs.declared.handle.Handle.{Handle}
 use Rattle.lc_base.specs.declared.handle.Named.{Named}
 use Rattle.lc_base.specs.declared.handle.Named.TheVariants.{Global, Of}
-use Rattle.handle_table.specs.Entry.{Op, New, Dup, Free, Use, Hold, Release, SetGlobal, Install, Post, Fetch, Pins, End, Reply, Made, Entry, History, Setting, same_handle, names, is_accepted}
+use Rattle.handle_table.specs.Entry.{Op, New, Dup, Free, Use, Hold, Release, SetGlobal, Install, Post, Fetch, Pins, End, Reply, Made, Entry, History, Setting, object_handles, names, is_accepted}
 use Rattle.handle_table.specs.Shelf.{posix, from_shelf}
 
 -- the handle in a reply
@@ -23,19 +25,21 @@ handle_made (New mask numbers (Some n)) reply = None
 handle_made (Dup n) reply = handle_in reply
 handle_made _ reply = None
 
--- whether there is a handle, and it is this one
-abbrev pub is_handle : Option Handle → Handle → Bool
-is_handle None h = false
-is_handle (Some g) h = same_handle g h
+-- what an entry made
+abbrev pub making : Entry → Making Handle
+making e = record { who = e.who; handle = handle_made e.op e.reply }
+
+-- what was made in a history
+abbrev pub makings : History → List (Making Handle)
+makings H = map making H
 
 -- whether the entry made the handle
 abbrev pub makes_handle : Entry → Handle → Bool
-makes_handle e h = is_handle (handle_made e.op e.reply) h
+makes_handle e h = generations.is_handle object_handles (handle_made e.op e.reply) h
 
 -- whether an entry made the handle
 abbrev pub made : History → Handle → Bool
-made [] h = false
-made (e ∷ H) h = makes_handle e h || made H h
+made H h = generations.made object_handles (makings H) h
 
 -- whether the op, once accepted, frees the handle
 abbrev pub op_frees : Op → Handle → Bool
@@ -51,23 +55,13 @@ abbrev pub live : History → Handle → Bool
 live [] h = false
 live (e ∷ H) h = not (frees_handle e h) && (makes_handle e h || live H h)
 
--- whether the handle is one of this thread in this row
-abbrev pub is_in_row : ℕ → ℕ → Handle → Bool
-is_in_row t r h = h.owner == t && h.row == r
-
--- the handle, if there is one of this thread in this row, before the others
-abbrev pub with_handle : ℕ → ℕ → Option Handle → List Handle → List Handle
-with_handle t r None hs = hs
-with_handle t r (Some h) hs = if is_in_row t r h then h ∷ hs else hs
-
 -- the handles that were made for a thread in a row, the newest first
 abbrev pub handles : History → ℕ → ℕ → List Handle
-handles [] t r = []
-handles (e ∷ H) t r = with_handle t r (handle_made e.op e.reply) (handles H t r)
+handles H t r = generations.handles object_handles (makings H) t r
 
 -- how many handles were made for a thread in a row
 abbrev pub makes : History → ℕ → ℕ → ℕ
-makes H t r = length (handles H t r)
+makes H t r = generations.makes object_handles (makings H) t r
 
 -- the number of changes of the global locale after an accepted op
 abbrev pub sets_after : Op → ℕ → ℕ
@@ -120,7 +114,7 @@ object_after c H objects End h = objects h
 
 -- whether the reply is the handle
 abbrev pub replies_with : Reply → Handle → Bool
-replies_with reply h = is_handle (handle_in reply) h
+replies_with reply h = generations.is_handle object_handles (handle_in reply) h
 
 -- the object of a handle: what the last accepted New or Dup that answered with it gave it
 abbrev pub object : Setting → History → Handle → Parts
@@ -176,18 +170,17 @@ pins c H h = length (holders c H h)
 abbrev pub is_kept : Setting → History → Handle → Bool
 is_kept c H h = live H h || nat_lt 0 (pins c H h)
 
+-- the rows of the setting: a handle is kept while it is live or has pins
+abbrev pub objects : Setting → Store Handle Entry
+objects c = record { kind = object_handles; making = making; is_kept = is_kept c; rows = c.rows; generations = c.generations }
+
 -- a row of a thread is free where none of its handles is live or has pins, and it has generations left
 abbrev pub is_free : Setting → History → ℕ → ℕ → Bool
-is_free c H t r = not (list_any (is_kept c H) (handles H t r)) && nat_lt (makes H t r) c.generations
-
--- the least number below n that passes the test
-abbrev pub least_below : ℕ → (ℕ → Bool) → Option ℕ
-least_below zero p = None
-least_below (suc n) p = option_or (least_below n p) (if p n then Some n else None)
+is_free c H t r = stores.is_free (objects c) H t r
 
 -- the least free row of a thread, or none
 abbrev pub free_row : Setting → History → ℕ → Option ℕ
-free_row c H t = least_below c.rows (is_free c H t)
+free_row c H t = stores.free_row (objects c) H t
 
 -- the handle of a name that is not global
 abbrev pub handle_named : Named → Option Handle

@@ -1,25 +1,26 @@
 -- What a table keeps of a history.
-use Rattle.std.specs.Prelude.{◌≡◌, ℕ, ◌*◌, ◌<◌, ◌≤◌, true, List, [], ◌∷◌, length, slice_index_or, unwrap_or, Option, None}
+use Rattle.std.specs.Prelude.{◌≡◌, ℕ, ◌*◌, ◌<◌, ◌≤◌, true, List, length, slice_index_or, unwrap_or, Option, None}
 use Rattle.mask_compose.specs.Parts.{Parts}
 use Rattle.mask_compose.specs.Offer.{Offered, no_offer}
 use Rattle.global_locale.specs.Versioned.{Versioned}
+use Rattle.generations.specs.Making as generations
+use Rattle.generations.specs.Grid.{GridData, cell}
 use Rattle.lc_base.specs.declared.handle.Handle.{Handle}
 use Rattle.lc_base.specs.declared.handle.Named.{Named}
 use Rattle.lc_base.specs.declared.handle.Named.TheVariants.{Global}
 use Rattle.handle_table.specs.declared.row.Row.{Row}
 use Rattle.handle_table.specs.declared.setting.TheConstants.{MAX_THREADS}
 use Rattle.lc_base.specs.declared.cells.TheConstants.{CELLS}
-use Rattle.handle_table.specs.Entry.{History, Setting}
+use Rattle.handle_table.specs.Entry.{History, Setting, object_handles}
 use Rattle.handle_table.specs.Shelf.{opening_offer, shelf, installs}
-use Rattle.handle_table.specs.History.{makes, live, object, selection, holding, pins, is_kept, posted, sets, global}
+use Rattle.handle_table.specs.History.{makings, makes, live, object, selection, holding, pins, is_kept, posted, sets, global}
 use Rattle.handle_table.specs.Answer.{IsLegal}
-use Rattle.handle_table.specs.Grid.{GridData, cell}
 use Rattle.handle_table.specs.Row.{is_held}
 use Rattle.handle_table.specs.Rows.{row_at}
 
 -- the newest handle of a thread's row; with generation 0, which none has, where nothing was made in it
 abbrev pub newest : History → ℕ → ℕ → Handle
-newest H t r = record { owner = t; row = r; generation = makes H t r }
+newest H t r = generations.newest object_handles (makings H) t r
 
 -- a row is as the history says
 pub record RowStands (c : Setting) (H : History) (t r : ℕ) (row : Row) : Type 0 where
@@ -64,8 +65,7 @@ pub record ShelfStands (c : Setting) (H : History) (installed : List (Option Off
 
 -- the callers of a history are among the first n threads
 abbrev pub AreThreads : ℕ → History → Type 0
-AreThreads n [] = Unit {0}
-AreThreads n (e ∷ H) = (e.who < n) × AreThreads n H
+AreThreads n H = generations.AreThreads n (makings H)
 
 -- the global locale is as the history says
 pub record GlobalStands (c : Setting) (H : History) (held : Versioned) : Type 0 where

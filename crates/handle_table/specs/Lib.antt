@@ -6,7 +6,6 @@ pub mod Isolation
 pub mod Seen
 pub mod Table
 pub mod Lasting
-pub mod Grid
 pub mod Row
 pub mod Rows
 pub mod Kept

@@ -7,10 +7,11 @@ ghost use Rattle.handle_table.specs.History.{made, live, holding, pins, free_row
 ghost use Rattle.handle_table.specs.Rows.{row_at};
 ghost use Rattle.handle_table.specs.Effects.{selected, after_make, after_rebuild, after_free, after_use, after_hold, after_release, after_set, after_install, after_post, after_end};
 
-use crate::grid::Grid;
+use crate::numbers::numbers;
 use crate::row::Row;
 use crate::rows;
 use crate::setting::{MAX_THREADS, Setting};
+use generations::Grid;
 use global_locale::Global as GlobalLocale;
 use lc_base::{CELLS, Handle, Mask, Named};
 use mask_compose::{Object, Offer, Part};
@@ -137,7 +138,7 @@ impl<P: Part> Kept<P> {
     pub fn is_made(&self, h: Handle) -> bool
         ensures { (c : SettingData) (H : History) → Keeps c H self.now → result ≡ made H h }
     {
-        rows::is_made(&self.rows, h)
+        self.rows.is_made(numbers(h))
     }
 
     /// Whether the handle is live.
@@ -170,7 +171,7 @@ impl<P: Part> Kept<P> {
         ensures inside { IfSome result (λ r. r < self.now.rows.width) }
         ensures makes { IfSome result (λ r. (row_at self.now.rows who r).makes < 4294967295) }
     {
-        rows::free_row(&self.rows, setting.generations, who)
+        self.rows.free_row(setting.generations, who)
     }
 
     /// What the thread selects.

@@ -4,9 +4,9 @@
 
 mod accept;
 mod checks;
-mod grid;
 mod kept;
 pub mod laws;
+mod numbers;
 mod op;
 mod row;
 mod rows;

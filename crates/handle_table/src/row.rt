@@ -4,9 +4,9 @@ ghost use Rattle.std.specs.Prelude.{◌≡◌, ◌<◌};
 ghost use Rattle.handle_table.specs.Row.{pinned, unpinned, opened, closed, let_go, freed, with_next};
 
 use crate::setting::MAX_THREADS;
+use generations::HandleRow;
 
-/// What a table keeps of a row. Of the objects that were made in it, only the newest can be live or
-/// have pins, since a row is used again only when neither holds.
+/// What a table keeps of a row.
 #[derive(Clone, Copy)]
 pub struct Row {
     /// How many objects were made in the row.
@@ -100,5 +100,19 @@ impl Row {
             is_live: true,
             ..self
         }
+    }
+}
+
+impl HandleRow for Row {
+    ghost use Rattle.handle_table.specs.Rows.{counts};
+
+    ghost counts = { counts };
+
+    fn makes(&self) -> u32 {
+        self.makes
+    }
+
+    fn is_kept(&self) -> bool {
+        self.is_live || self.pins != 0
     }
 }

@@ -1,14 +1,14 @@
-//! The rows of all threads: which handles were made, are live, are held and have pins.
+//! The rows of all threads: which handles are live, are held and have pins.
 
-ghost use Rattle.std.specs.Prelude.{◌≡◌, ◌<◌, nat_lt, map, IfSome};
-ghost use Rattle.handle_table.specs.History.{least_below};
+ghost use Rattle.std.specs.Prelude.{◌≡◌, ◌<◌, map, IfSome};
 ghost use Rattle.handle_table.specs.Row.{pinned, unpinned, opened, closed, let_go, freed, with_next};
-ghost use Rattle.handle_table.specs.Rows.{row_at, newest_row, says_made, says_live, says_held, says_pins, is_free_row, changed, all_let_go};
-ghost use Rattle.handle_table.specs.Grid.{with_cell};
+ghost use Rattle.handle_table.specs.Rows.{row_at, newest_row, says_live, says_held, says_pins, changed, all_let_go};
+ghost use Rattle.generations.specs.Grid.{with_cell};
 
-use crate::grid::Grid;
+use crate::numbers::numbers;
 use crate::row::Row;
 use crate::setting::MAX_THREADS;
+use generations::Grid;
 use lc_base::{Handle, Named};
 
 /// What is kept of a row.
@@ -26,25 +26,11 @@ fn newest(rows: &Grid<Row>, h: Handle) -> Option<Row>
     ensures owner { IfSome result (λ row. h.owner < rows.now.lines) }
     ensures inside { IfSome result (λ row. h.row < rows.now.width) }
 {
-    if h.owner >= rows.lines() || h.row >= rows.width() {
-        return None;
-    }
-    let row = row_of(rows, h.owner, h.row);
-    if row.makes == h.generation {
-        Some(row)
+    if rows.is_newest(numbers(h)) {
+        Some(row_of(rows, h.owner, h.row))
     } else {
         None
     }
-}
-
-/// Whether the handle was made.
-pub fn is_made(rows: &Grid<Row>, h: Handle) -> bool
-    ensures { result ≡ says_made rows.now h }
-{
-    h.owner < rows.lines()
-        && h.row < rows.width()
-        && 0 < h.generation
-        && h.generation <= row_of(rows, h.owner, h.row).makes
 }
 
 /// Whether the handle is live.
@@ -76,26 +62,6 @@ pub fn pins(rows: &Grid<Row>, h: Handle) -> u32
         Some(row) => row.pins,
         None => 0,
     }
-}
-
-/// Whether a new object may stand in the row.
-fn is_free(generations: u32, row: Row) -> bool
-    ensures { result ≡ is_free_row generations row }
-{
-    !row.is_live && row.pins == 0 && row.makes < generations
-}
-
-/// The least row of the thread in which a new object may stand.
-pub fn free_row(rows: &Grid<Row>, generations: u32, who: u32) -> Option<u32>
-    requires { who < rows.now.lines }
-    ensures { result ≡ least_below rows.now.width (λ r. is_free_row generations (row_at rows.now who r)) }
-{
-    for row in 0..rows.width() {
-        if is_free(generations, row_of(rows, who, row)) {
-            return Some(row);
-        }
-    }
-    None
 }
 
 /// Adds a pin to the object that is named.

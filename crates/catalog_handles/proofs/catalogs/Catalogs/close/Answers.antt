@@ -26,6 +26,6 @@ pub returns-clause-stands : goal.returns-clause-stands
 returns-clause-stands g c = λ H who caller s.
     let keeps = subst (λ (v : CatalogsData). Keeps v.setting H v.rows) (sym c.self.view_is) s in
     let inside = subst (λ (v : CatalogsData). who < v.setting.threads) (sym c.self.view_is) caller in
-    keeps_after c.self.inside.setting c.args.self.now.setting H who (Close c.args.h) (after_close c.self.inside.rows c.args.h) c.close.new.self
+    keeps_after c.self.inside.setting c.args.self.now.setting H who (Close c.args.h) (after_close c.self.inside.rows c.args.h) c.close.new.rows
     (ap (λ (v : CatalogsData). v.setting) c.self.view_is) c.close.ensures.after
     (keeps_close c.self.inside.setting H who c.args.h c.self.inside.rows inside keeps)

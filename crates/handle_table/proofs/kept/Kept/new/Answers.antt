@@ -8,7 +8,7 @@ use Rattle.handle_table.specs.declared.row.Row.{Row}
 use Rattle.handle_table.specs.declared.setting.TheConstants.{MAX_THREADS}
 use Rattle.lc_base.specs.declared.cells.TheConstants.{CELLS}
 use Rattle.handle_table.specs.Entry.{Setting}
-use Rattle.handle_table.specs.Grid.{GridData}
+use Rattle.generations.specs.Grid.{GridData}
 use Rattle.handle_table.proofs.Fresh.{empty_row, keeps_fresh}
 use Rattle.handle_table.proofs.kept.Kept.new.Goals as goal
 

@@ -1,6 +1,6 @@
 use Rattle.std.proofs.Common.{ap, ◌∙◌, arith}
 use Rattle.mask_compose.specs.Offer.{no_offer}
-use Rattle.handle_table.specs.Grid.{cell}
+use Rattle.generations.specs.Grid.{cell}
 use Rattle.handle_table.specs.Kept.{KeptData}
 use Rattle.handle_table.proofs.KeptSays.{object_is}
 use Rattle.handle_table.proofs.kept.Kept.object.Goals as goal

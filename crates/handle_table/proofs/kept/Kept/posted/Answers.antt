@@ -1,6 +1,6 @@
 use Rattle.std.proofs.Common.{ap, ◌∙◌}
 use Rattle.std.specs.Prelude.{None}
-use Rattle.handle_table.specs.Grid.{cell}
+use Rattle.generations.specs.Grid.{cell}
 use Rattle.handle_table.specs.Kept.{KeptData}
 use Rattle.handle_table.proofs.KeptSays.{posted_is}
 use Rattle.handle_table.proofs.kept.Kept.posted.Goals as goal

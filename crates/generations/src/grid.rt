@@ -1,7 +1,7 @@
 //! Values in lines of one length.
 
 ghost use Rattle.std.specs.Prelude.{◌≡◌, ◌*◌, ◌<◌, length};
-ghost use Rattle.handle_table.specs.Grid.{cell, with_cell};
+ghost use Rattle.generations.specs.Grid.{cell, with_cell};
 
 use std::marker::Model;
 
@@ -9,7 +9,8 @@ use std::marker::Model;
 pub struct Grid<T> {
     lines: u32,
     width: u32,
-    pub(crate) items: Vec<T>,
+    /// The values, line after line.
+    pub items: Vec<T>,
 }
 
 impl<T: Drop> Drop for Grid<T> {
@@ -24,7 +25,7 @@ impl<T: Drop> Drop for Grid<T> {
 
 impl<T> Model for Grid<T> {
     ghost use Rattle.std.specs.Prelude.{◌≡◌, ◌*◌, length};
-    ghost use Rattle.handle_table.specs.Grid.{GridData};
+    ghost use Rattle.generations.specs.Grid.{GridData};
 
     ghost Value = { GridData T };
 
