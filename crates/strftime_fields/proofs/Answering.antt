@@ -1,6 +1,7 @@
 -- The answers of strftime.
-use Rattle.std.proofs.Common.{◌≡◌, ℕ, ◌<◌, ◌≤◌, true, false, leb, List, [], length, Some, None, Ok, Err, refl, sym, ap, ◌∙◌, subst, arith}
-use Rattle.std.proofs.lemmas.Bool.{le-leb, lt-leb}
+use Rattle.std.proofs.Common.{◌≡◌, ℕ, ◌<◌, ◌≤◌, true, false, ltb, List, [], length, Some, None, Ok, Err, refl, sym, ap, ◌∙◌, subst, arith}
+use Rattle.std.proofs.lemmas.Bool.{lt-ltb, le-ltb}
+use Rattle.lc_base.specs.declared.refusal.FormatRefusal.TheVariants.{BadFormat, TooBig}
 use Rattle.strftime_fields.specs.declared.output.Stop.{Stop}
 use Rattle.strftime_fields.specs.declared.output.Stop.TheVariants as stops
 use Rattle.time_cat.specs.Formats.{pieces, bad_place}
@@ -9,13 +10,12 @@ use Rattle.time_cat.specs.TimeValues.{TimeValues}
 use Rattle.time_cat.specs.Shown.{expanded}
 use Rattle.strftime_fields.specs.Appending.{Appends, fault_of}
 use Rattle.strftime_fields.specs.Answers.{limited, answer, Answers}
-use Rattle.strftime_fields.specs.Refusals.{BadFormat, TooBig}
 
 fits : (max : ℕ) (text : List ℕ) → length text ≤ max → limited max (Ok text) ≡ Ok text
-fits max text short = let small : leb (length text) max ≡ true = le-leb (length text) max short in rw small refl
+fits max text short = let long : ltb max (length text) ≡ false = le-ltb max (length text) short in rw long refl
 
 too_big : (max : ℕ) (text : List ℕ) → max < length text → limited max (Ok text) ≡ Err TooBig
-too_big max text long = let small : leb (length text) max ≡ false = lt-leb (length text) max long in rw small refl
+too_big max text long = let longer : ltb max (length text) ≡ true = lt-ltb max (length text) long in rw longer refl
 
 -- a format whose conversions are right
 text_of : (v : TimeValues) (t : TmValues) (format : List ℕ) (max : ℕ) → bad_place (pieces format) ≡ None → answer v t format max ≡ limited max (Ok (expanded 5 v t format))

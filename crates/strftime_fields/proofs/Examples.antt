@@ -1,8 +1,10 @@
 -- Texts of times, by their definitions.
-use Rattle.std.proofs.Common.{◌≡◌, ℕ, ◌+◌, List, [], ◌∷◌, true, Some, Result, Ok, Err, refl}
+use Rattle.std.proofs.Common.{◌≡◌, ℕ, ◌+◌, List, [], ◌∷◌, true, Some, None, Result, Ok, Err, refl}
 use Rattle.std.specs.Prelude.{codes, negsuc}
 use Rattle.std.specs.Fmt.{digits}
 use Rattle.lc_base.specs.declared.place.Place.{Place}
+use Rattle.lc_base.specs.declared.refusal.FormatRefusal.{FormatRefusal}
+use Rattle.lc_base.specs.declared.refusal.FormatRefusal.TheVariants.{BadFormat, TooBig}
 use Rattle.keywords.specs.declared.source.Value.{Value}
 use Rattle.keywords.specs.declared.source.Value.TheVariants.{Text}
 use Rattle.keywords.specs.declared.source.Entry.{Entry}
@@ -17,8 +19,7 @@ use Rattle.time_cat.specs.Values.{values_of, posix_values}
 use Rattle.time_cat.specs.Shown.{expanded}
 use Rattle.strftime_fields.specs.declared.fault.TimeFault.{TimeFault}
 use Rattle.strftime_fields.specs.declared.fault.TimeFault.TheVariants as stops
-use Rattle.strftime_fields.specs.Answers.{answer, with_text}
-use Rattle.strftime_fields.specs.Refusals.{TimeRefusal, BadFormat, TooBig}
+use Rattle.strftime_fields.specs.Answers.{answer, refusal_of, with_text}
 use Rattle.strftime_fields.specs.Cost.{cost, reads}
 use Rattle.strftime_fields.specs.Going.{text_of, reads_of, bad_of, text_left, reads_left}
 use Rattle.strftime_fields.specs.Going as going
@@ -28,7 +29,7 @@ abbrev day : ℕ → ℕ → ℕ → ℕ → ℕ → TmValues
 day year mon mday wday yday = record { year = year; mon = mon; mday = mday; hour = 14; min = 5; sec = 6; wday = wday; yday = yday; offset = Some (negsuc 89); zone = codes "CET" }
 
 abbrev Answer : Type 0
-Answer = Result (List ℕ) TimeRefusal
+Answer = Result (List ℕ) FormatRefusal
 
 abbrev posix : ℕ → ℕ → ℕ → ℕ → ℕ → List ℕ → Answer
 posix year mon mday wday yday format = answer posix_values (day year mon mday wday yday) format 4096
@@ -69,6 +70,10 @@ no_eras = refl
 faults : answer posix_values (day 2021 1 3 0 2) (codes "a%d%Q") 0 ∷ answer posix_values (day 2021 1 3 0 2) (codes "%F") 9 ∷ answer posix_values (day 2021 1 3 0 2) (codes "%F") 10 ∷ [] ≡ Err (BadFormat 3) ∷ Err TooBig ∷ Ok (codes "2021-01-03") ∷ []
 unfolding values_of expanded pieces conversion
 faults = refl
+
+-- a fault is the refusal of its name, and want of memory is none
+refusals : refusal_of (stops.BadFormat 3) ∷ refusal_of stops.TooBig ∷ refusal_of stops.Memory ∷ [] ≡ Some (BadFormat 3) ∷ Some TooBig ∷ None ∷ []
+refusals = refl
 
 -- what a format costs: its conversions once, and again with those of the format for which one stands, until the text is too long
 abbrev costs : List ℕ → ℕ → ℕ

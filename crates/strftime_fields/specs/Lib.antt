@@ -4,4 +4,3 @@ pub mod Calendar
 pub mod Cost
 pub mod Reading
 pub mod Going
-pub mod Refusals

@@ -1,8 +1,10 @@
 //! Why there is no text.
 
 ghost use Rattle.std.specs.Prelude.{◌≡◌};
+ghost use Rattle.strftime_fields.specs.Answers.{refusal_of};
 ghost use Rattle.strftime_fields.specs.declared.fault.TimeFault.TheVariants.{Memory};
 
+use lc_base::FormatRefusal;
 use std::alloc::{AllocError, AllocFailed};
 use thiserror::Error;
 
@@ -18,6 +20,19 @@ pub enum TimeFault {
     /// Memory was wanting.
     #[error("memory was wanting")]
     Memory,
+}
+
+impl TimeFault {
+    /// Why there is no text, unless memory was wanting.
+    pub fn refusal(self) -> Option<FormatRefusal>
+        ensures { result ≡ refusal_of self }
+    {
+        match self {
+            TimeFault::BadFormat { at } => Some(FormatRefusal::BadFormat { at }),
+            TimeFault::TooBig => Some(FormatRefusal::TooBig),
+            TimeFault::Memory => None,
+        }
+    }
 }
 
 impl From<AllocError> for TimeFault {

@@ -2,6 +2,7 @@
 use Rattle.std.proofs.Common.{◌≡◌, ℕ, ◌+◌, List, [], ◌∷◌, Some, None, Ok, Err, refl}
 use Rattle.std.specs.Prelude.{pos, codes}
 use Rattle.lc_base.specs.declared.place.Place.{Place}
+use Rattle.lc_base.specs.declared.refusal.FormatRefusal.TheVariants.{BadFormat, Mismatch}
 use Rattle.keywords.specs.declared.source.Value.{Value}
 use Rattle.keywords.specs.declared.source.Value.TheVariants.{Text}
 use Rattle.keywords.specs.declared.source.Entry.{Entry}
@@ -10,10 +11,10 @@ use Rattle.time_cat.specs.Formats.{pieces}
 use Rattle.time_cat.specs.TimeValues.{TimeValues}
 use Rattle.time_cat.specs.Values.{values_of, posix_values}
 use Rattle.time_cat.specs.declared.parsed.Parsed.{Parsed}
-use Rattle.strptime_fields.specs.declared.fault.ScanFault.TheVariants.{BadFormat, Mismatch}
+use Rattle.strptime_fields.specs.declared.fault.ScanFault.TheVariants as faults
 use Rattle.strptime_fields.specs.Items.{item}
 use Rattle.strptime_fields.specs.Reading.{number, longest}
-use Rattle.strptime_fields.specs.Scans.{Scanned, followed, scan, cost}
+use Rattle.strptime_fields.specs.Scans.{Scanned, followed, scan, answer_of, cost}
 
 abbrev posix : List ℕ → List ℕ → Scanned
 posix format text = scan posix_values format text
@@ -63,6 +64,10 @@ wrong_formats : posix (codes "x%Ey") (codes "x") ∷ posix (codes "%d%") (codes 
     ≡ bad_format 1 ∷ bad_format 2 ∷ bad_format 2 ∷ bad_format 0 ∷ []
 unfolding values_of followed pieces conversion item number longest
 wrong_formats = refl
+
+-- a fault is the refusal of its name, at its place
+answers : answer_of (Ok (none, 1)) ∷ answer_of (Err (faults.BadFormat 3)) ∷ answer_of (Err (faults.Mismatch 4)) ∷ [] ≡ found none 1 ∷ bad_format 3 ∷ mismatch 4 ∷ []
+answers = refl
 
 -- most digits, and the bounds of each number
 numbers : posix (codes "%d%H") (codes "311") ∷ posix (codes "%Y%m") (codes "202112") ∷ posix (codes "%j") (codes "0366") ∷ posix (codes "%j") (codes "366") ∷ posix (codes "%w") (codes "7") ∷ posix (codes "%w%w") (codes "16") ∷ posix (codes "%S") (codes "60") ∷ posix (codes "%U%W") (codes "5354") ∷ []

@@ -5,8 +5,10 @@ use Rattle.time_cat.specs.Formats.{Piece, Literal, Converted, Wrong, pieces, is_
 use Rattle.time_cat.specs.TimeValues.{TimeValues}
 use Rattle.strptime_fields.specs.declared.item.Item.{Item}
 use Rattle.time_cat.specs.declared.parsed.Parsed.{Parsed}
+use Rattle.lc_base.specs.declared.refusal.FormatRefusal.{FormatRefusal}
+use Rattle.lc_base.specs.declared.refusal.FormatRefusal.TheVariants.{BadFormat, Mismatch}
 use Rattle.strptime_fields.specs.declared.fault.ScanFault.{ScanFault}
-use Rattle.strptime_fields.specs.declared.fault.ScanFault.TheVariants.{BadFormat, Mismatch}
+use Rattle.strptime_fields.specs.declared.fault.ScanFault.TheVariants as faults
 use Rattle.strptime_fields.specs.Items.{item_of, format_for}
 use Rattle.strptime_fields.specs.Keeping.{nothing, parsed}
 use Rattle.strptime_fields.specs.Reading.{Read, read}
@@ -99,7 +101,7 @@ through_item v follow (Some i) progress = through v (within v follow (Some i)) (
 -- ---- answers
 
 abbrev pub Scanned : Type 0
-Scanned = Result (Parsed × ℕ) ScanFault
+Scanned = Result (Parsed × ℕ) FormatRefusal
 
 -- the fields and the index of the first byte that is not read, or that of the item that the text does not meet
 abbrev pub ended : List ℕ → Progress → Scanned
@@ -113,6 +115,16 @@ unless_bad (Some at) scanned = Err (BadFormat at)
 -- the fields of a text by a format; a wrong format goes before a text that does not meet it
 abbrev pub scan : TimeValues → List ℕ → List ℕ → Scanned
 scan v format text = unless_bad (bad_from v 0 (pieces format)) (ended text (run v (Ok (text, nothing)) (followed 5 v format)))
+
+-- why a text has no fields
+abbrev pub refusal_of : ScanFault → FormatRefusal
+refusal_of (faults.BadFormat at) = BadFormat at
+refusal_of (faults.Mismatch at) = Mismatch at
+
+-- the answer that a result is
+abbrev pub answer_of : Result (Parsed × ℕ) ScanFault → Scanned
+answer_of (Ok found) = Ok found
+answer_of (Err e) = Err (refusal_of e)
 
 -- ---- steps
 

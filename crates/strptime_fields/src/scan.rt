@@ -2,7 +2,7 @@
 
 ghost use Rattle.std.specs.Prelude.{◌≡◌, ◌+◌, ◌*◌, ◌≤◌, ◌<◌, length};
 ghost use Rattle.time_cat.specs.Shown.{conversions_of};
-ghost use Rattle.strptime_fields.specs.Scans.{IsWithin, ended, scan, cost};
+ghost use Rattle.strptime_fields.specs.Scans.{IsWithin, ended, scan, answer_of, cost};
 ghost use Rattle.strptime_fields.specs.Seen.{seen};
 
 use crate::fault::ScanFault;
@@ -21,7 +21,7 @@ const LEVELS: u8 = 4;
 /// The fields, or the item that the text does not meet.
 fn ended(text: &[u8], progress: Progress) -> Result<(Parsed, usize), ScanFault>
     requires { IsWithin (length text.now) (seen progress) }
-    ensures { result ≡ ended text.now (seen progress.entry) }
+    ensures { answer_of result ≡ ended text.now (seen progress.entry) }
 {
     match progress {
         Progress::On(left, last) => Ok((last.parsed(), text.len() - left.len())),
@@ -43,7 +43,7 @@ pub fn strptime_counted<L: Ledger>(
     text: &[u8],
     steps: &mut Steps<L>,
 ) -> Result<(Parsed, usize), ScanFault>
-    ensures answer { result ≡ scan t.now format.now text.now }
+    ensures answer { answer_of result ≡ scan t.now format.now text.now }
     ensures steps { steps.new ≡ steps.old + cost t.now format.now }
     ensures bound { cost t.now format.now ≤ 69905 * conversions_of format.now }
 {
@@ -84,7 +84,7 @@ fn strptime_from<L: Ledger>(
     requires name { blank.name ≡ L.name }
     requires parts { blank.parts ≡ L.parts }
     requires some { 0 < blank.parts }
-    ensures { result ≡ scan t.now format.now text.now }
+    ensures { answer_of result ≡ scan t.now format.now text.now }
 {
     let mut steps = Steps::<L>::new(blank);
     strptime_counted(t, format, text, &mut steps)
@@ -97,7 +97,7 @@ fn strptime_from<L: Ledger>(
 /// whose format of the locale, followed to its end, holds such a `%`. `Mismatch` comes exactly
 /// where there is none, at the first item that the text does not meet.
 pub fn strptime(t: &Time, format: &[u8], text: &[u8]) -> Result<(Parsed, usize), ScanFault>
-    ensures { result ≡ scan t.now format.now text.now }
+    ensures { answer_of result ≡ scan t.now format.now text.now }
 {
     strptime_from::<Brand>(t, format, text, Blank::new(1))
 }
