@@ -3,13 +3,14 @@ use Rattle.std.proofs.Common.{◌≡◌, ℕ, List, [], ◌∷◌, Ok, Err, Some
 use Rattle.std.specs.Prelude.{codes, ℤ, pos, negsuc, Result, true, false}
 use Rattle.digit_groups.specs.Groups.{separated}
 use Rattle.numeric_cat.specs.NumericValues.{NumericValues}
-use Rattle.int_format.specs.Refusals.{IntRefusal, BadFormat, MissingNumber, TooBig}
+use Rattle.lc_base.specs.declared.refusal.FormatRefusal.{FormatRefusal}
+use Rattle.lc_base.specs.declared.refusal.FormatRefusal.TheVariants.{BadFormat, MissingNumber, TooBig}
 use Rattle.int_format.specs.declared.fault.IntFault.TheVariants as faults
 use Rattle.digit_groups.specs.Digits.{last_digits}
 use Rattle.digit_groups.specs.Numbers.{number_behind}
 use Rattle.int_format.specs.Digits.{digit_count}
 use Rattle.int_format.specs.Formats.{flags_behind, conversion_with, piece, pieces}
-use Rattle.int_format.specs.Ints.{is_number, ints, at_most, pieces_text, missing, shown, Answers, below_zero}
+use Rattle.int_format.specs.Ints.{is_number, ints, at_most, pieces_text, missing, shown, refusal_of, Answers, below_zero}
 
 -- a locale with commas between thousands, and one with lakhs
 abbrev us : NumericValues
@@ -19,7 +20,7 @@ abbrev lakhs : NumericValues
 lakhs = record { decimal_point = codes "."; thousands_sep = codes ","; grouping = pos 3 ∷ pos 2 ∷ [] }
 
 -- the text of one number
-abbrev one : List ℕ → ℤ → Result (List ℕ) IntRefusal
+abbrev one : List ℕ → ℤ → Result (List ℕ) FormatRefusal
 one format v = ints us format (v ∷ [])
 
 plain : one (codes "%'d") (pos 1234) ≡ Ok (codes "1,234")
@@ -145,6 +146,10 @@ five_digits = refl
 
 no_digits : digit_count 0 ≡ 0
 no_digits = refl
+
+-- a fault is the refusal of its name, and want of memory is none
+refusals : refusal_of (faults.BadFormat 6) ∷ refusal_of (faults.MissingNumber 3) ∷ refusal_of faults.TooBig ∷ refusal_of faults.Memory ∷ [] ≡ Some (BadFormat 6) ∷ Some (MissingNumber 3) ∷ Some TooBig ∷ None ∷ []
+refusals = refl
 
 -- a text answers for itself alone, and want of memory for whatever there is
 own_text : Answers (λ (t : List ℕ). t) (Ok (codes "1")) (Ok (codes "1"))

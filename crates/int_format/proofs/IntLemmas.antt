@@ -14,11 +14,13 @@ use Rattle.int_format.specs.declared.layout.Fill.{Fill}
 use Rattle.int_format.specs.declared.layout.Fill.TheVariants.{Before, Between, Behind}
 use Rattle.int_format.specs.declared.fault.IntFault.{IntFault}
 use Rattle.int_format.specs.declared.fault.IntFault.TheVariants as faults
-use Rattle.int_format.specs.Refusals.{IntRefusal, BadFormat, MissingNumber, TooBig}
+use Rattle.lc_base.specs.declared.refusal.FormatRefusal.{FormatRefusal}
+use Rattle.lc_base.specs.declared.refusal.FormatRefusal.TheVariants.{BadFormat, MissingNumber, TooBig}
+use Rattle.lc_base.specs.Limits.{within}
 use Rattle.digit_groups.specs.Digits.{last_digits}
 use Rattle.int_format.specs.Digits.{digit_count}
 use Rattle.int_format.specs.Formats.{followed}
-use Rattle.int_format.specs.Ints.{is_number, refusal, good_pieces, pieces_text, piece_text, numbers_behind, missing, refusal_behind, within, Refuses, padded, shown, least_digits, sizes_of, sign_text, fill_of, conversion_text, fault_of, unless_refused, at_most}
+use Rattle.int_format.specs.Ints.{is_number, refusal, good_pieces, pieces_text, piece_text, numbers_behind, missing, refusal_behind, Refuses, padded, shown, least_digits, sizes_of, sign_text, fill_of, conversion_text, refusal_of, unless_refused, at_most}
 
 pub refusal_bad : (lacking : Option ℕ) (at n : ℕ) → refusal_behind lacking (Err at) n ≡ Some (BadFormat at)
 refusal_bad None at n = refl
@@ -111,15 +113,17 @@ refuses e max_len text (inl big) long = let P : IntFault → Type 0 = λ z. Refu
 refuses e max_len text (inr memory) long = let P : IntFault → Type 0 = λ z. Refuses z (within max_len text) in subst P (sym memory) tt
 
 -- what a call says of a refusal
-pub refused : (r : Option IntRefusal) (fault : IntFault) (max_len : ℕ) (text : List ℕ) → Some fault ≡ option_map (λ why. fault_of why) r → Refuses fault (at_most max_len (unless_refused r text))
-refused None fault max_len text e = cc
-refused (Some (BadFormat at)) fault max_len text e = let same : fault_of (BadFormat at) ≡ fault = cc in let P : IntFault → Type 0 = λ z. Refuses z (at_most max_len (unless_refused (Some (BadFormat at)) text)) in subst P same refl
-refused (Some (MissingNumber at)) fault max_len text e = let same : fault_of (MissingNumber at) ≡ fault = cc in let P : IntFault → Type 0 = λ z. Refuses z (at_most max_len (unless_refused (Some (MissingNumber at)) text)) in subst P same refl
-refused (Some TooBig) fault max_len text e = let same : fault_of TooBig ≡ fault = cc in let P : IntFault → Type 0 = λ z. Refuses z (at_most max_len (unless_refused (Some TooBig) text)) in subst P same refl
+refused_so : (fault : IntFault) (max_len : ℕ) (text : List ℕ) → Refuses fault (at_most max_len (unless_refused (refusal_of fault) text))
+refused_so (faults.BadFormat at) max_len text = refl
+refused_so (faults.MissingNumber at) max_len text = refl
+refused_so faults.TooBig max_len text = refl
+refused_so faults.Memory max_len text = tt
 
-pub accepted : (r : Option IntRefusal) → None ≡ option_map (λ why. fault_of why) r → r ≡ None
-accepted None e = refl
-accepted (Some why) e = cc
+pub refused : (r : Option FormatRefusal) (fault : IntFault) (max_len : ℕ) (text : List ℕ) → refusal_of fault ≡ r → Refuses fault (at_most max_len (unless_refused r text))
+refused r fault max_len text e = subst (λ o. Refuses fault (at_most max_len (unless_refused o text))) e (refused_so fault max_len text)
+
+pub accepted : (r : Option FormatRefusal) (fault : IntFault) (max_len : ℕ) (text : List ℕ) → None ≡ r → (r ≡ None → Refuses fault (within max_len text)) → Refuses fault (at_most max_len (unless_refused r text))
+accepted r fault max_len text e otherwise = subst (λ o. Refuses fault (at_most max_len (unless_refused o text))) e (otherwise (sym e))
 
 -- a text is too long where a part of it is
 pub too_long : (max_len : ℕ) (whole out text rest : List ℕ) → whole ≡ out ++ (text ++ rest) → max_len - length out < length text → max_len < length whole

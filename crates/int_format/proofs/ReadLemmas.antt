@@ -7,7 +7,7 @@ use Rattle.std.proofs.lemmas.Bool.Decides.{nat_tests}
 use Rattle.std.proofs.lemmas.List.{append_cancel_left, length-append, append-nil, nil_from_length}
 use Rattle.digit_groups.specs.Groups.{sizes_used, separates, separated, separators, grouped_width}
 use Rattle.numeric_cat.specs.NumericValues.{NumericValues}
-use Rattle.int_format.specs.Refusals.{IntRefusal}
+use Rattle.lc_base.specs.declared.refusal.FormatRefusal.{FormatRefusal}
 use Rattle.digit_groups.specs.Digits.{last_digits}
 use Rattle.digit_groups.specs.Numbers.{number_behind}
 use Rattle.int_format.specs.Digits.{digit_count, digits_at_least}
@@ -92,7 +92,7 @@ below_most x k few =
     omega arith
 
 -- the answer of a text
-pub ok_inj : (s t : List ℕ) → ◌≡◌ {A = Result (List ℕ) IntRefusal} (Ok s) (Ok t) → s ≡ t
+pub ok_inj : (s t : List ℕ) → ◌≡◌ {A = Result (List ℕ) FormatRefusal} (Ok s) (Ok t) → s ≡ t
 ok_inj s t same = cc
 
 -- ---- how wide grouped digits are

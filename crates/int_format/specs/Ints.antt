@@ -1,5 +1,8 @@
 -- The text of a format with its numbers (XSH fprintf: `d`, `i` and `u`, with the flag `'`).
-use Rattle.std.specs.Prelude.{◌≡◌, ℕ, ℤ, pos, negsuc, zero, suc, ◌+◌, ◌-◌, ◌^◌, nat_lt, ◌&&◌, Bool, true, false, List, [], ◌∷◌, ◌++◌, length, replicate, codes, Option, Some, None, is_none, unwrap_or, option_map, Result, Ok, Err, if◌then◌else◌}
+use Rattle.std.specs.Prelude.{◌≡◌, ℕ, ℤ, pos, negsuc, zero, suc, ◌+◌, ◌-◌, ◌^◌, nat_lt, ◌&&◌, Bool, true, false, List, [], ◌∷◌, ◌++◌, length, replicate, codes, Option, Some, None, is_none, unwrap_or, option_map, IfSome, Result, Ok, Err, if◌then◌else◌}
+use Rattle.lc_base.specs.declared.refusal.FormatRefusal.{FormatRefusal}
+use Rattle.lc_base.specs.declared.refusal.FormatRefusal.TheVariants.{BadFormat, MissingNumber, TooBig}
+use Rattle.lc_base.specs.Limits.{within}
 use Rattle.digit_groups.specs.Groups.{grouped, separates}
 use Rattle.numeric_cat.specs.NumericValues.{NumericValues}
 use Rattle.int_format.specs.declared.format.Conversion.{Conversion}
@@ -11,7 +14,6 @@ use Rattle.int_format.specs.declared.fault.IntFault.{IntFault}
 use Rattle.int_format.specs.declared.fault.IntFault.TheVariants as faults
 use Rattle.int_format.specs.Digits.{digits_at_least}
 use Rattle.int_format.specs.Formats.{pieces}
-use Rattle.int_format.specs.Refusals.{IntRefusal, BadFormat, MissingNumber, TooBig}
 
 -- whether a number is from -2 ^ 63 to 2 ^ 64 - 1
 abbrev pub is_number : ℤ → Bool
@@ -84,12 +86,12 @@ missing ((at, Convert c) ∷ ps) zero = Some at
 missing ((at, Convert c) ∷ ps) (suc n) = missing ps n
 
 -- the first refusal of a format with so many numbers: a bad conversion goes before a missing number
-abbrev pub refusal : Result (List (ℕ × Piece)) ℕ → ℕ → Option IntRefusal
+abbrev pub refusal : Result (List (ℕ × Piece)) ℕ → ℕ → Option FormatRefusal
 refusal (Err at) numbers = Some (BadFormat at)
 refusal (Ok ps) numbers = option_map (λ at. MissingNumber at) (missing ps numbers)
 
 -- the same behind pieces of which perhaps the one at this place lacked its number
-abbrev pub refusal_behind : Option ℕ → Result (List (ℕ × Piece)) ℕ → ℕ → Option IntRefusal
+abbrev pub refusal_behind : Option ℕ → Result (List (ℕ × Piece)) ℕ → ℕ → Option FormatRefusal
 refusal_behind lacking (Err at) numbers = Some (BadFormat at)
 refusal_behind None (Ok ps) numbers = refusal (Ok ps) numbers
 refusal_behind (Some at) (Ok ps) numbers = Some (MissingNumber at)
@@ -100,38 +102,32 @@ good_pieces (Err at) = []
 good_pieces (Ok ps) = ps
 
 -- the text, or what goes before it
-abbrev pub unless_refused : Option IntRefusal → List ℕ → Result (List ℕ) IntRefusal
+abbrev pub unless_refused : Option FormatRefusal → List ℕ → Result (List ℕ) FormatRefusal
 unless_refused None text = Ok text
 unless_refused (Some why) text = Err why
 
 -- the text of a format with its numbers, or the refusal
-abbrev pub ints : NumericValues → List ℕ → List ℤ → Result (List ℕ) IntRefusal
+abbrev pub ints : NumericValues → List ℕ → List ℤ → Result (List ℕ) FormatRefusal
 ints n format numbers = unless_refused (refusal (pieces 0 0 format) (length numbers)) (pieces_text n (good_pieces (pieces 0 0 format)) numbers)
 
--- a text of at most so many bytes
-abbrev pub within : ℕ → List ℕ → Result (List ℕ) IntRefusal
-within max_len text = if nat_lt max_len (length text) then Err TooBig else Ok text
-
 -- an answer whose text has at most so many bytes
-abbrev pub at_most : ℕ → Result (List ℕ) IntRefusal → Result (List ℕ) IntRefusal
+abbrev pub at_most : ℕ → Result (List ℕ) FormatRefusal → Result (List ℕ) FormatRefusal
 at_most max_len (Ok text) = within max_len text
 at_most max_len (Err why) = Err why
 
--- the fault of a call that is refused so
-abbrev pub fault_of : IntRefusal → IntFault
-fault_of (BadFormat at) = faults.BadFormat at
-fault_of (MissingNumber at) = faults.MissingNumber at
-fault_of TooBig = faults.TooBig
+-- why there is no text, unless memory was wanting
+abbrev pub refusal_of : IntFault → Option FormatRefusal
+refusal_of (faults.BadFormat at) = Some (BadFormat at)
+refusal_of (faults.MissingNumber at) = Some (MissingNumber at)
+refusal_of faults.TooBig = Some TooBig
+refusal_of faults.Memory = None
 
 -- a fault is the refusal of the definition, or want of memory, which says nothing
-abbrev pub Refuses : IntFault → Result (List ℕ) IntRefusal → Type 0
-Refuses (faults.BadFormat at) answer = answer ≡ Err (BadFormat at)
-Refuses (faults.MissingNumber at) answer = answer ≡ Err (MissingNumber at)
-Refuses faults.TooBig answer = answer ≡ Err TooBig
-Refuses faults.Memory answer = Unit {0}
+abbrev pub Refuses : IntFault → Result (List ℕ) FormatRefusal → Type 0
+Refuses e answer = IfSome (refusal_of e) (λ why. answer ≡ Err why)
 
 -- a result, its text seen by view, is the answer, unless memory is wanting
-abbrev pub Answers : {X : Type 0} → (X → List ℕ) → Result X IntFault → Result (List ℕ) IntRefusal → Type 0
+abbrev pub Answers : {X : Type 0} → (X → List ℕ) → Result X IntFault → Result (List ℕ) FormatRefusal → Type 0
 Answers view (Ok x) answer = answer ≡ Ok (view x)
 Answers view (Err e) answer = Refuses e answer
 

@@ -1,4 +1,3 @@
 pub mod Digits
 pub mod Formats
-pub mod Refusals
 pub mod Ints

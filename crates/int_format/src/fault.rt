@@ -1,8 +1,10 @@
 //! Why numbers have no text.
 
 ghost use Rattle.std.specs.Prelude.{◌≡◌};
+ghost use Rattle.int_format.specs.Ints.{refusal_of};
 ghost use Rattle.int_format.specs.declared.fault.IntFault.TheVariants.{Memory};
 
+use lc_base::FormatRefusal;
 use std::alloc::{AllocError, AllocFailed};
 use thiserror::Error;
 
@@ -21,6 +23,20 @@ pub enum IntFault {
     /// Memory was wanting.
     #[error("memory was wanting")]
     Memory,
+}
+
+impl IntFault {
+    /// Why there is no text, unless memory was wanting.
+    pub fn refusal(self) -> Option<FormatRefusal>
+        ensures { result ≡ refusal_of self }
+    {
+        match self {
+            IntFault::BadFormat { at } => Some(FormatRefusal::BadFormat { at }),
+            IntFault::MissingNumber { at } => Some(FormatRefusal::MissingNumber { at }),
+            IntFault::TooBig => Some(FormatRefusal::TooBig),
+            IntFault::Memory => None,
+        }
+    }
 }
 
 impl From<AllocError> for IntFault {

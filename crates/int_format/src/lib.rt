@@ -1,10 +1,11 @@
 //! Whole numbers as text (XSH fprintf: `d`, `i` and `u` with the flag `'`).
 #![tactic(auto)]
 
-ghost use Rattle.std.specs.Prelude.{◌≡◌, ◌≢◌, ◌+◌, ◌<◌, ◌≤◌, ◌++◌, ◌⊎◌, length, drop, List, [], ◌∷◌, ℕ, Result, Ok, Err, None, option_map, OnOk, IfOk, IfErr, IfSome, true};
+ghost use Rattle.std.specs.Prelude.{◌≡◌, ◌≢◌, ◌+◌, ◌<◌, ◌≤◌, ◌++◌, ◌⊎◌, length, drop, List, [], ◌∷◌, ℕ, Result, Ok, Err, None, option_and_then, OnOk, IfOk, IfErr, IfSome, true};
 ghost use Rattle.std.specs.List.{list_all};
+ghost use Rattle.lc_base.specs.Limits.{within};
 ghost use Rattle.int_format.specs.Formats.{pieces, followed};
-ghost use Rattle.int_format.specs.Ints.{is_number, ints, refusal, refusal_behind, fault_of, good_pieces, pieces_text, piece_text, numbers_behind, at_most, within, unless_refused, Refuses, Answers};
+ghost use Rattle.int_format.specs.Ints.{is_number, ints, refusal, refusal_behind, refusal_of, good_pieces, pieces_text, piece_text, numbers_behind, at_most, unless_refused, Refuses, Answers};
 ghost use Rattle.int_format.specs.declared.format.Piece.{Piece};
 ghost use Rattle.int_format.specs.declared.fault.IntFault.TheVariants.{TooBig, Memory};
 
@@ -60,7 +61,7 @@ fn first_fault(format: &[u8], numbers: usize, fault: IntFault) -> IntFault
 
 /// The first refusal of a format with so many numbers.
 fn refusal(format: &[u8], numbers: usize) -> Option<IntFault>
-    ensures { result ≡ option_map (λ why. fault_of why) (refusal (pieces 0 0 format.now) numbers) }
+    ensures { option_and_then (λ fault. refusal_of fault) result ≡ refusal (pieces 0 0 format.now) numbers }
 {
     let mut at = 0;
     let mut left = numbers;

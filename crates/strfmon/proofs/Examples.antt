@@ -1,16 +1,17 @@
 -- Formats, amounts and their texts.
-use Rattle.std.proofs.Common.{◌≡◌, ℕ, List, [], ◌∷◌, Ok, Err, refl}
+use Rattle.std.proofs.Common.{◌≡◌, ℕ, List, [], ◌∷◌, Some, None, Ok, Err, refl}
 use Rattle.std.specs.Prelude.{codes, ℤ, pos, negsuc, Result}
 use Rattle.digit_groups.specs.Groups.{separated, separators}
 use Rattle.monetary_cat.specs.MonetaryValues.{MonetaryValues}
-use Rattle.strfmon.specs.Refusals.{MoneyRefusal, BadFormat, MissingAmount, TooBig}
+use Rattle.lc_base.specs.declared.refusal.FormatRefusal.{FormatRefusal}
+use Rattle.lc_base.specs.declared.refusal.FormatRefusal.TheVariants.{BadFormat, MissingAmount, TooBig}
 use Rattle.strfmon.specs.declared.fault.MoneyFault.TheVariants as faults
 use Rattle.digit_groups.specs.Digits.{last_digits}
 use Rattle.digit_groups.specs.Numbers.{number_behind}
 use Rattle.strfmon.specs.Formats.{flags_behind, conversion, piece, pieces}
 use Rattle.strfmon.specs.Cells.{cell}
 use Rattle.strfmon.specs.Looks.{look_of}
-use Rattle.strfmon.specs.Money.{money, text_with, pieces_text, missing, Answers}
+use Rattle.strfmon.specs.Money.{money, text_with, pieces_text, missing, refusal_of, Answers}
 
 -- a locale that writes dollars
 abbrev us : MonetaryValues
@@ -29,7 +30,7 @@ us = record {
 }
 
 -- the text of one amount, without a limit that matters
-abbrev dollars : List ℕ → ℤ → ℕ → Result (List ℕ) MoneyRefusal
+abbrev dollars : List ℕ → ℤ → ℕ → Result (List ℕ) FormatRefusal
 dollars format units scale = money us format (record { units = units; scale = scale } ∷ []) 100
 
 plain : dollars (codes "%n") (pos 12345) 2 ≡ Ok (codes "$123.45")
@@ -94,6 +95,10 @@ just_fits = refl
 too_big : money us (codes "%n") (record { units = pos 12345; scale = 2 } ∷ []) 6 ≡ Err TooBig
 unfolding separated separators last_digits flags_behind number_behind conversion piece pieces cell look_of text_with pieces_text missing
 too_big = refl
+
+-- a fault is the refusal of its name, and want of memory is none
+refusals : refusal_of (faults.BadFormat 6) ∷ refusal_of (faults.MissingAmount 3) ∷ refusal_of faults.TooBig ∷ refusal_of faults.Memory ∷ [] ≡ Some (BadFormat 6) ∷ Some (MissingAmount 3) ∷ Some TooBig ∷ None ∷ []
+refusals = refl
 
 -- a text answers for itself alone, and want of memory for whatever there is
 own_text : Answers (λ (t : List ℕ). t) (Ok (codes "$1")) (Ok (codes "$1"))

@@ -8,7 +8,9 @@ use Rattle.strfmon.specs.declared.format.Piece.{Piece}
 use Rattle.strfmon.specs.declared.format.Piece.TheVariants.{Literal, Convert}
 use Rattle.strfmon.specs.declared.fault.MoneyFault.{MoneyFault}
 use Rattle.strfmon.specs.declared.fault.MoneyFault.TheVariants as faults
-use Rattle.strfmon.specs.Refusals.{MoneyRefusal, BadFormat, MissingAmount, TooBig}
+use Rattle.lc_base.specs.declared.refusal.FormatRefusal.{FormatRefusal}
+use Rattle.lc_base.specs.declared.refusal.FormatRefusal.TheVariants.{BadFormat, MissingAmount, TooBig}
+use Rattle.lc_base.specs.Limits.{within}
 use Rattle.lc_base.specs.Amounts.{MoneyAmount}
 use Rattle.std.proofs.lemmas.List.{length-append, length-replicate, append-nil, append_assoc}
 use Rattle.digit_groups.specs.Groups.{grouped}
@@ -20,7 +22,7 @@ use Rattle.digit_groups.specs.Digits.{last_digits}
 use Rattle.strfmon.specs.Decimals.{whole_digits, fraction_digits, digit_count, magnitude, fraction_kept, IsRounded}
 use Rattle.strfmon.specs.Looks.{Look, look_of, parts_text}
 use Rattle.strfmon.specs.Formats.{followed}
-use Rattle.strfmon.specs.Money.{refusal, good_pieces, pieces_text, piece_text, amounts_behind, missing, refusal_behind, within, Refuses, fraction_text, radix_of, precision_of, sizes_of, text_parts, text_with, aligned_text, conversion_text, in_field, with_spaces, spaces, is_negative, pad_count, aligned_digits, fill_count, fault_of, unless_refused}
+use Rattle.strfmon.specs.Money.{refusal, good_pieces, pieces_text, piece_text, amounts_behind, missing, refusal_behind, Refuses, fraction_text, radix_of, precision_of, sizes_of, text_parts, text_with, aligned_text, conversion_text, in_field, with_spaces, spaces, is_negative, pad_count, aligned_digits, fill_count, refusal_of, unless_refused}
 
 pub refusal_bad : (lacking : Option ℕ) (at n : ℕ) → refusal_behind lacking (Err at) n ≡ Some (BadFormat at)
 refusal_bad None at n = refl
@@ -182,15 +184,17 @@ refuses e max_len text (inl big) long = let P : MoneyFault → Type 0 = λ z. Re
 refuses e max_len text (inr memory) long = let P : MoneyFault → Type 0 = λ z. Refuses z (within max_len text) in subst P (sym memory) tt
 
 -- what a call says of a refusal
-pub refused : (r : Option MoneyRefusal) (fault : MoneyFault) (answer : Result (List ℕ) MoneyRefusal) → Some fault ≡ option_map (λ why. fault_of why) r → Refuses fault (unless_refused r answer)
-refused None fault answer e = cc
-refused (Some (BadFormat at)) fault answer e = let same : fault_of (BadFormat at) ≡ fault = cc in let P : MoneyFault → Type 0 = λ z. Refuses z (unless_refused (Some (BadFormat at)) answer) in subst P same refl
-refused (Some (MissingAmount at)) fault answer e = let same : fault_of (MissingAmount at) ≡ fault = cc in let P : MoneyFault → Type 0 = λ z. Refuses z (unless_refused (Some (MissingAmount at)) answer) in subst P same refl
-refused (Some TooBig) fault answer e = let same : fault_of TooBig ≡ fault = cc in let P : MoneyFault → Type 0 = λ z. Refuses z (unless_refused (Some TooBig) answer) in subst P same refl
+refused_so : (fault : MoneyFault) (answer : Result (List ℕ) FormatRefusal) → Refuses fault (unless_refused (refusal_of fault) answer)
+refused_so (faults.BadFormat at) answer = refl
+refused_so (faults.MissingAmount at) answer = refl
+refused_so faults.TooBig answer = refl
+refused_so faults.Memory answer = tt
 
-pub accepted : (r : Option MoneyRefusal) → None ≡ option_map (λ why. fault_of why) r → r ≡ None
-accepted None e = refl
-accepted (Some why) e = cc
+pub refused : (r : Option FormatRefusal) (fault : MoneyFault) (answer : Result (List ℕ) FormatRefusal) → refusal_of fault ≡ r → Refuses fault (unless_refused r answer)
+refused r fault answer e = subst (λ o. Refuses fault (unless_refused o answer)) e (refused_so fault answer)
+
+pub accepted : (r : Option FormatRefusal) (fault : MoneyFault) (answer : Result (List ℕ) FormatRefusal) → None ≡ r → (r ≡ None → Refuses fault answer) → Refuses fault (unless_refused r answer)
+accepted r fault answer e otherwise = subst (λ o. Refuses fault (unless_refused o answer)) e (otherwise (sym e))
 
 -- a text is too long where a part of it is
 pub too_long : (max_len : ℕ) (whole out text rest : List ℕ) → whole ≡ out ++ (text ++ rest) → max_len - length out < length text → max_len < length whole

@@ -3,6 +3,5 @@ pub mod Formats
 pub mod Cells
 pub mod Looks
 pub mod Seen
-pub mod Refusals
 pub mod Money
 pub mod Shown

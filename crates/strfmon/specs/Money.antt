@@ -1,5 +1,5 @@
 -- The text of a format with its amounts (XSH strfmon).
-use Rattle.std.specs.Prelude.{◌≡◌, ℕ, ℤ, pos, zero, suc, ◌-◌, nat_lt, nat_le, ◌==◌, int_lt, not, Bool, List, [], ◌∷◌, ◌++◌, length, replicate, codes, Option, Some, None, unwrap_or, option_map, Result, Ok, Err, if◌then◌else◌}
+use Rattle.std.specs.Prelude.{◌≡◌, ℕ, ℤ, pos, zero, suc, ◌-◌, nat_le, ◌==◌, int_lt, not, Bool, List, [], ◌∷◌, ◌++◌, length, replicate, codes, Option, Some, None, unwrap_or, option_map, IfSome, Result, Ok, Err, if◌then◌else◌}
 use Rattle.digit_groups.specs.Groups.{grouped, grouped_width}
 use Rattle.monetary_cat.specs.MonetaryValues.{MonetaryValues, text_of, number_of}
 use Rattle.monetary_cat.specs.declared.keys.MonText.TheVariants.{MonDecimalPoint, MonThousandsSep}
@@ -10,9 +10,11 @@ use Rattle.strfmon.specs.declared.format.Piece.TheVariants.{Literal, Convert}
 use Rattle.strfmon.specs.declared.fault.MoneyFault.{MoneyFault}
 use Rattle.strfmon.specs.declared.fault.MoneyFault.TheVariants as faults
 use Rattle.lc_base.specs.Amounts.{MoneyAmount}
+use Rattle.lc_base.specs.declared.refusal.FormatRefusal.{FormatRefusal}
+use Rattle.lc_base.specs.declared.refusal.FormatRefusal.TheVariants.{BadFormat, MissingAmount, TooBig}
+use Rattle.lc_base.specs.Limits.{within}
 use Rattle.strfmon.specs.Decimals.{whole_digits, fraction_digits}
 use Rattle.strfmon.specs.Formats.{pieces}
-use Rattle.strfmon.specs.Refusals.{MoneyRefusal, BadFormat, MissingAmount, TooBig}
 use Rattle.strfmon.specs.Looks.{Look, look_of, parts_text, given}
 
 -- ---- the number
@@ -129,17 +131,13 @@ missing ((at, Literal b) ∷ ps) n = missing ps n
 missing ((at, Convert c) ∷ ps) zero = Some at
 missing ((at, Convert c) ∷ ps) (suc n) = missing ps n
 
--- a text of at most so many bytes
-abbrev pub within : ℕ → List ℕ → Result (List ℕ) MoneyRefusal
-within max_len text = if nat_lt max_len (length text) then Err TooBig else Ok text
-
 -- the first refusal of a format with so many amounts: a bad conversion goes before a missing amount
-abbrev pub refusal : Result (List (ℕ × Piece)) ℕ → ℕ → Option MoneyRefusal
+abbrev pub refusal : Result (List (ℕ × Piece)) ℕ → ℕ → Option FormatRefusal
 refusal (Err at) amounts = Some (BadFormat at)
 refusal (Ok ps) amounts = option_map (λ at. MissingAmount at) (missing ps amounts)
 
 -- the same behind pieces of which perhaps the one at this place lacked its amount
-abbrev pub refusal_behind : Option ℕ → Result (List (ℕ × Piece)) ℕ → ℕ → Option MoneyRefusal
+abbrev pub refusal_behind : Option ℕ → Result (List (ℕ × Piece)) ℕ → ℕ → Option FormatRefusal
 refusal_behind lacking (Err at) amounts = Some (BadFormat at)
 refusal_behind None (Ok ps) amounts = refusal (Ok ps) amounts
 refusal_behind (Some at) (Ok ps) amounts = Some (MissingAmount at)
@@ -150,30 +148,28 @@ good_pieces (Err at) = []
 good_pieces (Ok ps) = ps
 
 -- the text, or what goes before it
-abbrev pub unless_refused : Option MoneyRefusal → Result (List ℕ) MoneyRefusal → Result (List ℕ) MoneyRefusal
+abbrev pub unless_refused : Option FormatRefusal → Result (List ℕ) FormatRefusal → Result (List ℕ) FormatRefusal
 unless_refused None answer = answer
 unless_refused (Some why) answer = Err why
 
 -- the text of a format with its amounts, of at most so many bytes, or the refusal
-abbrev pub money : MonetaryValues → List ℕ → List MoneyAmount → ℕ → Result (List ℕ) MoneyRefusal
+abbrev pub money : MonetaryValues → List ℕ → List MoneyAmount → ℕ → Result (List ℕ) FormatRefusal
 money v format amounts max_len =
     unless_refused (refusal (pieces 0 0 format) (length amounts))
     (within max_len (pieces_text v (good_pieces (pieces 0 0 format)) amounts))
 
--- the fault of a call that is refused so
-abbrev pub fault_of : MoneyRefusal → MoneyFault
-fault_of (BadFormat at) = faults.BadFormat at
-fault_of (MissingAmount at) = faults.MissingAmount at
-fault_of TooBig = faults.TooBig
+-- why there is no text, unless memory was wanting
+abbrev pub refusal_of : MoneyFault → Option FormatRefusal
+refusal_of (faults.BadFormat at) = Some (BadFormat at)
+refusal_of (faults.MissingAmount at) = Some (MissingAmount at)
+refusal_of faults.TooBig = Some TooBig
+refusal_of faults.Memory = None
 
 -- a fault is the refusal of the definition, or want of memory, which says nothing
-abbrev pub Refuses : MoneyFault → Result (List ℕ) MoneyRefusal → Type 0
-Refuses (faults.BadFormat at) answer = answer ≡ Err (BadFormat at)
-Refuses (faults.MissingAmount at) answer = answer ≡ Err (MissingAmount at)
-Refuses faults.TooBig answer = answer ≡ Err TooBig
-Refuses faults.Memory answer = Unit {0}
+abbrev pub Refuses : MoneyFault → Result (List ℕ) FormatRefusal → Type 0
+Refuses e answer = IfSome (refusal_of e) (λ why. answer ≡ Err why)
 
 -- a result, its text seen by view, is the answer, unless memory is wanting
-abbrev pub Answers : {X : Type 0} → (X → List ℕ) → Result X MoneyFault → Result (List ℕ) MoneyRefusal → Type 0
+abbrev pub Answers : {X : Type 0} → (X → List ℕ) → Result X MoneyFault → Result (List ℕ) FormatRefusal → Type 0
 Answers view (Ok x) answer = answer ≡ Ok (view x)
 Answers view (Err e) answer = Refuses e answer

@@ -1,8 +1,10 @@
 //! Why amounts have no text.
 
 ghost use Rattle.std.specs.Prelude.{◌≡◌};
+ghost use Rattle.strfmon.specs.Money.{refusal_of};
 ghost use Rattle.strfmon.specs.declared.fault.MoneyFault.TheVariants.{Memory};
 
+use lc_base::FormatRefusal;
 use std::alloc::{AllocError, AllocFailed};
 use thiserror::Error;
 
@@ -21,6 +23,20 @@ pub enum MoneyFault {
     /// Memory was wanting.
     #[error("memory was wanting")]
     Memory,
+}
+
+impl MoneyFault {
+    /// Why there is no text, unless memory was wanting.
+    pub fn refusal(self) -> Option<FormatRefusal>
+        ensures { result ≡ refusal_of self }
+    {
+        match self {
+            MoneyFault::BadFormat { at } => Some(FormatRefusal::BadFormat { at }),
+            MoneyFault::MissingAmount { at } => Some(FormatRefusal::MissingAmount { at }),
+            MoneyFault::TooBig => Some(FormatRefusal::TooBig),
+            MoneyFault::Memory => None,
+        }
+    }
 }
 
 impl From<AllocError> for MoneyFault {

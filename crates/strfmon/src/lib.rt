@@ -1,10 +1,11 @@
 //! Amounts of money as text (XSH strfmon).
 #![tactic(auto)]
 
-ghost use Rattle.std.specs.Prelude.{◌≡◌, ◌≢◌, ◌+◌, ◌<◌, ◌≤◌, ◌++◌, ◌⊎◌, length, drop, List, [], ◌∷◌, ℕ, Result, Ok, Err, None, option_map, OnOk, OnErr, IfErr, IfSome};
+ghost use Rattle.std.specs.Prelude.{◌≡◌, ◌≢◌, ◌+◌, ◌<◌, ◌≤◌, ◌++◌, ◌⊎◌, length, drop, List, [], ◌∷◌, ℕ, Result, Ok, Err, None, option_and_then, OnOk, OnErr, IfErr, IfSome};
+ghost use Rattle.lc_base.specs.declared.refusal.FormatRefusal.{FormatRefusal};
+ghost use Rattle.lc_base.specs.Limits.{within};
 ghost use Rattle.strfmon.specs.Formats.{pieces, followed};
-ghost use Rattle.strfmon.specs.Money.{money, refusal, refusal_behind, fault_of, good_pieces, pieces_text, piece_text, amounts_behind, within, unless_refused, Refuses, Answers};
-ghost use Rattle.strfmon.specs.Refusals.{MoneyRefusal};
+ghost use Rattle.strfmon.specs.Money.{money, refusal, refusal_behind, refusal_of, good_pieces, pieces_text, piece_text, amounts_behind, unless_refused, Refuses, Answers};
 ghost use Rattle.strfmon.specs.declared.format.Piece.{Piece};
 ghost use Rattle.strfmon.specs.declared.fault.MoneyFault.TheVariants.{TooBig, Memory};
 
@@ -87,7 +88,7 @@ fn first_room(format: &[u8], amounts: usize, max: usize) -> usize {
 #[inline(never)]
 #[tactic(auto, using(crate::proofs::MoneyLemmas::refused, crate::proofs::MoneyLemmas::accepted))]
 fn first_fault(format: &[u8], amounts: usize, fault: MoneyFault) -> MoneyFault
-    ensures { (answer : Result (List ℕ) MoneyRefusal) → (refusal (pieces 0 0 format.now) amounts ≡ None → Refuses fault answer) → Refuses result (unless_refused (refusal (pieces 0 0 format.now) amounts) answer) }
+    ensures { (answer : Result (List ℕ) FormatRefusal) → (refusal (pieces 0 0 format.now) amounts ≡ None → Refuses fault answer) → Refuses result (unless_refused (refusal (pieces 0 0 format.now) amounts) answer) }
 {
     match refusal(format, amounts) {
         Some(first) => first,
@@ -97,7 +98,7 @@ fn first_fault(format: &[u8], amounts: usize, fault: MoneyFault) -> MoneyFault
 
 /// The first refusal of a format with so many amounts.
 fn refusal(format: &[u8], amounts: usize) -> Option<MoneyFault>
-    ensures { result ≡ option_map (λ why. fault_of why) (refusal (pieces 0 0 format.now) amounts) }
+    ensures { option_and_then (λ fault. refusal_of fault) result ≡ refusal (pieces 0 0 format.now) amounts }
 {
     let mut at = 0;
     let mut left = amounts;

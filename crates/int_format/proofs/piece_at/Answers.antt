@@ -1,5 +1,5 @@
 use Rattle.std.proofs.Common.{◌≡◌, ℕ, ◌+◌, Some, None, Ok, Err, length, drop, arith, ap, sym, ◌∙◌}
-use Rattle.int_format.specs.Refusals.{BadFormat}
+use Rattle.lc_base.specs.declared.refusal.FormatRefusal.TheVariants.{BadFormat}
 use Rattle.int_format.specs.Formats.{pieces, followed}
 use Rattle.int_format.specs.Ints.{refusal}
 use Rattle.int_format.proofs.FormatLemmas.{piece_bad, piece_more}

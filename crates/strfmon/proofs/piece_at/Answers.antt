@@ -1,5 +1,5 @@
 use Rattle.std.proofs.Common.{◌≡◌, Some, None, length, ap, sym, ◌∙◌}
-use Rattle.strfmon.specs.Refusals.{BadFormat}
+use Rattle.lc_base.specs.declared.refusal.FormatRefusal.TheVariants.{BadFormat}
 use Rattle.strfmon.specs.Money.{refusal}
 use Rattle.strfmon.proofs.FormatLemmas.{piece_bad, piece_more}
 use Rattle.strfmon.proofs.piece_at.Goals as goal

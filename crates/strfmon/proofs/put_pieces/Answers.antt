@@ -1,8 +1,9 @@
 use Rattle.std.proofs.Common.{◌≡◌, ◌+◌, ℕ, List, [], ◌++◌, length, None, Result, Ok, append_assoc, arith, ap, sym, ◌∙◌, drop}
 use Rattle.std.proofs.lemmas.List.{length-append}
+use Rattle.lc_base.specs.Limits.{within}
 use Rattle.strfmon.specs.declared.format.Piece.{Piece}
 use Rattle.strfmon.specs.Formats.{pieces, followed}
-use Rattle.strfmon.specs.Money.{refusal, good_pieces, pieces_text, piece_text, amounts_behind, within, unless_refused}
+use Rattle.strfmon.specs.Money.{refusal, good_pieces, pieces_text, piece_text, amounts_behind, unless_refused}
 use Rattle.strfmon.proofs.FormatLemmas.{pieces_over}
 use Rattle.strfmon.proofs.MoneyLemmas.{text_of_piece, refusal_at_end, refuses, too_long, all_written, nothing_behind}
 use Rattle.strfmon.proofs.put_pieces.Goals as goal

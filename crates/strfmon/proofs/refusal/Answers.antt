@@ -1,17 +1,17 @@
 use Rattle.std.specs.Prelude.{option_map}
 use Rattle.std.proofs.Common.{◌≡◌, ◌+◌, Some, None, arith, ap, sym, ◌∙◌, drop}
 use Rattle.strfmon.specs.Formats.{pieces}
-use Rattle.strfmon.specs.Refusals.{MissingAmount}
-use Rattle.strfmon.specs.Money.{refusal, refusal_behind, fault_of}
+use Rattle.lc_base.specs.declared.refusal.FormatRefusal.TheVariants.{MissingAmount}
+use Rattle.strfmon.specs.Money.{refusal, refusal_behind}
 use Rattle.strfmon.proofs.FormatLemmas.{piece_bad, piece_more, pieces_over}
 use Rattle.strfmon.proofs.MoneyLemmas.{refusal_bad, refusal_over}
 use Rattle.strfmon.proofs.refusal.Goals as goal
 
 pub returns-in_default : goal.returns-in_default
 returns-in_default c =
-    sym (ap (λ r. option_map (λ why. fault_of why) r) (c.loop-at.invariant.rest
+    sym (c.loop-at.invariant.rest
     ∙ ap (λ r. refusal_behind c.loop-at.lacking r c.loop-at.left) (piece_bad c.args.format.now c.loop-at.at (omega arith) (sym c.piece_of.ensures.is ∙ c.in_default.is))
-    ∙ refusal_bad c.loop-at.lacking c.loop-at.at c.loop-at.left))
+    ∙ refusal_bad c.loop-at.lacking c.loop-at.at c.loop-at.left)
 
 pub loop-at-preserved : goal.loop-at-preserved
 loop-at-preserved c =
@@ -25,10 +25,10 @@ loop-at-preserved c =
 
 pub returns : goal.returns
 returns c =
-    sym (ap (λ r. option_map (λ why. fault_of why) r) (c.loop-at.invariant.rest
+    sym (c.loop-at.invariant.rest
     ∙ ap (λ r. refusal_behind c.loop-at.lacking r c.loop-at.left) (pieces_over c.args.format.now c.loop-at.at (omega arith))
     ∙ refusal_over c.loop-at.lacking c.loop-at.left
-    ∙ ap (λ l. option_map (λ at. MissingAmount at) l) c.in_ok-lacking.was))
+    ∙ ap (λ l. option_map (λ at. MissingAmount at) l) c.in_ok-lacking.was)
 
 pub returns-in_err-lacking : goal.returns-in_err-lacking
 returns-in_err-lacking c =
@@ -36,5 +36,4 @@ returns-in_err-lacking c =
     ∙ ap (λ r. refusal_behind c.loop-at.lacking r c.loop-at.left) (pieces_over c.args.format.now c.loop-at.at (omega arith))
     ∙ refusal_over c.loop-at.lacking c.loop-at.left
     ∙ ap (λ l. option_map (λ at. MissingAmount at) l) c.in_err-lacking.was in
-    let over : option_map (λ why. fault_of why) (refusal (pieces 0 0 c.args.format.now) c.args.amounts) ≡ None = ap (λ r. option_map (λ why. fault_of why) r) none in
     cc
