@@ -6,9 +6,8 @@ use Rattle.lc_base.specs.declared.item.Item.TheVariants as items
 use Rattle.lc_base.specs.declared.place.Place.{Place}
 use Rattle.lc_base.specs.declared.reason.LinePart.TheVariants.{Directive}
 use Rattle.lc_base.specs.declared.reason.Reason.TheVariants.{BadLine}
-use Rattle.strfmon.specs.Refusals as money_refusals
+use Rattle.lc_base.specs.declared.refusal.FormatRefusal.TheVariants.{BadFormat, MissingAmount, MissingNumber, Mismatch, TooBig}
 use Rattle.time_cat.specs.Times.{time_of}
-use Rattle.strptime_fields.specs.declared.fault.ScanFault.TheVariants.{Mismatch}
 use Rattle.langinfo.specs.declared.conv.Lconv.{Lconv}
 use Rattle.shared_objects.specs.Shared.{Shared}
 use Rattle.shared_objects.specs.Objects.{first_object}
@@ -17,7 +16,7 @@ use Rattle.locale_c.specs.declared.times.LoTm.{LoTm}
 use Rattle.locale_c.specs.declared.parsed.LoParsed.{LoParsed}
 use Rattle.locale_c.specs.Items.{item_of}
 use Rattle.locale_c.specs.Conv.{conv_text, lconv_of}
-use Rattle.locale_c.specs.Answers.{answered, told, of_object, by_object, fault_told, IsRead, into_handle, not_made, new_made, shared_made, number_told, class_told, item_told, amount_of, money_told, amounts_told, offset_of, tm_given, tm_told, fields_of, scan_told, scan_by}
+use Rattle.locale_c.specs.Answers.{answered, told, of_object, by_object, fault_told, IsRead, into_handle, not_made, new_made, shared_made, number_told, class_told, item_told, amount_of, text_told, amounts_told, offset_of, tm_given, tm_told, fields_of, scan_told, scan_by}
 
 -- the POSIX object over a library without locales
 abbrev posix : Shared
@@ -105,9 +104,9 @@ no_item = refl
 
 -- ---- amounts and times
 
-money_faults : money_told (codes "x") (Err (money_refusals.BadFormat 3)) ∷ money_told (codes "x") (Err (money_refusals.MissingAmount 3)) ∷ money_told (codes "x") (Err money_refusals.TooBig) ∷ []
-    ≡ (answered BAD_FORMAT 3, codes "x") ∷ (answered MISSING 3, codes "x") ∷ (answered TOO_SMALL 0, codes "x") ∷ []
-money_faults = refl
+no_texts : text_told (codes "x") (Err (BadFormat 3)) ∷ text_told (codes "x") (Err (MissingAmount 3)) ∷ text_told (codes "x") (Err (MissingNumber 4)) ∷ text_told (codes "x") (Err TooBig) ∷ []
+    ≡ (answered BAD_FORMAT 3, codes "x") ∷ (answered MISSING 3, codes "x") ∷ (answered MISSING 4, codes "x") ∷ (answered TOO_SMALL 0, codes "x") ∷ []
+no_texts = refl
 
 -- a scale that is too large goes before a fault of the format
 scale_first : amounts_told (codes "x") posix (codes "%") (record { units = pos 1; scale = 19 } ∷ []) ≡ (answered BAD_AMOUNT 0, codes "x")

@@ -6,24 +6,19 @@ use Rattle.lc_base.specs.declared.category.Category.{Category}
 use Rattle.lc_base.specs.declared.item.Item.{Item}
 use Rattle.lc_base.specs.declared.place.Place.{Place}
 use Rattle.lc_base.specs.declared.reason.Reason.{Reason}
+use Rattle.lc_base.specs.declared.refusal.FormatRefusal.{FormatRefusal}
+use Rattle.lc_base.specs.declared.refusal.FormatRefusal.TheVariants as refusals
 use Rattle.lc_base.specs.Mask.{category_bit}
 use Rattle.lc_base.specs.Reading.{Reads}
 use Rattle.lc_base.specs.Amounts.{MoneyAmount}
 use Rattle.strfmon.specs.Money.{money}
-use Rattle.strfmon.specs.Refusals.{MoneyRefusal}
-use Rattle.strfmon.specs.Refusals as money_refusals
 use Rattle.time_cat.specs.Times.{TmValues, time_of}
 use Rattle.time_cat.specs.declared.tm.TmField.{TmField}
 use Rattle.time_cat.specs.declared.tm.TmField.TheVariants as fields
 use Rattle.time_cat.specs.declared.tm.TmRange.{TmRange}
-use Rattle.strftime_fields.specs.Refusals.{TimeRefusal}
-use Rattle.strftime_fields.specs.Refusals as time_refusals
 use Rattle.strftime_fields.specs.Answers.{answer}
-use Rattle.int_format.specs.Refusals.{IntRefusal}
-use Rattle.int_format.specs.Refusals as int_refusals
 use Rattle.int_format.specs.Ints.{at_most, ints}
 use Rattle.time_cat.specs.declared.parsed.Parsed.{Parsed}
-use Rattle.strptime_fields.specs.declared.fault.ScanFault.TheVariants as scan_faults
 use Rattle.strptime_fields.specs.Scans.{Scanned, scan}
 use Rattle.langinfo.specs.Items.{info}
 use Rattle.script_out.specs.Refusal.{refusal_line}
@@ -67,6 +62,19 @@ told buffer text = if nat_lt (length text) (length buffer) then (answered OK (le
 -- a call that gives no text
 abbrev pub refused : List ℕ → ℕ → ℕ → LoAnswer × List ℕ
 refused buffer code n = (answered code n, buffer)
+
+-- the answer where a format has none
+abbrev pub refusal_told : FormatRefusal → LoAnswer
+refusal_told (refusals.BadFormat at) = answered BAD_FORMAT at
+refusal_told (refusals.MissingAmount at) = answered MISSING at
+refusal_told (refusals.MissingNumber at) = answered MISSING at
+refusal_told (refusals.Mismatch at) = answered MISMATCH at
+refusal_told refusals.TooBig = answered TOO_SMALL 0
+
+-- the text of a format, or why there is none
+abbrev pub text_told : List ℕ → Result (List ℕ) FormatRefusal → LoAnswer × List ℕ
+text_told buffer (Ok text) = told buffer text
+text_told buffer (Err refusal) = (refusal_told refusal, buffer)
 
 -- what an object answers; a handle of nothing has none
 abbrev pub of_object : List ℕ → Option Shared → (Shared → LoAnswer × List ℕ) → LoAnswer × List ℕ
@@ -159,16 +167,10 @@ is_scaled a = nat_lt a.scale 19
 abbrev pub amount_of : LoAmount → MoneyAmount
 amount_of a = record { units = a.units; scale = min a.scale 18 }
 
-abbrev pub money_told : List ℕ → Result (List ℕ) MoneyRefusal → LoAnswer × List ℕ
-money_told buffer (Ok text) = told buffer text
-money_told buffer (Err (money_refusals.BadFormat at)) = refused buffer BAD_FORMAT at
-money_told buffer (Err (money_refusals.MissingAmount at)) = refused buffer MISSING at
-money_told buffer (Err money_refusals.TooBig) = refused buffer TOO_SMALL 0
-
 -- what strfmon answers
 abbrev pub amounts_told : List ℕ → Shared → List ℕ → List LoAmount → LoAnswer × List ℕ
 amounts_told buffer o format amounts =
-    if list_all is_scaled amounts then money_told buffer (money (monetary_in o) format (map amount_of amounts) (length buffer)) else refused buffer BAD_AMOUNT 0
+    if list_all is_scaled amounts then text_told buffer (money (monetary_in o) format (map amount_of amounts) (length buffer)) else refused buffer BAD_AMOUNT 0
 
 -- ---- times
 
@@ -189,27 +191,16 @@ field_number fields.Wday = 7
 field_number fields.Yday = 8
 field_number fields.Offset = 9
 
-abbrev pub time_told : List ℕ → Result (List ℕ) TimeRefusal → LoAnswer × List ℕ
-time_told buffer (Ok text) = told buffer text
-time_told buffer (Err (time_refusals.BadFormat at)) = refused buffer BAD_FORMAT at
-time_told buffer (Err time_refusals.TooBig) = refused buffer TOO_SMALL 0
-
 -- what strftime answers: a field out of its range goes before all else
 abbrev pub tm_told : List ℕ → Shared → List ℕ → Result TmValues TmRange → LoAnswer × List ℕ
-tm_told buffer o format (Ok tm) = time_told buffer (answer (time_in o) tm format (length buffer))
+tm_told buffer o format (Ok tm) = text_told buffer (answer (time_in o) tm format (length buffer))
 tm_told buffer o format (Err range) = refused buffer TM_RANGE (field_number range.field)
 
 -- ---- whole numbers
 
-abbrev pub ints_told : List ℕ → Result (List ℕ) IntRefusal → LoAnswer × List ℕ
-ints_told buffer (Ok text) = told buffer text
-ints_told buffer (Err (int_refusals.BadFormat at)) = refused buffer BAD_FORMAT at
-ints_told buffer (Err (int_refusals.MissingNumber at)) = refused buffer MISSING at
-ints_told buffer (Err int_refusals.TooBig) = refused buffer TOO_SMALL 0
-
 -- what int_format answers
 abbrev pub numbers_told : List ℕ → Shared → List ℕ → List ℤ → LoAnswer × List ℕ
-numbers_told buffer o format numbers = ints_told buffer (at_most (length buffer) (ints (numeric_in o) format numbers))
+numbers_told buffer o format numbers = text_told buffer (at_most (length buffer) (ints (numeric_in o) format numbers))
 
 -- ---- times that are read
 
@@ -237,8 +228,7 @@ fields_of p = record {
 -- what strptime answers, and the fields; where a text has none they stay as they are
 abbrev pub scan_told : LoParsed → Scanned → LoAnswer × LoParsed
 scan_told old (Ok found) = (answered OK found.1, fields_of found.0)
-scan_told old (Err (scan_faults.BadFormat at)) = (answered BAD_FORMAT at, old)
-scan_told old (Err (scan_faults.Mismatch at)) = (answered MISMATCH at, old)
+scan_told old (Err refusal) = (refusal_told refusal, old)
 
 abbrev pub scan_by : LoParsed → Option Shared → List ℕ → List ℕ → LoAnswer × LoParsed
 scan_by old None format text = (answered NO_OBJECT 0, old)

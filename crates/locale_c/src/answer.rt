@@ -1,8 +1,10 @@
 //! What calls answer.
 
-ghost use Rattle.std.specs.Prelude.{◌≡◌, MatchResult};
-ghost use Rattle.locale_c.specs.Answers.{answered};
+ghost use Rattle.std.specs.Prelude.{◌≡◌, ℕ, List, Result, Err, IfSome, IfOk, MatchResult};
+ghost use Rattle.lc_base.specs.declared.refusal.FormatRefusal.{FormatRefusal};
+ghost use Rattle.locale_c.specs.Answers.{answered, refusal_told, text_told};
 
+use lc_base::FormatRefusal;
 use std::alloc::AllocError;
 
 /// The call did what it says.
@@ -66,6 +68,29 @@ pub fn answered(code: u32, n: usize) -> LoAnswer
     ensures { result ≡ answered code n }
 {
     LoAnswer { code, n }
+}
+
+/// The answer where a format has none.
+pub fn refusal_told(refusal: FormatRefusal) -> LoAnswer
+    ensures { result ≡ refusal_told refusal }
+{
+    match refusal {
+        FormatRefusal::BadFormat { at } => answered(BAD_FORMAT, at),
+        FormatRefusal::MissingAmount { at } => answered(MISSING, at),
+        FormatRefusal::MissingNumber { at } => answered(MISSING, at),
+        FormatRefusal::Mismatch { at } => answered(MISMATCH, at),
+        FormatRefusal::TooBig => answered(TOO_SMALL, 0),
+    }
+}
+
+/// The answer where a format has no text, unless memory was wanting.
+pub fn no_text(refusal: Option<FormatRefusal>) -> Result<LoAnswer, AllocError>
+    ensures { (buffer : List ℕ) (text : Result (List ℕ) FormatRefusal) → IfSome refusal (λ why. text ≡ Err why) → IfOk result (λ a. (a, buffer) ≡ text_told buffer text) }
+{
+    match refusal {
+        Some(refusal) => Ok(refusal_told(refusal)),
+        None => Err(AllocError),
+    }
 }
 
 /// An answer, or that memory is wanting.

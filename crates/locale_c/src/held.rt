@@ -4,15 +4,15 @@ ghost use Rattle.std.specs.Prelude.{◌≡◌, IfOk, OnErr, length};
 ghost use Rattle.strfmon.specs.Money.{money};
 ghost use Rattle.strftime_fields.specs.Answers.{answer};
 ghost use Rattle.shared_objects.specs.Objects.{monetary_in, time_in};
-ghost use Rattle.locale_c.specs.Answers.{UnlessOk, money_told, time_told};
+ghost use Rattle.locale_c.specs.Answers.{UnlessOk, text_told};
 
-use crate::answer::{BAD_FORMAT, LoAnswer, MISSING, TOO_SMALL, answered};
+use crate::answer::{LoAnswer, no_text};
 use crate::buffer::put_text;
 use shared_objects::SharedObject;
 use std::alloc::{AllocError, Global};
 use std::marker::Model;
-use strfmon::{Amount, MoneyFault};
-use strftime_fields::{TimeFault, Tm};
+use strfmon::Amount;
+use strftime_fields::Tm;
 
 /// The most bytes of memory that are kept from one text to the next.
 const MOST_KEPT: usize = 4096;
@@ -76,7 +76,7 @@ impl Held {
         amounts: &[Amount],
     ) -> Result<LoAnswer, AllocError>
         ensures same { self.new ≡ self.old }
-        ensures told { IfOk result (λ a. (a, buffer.new) ≡ money_told buffer.old (money (monetary_in self.old) format.now amounts.now (length buffer.old))) }
+        ensures told { IfOk result (λ a. (a, buffer.new) ≡ text_told buffer.old (money (monetary_in self.old) format.now amounts.now (length buffer.old))) }
         ensures kept { OnErr result (buffer.new ≡ buffer.old) }
         ensures untouched { IfOk result (λ a. UnlessOk a (buffer.new ≡ buffer.old)) }
     {
@@ -85,10 +85,7 @@ impl Held {
             .strfmon_into(&mut self.block, format, amounts, buffer.len());
         let answer = match found {
             Ok(()) => Ok(put_text(buffer, self.block.as_slice())),
-            Err(MoneyFault::BadFormat { at }) => Ok(answered(BAD_FORMAT, at)),
-            Err(MoneyFault::MissingAmount { at }) => Ok(answered(MISSING, at)),
-            Err(MoneyFault::TooBig) => Ok(answered(TOO_SMALL, 0)),
-            Err(MoneyFault::Memory) => Err(AllocError),
+            Err(fault) => no_text(fault.refusal()),
         };
         self.trim(alloc);
         answer
@@ -103,7 +100,7 @@ impl Held {
         tm: &Tm,
     ) -> Result<LoAnswer, AllocError>
         ensures same { self.new ≡ self.old }
-        ensures told { IfOk result (λ a. (a, buffer.new) ≡ time_told buffer.old (answer (time_in self.old) tm.now format.now (length buffer.old))) }
+        ensures told { IfOk result (λ a. (a, buffer.new) ≡ text_told buffer.old (answer (time_in self.old) tm.now format.now (length buffer.old))) }
         ensures kept { OnErr result (buffer.new ≡ buffer.old) }
         ensures untouched { IfOk result (λ a. UnlessOk a (buffer.new ≡ buffer.old)) }
     {
@@ -112,9 +109,7 @@ impl Held {
             .strftime_into(&mut self.block, format, tm, buffer.len());
         let answer = match found {
             Ok(()) => Ok(put_text(buffer, self.block.as_slice())),
-            Err(TimeFault::BadFormat { at }) => Ok(answered(BAD_FORMAT, at)),
-            Err(TimeFault::TooBig) => Ok(answered(TOO_SMALL, 0)),
-            Err(TimeFault::Memory) => Err(AllocError),
+            Err(fault) => no_text(fault.refusal()),
         };
         self.trim(alloc);
         answer

@@ -1,9 +1,10 @@
 //! The fields of a time that was read, as C has them.
 
 ghost use Rattle.std.specs.Prelude.{◌≡◌};
+ghost use Rattle.strptime_fields.specs.Scans.{answer_of};
 ghost use Rattle.locale_c.specs.Answers.{or_none, year_or_none, fields_of, scan_told};
 
-use crate::answer::{BAD_FORMAT, LoAnswer, MISMATCH, OK, answered};
+use crate::answer::{LoAnswer, OK, answered, refusal_told};
 use strptime_fields::{Parsed, ScanFault};
 
 /// The fields of a time that a text has; -1 where it does not tell one. C has `lo_parsed` for it.
@@ -68,14 +69,13 @@ fn fields_of(parsed: Parsed) -> LoParsed
 
 /// Writes the fields that a text has, where it has them.
 pub fn put_fields(out: &mut LoParsed, scanned: Result<(Parsed, usize), ScanFault>) -> LoAnswer
-    ensures { (result, out.new) ≡ scan_told out.old scanned }
+    ensures { (result, out.new) ≡ scan_told out.old (answer_of scanned) }
 {
     match scanned {
         Ok((parsed, rest)) => {
             *out = fields_of(parsed);
             answered(OK, rest)
         }
-        Err(ScanFault::BadFormat { at }) => answered(BAD_FORMAT, at),
-        Err(ScanFault::Mismatch { at }) => answered(MISMATCH, at),
+        Err(fault) => refusal_told(fault.refusal()),
     }
 }

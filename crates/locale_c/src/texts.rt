@@ -5,18 +5,15 @@ ghost use Rattle.std.specs.List.{list_all};
 ghost use Rattle.int_format.specs.Ints.{is_number, at_most, ints};
 ghost use Rattle.shared_objects.specs.Objects.{numeric_in};
 ghost use Rattle.locale_c.specs.Items.{item_of};
-ghost use Rattle.locale_c.specs.Answers.{UnlessOk, item_told, amounts_told, tm_given, tm_told, ints_told, numbers_told};
+ghost use Rattle.locale_c.specs.Answers.{UnlessOk, item_told, amounts_told, tm_given, tm_told, text_told, numbers_told};
 
 use crate::amounts::{LoAmount, amount_of, amounts_given, are_scaled};
-use crate::answer::{
-    BAD_AMOUNT, BAD_FORMAT, LoAnswer, MISSING, NO_ITEM, TM_RANGE, TOO_SMALL, answered,
-};
+use crate::answer::{BAD_AMOUNT, LoAnswer, NO_ITEM, TM_RANGE, answered, no_text};
 use crate::buffer::put_text;
 use crate::held::Held;
 use crate::items::item_of;
 use crate::numbers::numbers_given;
 use crate::times::{LoTm, field_number, tm_given};
-use int_format::IntFault;
 use shared_objects::SharedObject;
 use std::alloc::{AllocError, Global};
 
@@ -94,16 +91,13 @@ fn put_ints(
     numbers: &[i128],
 ) -> Result<LoAnswer, AllocError>
     requires { list_all is_number numbers.now ≡ true }
-    ensures told { IfOk result (λ a. (a, buffer.new) ≡ ints_told buffer.old (at_most (length buffer.old) (ints (numeric_in object.now) format.now numbers.now))) }
+    ensures told { IfOk result (λ a. (a, buffer.new) ≡ text_told buffer.old (at_most (length buffer.old) (ints (numeric_in object.now) format.now numbers.now))) }
     ensures kept { OnErr result (buffer.new ≡ buffer.old) }
     ensures untouched { IfOk result (λ a. UnlessOk a (buffer.new ≡ buffer.old)) }
 {
     match object.int_format(alloc, format, numbers, buffer.len()) {
         Ok(text) => Ok(put_text(buffer, text.as_bytes())),
-        Err(IntFault::BadFormat { at }) => Ok(answered(BAD_FORMAT, at)),
-        Err(IntFault::MissingNumber { at }) => Ok(answered(MISSING, at)),
-        Err(IntFault::TooBig) => Ok(answered(TOO_SMALL, 0)),
-        Err(IntFault::Memory) => Err(AllocError),
+        Err(fault) => no_text(fault.refusal()),
     }
 }
 

@@ -3,6 +3,8 @@ use Rattle.std.specs.Prelude.{ℕ, ℤ, Bool, List, [], ◌∷◌, ◌++◌, Opt
 use Rattle.std.specs.Fmt.{decimal}
 use Rattle.std.specs.List.{flat_map}
 use Rattle.lc_base.specs.declared.item.Item.{Item}
+use Rattle.lc_base.specs.declared.refusal.FormatRefusal.{FormatRefusal}
+use Rattle.lc_base.specs.declared.refusal.FormatRefusal.TheVariants as refusals
 use Rattle.mask_compose.specs.Parts.{Parts}
 use Rattle.ctype_classes.specs.CtypeValues.{CtypeValues}
 use Rattle.ctype_classes.specs.Classes.{class_answer}
@@ -14,16 +16,9 @@ use Rattle.time_cat.specs.declared.tm.TmRange.{TmRange}
 use Rattle.time_cat.specs.TimeValues.{TimeValues}
 use Rattle.time_cat.specs.Times.{TmValues, time_of}
 use Rattle.lc_base.specs.Amounts.{MoneyAmount}
-use Rattle.strfmon.specs.Refusals.{MoneyRefusal}
-use Rattle.strfmon.specs.Refusals as money_refusals
 use Rattle.strfmon.specs.Money.{money}
-use Rattle.strftime_fields.specs.Refusals.{TimeRefusal}
-use Rattle.strftime_fields.specs.Refusals as time_refusals
 use Rattle.strftime_fields.specs.Answers.{answer}
-use Rattle.int_format.specs.Refusals.{IntRefusal}
-use Rattle.int_format.specs.Refusals as int_refusals
 use Rattle.int_format.specs.Ints.{at_most, ints}
-use Rattle.strptime_fields.specs.declared.fault.ScanFault.TheVariants as scan_faults
 use Rattle.strptime_fields.specs.Scans.{Scanned, scan}
 use Rattle.langinfo.specs.declared.conv.Lconv.{Lconv}
 use Rattle.langinfo.specs.Items.{info}
@@ -35,6 +30,7 @@ use Rattle.script_commands.specs.declared.command.Read.{Read}
 use Rattle.script_commands.specs.declared.command.Read.TheVariants as reads
 use Rattle.script_out.specs.declared.output.Said.{Said}
 use Rattle.script_out.specs.declared.output.Said.TheVariants as said
+use Rattle.script_out.specs.declared.output.Why.{Why}
 use Rattle.script_out.specs.declared.output.Why.TheVariants as whys
 
 -- ---- the categories of an object, each as its locale has it
@@ -99,20 +95,28 @@ abbrev pub class_said : Option Bool → Said
 class_said None = said.Refused whys.NoClass
 class_said (Some is) = said.Class is
 
+-- ---- formats
+
+-- why a format has no answer, as it is printed; a call that lacks memory has no reply
+abbrev pub why_of : FormatRefusal → Why
+why_of (refusals.BadFormat at) = whys.BadFormat at
+why_of (refusals.MissingAmount at) = whys.MissingAmount at
+why_of (refusals.MissingNumber at) = whys.MissingNumber at
+why_of (refusals.Mismatch at) = whys.Mismatch at
+why_of refusals.TooBig = whys.TooBig
+
+abbrev pub refused_said : FormatRefusal → Said
+refused_said refusal = said.Refused (why_of refusal)
+
+-- the text of a format, or why there is none
+abbrev pub text_said : Result (List ℕ) FormatRefusal → Said
+text_said (Ok text) = said.Text text
+text_said (Err refusal) = refused_said refusal
+
 -- ---- strfmon
 
--- why there is no text of money; a call that lacks memory has no reply
-abbrev pub money_refused : MoneyRefusal → Said
-money_refused (money_refusals.BadFormat at) = said.Refused (whys.BadFormat at)
-money_refused (money_refusals.MissingAmount at) = said.Refused (whys.MissingAmount at)
-money_refused money_refusals.TooBig = said.Refused whys.TooBig
-
-abbrev pub money_text_said : Result (List ℕ) MoneyRefusal → Said
-money_text_said (Ok text) = said.Text text
-money_text_said (Err why) = money_refused why
-
 abbrev pub money_said : Catalog → Parts → ℕ → List ℕ → List MoneyAmount → Said
-money_said library object max format amounts = money_text_said (money (monetary_in library object) format amounts max)
+money_said library object max format amounts = text_said (money (monetary_in library object) format amounts max)
 
 -- ---- strftime
 
@@ -120,18 +124,9 @@ money_said library object max format amounts = money_text_said (money (monetary_
 abbrev pub time_given : UncheckedTime → Result TmValues TmRange
 time_given t = time_of t.year t.mon t.mday t.hour t.min t.sec t.wday t.yday t.offset t.zone
 
--- why a time has no text
-abbrev pub time_refused : TimeRefusal → Said
-time_refused (time_refusals.BadFormat at) = said.Refused (whys.BadFormat at)
-time_refused time_refusals.TooBig = said.Refused whys.TooBig
-
-abbrev pub time_text_said : Result (List ℕ) TimeRefusal → Said
-time_text_said (Ok text) = said.Text text
-time_text_said (Err why) = time_refused why
-
 -- a field out of its range goes before all else
 abbrev pub moment_said : TimeValues → ℕ → List ℕ → Result TmValues TmRange → Said
-moment_said values max format (Ok tm) = time_text_said (answer values tm format max)
+moment_said values max format (Ok tm) = text_said (answer values tm format max)
 moment_said values max format (Err range) = said.Refused (whys.TmRange range.field)
 
 abbrev pub time_said : Catalog → Parts → ℕ → List ℕ → UncheckedTime → Said
@@ -139,27 +134,16 @@ time_said library object max format t = moment_said (time_in library object) max
 
 -- ---- fprintf of whole numbers
 
--- why there is no text of numbers
-abbrev pub int_refused : IntRefusal → Said
-int_refused (int_refusals.BadFormat at) = said.Refused (whys.BadFormat at)
-int_refused (int_refusals.MissingNumber at) = said.Refused (whys.MissingNumber at)
-int_refused int_refusals.TooBig = said.Refused whys.TooBig
-
-abbrev pub number_text_said : Result (List ℕ) IntRefusal → Said
-number_text_said (Ok text) = said.Text text
-number_text_said (Err why) = int_refused why
-
 -- the text, unless it is longer than max; a wrong conversion and a missing number go before that
 abbrev pub number_said : Catalog → Parts → ℕ → List ℕ → List ℤ → Said
-number_said library object max format numbers = number_text_said (at_most max (ints (numeric_in library object) format numbers))
+number_said library object max format numbers = text_said (at_most max (ints (numeric_in library object) format numbers))
 
 -- ---- strptime
 
 -- the fields that a text has, with the index of its first byte that was not read, or why it has none
 abbrev pub scanned_said : Scanned → Said
 scanned_said (Ok found) = said.Parsed found.0 found.1
-scanned_said (Err (scan_faults.BadFormat at)) = said.Refused (whys.BadFormat at)
-scanned_said (Err (scan_faults.Mismatch at)) = said.Refused (whys.Mismatch at)
+scanned_said (Err refusal) = refused_said refusal
 
 abbrev pub parse_said : Catalog → Parts → List ℕ → List ℕ → Said
 parse_said library object format text = scanned_said (scan (time_in library object) format text)

@@ -1,18 +1,20 @@
 //! What reads of an object reply.
 
-ghost use Rattle.std.specs.Prelude.{◌≡◌, ◌++◌, ◌∷◌, [], map, true, IfOk, OnOk};
+ghost use Rattle.std.specs.Prelude.{◌≡◌, ◌++◌, ◌∷◌, [], ℕ, List, Result, Err, map, true, IfSome, IfOk, OnOk};
 ghost use Rattle.std.specs.List.{list_all};
+ghost use Rattle.lc_base.specs.declared.refusal.FormatRefusal.{FormatRefusal};
 ghost use Rattle.int_format.specs.Ints.{is_number};
 ghost use Rattle.langinfo.specs.Conv.{encoded};
 ghost use Rattle.langinfo.specs.Lent.{lconv_of};
 ghost use Rattle.strfmon.specs.Money.{money};
-ghost use Rattle.script_lines.specs.Reads.{ctype_in, numeric_in, monetary_in, time_in, messages_in, info_said, more_sizes, sizes_text, conv_texts, conv_numbers, fields_said, conv_said, class_said, money_text_said, money_said, time_given, time_said, number_said, scanned_said, parse_said, local};
+ghost use Rattle.strptime_fields.specs.Scans.{answer_of};
+ghost use Rattle.script_lines.specs.Reads.{ctype_in, numeric_in, monetary_in, time_in, messages_in, info_said, more_sizes, sizes_text, conv_texts, conv_numbers, fields_said, conv_said, class_said, why_of, text_said, money_said, time_given, time_said, number_said, scanned_said, parse_said, local};
 
 use category_store::{Library, Share};
 use ctype_classes::Ctype;
-use int_format::{IntFault, int_format};
+use int_format::int_format;
 use langinfo::{LentConv, encoded, lent_conv, nl_langinfo};
-use lc_base::{Amount, ByteText, Category, Item, List};
+use lc_base::{Amount, ByteText, Category, FormatRefusal, Item, List};
 use mask_compose::Object;
 use messages_cat::Messages;
 use monetary_cat::Monetary;
@@ -21,8 +23,8 @@ use script_commands::Read;
 use script_out::{Said, Texts, Why, push_number};
 use script_words::{CommandText, Format, UncheckedTime, WrittenNumber};
 use std::alloc::{AllocError, Global};
-use strfmon::{MoneyFault, strfmon};
-use strftime_fields::{TimeFault, Tm, TmRange, strftime};
+use strfmon::strfmon;
+use strftime_fields::{Tm, TmRange, strftime};
 use strptime_fields::{Parsed, ScanFault, strptime};
 use time_cat::Time;
 
@@ -259,6 +261,29 @@ fn class_said(is: Option<bool>) -> Said
     }
 }
 
+/// Why a format has no answer, as it is printed.
+fn why_of(refusal: FormatRefusal) -> Why
+    ensures { result ≡ why_of refusal }
+{
+    match refusal {
+        FormatRefusal::BadFormat { at } => Why::BadFormat(at),
+        FormatRefusal::MissingAmount { at } => Why::MissingAmount(at),
+        FormatRefusal::MissingNumber { at } => Why::MissingNumber(at),
+        FormatRefusal::Mismatch { at } => Why::Mismatch(at),
+        FormatRefusal::TooBig => Why::TooBig,
+    }
+}
+
+/// What is said of a format that has no text; a call that lacked memory says nothing.
+fn refused_said(refusal: Option<FormatRefusal>) -> Result<Said, AllocError>
+    ensures { (answer : Result (List ℕ) FormatRefusal) → IfSome refusal (λ why. answer ≡ Err why) → IfOk result (λ said. said ≡ text_said answer) }
+{
+    match refusal {
+        Some(refusal) => Ok(Said::Refused(why_of(refusal))),
+        None => Err(AllocError),
+    }
+}
+
 /// The text of amounts of money, or why there is none.
 fn money_text(
     alloc: Global,
@@ -267,14 +292,11 @@ fn money_text(
     format: &Format,
     amounts: &[Amount],
 ) -> Result<Said, AllocError>
-    ensures { IfOk result (λ said. said ≡ money_text_said (money values.now format.now amounts.now max)) }
+    ensures { IfOk result (λ said. said ≡ text_said (money values.now format.now amounts.now max)) }
 {
     match strfmon(alloc, values, format.as_bytes(), amounts, max as usize) {
         Ok(text) => Ok(Said::Text(text)),
-        Err(MoneyFault::BadFormat { at }) => Ok(Said::Refused(Why::BadFormat(at))),
-        Err(MoneyFault::MissingAmount { at }) => Ok(Said::Refused(Why::MissingAmount(at))),
-        Err(MoneyFault::TooBig) => Ok(Said::Refused(Why::TooBig)),
-        Err(MoneyFault::Memory) => Err(AllocError),
+        Err(fault) => refused_said(fault.refusal()),
     }
 }
 
@@ -330,9 +352,7 @@ fn time_said(
     let values = time_in(library, object);
     match strftime(alloc, values, format.as_bytes(), &tm, max as usize) {
         Ok(text) => Ok(Said::Text(text)),
-        Err(TimeFault::BadFormat { at }) => Ok(Said::Refused(Why::BadFormat(at))),
-        Err(TimeFault::TooBig) => Ok(Said::Refused(Why::TooBig)),
-        Err(TimeFault::Memory) => Err(AllocError),
+        Err(fault) => refused_said(fault.refusal()),
     }
 }
 
@@ -370,21 +390,17 @@ fn number_said(
         max as usize,
     ) {
         Ok(text) => Ok(Said::Text(text)),
-        Err(IntFault::BadFormat { at }) => Ok(Said::Refused(Why::BadFormat(at))),
-        Err(IntFault::MissingNumber { at }) => Ok(Said::Refused(Why::MissingNumber(at))),
-        Err(IntFault::TooBig) => Ok(Said::Refused(Why::TooBig)),
-        Err(IntFault::Memory) => Err(AllocError),
+        Err(fault) => refused_said(fault.refusal()),
     }
 }
 
 /// The fields that a text has, or why it has none.
 fn scanned_said(scanned: Result<(Parsed, usize), ScanFault>) -> Said
-    ensures { result ≡ scanned_said scanned }
+    ensures { result ≡ scanned_said (answer_of scanned) }
 {
     match scanned {
         Ok((fields, rest)) => Said::Parsed(fields, rest),
-        Err(ScanFault::BadFormat { at }) => Said::Refused(Why::BadFormat(at)),
-        Err(ScanFault::Mismatch { at }) => Said::Refused(Why::Mismatch(at)),
+        Err(fault) => Said::Refused(why_of(fault.refusal())),
     }
 }
 

@@ -12,7 +12,7 @@ ghost use Rattle.strftime_fields.specs.Answers.{answer, with_text};
 ghost use Rattle.strftime_fields.specs.Answers as strftime;
 ghost use Rattle.int_format.specs.Ints.{is_number, at_most, ints};
 ghost use Rattle.int_format.specs.Ints as int_format;
-ghost use Rattle.strptime_fields.specs.Scans.{scan};
+ghost use Rattle.strptime_fields.specs.Scans.{scan, answer_of};
 ghost use Rattle.langinfo.specs.Items.{info};
 ghost use Rattle.langinfo.specs.Conv.{conv};
 ghost use Rattle.shared_objects.specs.Objects.{ctype_in, numeric_in, monetary_in, time_in, messages_in};
@@ -208,7 +208,7 @@ impl SharedObject {
     /// The fields of a time that a text has, and the index of the first byte that is not read (XSH
     /// strptime).
     pub fn strptime(&self, format: &[u8], text: &[u8]) -> Result<(Parsed, usize), ScanFault>
-        ensures { result ≡ scan (time_in self.now) format.now text.now }
+        ensures { answer_of result ≡ scan (time_in self.now) format.now text.now }
     {
         strptime(self.time(), format, text)
     }

@@ -1,17 +1,48 @@
 //! Formats and texts that are refused.
 
-ghost use Rattle.std.specs.Prelude.{◌∷◌, [], ◌++◌, Ok};
-ghost use Rattle.tool_reads.specs.Answers.{Answers, IsOf, NoAnswer};
+ghost use Rattle.std.specs.Prelude.{◌≡◌, ℕ, List, ◌∷◌, [], ◌++◌, IfSome, Result, Ok, Err};
+ghost use Rattle.lc_base.specs.declared.refusal.FormatRefusal.{FormatRefusal};
+ghost use Rattle.tool_reads.specs.Answers.{Answers, IsOf, NoAnswer, Tells, line_of};
 
-use lc_base::ByteText;
+use lc_base::{ByteText, FormatRefusal};
 use std::alloc::{AllocError, Global};
 use tool_messages::{Problem, Spot, push_fault, rule_of};
 
 /// The most bytes that a command prints of a format.
 pub const TEXT_MOST: usize = 1_048_576;
 
+/// The problem of a format that has no answer, and of the text that is read by it, if one is.
+pub fn problem_of(alloc: Global, format: &[u8], text: &[u8], refusal: FormatRefusal) -> Problem
+    ensures { IsOf result NoAnswer }
+{
+    match refusal {
+        FormatRefusal::BadFormat { at } => {
+            spot_problem(alloc, b"FORMAT", format, at, "BadFormat")
+        }
+        FormatRefusal::MissingAmount { at } => {
+            spot_problem(alloc, b"FORMAT", format, at, "MissingAmount")
+        }
+        FormatRefusal::MissingNumber { at } => {
+            spot_problem(alloc, b"FORMAT", format, at, "MissingNumber")
+        }
+        FormatRefusal::Mismatch { at } => spot_problem(alloc, b"TEXT", text, at, "Mismatch"),
+        FormatRefusal::TooBig => size_problem(alloc),
+    }
+}
+
+/// The problem of a format that has no text; without a refusal memory was wanting.
+#[tactic(auto, using(crate::proofs::AnswerLemmas::told))]
+pub fn text_problem(alloc: Global, format: &[u8], refusal: Option<FormatRefusal>) -> Problem
+    ensures { (answer : Result (List ℕ) FormatRefusal) → IfSome refusal (λ why. answer ≡ Err why) → Tells result (line_of answer) }
+{
+    match refusal {
+        Some(refusal) => problem_of(alloc, format, &[], refusal),
+        None => Problem::Memory,
+    }
+}
+
 /// The problem of a word of the command line at one of its bytes, counted from 0.
-pub fn spot_problem(alloc: Global, name: &[u8], word: &[u8], at: usize, reason: &str) -> Problem
+fn spot_problem(alloc: Global, name: &[u8], word: &[u8], at: usize, reason: &str) -> Problem
     ensures { IsOf result NoAnswer }
 {
     match spot_message(alloc, name, word, at, reason) {
@@ -52,7 +83,7 @@ fn column_of(at: usize) -> u32 {
 }
 
 /// The problem of a text that is too long.
-pub fn size_problem(alloc: Global) -> Problem
+fn size_problem(alloc: Global) -> Problem
     ensures { IsOf result NoAnswer }
 {
     match size_message(alloc) {

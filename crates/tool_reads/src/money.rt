@@ -1,19 +1,17 @@
 //! Amounts of money as text.
 
-ghost use Rattle.std.specs.Prelude.{◌≡◌, ℕ, List, Result, map};
-ghost use Rattle.strfmon.specs.Refusals.{MoneyRefusal};
-ghost use Rattle.strfmon.specs.Money.{Refuses};
-ghost use Rattle.tool_reads.specs.Answers.{Answers, Tells, all_of, line_of};
+ghost use Rattle.std.specs.Prelude.{map};
+ghost use Rattle.tool_reads.specs.Answers.{Answers, all_of};
 ghost use Rattle.tool_reads.specs.Printed.{money_line};
 ghost use Rattle.script_words.specs.Numbers.{amount_of_word};
 
-use crate::format_fault::{TEXT_MOST, size_problem, spot_problem, with_newline};
+use crate::format_fault::{TEXT_MOST, text_problem, with_newline};
 use crate::wrong_word::usage_problem;
 use lc_base::ByteText;
 use monetary_cat::Monetary;
 use script_words::amount_of_word;
 use std::alloc::Global;
-use strfmon::{Amount, MoneyFault, strfmon};
+use strfmon::{Amount, strfmon};
 use tool_messages::Problem;
 
 /// What an amount is.
@@ -37,21 +35,7 @@ pub fn money_line(
     let format = format.as_bytes();
     match strfmon(alloc, monetary, format, amounts.as_slice(), TEXT_MOST) {
         Ok(text) => with_newline(text),
-        Err(fault) => Err(money_problem(alloc, format, fault)),
-    }
-}
-
-#[tactic(auto, using(crate::proofs::AnswerLemmas::told))]
-fn money_problem(alloc: Global, format: &[u8], fault: MoneyFault) -> Problem
-    ensures { (answer : Result (List ℕ) MoneyRefusal) → Refuses fault answer → Tells result (line_of answer) }
-{
-    match fault {
-        MoneyFault::BadFormat { at } => spot_problem(alloc, b"FORMAT", format, at, "BadFormat"),
-        MoneyFault::MissingAmount { at } => {
-            spot_problem(alloc, b"FORMAT", format, at, "MissingAmount")
-        }
-        MoneyFault::TooBig => size_problem(alloc),
-        MoneyFault::Memory => Problem::Memory,
+        Err(fault) => Err(text_problem(alloc, format, fault.refusal())),
     }
 }
 

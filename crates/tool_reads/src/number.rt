@@ -1,16 +1,15 @@
 //! Whole numbers as text.
 
-ghost use Rattle.std.specs.Prelude.{◌≡◌, ℕ, List, Result, true, IfOk, map};
+ghost use Rattle.std.specs.Prelude.{◌≡◌, true, IfOk, map};
 ghost use Rattle.std.specs.List.{list_all};
-ghost use Rattle.int_format.specs.Refusals.{IntRefusal};
-ghost use Rattle.int_format.specs.Ints.{is_number, Refuses};
+ghost use Rattle.int_format.specs.Ints.{is_number};
 ghost use Rattle.script_words.specs.Numbers.{number_of_word};
-ghost use Rattle.tool_reads.specs.Answers.{Answers, Tells, all_of, line_of};
+ghost use Rattle.tool_reads.specs.Answers.{Answers, all_of};
 ghost use Rattle.tool_reads.specs.Printed.{number_line};
 
-use crate::format_fault::{TEXT_MOST, size_problem, spot_problem, with_newline};
+use crate::format_fault::{TEXT_MOST, text_problem, with_newline};
 use crate::wrong_word::usage_problem;
-use int_format::{IntFault, int_format};
+use int_format::int_format;
 use lc_base::ByteText;
 use numeric_cat::Numeric;
 use script_words::number_of_word;
@@ -38,21 +37,7 @@ pub fn number_line(
     let format = format.as_bytes();
     match int_format(alloc, numeric, format, numbers.as_slice(), TEXT_MOST) {
         Ok(text) => with_newline(text),
-        Err(fault) => Err(number_problem(alloc, format, fault)),
-    }
-}
-
-#[tactic(auto, using(crate::proofs::AnswerLemmas::told))]
-fn number_problem(alloc: Global, format: &[u8], fault: IntFault) -> Problem
-    ensures { (answer : Result (List ℕ) IntRefusal) → Refuses fault answer → Tells result (line_of answer) }
-{
-    match fault {
-        IntFault::BadFormat { at } => spot_problem(alloc, b"FORMAT", format, at, "BadFormat"),
-        IntFault::MissingNumber { at } => {
-            spot_problem(alloc, b"FORMAT", format, at, "MissingNumber")
-        }
-        IntFault::TooBig => size_problem(alloc),
-        IntFault::Memory => Problem::Memory,
+        Err(fault) => Err(text_problem(alloc, format, fault.refusal())),
     }
 }
 

@@ -4,10 +4,10 @@ ghost use Rattle.std.specs.Prelude.{◌≡◌, ◌++◌, IfOk, OnOk, option_map}
 ghost use Rattle.tool_reads.specs.Answers.{Answers};
 ghost use Rattle.tool_reads.specs.Printed.{fields_text, number_field, parsed_lines, year_number};
 
-use crate::format_fault::spot_problem;
+use crate::format_fault::problem_of;
 use lc_base::ByteText;
 use std::alloc::{AllocError, Global};
-use strptime_fields::{Parsed, ScanFault, strptime};
+use strptime_fields::{Parsed, strptime};
 use time_cat::Time;
 use tool_messages::{Problem, push_number};
 
@@ -22,22 +22,10 @@ pub fn parsed_lines(
 ) -> Result<ByteText, Problem>
     ensures { Answers (λ lines. lines) result (parsed_lines time.now format.now text.now) }
 {
-    match strptime(time, format.as_bytes(), text.as_bytes()) {
+    let (format, text) = (format.as_bytes(), text.as_bytes());
+    match strptime(time, format, text) {
         Ok((fields, read)) => Ok(lines_of(alloc, &fields, read)?),
-        Err(ScanFault::BadFormat { at }) => Err(spot_problem(
-            alloc,
-            b"FORMAT",
-            format.as_bytes(),
-            at,
-            "BadFormat",
-        )),
-        Err(ScanFault::Mismatch { at }) => Err(spot_problem(
-            alloc,
-            b"TEXT",
-            text.as_bytes(),
-            at,
-            "Mismatch",
-        )),
+        Err(fault) => Err(problem_of(alloc, format, text, fault.refusal())),
     }
 }
 
