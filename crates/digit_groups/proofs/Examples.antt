@@ -1,7 +1,10 @@
--- Digits in groups, how wide they are, and numbers at the front of a text.
-use Rattle.std.proofs.Common.{◌≡◌, ℕ, List, [], ◌∷◌, Some, None, refl}
-use Rattle.std.specs.Prelude.{codes, ℤ, pos, negsuc}
-use Rattle.digit_groups.specs.Digits.{last_digits}
+-- Digits in groups, how wide they are, numbers at the front of a text, and formats.
+use Rattle.std.proofs.Common.{◌≡◌, ℕ, ◌-◌, List, [], ◌∷◌, Option, Some, None, Result, Ok, Err, replicate, refl}
+use Rattle.std.specs.Prelude.{codes, ℤ, pos, negsuc, ◌==◌, if◌then◌else◌}
+use Rattle.digit_groups.specs.Conversions.{of_byte, number_after}
+use Rattle.digit_groups.specs.Digits.{digit_count, last_digits}
+use Rattle.digit_groups.specs.Formats.{piece, pieces, pieces_text, missing, formatted, at_most}
+use Rattle.digit_groups.specs.Refusals.{ValueRefusal, BadConversion, MissingValue, TooBig}
 use Rattle.digit_groups.specs.Groups.{grouped, grouped_width, separated, separators}
 use Rattle.digit_groups.specs.Numbers.{number_behind, leading_number, leading_digits, small_value}
 
@@ -117,3 +120,79 @@ highest_value = refl
 
 above_value : small_value (codes "256") ≡ None
 above_value = refl
+
+-- ---- parts of a conversion
+
+number_behind_sign : number_after 46 1 (codes ".5d") ≡ Some (Some 5, 2)
+unfolding number_behind
+number_behind_sign = refl
+
+other_sign : number_after 35 1 (codes ".5d") ≡ Some (None, 0)
+other_sign = refl
+
+-- a sign without digits
+nothing_behind_sign : number_after 46 0 (codes ".d") ≡ Some (Some 0, 1)
+unfolding number_behind
+nothing_behind_sign = refl
+
+digit_wanting : number_after 46 1 (codes ".d") ≡ None
+unfolding number_behind
+digit_wanting = refl
+
+above_behind_sign : number_after 46 0 (codes ".256d") ≡ None
+unfolding number_behind
+above_behind_sign = refl
+
+first_row : of_byte {A = ℕ} ((43, 1) ∷ (43, 2) ∷ []) 43 ≡ Some 1
+first_row = refl
+
+no_row : of_byte {A = ℕ} ((43, 1) ∷ []) 45 ≡ None
+no_row = refl
+
+-- ---- formats
+
+-- a conversion of one letter, perhaps with a width before it, and its text: as many bytes as the width
+abbrev letter : List ℕ → Option (ℕ × ℕ)
+letter [] = None
+letter (c ∷ []) = if c == 110 then Some (1, 1) else None
+letter (c ∷ d ∷ cs) = if c == 110 then Some (1, 1) else if d == 110 then Some (c - 48, 2) else None
+
+abbrev shown : List ℕ → List ℕ → Result (List ℕ) ValueRefusal
+shown format values = formatted letter (λ width v. replicate width v) format values
+
+copied : shown (codes "a%nb%2n%%") (codes "xy") ≡ Ok (codes "axbyy%")
+unfolding piece pieces pieces_text missing
+copied = refl
+
+left_over : shown (codes "%n") (codes "xy") ≡ Ok (codes "x")
+unfolding piece pieces pieces_text missing
+left_over = refl
+
+-- a bad conversion goes before a missing value
+bad_conversion : shown (codes "%n%n%q") (codes "x") ≡ Err (BadConversion 4)
+unfolding piece pieces
+bad_conversion = refl
+
+missing_value : shown (codes "%n%2n") (codes "x") ≡ Err (MissingValue 2)
+unfolding piece pieces missing
+missing_value = refl
+
+percent_at_end : shown (codes "a%") [] ≡ Err (BadConversion 1)
+unfolding piece pieces
+percent_at_end = refl
+
+-- a text of two bytes within two, and within one
+just_fits : at_most 2 (shown (codes "%2n") (codes "x")) ≡ Ok (codes "xx")
+unfolding piece pieces pieces_text missing
+just_fits = refl
+
+too_big : at_most 1 (shown (codes "%2n") (codes "x")) ≡ Err TooBig
+unfolding piece pieces pieces_text missing
+too_big = refl
+
+-- digits are counted, and 0 has one
+five_digits : digit_count 10000 ≡ 5
+five_digits = refl
+
+one_zero : digit_count 0 ≡ 1
+one_zero = refl

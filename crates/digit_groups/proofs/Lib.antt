@@ -1,4 +1,6 @@
+pub mod CountLemmas
 pub mod DigitLemmas
+pub mod FormatLemmas
 pub mod GroupLemmas
 pub mod NumberLemmas
 mod Examples

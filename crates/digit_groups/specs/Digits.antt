@@ -1,5 +1,10 @@
--- Numbers by their last decimal digits.
-use Rattle.std.specs.Prelude.{ℕ, zero, suc, ◌+◌, ◌/◌, ◌%◌, List, [], ◌∷◌, ◌++◌}
+-- Numbers by their decimal digits.
+use Rattle.std.specs.Prelude.{ℕ, zero, suc, ◌+◌, ◌/◌, ◌%◌, max, List, [], ◌∷◌, ◌++◌, length}
+use Rattle.std.specs.Int.Digits.{digits_of}
+
+-- how many digits a whole number has, at least one
+abbrev pub digit_count : ℕ → ℕ
+digit_count n = max 1 (length (digits_of 10 n))
 
 -- the last k decimal digits of a number
 unfoldable pub last_digits : ℕ → ℕ → List ℕ

@@ -1,3 +1,6 @@
 pub mod Digits
 pub mod Groups
 pub mod Numbers
+pub mod Conversions
+pub mod Refusals
+pub mod Formats

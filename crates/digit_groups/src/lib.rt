@@ -1,14 +1,23 @@
-//! Digits with a separator between groups of them (XBD 7.3.3 and 7.3.4), and the number at the front of a
-//! text.
+//! Digits with a separator between groups of them (XBD 7.3.3 and 7.3.4), the number at the front of a
+//! text, and the pieces of a format with their values (XBD 5).
 #![tactic(auto)]
 
-ghost use Rattle.std.specs.Prelude.{◌≡◌, true, drop, ◌+◌, ◌*◌, ◌≤◌, List, ℕ, ◌++◌, length, OnOk, OnErr, IfSome};
+ghost use Rattle.std.specs.Prelude.{◌≡◌, true, drop, ◌+◌, ◌*◌, ◌^◌, ◌<◌, ◌≤◌, List, ℕ, ◌++◌, length, OnOk, OnErr, IfSome};
 ghost use Rattle.std.specs.List.{list_all};
 ghost use Rattle.digit_groups.specs.Digits.{last_digits, without_last};
 ghost use Rattle.digit_groups.specs.Groups.{is_size, sizes_used, separated, separators, grouped, grouped_width, last_group, before_last};
 
+mod conversion;
+mod digits;
+mod fault;
+mod format;
 mod number;
+mod piece;
 
+pub use conversion::{FormatConversion, number_after};
+pub use digits::digit_count;
+pub use fault::ValueFault;
+pub use format::{add_pieces, first_fault};
 use lc_base::ByteText;
 pub use number::leading_number;
 use std::alloc::{AllocError, Global};
@@ -63,6 +72,18 @@ pub fn width_of(n: usize, sizes: &[i32], sep_len: usize) -> usize
     ensures length { (digits sep : List ℕ) → length digits ≡ n → length (grouped digits sizes.now sep) ≡ grouped_width n sizes.now (length sep) }
 {
     n + separators(n, sizes_used(sizes)) * sep_len
+}
+
+/// How many bytes up to 255 digits have once they are grouped, with a separator of any length.
+#[inline(always)]
+pub fn grouped_width(n: usize, sizes: &[i32], sep: &[u8]) -> u128
+    requires { n ≤ 255 }
+    ensures is { result ≡ grouped_width n sizes.now (length sep.now) }
+    ensures length { (digits : List ℕ) → length digits ≡ n → length (grouped digits sizes.now sep.now) ≡ result }
+    ensures fits { result < 2 ^ 80 }
+{
+    let separators = width_of(n, sizes, 1) - n;
+    n as u128 + separators as u128 * sep.len() as u128
 }
 
 /// Writes a piece over the bytes before `end`, and says where it begins.

@@ -1,10 +1,11 @@
 -- Decimal digits.
-use Rattle.std.proofs.Common.{◌≡◌, ℕ, suc, zero, ◌+◌, ◌-◌, ◌*◌, ◌/◌, ◌%◌, ◌^◌, ◌<◌, ◌≤◌, List, [], ◌∷◌, ◌++◌, length, take, drop, lit≤, arith, refl, ap, ◌∙◌, sym, subst}
+use Rattle.std.proofs.Common.{◌≡◌, ℕ, suc, zero, ◌+◌, ◌*◌, ◌/◌, ◌%◌, ◌^◌, ◌<◌, ◌≤◌, List, [], ◌∷◌, ◌++◌, length, take, drop, lit≤, arith, ap, ◌∙◌, sym, subst}
 use Rattle.std.proofs.Math.Nat.{pow-suc, div-div-eq-div-mul}
-use Rattle.std.proofs.lemmas.List.{length-append, take-append-le, take_all}
+use Rattle.std.proofs.lemmas.List.{take-append-le, take_all}
 use Rattle.std.proofs.lemmas.Int.Digits.{length-digits_of_step, length-digits_of-le, number_digits_of, number_lt, all_below_base_digits_of}
 use Rattle.std.specs.Int.Digits.{digits_of}
 use Rattle.digit_groups.specs.Digits.{last_digits}
+use Rattle.digit_groups.proofs.DigitLemmas.{length-last_digits}
 use Rattle.int_format.specs.Digits.{digit_count}
 
 -- ---- how many digits there are
@@ -12,46 +13,17 @@ use Rattle.int_format.specs.Digits.{digit_count}
 pub few_digits : (n : ℕ) → n < 2 ^ 64 → digit_count n ≤ 20
 few_digits n small = length-digits_of-le 10 20 n (lit≤ tt) (omega arith)
 
-pub more_digits : (n : ℕ) → 0 < n → digit_count n ≡ digit_count (n / 10) + 1
-more_digits n some = length-digits_of_step 10 n (lit≤ tt) some
-
 pub no_digits : digit_count 0 ≡ 0
 no_digits = let most : digit_count 0 ≤ 0 = length-digits_of-le 10 0 0 (lit≤ tt) (omega arith) in omega arith
 
-pub one_digit : (n : ℕ) → 0 < n → n < 10 → digit_count n ≡ 1
-one_digit n least most =
-    let none : n / 10 ≡ 0 = omega arith in
-    omega (arith, more_digits n least, ap (λ k. digit_count k) none, no_digits)
-
-pub two_digits : (n : ℕ) → 10 ≤ n → n < 100 → digit_count n ≡ 2
-two_digits n least most = let one : digit_count (n / 10) ≡ 1 = one_digit (n / 10) (omega arith) (omega arith) in omega (arith, more_digits n (omega arith))
-
-pub three_digits : (n : ℕ) → 100 ≤ n → n < 1000 → digit_count n ≡ 3
-three_digits n least most = let two : digit_count (n / 10) ≡ 2 = two_digits (n / 10) (omega arith) (omega arith) in omega (arith, more_digits n (omega arith))
-
-pub four_digits : (n : ℕ) → 1000 ≤ n → n < 10000 → digit_count n ≡ 4
-four_digits n least most = let three : digit_count (n / 10) ≡ 3 = three_digits (n / 10) (omega arith) (omega arith) in omega (arith, more_digits n (omega arith))
-
-pub four_more_digits : (n : ℕ) → 10000 ≤ n → digit_count n ≡ digit_count (n / 10000) + 4
-four_more_digits n large =
-    let first = more_digits n (omega arith) in
-    let second = more_digits (n / 10) (omega arith) in
-    let third = more_digits (n / 10 / 10) (omega arith) in
-    let fourth = more_digits (n / 10 / 10 / 10) (omega arith) in
-    let same : n / 10 / 10 / 10 / 10 ≡ n / 10000 = omega arith in
-    let rest : digit_count (n / 10 / 10 / 10 / 10) ≡ digit_count (n / 10000) = ap (λ k. digit_count k) same in
-    omega (arith, first, second, third, fourth, rest)
+pub some_digits : (n : ℕ) → 0 < n → 1 ≤ digit_count n
+some_digits n some = omega (arith, length-digits_of_step 10 n (lit≤ tt) some)
 
 -- a number is below the power of ten of its digits
 pub below_power : (n : ℕ) → n < 10 ^ digit_count n
 below_power n = subst (λ (m : ℕ). m < 10 ^ digit_count n) (number_digits_of 10 n (lit≤ tt)) (number_lt 10 (digits_of 10 n) (all_below_base_digits_of 10 n (lit≤ tt)))
 
 -- ---- the digits
-
-pub length-last_digits : (k n : ℕ) → length (last_digits k n) ≡ k
-unfolding last_digits
-length-last_digits zero n = refl
-length-last_digits (suc k) n = omega (arith, length-append (last_digits k (n / 10)) ((48 + n % 10) ∷ []), length-last_digits k (n / 10))
 
 -- digits that are written from the start on
 pub first_digits : (new rest : List ℕ) (at k n : ℕ) → at + k ≡ k → drop at new ≡ last_digits k n ++ rest → take k new ≡ last_digits k n

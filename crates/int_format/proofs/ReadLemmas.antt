@@ -13,7 +13,8 @@ use Rattle.digit_groups.specs.Numbers.{number_behind}
 use Rattle.int_format.specs.Digits.{digit_count, digits_at_least}
 use Rattle.int_format.specs.Formats.{flags_behind, conversion_with, piece, pieces}
 use Rattle.int_format.specs.Ints.{is_number, ints, pieces_text, missing, grouped_digits, between, below_zero, IsTextOf}
-use Rattle.int_format.proofs.DigitLemmas.{digit_first, divides_power, length-last_digits, few_digits, below_power}
+use Rattle.digit_groups.proofs.DigitLemmas.{length-last_digits}
+use Rattle.int_format.proofs.DigitLemmas.{digit_first, divides_power, few_digits, below_power}
 
 -- ---- one digit after another
 

@@ -1,14 +1,13 @@
--- Formats of whole numbers: conversions and bytes that are copied (XSH fprintf; bounds and the refusal are our own).
-use Rattle.std.specs.Prelude.{ℕ, zero, suc, ◌+◌, ◌==◌, ◌||◌, Bool, true, false, List, [], ◌∷◌, drop, Option, Some, None, option_map, Result, Ok, Err, if◌then◌else◌}
-use Rattle.std.specs.List.{find}
+-- Conversions of whole numbers (XSH fprintf; bounds and the refusal are our own).
+use Rattle.std.specs.Prelude.{ℕ, ◌+◌, ◌==◌, ◌||◌, Bool, true, false, List, [], ◌∷◌, drop, Option, Some, None, option_map, if◌then◌else◌}
 use Rattle.lc_base.specs.Lines.{◌>>=◌}
 use Rattle.digit_groups.specs.Numbers.{counted, leading_number}
+use Rattle.digit_groups.specs.Conversions.{of_byte, number_after}
+unfoldable pub use Rattle.digit_groups.specs.Formats.{piece, pieces}
 use Rattle.int_format.specs.declared.format.Mark.{Mark}
 use Rattle.int_format.specs.declared.format.Mark.TheVariants.{Groups, LeftAligned, PlusSign, SpaceSign, Zeros}
 use Rattle.int_format.specs.declared.format.Flags.{Flags}
 use Rattle.int_format.specs.declared.format.Conversion.{Conversion}
-use Rattle.int_format.specs.declared.format.Piece.{Piece}
-use Rattle.int_format.specs.declared.format.Piece.TheVariants.{Literal, Convert}
 
 -- ---- flags
 
@@ -22,7 +21,7 @@ marks =
     (48, Zeros) ∷ []
 
 abbrev pub mark_of : ℕ → Option Mark
-mark_of c = option_map (λ m. m.1) (find (λ m. m.0 == c) marks)
+mark_of c = of_byte marks c
 
 abbrev pub no_flags : Flags
 no_flags = record { groups = false; left = false; plus = false; space = false; zeros = false }
@@ -45,13 +44,6 @@ flags_behind f (c ∷ cs) = elim (mark_of c) [
 
 abbrev pub flags : List ℕ → Flags × ℕ
 flags bs = flags_behind no_flags bs
-
--- ---- numbers
-
--- the precision behind a `.`, if the `.` is there; without digits it is 0
-abbrev pub precision : List ℕ → Option (Option ℕ × ℕ)
-precision [] = Some (None, 0)
-precision (c ∷ cs) = if c == 46 then (leading_number cs >>= λ r. Some (Some r.0, r.1 + 1)) else Some (None, 0)
 
 -- ---- conversions
 
@@ -78,32 +70,9 @@ letter bs = option_map (λ s. (s, modifier bs + 1)) (is_signed (drop (modifier b
 unfoldable pub conversion_with : Flags → ℕ → List ℕ → Option (Conversion × ℕ)
 conversion_with f n bs = do
   w ← leading_number (drop n bs)
-  p ← precision (drop (n + w.1) bs)
+  p ← number_after 46 0 (drop (n + w.1) bs)
   l ← letter (drop (n + w.1 + p.1) bs)
   Some (record { flags = f; width = w.0; precision = p.0; signed = l.0 }, n + w.1 + p.1 + l.1)
 
 abbrev pub conversion : List ℕ → Option (Conversion × ℕ)
 conversion bs = conversion_with (flags bs).0 (flags bs).1 bs
-
--- what a `%` begins: `%%`, which is a `%`, or a conversion
-abbrev pub behind_percent : List ℕ → Option (Piece × ℕ)
-behind_percent [] = None
-behind_percent (c ∷ cs) = if c == 37 then Some (Literal 37, 1) else option_map (λ r. (Convert r.0, r.1)) (conversion (c ∷ cs))
-
--- the piece that a byte begins, and how many of the bytes behind it belong to it
-unfoldable pub piece : ℕ → List ℕ → Option (Piece × ℕ)
-piece c cs = if c == 37 then behind_percent cs else Some (Literal c, 0)
-
--- a piece with its place before others
-abbrev pub followed : ℕ × Piece → Result (List (ℕ × Piece)) ℕ → Result (List (ℕ × Piece)) ℕ
-followed p (Ok ps) = Ok (p ∷ ps)
-followed p (Err at) = Err at
-
--- the pieces of a format, each with its place, from a place on and behind so many bytes that belong to a piece before them; or the place of the first `%` that begins no conversion
-unfoldable pub pieces : ℕ → ℕ → List ℕ → Result (List (ℕ × Piece)) ℕ
-pieces skip at [] = Ok []
-pieces (suc skip) at (c ∷ cs) = pieces skip (at + 1) cs
-pieces zero at (c ∷ cs) = elim (piece c cs) [
-  | None ↦ Err at
-  | Some p ↦ followed (at, p.0) (pieces p.1 (at + 1) cs)
-]

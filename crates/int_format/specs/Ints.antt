@@ -1,19 +1,20 @@
 -- The text of a format with its numbers (XSH fprintf: `d`, `i` and `u`, with the flag `'`).
-use Rattle.std.specs.Prelude.{◌≡◌, ℕ, ℤ, pos, negsuc, zero, suc, ◌+◌, ◌-◌, ◌^◌, nat_lt, ◌&&◌, Bool, true, false, List, [], ◌∷◌, ◌++◌, length, replicate, codes, Option, Some, None, is_none, unwrap_or, option_map, IfSome, Result, Ok, Err, if◌then◌else◌}
-use Rattle.lc_base.specs.declared.refusal.FormatRefusal.{FormatRefusal}
-use Rattle.lc_base.specs.declared.refusal.FormatRefusal.TheVariants.{BadFormat, MissingNumber, TooBig}
-use Rattle.lc_base.specs.Limits.{within}
+use Rattle.std.specs.Prelude.{◌≡◌, ℕ, ℤ, pos, negsuc, zero, suc, ◌+◌, ◌-◌, ◌^◌, nat_lt, ◌&&◌, Bool, true, false, List, [], ◌∷◌, ◌++◌, length, replicate, codes, Option, Some, None, is_none, unwrap_or, IfSome, Result, Ok, Err, if◌then◌else◌}
 use Rattle.digit_groups.specs.Groups.{grouped, separates}
+use Rattle.digit_groups.specs.Refusals.{ValueRefusal}
+use Rattle.digit_groups.specs.Refusals as formats
+use Rattle.digit_groups.specs.Formats.{formatted, within, refused_as}
+unfoldable pub use Rattle.digit_groups.specs.Formats.{pieces_text, missing}
 use Rattle.numeric_cat.specs.NumericValues.{NumericValues}
 use Rattle.int_format.specs.declared.format.Conversion.{Conversion}
-use Rattle.int_format.specs.declared.format.Piece.{Piece}
-use Rattle.int_format.specs.declared.format.Piece.TheVariants.{Literal, Convert}
 use Rattle.int_format.specs.declared.layout.Fill.{Fill}
 use Rattle.int_format.specs.declared.layout.Fill.TheVariants.{Before, Between, Behind}
 use Rattle.int_format.specs.declared.fault.IntFault.{IntFault}
 use Rattle.int_format.specs.declared.fault.IntFault.TheVariants as faults
 use Rattle.int_format.specs.Digits.{digits_at_least}
-use Rattle.int_format.specs.Formats.{pieces}
+use Rattle.int_format.specs.Formats.{conversion}
+use Rattle.lc_base.specs.declared.refusal.FormatRefusal.{FormatRefusal}
+use Rattle.lc_base.specs.declared.refusal.FormatRefusal.TheVariants.{BadFormat, MissingNumber, TooBig}
 
 -- whether a number is from -2 ^ 63 to 2 ^ 64 - 1
 abbrev pub is_number : ℤ → Bool
@@ -61,58 +62,19 @@ conversion_text n c v = padded (fill_of c) (c.width - (length (sign_text c v) + 
 
 -- ---- a format
 
--- the text of a piece, which is that of the first number where it is a conversion
-abbrev pub piece_text : NumericValues → Piece → List ℤ → List ℕ
-piece_text n (Literal b) numbers = b ∷ []
-piece_text n (Convert c) [] = []
-piece_text n (Convert c) (v ∷ numbers) = conversion_text n c v
-
--- the numbers that a piece leaves
-abbrev pub numbers_behind : Piece → List ℤ → List ℤ
-numbers_behind (Literal b) numbers = numbers
-numbers_behind (Convert c) [] = []
-numbers_behind (Convert c) (v ∷ numbers) = numbers
-
--- the text of pieces with their numbers; those that are left over are passed over
-unfoldable pub pieces_text : NumericValues → List (ℕ × Piece) → List ℤ → List ℕ
-pieces_text n [] numbers = []
-pieces_text n (p ∷ ps) numbers = piece_text n p.1 numbers ++ pieces_text n ps (numbers_behind p.1 numbers)
-
--- the place of the first conversion for which no number is left of so many
-unfoldable pub missing : List (ℕ × Piece) → ℕ → Option ℕ
-missing [] n = None
-missing ((at, Literal b) ∷ ps) n = missing ps n
-missing ((at, Convert c) ∷ ps) zero = Some at
-missing ((at, Convert c) ∷ ps) (suc n) = missing ps n
-
--- the first refusal of a format with so many numbers: a bad conversion goes before a missing number
-abbrev pub refusal : Result (List (ℕ × Piece)) ℕ → ℕ → Option FormatRefusal
-refusal (Err at) numbers = Some (BadFormat at)
-refusal (Ok ps) numbers = option_map (λ at. MissingNumber at) (missing ps numbers)
-
--- the same behind pieces of which perhaps the one at this place lacked its number
-abbrev pub refusal_behind : Option ℕ → Result (List (ℕ × Piece)) ℕ → ℕ → Option FormatRefusal
-refusal_behind lacking (Err at) numbers = Some (BadFormat at)
-refusal_behind None (Ok ps) numbers = refusal (Ok ps) numbers
-refusal_behind (Some at) (Ok ps) numbers = Some (MissingNumber at)
-
--- the pieces, where no conversion is bad
-abbrev pub good_pieces : Result (List (ℕ × Piece)) ℕ → List (ℕ × Piece)
-good_pieces (Err at) = []
-good_pieces (Ok ps) = ps
-
--- the text, or what goes before it
-abbrev pub unless_refused : Option FormatRefusal → List ℕ → Result (List ℕ) FormatRefusal
-unless_refused None text = Ok text
-unless_refused (Some why) text = Err why
+-- why a format and its numbers have no text
+abbrev pub int_refusal : ValueRefusal → FormatRefusal
+int_refusal (formats.BadConversion at) = BadFormat at
+int_refusal (formats.MissingValue at) = MissingNumber at
+int_refusal formats.TooBig = TooBig
 
 -- the text of a format with its numbers, or the refusal
 abbrev pub ints : NumericValues → List ℕ → List ℤ → Result (List ℕ) FormatRefusal
-ints n format numbers = unless_refused (refusal (pieces 0 0 format) (length numbers)) (pieces_text n (good_pieces (pieces 0 0 format)) numbers)
+ints n format numbers = refused_as int_refusal (formatted conversion (conversion_text n) format numbers)
 
 -- an answer whose text has at most so many bytes
 abbrev pub at_most : ℕ → Result (List ℕ) FormatRefusal → Result (List ℕ) FormatRefusal
-at_most max_len (Ok text) = within max_len text
+at_most max_len (Ok text) = refused_as int_refusal (within max_len text)
 at_most max_len (Err why) = Err why
 
 -- why there is no text, unless memory was wanting

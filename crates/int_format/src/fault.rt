@@ -1,11 +1,13 @@
 //! Why numbers have no text.
 
-ghost use Rattle.std.specs.Prelude.{◌≡◌};
-ghost use Rattle.int_format.specs.Ints.{refusal_of};
-ghost use Rattle.int_format.specs.declared.fault.IntFault.TheVariants.{Memory};
+ghost use Rattle.std.specs.Prelude.{◌≡◌, List, ℕ, Result};
+ghost use Rattle.digit_groups.specs.Refusals.{ValueRefusal};
+ghost use Rattle.digit_groups.specs.Formats.{refused_as};
+ghost use Rattle.digit_groups.specs.Formats as formats;
+ghost use Rattle.int_format.specs.Ints.{Refuses, int_refusal, refusal_of};
 
+use digit_groups::ValueFault;
 use lc_base::FormatRefusal;
-use std::alloc::{AllocError, AllocFailed};
 use thiserror::Error;
 
 /// Why a format and its numbers have no text.
@@ -39,18 +41,15 @@ impl IntFault {
     }
 }
 
-impl From<AllocError> for IntFault {
-    ghost from_gives = { λ _ e. e ≡ Memory };
+impl From<ValueFault> for IntFault {
+    ghost from_gives = { λ f e. (answer : Result (List ℕ) ValueRefusal) → formats.Refuses f answer → Refuses e (refused_as int_refusal answer) };
 
-    fn from(_e: AllocError) -> IntFault {
-        IntFault::Memory
-    }
-}
-
-impl<T: Drop> From<AllocFailed<T>> for IntFault {
-    ghost from_gives = { λ _ e. e ≡ Memory };
-
-    fn from(_e: AllocFailed<T>) -> IntFault {
-        IntFault::Memory
+    fn from(fault: ValueFault) -> IntFault {
+        match fault {
+            ValueFault::BadConversion { at } => IntFault::BadFormat { at },
+            ValueFault::MissingValue { at } => IntFault::MissingNumber { at },
+            ValueFault::TooBig => IntFault::TooBig,
+            ValueFault::Memory => IntFault::Memory,
+        }
     }
 }

@@ -1,9 +1,9 @@
-//! Formats of whole numbers (XSH fprintf).
+//! Conversions of whole numbers (XSH fprintf).
 
 ghost use Rattle.std.specs.Prelude.{◌≡◌, ◌+◌, ◌≤◌, ◌<◌, length, IfSome};
-ghost use Rattle.int_format.specs.Formats.{mark_of, with_mark, flags, precision, modifier, is_signed, letter, conversion, behind_percent, piece};
+ghost use Rattle.int_format.specs.Formats.{mark_of, with_mark, flags, modifier, is_signed, letter, conversion};
 
-use digit_groups::leading_number;
+use digit_groups::{leading_number, number_after};
 
 /// A flag.
 #[derive(Clone, Copy, Debug, PartialEq, Eq)]
@@ -40,15 +40,6 @@ pub struct Conversion {
     pub precision: Option<u8>,
     /// `d` or `i`, and not `u`.
     pub signed: bool,
-}
-
-/// A part of a format.
-#[derive(Clone, Copy, Debug, PartialEq, Eq)]
-pub enum Piece {
-    /// A byte that is copied.
-    Literal(u8),
-    /// A number.
-    Convert(Conversion),
 }
 
 const NO_FLAGS: Flags = Flags {
@@ -108,21 +99,6 @@ fn flags_of(bytes: &[u8]) -> (Flags, usize)
     (flags, count)
 }
 
-/// The precision that bytes begin with, if a `.` is there, and how many bytes it takes.
-#[inline(always)]
-fn precision_of(bytes: &[u8]) -> Option<(Option<u8>, usize)>
-    ensures is { result ≡ precision bytes.now }
-    ensures within { IfSome result (λ r. r.1 ≤ length bytes.now) }
-{
-    match bytes {
-        [b'.', rest @ ..] => {
-            let (value, count) = leading_number(rest)?;
-            Some((Some(value), count + 1))
-        }
-        _ => Some((None, 0)),
-    }
-}
-
 /// How many bytes `l`, `ll` or `j` take, if one of them is there.
 #[inline(always)]
 fn modifier(bytes: &[u8]) -> usize
@@ -163,14 +139,14 @@ fn letter_of(bytes: &[u8]) -> Option<(bool, usize)>
 
 /// The conversion that bytes behind a `%` begin with, and how many bytes it takes.
 #[inline(always)]
-fn conversion_of(bytes: &[u8]) -> Option<(Conversion, usize)>
+pub fn conversion_of(bytes: &[u8]) -> Option<(Conversion, usize)>
     ensures is { result ≡ conversion bytes.now }
     ensures within { IfSome result (λ r. r.1 ≤ length bytes.now) }
 {
     let (flags, mut at) = flags_of(bytes);
     let (width, digits) = leading_number(&bytes[at..])?;
     at += digits;
-    let (precision, more) = precision_of(&bytes[at..])?;
+    let (precision, more) = number_after(b'.', 0, &bytes[at..])?;
     at += more;
     let (signed, last) = letter_of(&bytes[at..])?;
     let conversion = Conversion {
@@ -180,31 +156,4 @@ fn conversion_of(bytes: &[u8]) -> Option<(Conversion, usize)>
         signed,
     };
     Some((conversion, at + last))
-}
-
-/// What a `%` begins, and how many bytes behind it belong to it.
-#[inline(always)]
-fn behind_percent(bytes: &[u8]) -> Option<(Piece, usize)>
-    ensures is { result ≡ behind_percent bytes.now }
-    ensures within { IfSome result (λ r. r.1 ≤ length bytes.now) }
-{
-    if *bytes.first()? == b'%' {
-        return Some((Piece::Literal(b'%'), 1));
-    }
-    let (conversion, used) = conversion_of(bytes)?;
-    Some((Piece::Convert(conversion), used))
-}
-
-/// The piece that a byte begins, and how many of the bytes behind it belong to it.
-#[tactic(auto, unfolding(crate::specs::Formats::piece))]
-#[inline(always)]
-pub fn piece_of(byte: u8, behind: &[u8]) -> Option<(Piece, usize)>
-    ensures is { result ≡ piece byte behind.now }
-    ensures within { IfSome result (λ r. r.1 ≤ length behind.now) }
-{
-    if byte == b'%' {
-        behind_percent(behind)
-    } else {
-        Some((Piece::Literal(byte), 0))
-    }
 }

@@ -7,7 +7,7 @@ ghost use Rattle.int_format.specs.Ints.{is_number, shown, least_digits, sizes_of
 
 use crate::digits::digit_count;
 use crate::format::Conversion;
-use digit_groups::width_of;
+use digit_groups::grouped_width;
 use numeric_cat::Numeric;
 
 /// 2^64.
@@ -104,18 +104,6 @@ fn least_digits(c: &Conversion) -> usize
         Some(digits) => usize::from(digits),
         None => 1,
     }
-}
-
-/// How many bytes grouped digits have.
-#[inline(always)]
-pub fn grouped_width(n: usize, sizes: &[i32], sep: &[u8]) -> u128
-    requires { n ≤ 255 }
-    ensures is { result ≡ grouped_width n sizes.now (length sep.now) }
-    ensures length { (digits : List ℕ) → length digits ≡ n → length (grouped digits sizes.now sep.now) ≡ result }
-    ensures fits { result < 2 ^ 80 }
-{
-    let separators = width_of(n, sizes, 1) - n;
-    n as u128 + separators as u128 * sep.len() as u128
 }
 
 /// How many bytes fill a field that has so many.

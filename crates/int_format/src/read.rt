@@ -7,8 +7,7 @@ ghost use Rattle.digit_groups.specs.Digits.{last_digits};
 ghost use Rattle.int_format.specs.Ints.{is_number, ints, between, grouped_digits, below_zero, IsTextOf};
 
 use crate::digits::digit_count;
-use crate::layout::grouped_width;
-use digit_groups::width_of;
+use digit_groups::{grouped_width, width_of};
 use numeric_cat::Numeric;
 
 /// The most digits of a number.

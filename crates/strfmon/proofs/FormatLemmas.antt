@@ -1,13 +1,13 @@
--- Formats, one piece after another.
-use Rattle.std.proofs.Common.{◌≡◌, ℕ, suc, zero, ◌+◌, ◌-◌, ◌<◌, ◌≤◌, List, [], ◌∷◌, length, take, drop, get_or, Option, Some, None, Ok, Err, Bool, true, false, arith, refl, ap, subst, ◌∙◌, sym}
+-- Conversions, one part after another.
+use Rattle.std.proofs.Common.{◌≡◌, ℕ, suc, zero, ◌+◌, ◌-◌, ◌<◌, ◌≤◌, List, [], ◌∷◌, length, take, drop, get_or, Option, Some, None, Bool, true, false, arith, refl, ap, subst, ◌∙◌, sym}
 use Rattle.std.specs.Prelude.{◌==◌, if◌then◌else◌}
 use Rattle.std.proofs.lemmas.Bool.Decides.{nat_tests}
-use Rattle.std.proofs.Math.Seq.{drop-cons}
-use Rattle.std.proofs.lemmas.List.{take_rest, drop-drop, drop_all}
+use Rattle.std.proofs.lemmas.List.{drop-drop, drop_all}
 use Rattle.digit_groups.specs.Numbers.{further, number_behind, leading_number}
+use Rattle.digit_groups.specs.Conversions.{number_after}
+use Rattle.digit_groups.proofs.FormatLemmas.{from_index}
 use Rattle.strfmon.specs.declared.format.Flags.{Flags}
-use Rattle.strfmon.specs.declared.format.Piece.{Piece}
-use Rattle.strfmon.specs.Formats.{with_flag, flags_behind, flags, number_after, is_international, conversion, plain, piece, pieces, followed}
+use Rattle.strfmon.specs.Formats.{with_flag, flags_behind, flags, is_international, conversion, plain}
 
 -- ---- flags
 
@@ -26,12 +26,6 @@ flags_skip zero f bs h = sym (further_zero (flags_behind 0 f bs))
 flags_skip (suc k) f [] h = absurd (omega arith)
 flags_skip (suc k) f (c ∷ cs) h =
     ap (λ r. further 1 r) (flags_skip k f cs (omega arith)) ∙ further_twice 1 k (flags_behind 0 f (drop k cs)) ∙ ap (λ n. further n (flags_behind 0 f (drop k cs))) (omega arith)
-
--- the bytes from a place on
-pub from_index : (bs : List ℕ) (at : ℕ) → at < length bs → drop at bs ≡ get_or bs at 0 ∷ take (length bs - (at + 1)) (drop (at + 1) bs)
-from_index bs at lt =
-    let one : suc at ≡ at + 1 = omega arith in
-    drop-cons bs at 0 lt ∙ ap (λ n. get_or bs at 0 ∷ drop n bs) one ∙ ap (λ t. get_or bs at 0 ∷ t) (sym (take_rest bs (at + 1)))
 
 flag_more : (f g : Flags) (c used : ℕ) (cs : List ℕ) → with_flag f c cs ≡ Some (g, used) → 0 < used → used ≤ length cs + 1 →
     flags_behind 0 f (c ∷ cs) ≡ further used (flags_behind 0 g (drop used (c ∷ cs)))
@@ -66,37 +60,10 @@ pub flags_over : (bs : List ℕ) (at : ℕ) (f : Flags) → length bs ≤ at →
 unfolding flags_behind
 flags_over bs at f ge = ap (λ t. further at (flags_behind 0 f t)) (drop_all at bs ge) ∙ ap (λ n. Some (f, n)) (omega arith)
 
--- ---- pieces
-
-pub pieces_skip : (k at : ℕ) (bs : List ℕ) → pieces k at bs ≡ pieces 0 (at + k) (drop k bs)
-unfolding pieces
-pieces_skip zero at bs = ap (λ n. pieces 0 n bs) (omega arith)
-pieces_skip (suc k) at [] = refl
-pieces_skip (suc k) at (c ∷ cs) = pieces_skip k (at + 1) cs ∙ ap (λ n. pieces 0 n (drop k cs)) (omega arith)
-
-pub piece_bad : (bs : List ℕ) (at : ℕ) → at < length bs → piece (get_or bs at 0) (take (length bs - (at + 1)) (drop (at + 1) bs)) ≡ None → pieces 0 at (drop at bs) ≡ Err at
-unfolding pieces
-piece_bad bs at lt e = ap (λ t. pieces 0 at t) (from_index bs at lt) ∙ rw (e, pieces) refl
-
-pub piece_more : (bs : List ℕ) (at used : ℕ) (p : Piece) → at < length bs → piece (get_or bs at 0) (take (length bs - (at + 1)) (drop (at + 1) bs)) ≡ Some (p, used) →
-    pieces 0 at (drop at bs) ≡ followed (at, p) (pieces 0 (at + (1 + used)) (drop (at + (1 + used)) bs))
-unfolding pieces
-piece_more bs at used p lt e =
-    let tail : List ℕ = take (length bs - (at + 1)) (drop (at + 1) bs) in
-    ap (λ t. pieces 0 at t) (from_index bs at lt)
-    ∙ rw (e, pieces) (ap (λ r. followed (at, p) r)
-    (pieces_skip used (at + 1) tail
-    ∙ ap (λ n. pieces 0 n (drop used tail)) (omega arith)
-    ∙ ap (λ t. pieces 0 (at + (1 + used)) t) (ap (λ t. drop used t) (take_rest bs (at + 1)) ∙ drop-drop used (at + 1) bs ∙ ap (λ n. drop n bs) (omega arith))))
-
-pub pieces_over : (bs : List ℕ) (at : ℕ) → length bs ≤ at → pieces 0 at (drop at bs) ≡ Ok []
-unfolding pieces
-pieces_over bs at ge = ap (λ t. pieces 0 at t) (drop_all at bs ge)
-
 -- ---- conversions
 
 pub conversion_some : (bs : List ℕ) (f : Flags) (a w d : ℕ) (n : Option ℕ) (x : ℕ) (p : Option ℕ) (y : ℕ) (i : Bool) →
-    flags bs ≡ Some (f, a) → leading_number (drop a bs) ≡ Some (w, d) → number_after 35 (drop (a + d) bs) ≡ Some (n, x) → number_after 46 (drop (a + d + x) bs) ≡ Some (p, y) → is_international (drop (a + d + x + y) bs) ≡ Some i →
+    flags bs ≡ Some (f, a) → leading_number (drop a bs) ≡ Some (w, d) → number_after 35 1 (drop (a + d) bs) ≡ Some (n, x) → number_after 46 1 (drop (a + d + x) bs) ≡ Some (p, y) → is_international (drop (a + d + x + y) bs) ≡ Some i →
     conversion bs ≡ Some (record { flags = f; width = w; whole_digits = n; precision = p; international = i }, a + d + x + y + 1)
 unfolding conversion
 conversion_some bs f a w d n x p y i e1 e2 e3 e4 e5 = rw (e1, e2, e3, e4, e5) refl
@@ -109,16 +76,16 @@ pub no_width_there : (bs : List ℕ) (f : Flags) (a : ℕ) → flags bs ≡ Some
 unfolding conversion
 no_width_there bs f a e1 e2 = rw (e1, e2) refl
 
-pub no_digits_there : (bs : List ℕ) (f : Flags) (a w d : ℕ) → flags bs ≡ Some (f, a) → leading_number (drop a bs) ≡ Some (w, d) → number_after 35 (drop (a + d) bs) ≡ None → conversion bs ≡ None
+pub no_digits_there : (bs : List ℕ) (f : Flags) (a w d : ℕ) → flags bs ≡ Some (f, a) → leading_number (drop a bs) ≡ Some (w, d) → number_after 35 1 (drop (a + d) bs) ≡ None → conversion bs ≡ None
 unfolding conversion
 no_digits_there bs f a w d e1 e2 e3 = rw (e1, e2, e3) refl
 
-pub no_precision_there : (bs : List ℕ) (f : Flags) (a w d : ℕ) (n : Option ℕ) (x : ℕ) → flags bs ≡ Some (f, a) → leading_number (drop a bs) ≡ Some (w, d) → number_after 35 (drop (a + d) bs) ≡ Some (n, x) → number_after 46 (drop (a + d + x) bs) ≡ None → conversion bs ≡ None
+pub no_precision_there : (bs : List ℕ) (f : Flags) (a w d : ℕ) (n : Option ℕ) (x : ℕ) → flags bs ≡ Some (f, a) → leading_number (drop a bs) ≡ Some (w, d) → number_after 35 1 (drop (a + d) bs) ≡ Some (n, x) → number_after 46 1 (drop (a + d + x) bs) ≡ None → conversion bs ≡ None
 unfolding conversion
 no_precision_there bs f a w d n x e1 e2 e3 e4 = rw (e1, e2, e3, e4) refl
 
 pub no_letter_there : (bs : List ℕ) (f : Flags) (a w d : ℕ) (n : Option ℕ) (x : ℕ) (p : Option ℕ) (y : ℕ) →
-    flags bs ≡ Some (f, a) → leading_number (drop a bs) ≡ Some (w, d) → number_after 35 (drop (a + d) bs) ≡ Some (n, x) → number_after 46 (drop (a + d + x) bs) ≡ Some (p, y) → is_international (drop (a + d + x + y) bs) ≡ None → conversion bs ≡ None
+    flags bs ≡ Some (f, a) → leading_number (drop a bs) ≡ Some (w, d) → number_after 35 1 (drop (a + d) bs) ≡ Some (n, x) → number_after 46 1 (drop (a + d + x) bs) ≡ Some (p, y) → is_international (drop (a + d + x + y) bs) ≡ None → conversion bs ≡ None
 unfolding conversion
 no_letter_there bs f a w d n x p y e1 e2 e3 e4 e5 = rw (e1, e2, e3, e4, e5) refl
 

@@ -1,7 +1,6 @@
 -- Amounts in decimal digits, rounded half to even (XSH strfmon, right precision; the rounding is our own).
-use Rattle.std.specs.Prelude.{◌≡◌, ℕ, ◌+◌, ◌-◌, ◌*◌, ◌/◌, ◌%◌, ◌^◌, nat_lt, ◌==◌, ◌&&◌, ◌||◌, min, max, unsigned_abs, List, ◌++◌, length, replicate, if◌then◌else◌}
-use Rattle.std.specs.Int.Digits.{digits_of}
-use Rattle.digit_groups.specs.Digits.{last_digits}
+use Rattle.std.specs.Prelude.{◌≡◌, ℕ, ◌+◌, ◌-◌, ◌*◌, ◌/◌, ◌%◌, ◌^◌, nat_lt, ◌==◌, ◌&&◌, ◌||◌, min, unsigned_abs, List, ◌++◌, replicate, if◌then◌else◌}
+use Rattle.digit_groups.specs.Digits.{digit_count, last_digits}
 use Rattle.strfmon.specs.declared.decimal.Decimal.{Decimal}
 use Rattle.lc_base.specs.Amounts.{MoneyAmount}
 
@@ -16,10 +15,6 @@ fraction_kept p a = min p a.scale
 -- the magnitude of an amount in units of its last digit that is kept
 abbrev pub magnitude : ℕ → MoneyAmount → ℕ
 magnitude p a = rounded (unsigned_abs a.units) (10 ^ (a.scale - fraction_kept p a))
-
--- how many digits a whole number has, at least one
-abbrev pub digit_count : ℕ → ℕ
-digit_count n = max 1 (length (digits_of 10 n))
 
 -- the whole digits of an amount, without leading zeros, at least `0`
 abbrev pub whole_digits : ℕ → MoneyAmount → List ℕ

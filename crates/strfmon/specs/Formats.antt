@@ -1,16 +1,15 @@
--- Formats of amounts: conversions and bytes that are copied (XSH strfmon; bounds and the refusal are our own).
-use Rattle.std.specs.Prelude.{ℕ, zero, suc, ◌+◌, ◌==◌, ◌&&◌, Bool, true, false, List, [], ◌∷◌, drop, Option, Some, None, is_some, is_none, option_map, Result, Ok, Err, if◌then◌else◌}
+-- Conversions of amounts (XSH strfmon; bounds and the refusal are our own).
+use Rattle.std.specs.Prelude.{ℕ, zero, suc, ◌+◌, ◌==◌, ◌&&◌, Bool, true, false, List, [], ◌∷◌, drop, Option, Some, None, is_some, is_none, option_map, if◌then◌else◌}
 use Rattle.std.specs.Int.{is_in_range}
-use Rattle.std.specs.List.{find}
 use Rattle.lc_base.specs.Lines.{◌>>=◌}
 use Rattle.digit_groups.specs.Numbers.{further, leading_number}
+use Rattle.digit_groups.specs.Conversions.{of_byte, number_after}
+unfoldable pub use Rattle.digit_groups.specs.Formats.{piece, pieces}
 use Rattle.strfmon.specs.declared.format.Signs.TheVariants.{Plus, Parentheses}
 use Rattle.strfmon.specs.declared.format.Mark.{Mark}
 use Rattle.strfmon.specs.declared.format.Mark.TheVariants.{NoGroups, SignTexts, InParentheses, NoSymbol, LeftAligned}
 use Rattle.strfmon.specs.declared.format.Flags.{Flags}
 use Rattle.strfmon.specs.declared.format.Conversion.{Conversion}
-use Rattle.strfmon.specs.declared.format.Piece.{Piece}
-use Rattle.strfmon.specs.declared.format.Piece.TheVariants.{Literal, Convert}
 
 -- ---- flags
 
@@ -24,7 +23,7 @@ marks =
     (45, LeftAligned) ∷ []
 
 abbrev pub mark_of : ℕ → Option Mark
-mark_of c = option_map (λ m. m.1) (find (λ m. m.0 == c) marks)
+mark_of c = of_byte marks c
 
 abbrev pub no_flags : Flags
 no_flags = record { fill = None; no_groups = false; signs = None; no_symbol = false; left = false }
@@ -70,13 +69,6 @@ flags_behind zero f (c ∷ cs) = elim (with_flag f c cs) [
 abbrev pub flags : List ℕ → Option (Flags × ℕ)
 flags bs = flags_behind 0 no_flags bs
 
--- ---- numbers
-
--- the number behind a sign, if the sign is there; it needs a digit
-abbrev pub number_after : ℕ → List ℕ → Option (Option ℕ × ℕ)
-number_after sign [] = Some (None, 0)
-number_after sign (c ∷ cs) = if c == sign then (leading_number cs >>= λ r. if r.1 == 0 then None else Some (Some r.0, r.1 + 1)) else Some (None, 0)
-
 -- ---- conversions
 
 -- whether a conversion is international: `i`, or else `n`
@@ -89,34 +81,11 @@ unfoldable pub conversion : List ℕ → Option (Conversion × ℕ)
 conversion bs = do
   f ← flags bs
   w ← leading_number (drop f.1 bs)
-  n ← number_after 35 (drop (f.1 + w.1) bs)
-  p ← number_after 46 (drop (f.1 + w.1 + n.1) bs)
+  n ← number_after 35 1 (drop (f.1 + w.1) bs)
+  p ← number_after 46 1 (drop (f.1 + w.1 + n.1) bs)
   international ← is_international (drop (f.1 + w.1 + n.1 + p.1) bs)
   Some (record { flags = f.0; width = w.0; whole_digits = n.0; precision = p.0; international = international }, f.1 + w.1 + n.1 + p.1 + 1)
 
 -- the conversion of a letter with nothing before it
 abbrev pub plain : Bool → Conversion
 plain international = record { flags = no_flags; width = 0; whole_digits = None; precision = None; international = international }
-
--- what a `%` begins: `%%`, which is a `%`, or a conversion
-abbrev pub behind_percent : List ℕ → Option (Piece × ℕ)
-behind_percent [] = None
-behind_percent (c ∷ cs) = if c == 37 then Some (Literal 37, 1) else option_map (λ r. (Convert r.0, r.1)) (conversion (c ∷ cs))
-
--- the piece that a byte begins, and how many of the bytes behind it belong to it
-unfoldable pub piece : ℕ → List ℕ → Option (Piece × ℕ)
-piece c cs = if c == 37 then behind_percent cs else Some (Literal c, 0)
-
--- a piece with its place before others
-abbrev pub followed : ℕ × Piece → Result (List (ℕ × Piece)) ℕ → Result (List (ℕ × Piece)) ℕ
-followed p (Ok ps) = Ok (p ∷ ps)
-followed p (Err at) = Err at
-
--- the pieces of a format, each with its place, from a place on and behind so many bytes that belong to a piece before them; or the place of the first `%` that begins no conversion
-unfoldable pub pieces : ℕ → ℕ → List ℕ → Result (List (ℕ × Piece)) ℕ
-pieces skip at [] = Ok []
-pieces (suc skip) at (c ∷ cs) = pieces skip (at + 1) cs
-pieces zero at (c ∷ cs) = elim (piece c cs) [
-  | None ↦ Err at
-  | Some p ↦ followed (at, p.0) (pieces p.1 (at + 1) cs)
-]

@@ -1,20 +1,21 @@
 -- The text of a format with its amounts (XSH strfmon).
-use Rattle.std.specs.Prelude.{◌≡◌, ℕ, ℤ, pos, zero, suc, ◌-◌, nat_le, ◌==◌, int_lt, not, Bool, List, [], ◌∷◌, ◌++◌, length, replicate, codes, Option, Some, None, unwrap_or, option_map, IfSome, Result, Ok, Err, if◌then◌else◌}
+use Rattle.std.specs.Prelude.{◌≡◌, ℕ, ℤ, pos, ◌-◌, nat_le, ◌==◌, int_lt, not, Bool, List, [], ◌++◌, length, replicate, codes, Option, Some, None, unwrap_or, IfSome, Result, Ok, Err, if◌then◌else◌}
 use Rattle.digit_groups.specs.Groups.{grouped, grouped_width}
+use Rattle.digit_groups.specs.Refusals.{ValueRefusal}
+use Rattle.digit_groups.specs.Refusals as formats
+use Rattle.digit_groups.specs.Formats.{formatted, at_most, refused_as}
+unfoldable pub use Rattle.digit_groups.specs.Formats.{pieces_text, missing}
 use Rattle.monetary_cat.specs.MonetaryValues.{MonetaryValues, text_of, number_of}
 use Rattle.monetary_cat.specs.declared.keys.MonText.TheVariants.{MonDecimalPoint, MonThousandsSep}
 use Rattle.monetary_cat.specs.declared.keys.MonNumber.TheVariants.{IntFracDigits, FracDigits}
 use Rattle.strfmon.specs.declared.format.Conversion.{Conversion}
-use Rattle.strfmon.specs.declared.format.Piece.{Piece}
-use Rattle.strfmon.specs.declared.format.Piece.TheVariants.{Literal, Convert}
 use Rattle.strfmon.specs.declared.fault.MoneyFault.{MoneyFault}
 use Rattle.strfmon.specs.declared.fault.MoneyFault.TheVariants as faults
 use Rattle.lc_base.specs.Amounts.{MoneyAmount}
+use Rattle.strfmon.specs.Decimals.{whole_digits, fraction_digits}
+use Rattle.strfmon.specs.Formats.{conversion}
 use Rattle.lc_base.specs.declared.refusal.FormatRefusal.{FormatRefusal}
 use Rattle.lc_base.specs.declared.refusal.FormatRefusal.TheVariants.{BadFormat, MissingAmount, TooBig}
-use Rattle.lc_base.specs.Limits.{within}
-use Rattle.strfmon.specs.Decimals.{whole_digits, fraction_digits}
-use Rattle.strfmon.specs.Formats.{pieces}
 use Rattle.strfmon.specs.Looks.{Look, look_of, parts_text, given}
 
 -- ---- the number
@@ -107,56 +108,15 @@ conversion_text v c a = in_field c.flags.left c.width (aligned_text v c a)
 
 -- ---- a format
 
--- the text of a piece, which is that of the first amount where it is a conversion
-abbrev pub piece_text : MonetaryValues → Piece → List MoneyAmount → List ℕ
-piece_text v (Literal b) amounts = b ∷ []
-piece_text v (Convert c) [] = []
-piece_text v (Convert c) (a ∷ amounts) = conversion_text v c a
-
--- the amounts that a piece leaves
-abbrev pub amounts_behind : Piece → List MoneyAmount → List MoneyAmount
-amounts_behind (Literal b) amounts = amounts
-amounts_behind (Convert c) [] = []
-amounts_behind (Convert c) (a ∷ amounts) = amounts
-
--- the text of pieces with their amounts; those that are left over are passed over
-unfoldable pub pieces_text : MonetaryValues → List (ℕ × Piece) → List MoneyAmount → List ℕ
-pieces_text v [] amounts = []
-pieces_text v (p ∷ ps) amounts = piece_text v p.1 amounts ++ pieces_text v ps (amounts_behind p.1 amounts)
-
--- the place of the first conversion for which no amount is left of so many
-unfoldable pub missing : List (ℕ × Piece) → ℕ → Option ℕ
-missing [] n = None
-missing ((at, Literal b) ∷ ps) n = missing ps n
-missing ((at, Convert c) ∷ ps) zero = Some at
-missing ((at, Convert c) ∷ ps) (suc n) = missing ps n
-
--- the first refusal of a format with so many amounts: a bad conversion goes before a missing amount
-abbrev pub refusal : Result (List (ℕ × Piece)) ℕ → ℕ → Option FormatRefusal
-refusal (Err at) amounts = Some (BadFormat at)
-refusal (Ok ps) amounts = option_map (λ at. MissingAmount at) (missing ps amounts)
-
--- the same behind pieces of which perhaps the one at this place lacked its amount
-abbrev pub refusal_behind : Option ℕ → Result (List (ℕ × Piece)) ℕ → ℕ → Option FormatRefusal
-refusal_behind lacking (Err at) amounts = Some (BadFormat at)
-refusal_behind None (Ok ps) amounts = refusal (Ok ps) amounts
-refusal_behind (Some at) (Ok ps) amounts = Some (MissingAmount at)
-
--- the pieces, where no conversion is bad
-abbrev pub good_pieces : Result (List (ℕ × Piece)) ℕ → List (ℕ × Piece)
-good_pieces (Err at) = []
-good_pieces (Ok ps) = ps
-
--- the text, or what goes before it
-abbrev pub unless_refused : Option FormatRefusal → Result (List ℕ) FormatRefusal → Result (List ℕ) FormatRefusal
-unless_refused None answer = answer
-unless_refused (Some why) answer = Err why
+-- why a format and its amounts have no text
+abbrev pub money_refusal : ValueRefusal → FormatRefusal
+money_refusal (formats.BadConversion at) = BadFormat at
+money_refusal (formats.MissingValue at) = MissingAmount at
+money_refusal formats.TooBig = TooBig
 
 -- the text of a format with its amounts, of at most so many bytes, or the refusal
 abbrev pub money : MonetaryValues → List ℕ → List MoneyAmount → ℕ → Result (List ℕ) FormatRefusal
-money v format amounts max_len =
-    unless_refused (refusal (pieces 0 0 format) (length amounts))
-    (within max_len (pieces_text v (good_pieces (pieces 0 0 format)) amounts))
+money v format amounts max_len = refused_as money_refusal (at_most max_len (formatted conversion (conversion_text v) format amounts))
 
 -- why there is no text, unless memory was wanting
 abbrev pub refusal_of : MoneyFault → Option FormatRefusal

@@ -5,8 +5,7 @@ use Rattle.monetary_cat.specs.MonetaryValues.{MonetaryValues, text_of}
 use Rattle.monetary_cat.specs.declared.keys.MonText.TheVariants.{MonThousandsSep}
 use Rattle.strfmon.specs.declared.decimal.Decimal.{Decimal}
 use Rattle.strfmon.specs.declared.format.Conversion.{Conversion}
-use Rattle.digit_groups.specs.Digits.{last_digits}
-use Rattle.strfmon.specs.Decimals.{digit_count}
+use Rattle.digit_groups.specs.Digits.{digit_count, last_digits}
 use Rattle.strfmon.specs.Looks.{Look, parts_text}
 use Rattle.strfmon.specs.Money.{sizes_of, radix_of, spaces}
 

@@ -1,11 +1,15 @@
 //! Why amounts have no text.
 
-ghost use Rattle.std.specs.Prelude.{◌≡◌};
-ghost use Rattle.strfmon.specs.Money.{refusal_of};
+ghost use Rattle.std.specs.Prelude.{◌≡◌, List, ℕ, Result};
+ghost use Rattle.digit_groups.specs.Refusals.{ValueRefusal};
+ghost use Rattle.digit_groups.specs.Formats.{refused_as};
+ghost use Rattle.digit_groups.specs.Formats as formats;
+ghost use Rattle.strfmon.specs.Money.{Refuses, money_refusal, refusal_of};
 ghost use Rattle.strfmon.specs.declared.fault.MoneyFault.TheVariants.{Memory};
 
+use digit_groups::ValueFault;
 use lc_base::FormatRefusal;
-use std::alloc::{AllocError, AllocFailed};
+use std::alloc::AllocError;
 use thiserror::Error;
 
 /// Why a format and its amounts have no text.
@@ -47,10 +51,15 @@ impl From<AllocError> for MoneyFault {
     }
 }
 
-impl<T: Drop> From<AllocFailed<T>> for MoneyFault {
-    ghost from_gives = { λ _ e. e ≡ Memory };
+impl From<ValueFault> for MoneyFault {
+    ghost from_gives = { λ f e. (answer : Result (List ℕ) ValueRefusal) → formats.Refuses f answer → Refuses e (refused_as money_refusal answer) };
 
-    fn from(_e: AllocFailed<T>) -> MoneyFault {
-        MoneyFault::Memory
+    fn from(fault: ValueFault) -> MoneyFault {
+        match fault {
+            ValueFault::BadConversion { at } => MoneyFault::BadFormat { at },
+            ValueFault::MissingValue { at } => MoneyFault::MissingAmount { at },
+            ValueFault::TooBig => MoneyFault::TooBig,
+            ValueFault::Memory => MoneyFault::Memory,
+        }
     }
 }

@@ -1,9 +1,9 @@
 //! Formats of amounts (XSH strfmon).
 
 ghost use Rattle.std.specs.Prelude.{◌≡◌, ◌+◌, ◌<◌, ◌≤◌, length, IfSome, IsTrue};
-ghost use Rattle.strfmon.specs.Formats.{mark_of, with_mark, with_fill, with_flag, flags, number_after, is_international, conversion, behind_percent, piece, plain};
+ghost use Rattle.strfmon.specs.Formats.{mark_of, with_mark, with_fill, with_flag, flags, is_international, conversion, plain};
 
-use digit_groups::leading_number;
+use digit_groups::{leading_number, number_after};
 
 /// How the sign of an amount shows.
 #[derive(Clone, Copy, Debug, PartialEq, Eq)]
@@ -52,15 +52,6 @@ pub struct Conversion {
     pub precision: Option<u8>,
     /// `i`, and not `n`.
     pub international: bool,
-}
-
-/// A part of a format.
-#[derive(Clone, Copy, Debug, PartialEq, Eq)]
-pub enum Piece {
-    /// A byte that is copied.
-    Literal(u8),
-    /// An amount.
-    Convert(Conversion),
 }
 
 const NO_FLAGS: Flags = Flags {
@@ -164,24 +155,6 @@ fn flags_of(bytes: &[u8]) -> Option<(Flags, usize)>
     Some((flags, at))
 }
 
-/// The number behind a sign, if the sign is there, and how many bytes both take.
-#[inline(always)]
-fn number_after(sign: u8, bytes: &[u8]) -> Option<(Option<u8>, usize)>
-    ensures is { result ≡ number_after sign bytes.now }
-    ensures within { IfSome result (λ r. r.1 ≤ length bytes.now) }
-{
-    match bytes {
-        [first, rest @ ..] if *first == sign => {
-            let (value, count) = leading_number(rest)?;
-            if count == 0 {
-                return None;
-            }
-            Some((Some(value), count + 1))
-        }
-        _ => Some((None, 0)),
-    }
-}
-
 /// Whether a conversion ends with `i` or with `n`.
 #[inline(always)]
 fn is_international(bytes: &[u8]) -> Option<bool>
@@ -204,9 +177,9 @@ fn conversion_of(bytes: &[u8]) -> Option<(Conversion, usize)>
     let (flags, mut at) = flags_of(bytes)?;
     let (width, digits) = leading_number(&bytes[at..])?;
     at += digits;
-    let (whole_digits, more) = number_after(b'#', &bytes[at..])?;
+    let (whole_digits, more) = number_after(b'#', 1, &bytes[at..])?;
     at += more;
-    let (precision, more) = number_after(b'.', &bytes[at..])?;
+    let (precision, more) = number_after(b'.', 1, &bytes[at..])?;
     at += more;
     let international = is_international(&bytes[at..])?;
     let conversion = Conversion {
@@ -258,39 +231,12 @@ pub fn is_plain(c: &Conversion) -> bool
 
 /// The same as `conversion_of`, at once where a letter stands behind the `%`.
 #[inline(always)]
-fn quick_conversion(bytes: &[u8]) -> Option<(Conversion, usize)>
+pub fn quick_conversion(bytes: &[u8]) -> Option<(Conversion, usize)>
     ensures is { result ≡ conversion bytes.now }
     ensures within { IfSome result (λ r. r.1 ≤ length bytes.now) }
 {
     match is_international(bytes) {
         Some(international) => Some((plain_conversion(international), 1)),
         None => conversion_of(bytes),
-    }
-}
-
-/// What a `%` begins, and how many bytes behind it belong to it.
-#[inline(always)]
-fn behind_percent(bytes: &[u8]) -> Option<(Piece, usize)>
-    ensures is { result ≡ behind_percent bytes.now }
-    ensures within { IfSome result (λ r. r.1 ≤ length bytes.now) }
-{
-    if *bytes.first()? == b'%' {
-        return Some((Piece::Literal(b'%'), 1));
-    }
-    let (conversion, used) = quick_conversion(bytes)?;
-    Some((Piece::Convert(conversion), used))
-}
-
-/// The piece that a byte begins, and how many of the bytes behind it belong to it.
-#[tactic(auto, unfolding(crate::specs::Formats::piece))]
-#[inline(always)]
-pub fn piece_of(byte: u8, behind: &[u8]) -> Option<(Piece, usize)>
-    ensures is { result ≡ piece byte behind.now }
-    ensures within { IfSome result (λ r. r.1 ≤ length behind.now) }
-{
-    if byte == b'%' {
-        behind_percent(behind)
-    } else {
-        Some((Piece::Literal(byte), 0))
     }
 }

@@ -3,7 +3,8 @@
 ghost use Rattle.std.specs.Prelude.{◌≡◌, ◌+◌, ◌^◌, ◌<◌, ◌≤◌, ◌-◌, not, length, List, ℕ, IfSome};
 ghost use Rattle.std.specs.Option.{ForSome};
 ghost use Rattle.digit_groups.specs.Groups.{grouped, grouped_width};
-ghost use Rattle.strfmon.specs.Decimals.{whole_digits, digit_count};
+ghost use Rattle.digit_groups.specs.Digits.{digit_count};
+ghost use Rattle.strfmon.specs.Decimals.{whole_digits};
 ghost use Rattle.strfmon.specs.Looks.{look_of, parts_text};
 ghost use Rattle.strfmon.specs.Money.{precision_of, sizes_of, radix_of, fraction_text, aligned_digits, fill_count, pad_count, text_with, with_spaces, conversion_text};
 ghost use Rattle.strfmon.specs.Shown.{shown_parts};
@@ -13,7 +14,7 @@ ghost use Rattle.strfmon.specs.Seen.{seen};
 use crate::decimal::{Decimal, decimal_of, is_negative};
 use crate::format::Conversion;
 use crate::look::{Look, given, look_of};
-use digit_groups::width_of;
+use digit_groups::grouped_width;
 use lc_base::Amount;
 use monetary_cat::{MonNumber, MonText, Monetary};
 
@@ -73,18 +74,6 @@ pub fn radix_of(m: &Monetary) -> &[u8]
 {
     let radix = m.text(MonText::MonDecimalPoint);
     if radix.is_empty() { b"." } else { radix }
-}
-
-/// How many bytes grouped digits have.
-#[inline(always)]
-fn grouped_width(n: usize, sizes: &[i32], sep: &[u8]) -> u128
-    requires { n ≤ 255 }
-    ensures is { result ≡ grouped_width n sizes.now (length sep.now) }
-    ensures length { (digits : List ℕ) → length digits ≡ n → length (grouped digits sizes.now sep.now) ≡ result }
-    ensures fits { result < 2 ^ 80 }
-{
-    let separators = width_of(n, sizes, 1) - n;
-    n as u128 + separators as u128 * sep.len() as u128
 }
 
 /// The whole digits to align so many to.

@@ -4,7 +4,7 @@ use Rattle.digit_groups.specs.Groups.{grouped}
 use Rattle.digit_groups.specs.Digits.{last_digits}
 use Rattle.int_format.specs.Digits.{digit_count}
 use Rattle.int_format.specs.Ints.{shown, sign_text, least_digits, sizes_of, padded, conversion_text}
-use Rattle.int_format.proofs.DigitLemmas.{length-last_digits}
+use Rattle.digit_groups.proofs.DigitLemmas.{length-last_digits}
 use Rattle.int_format.proofs.IntLemmas.{laid_text, length-padded}
 use Rattle.int_format.proofs.layout.laid_out.Goals as goal
 

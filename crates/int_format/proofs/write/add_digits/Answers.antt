@@ -1,4 +1,4 @@
-use Rattle.std.proofs.Common.{◌≡◌, ◌++◌, take}
+use Rattle.std.proofs.Common.{◌≡◌, take}
 use Rattle.digit_groups.specs.Digits.{last_digits}
 use Rattle.int_format.proofs.DigitLemmas.{first_digits}
 use Rattle.int_format.proofs.write.add_digits.Goals as goal

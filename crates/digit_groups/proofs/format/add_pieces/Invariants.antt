@@ -1,0 +1,15 @@
+use Rattle.std.proofs.Common.{◌≡◌, ◌-◌, ◌≤◌, length, true}
+use Rattle.std.specs.List.{list_all}
+use Rattle.digit_groups.proofs.FormatLemmas.{IsWritten}
+use Rattle.digit_groups.proofs.format.add_pieces.Given as goal
+
+abbrev pub invariant-loop-at : goal.invariant-loop-at
+invariant-loop-at g l = record {
+  good : list_all g.C.FormatConversion.is_value l.left ≡ true;
+  written : IsWritten g.C.FormatConversion.conversion (g.C.FormatConversion.text l.category) l.format l.values l.at l.left l.out.items;
+  room : length l.out.items ≤ l.max;
+  within : l.at ≤ length l.format;
+}
+
+abbrev pub decreases-loop-at : goal.decreases-loop-at
+decreases-loop-at g l = length l.format - l.at

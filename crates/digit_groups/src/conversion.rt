@@ -1,0 +1,66 @@
+//! Conversions of values, as a format has them behind a `%` (XSH fprintf and strfmon).
+
+ghost use Rattle.std.specs.Prelude.{◌≡◌, ◌≤◌, length, IfSome};
+ghost use Rattle.digit_groups.specs.Conversions.{number_after};
+
+use crate::fault::ValueFault;
+use crate::number::leading_number;
+
+/// A conversion of a value to text.
+pub trait FormatConversion: Copy {
+    ghost use Rattle.std.specs.Prelude.{◌≡◌, ◌≤◌, ◌<◌, ◌++◌, ◌⊎◌, ℕ, List, Option, Bool, Err, true, length, IfSome, IfErr, OnOk};
+    ghost use Rattle.digit_groups.specs.declared.fault.ValueFault.TheVariants.{TooBig, Memory};
+
+    /// What says how values are written, as a category of a locale.
+    type Category;
+
+    /// What is converted.
+    type Value: Copy;
+
+    /// The conversion that bytes behind a `%` begin with, and how many bytes it takes.
+    ghost conversion: { List ℕ → Option (Self × ℕ) };
+
+    /// The text of a value.
+    ghost text: { Self.Category → Self → Self.Value → List ℕ };
+
+    /// Whether a value can be converted.
+    ghost is_value: { Self.Value → Bool };
+
+    /// Reads the conversion that bytes behind a `%` begin with.
+    fn read(bytes: &[u8]) -> Option<(Self, usize)>
+        ensures is { result ≡ conversion bytes.now }
+        ensures within { IfSome result (λ r. r.1 ≤ length bytes.now) };
+
+    /// Appends the text of a value, if it has at most `room` bytes.
+    fn add(
+        &self,
+        out: &mut Vec<u8>,
+        category: &Self::Category,
+        value: Self::Value,
+        room: usize,
+    ) -> Result<(), ValueFault>
+        requires { is_value value ≡ true }
+        ensures ok { OnOk result (out.new.items ≡ out.old.items ++ text category.now self.now value) }
+        ensures fits { OnOk result (length (text category.now self.now value) ≤ room) }
+        ensures too_big { result ≡ Err TooBig → room < length (text category.now self.now value) }
+        ensures only { IfErr result (λ e. (e ≡ TooBig) ⊎ (e ≡ Memory)) };
+}
+
+/// The number behind a sign, if the sign is there, and how many bytes both take. `None` where the
+/// number is over 255 or has fewer digits.
+#[inline(always)]
+pub fn number_after(sign: u8, least: usize, bytes: &[u8]) -> Option<(Option<u8>, usize)>
+    ensures is { result ≡ number_after sign least bytes.now }
+    ensures within { IfSome result (λ r. r.1 ≤ length bytes.now) }
+{
+    match bytes {
+        [first, rest @ ..] if *first == sign => {
+            let (value, count) = leading_number(rest)?;
+            if count < least {
+                return None;
+            }
+            Some((Some(value), count + 1))
+        }
+        _ => Some((None, 0)),
+    }
+}
