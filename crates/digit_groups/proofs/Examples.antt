@@ -4,7 +4,8 @@ use Rattle.std.specs.Prelude.{codes, ℤ, pos, negsuc, ◌==◌, if◌then◌els
 use Rattle.digit_groups.specs.Conversions.{of_byte, number_after}
 use Rattle.digit_groups.specs.Digits.{digit_count, last_digits}
 use Rattle.digit_groups.specs.Formats.{piece, pieces, pieces_text, missing, formatted, at_most}
-use Rattle.digit_groups.specs.Refusals.{ValueRefusal, BadConversion, MissingValue, TooBig}
+use Rattle.lc_base.specs.declared.refusal.FormatRefusal.{FormatRefusal}
+use Rattle.lc_base.specs.declared.refusal.FormatRefusal.TheVariants.{BadFormat, MissingNumber, TooBig}
 use Rattle.digit_groups.specs.Groups.{grouped, grouped_width, separated, separators}
 use Rattle.digit_groups.specs.Numbers.{number_behind, leading_number, leading_digits, small_value}
 
@@ -157,8 +158,8 @@ letter [] = None
 letter (c ∷ []) = if c == 110 then Some (1, 1) else None
 letter (c ∷ d ∷ cs) = if c == 110 then Some (1, 1) else if d == 110 then Some (c - 48, 2) else None
 
-abbrev shown : List ℕ → List ℕ → Result (List ℕ) ValueRefusal
-shown format values = formatted letter (λ width v. replicate width v) format values
+abbrev shown : List ℕ → List ℕ → Result (List ℕ) FormatRefusal
+shown format values = formatted letter (λ width v. replicate width v) (λ at. MissingNumber at) format values
 
 copied : shown (codes "a%nb%2n%%") (codes "xy") ≡ Ok (codes "axbyy%")
 unfolding piece pieces pieces_text missing
@@ -169,15 +170,15 @@ unfolding piece pieces pieces_text missing
 left_over = refl
 
 -- a bad conversion goes before a missing value
-bad_conversion : shown (codes "%n%n%q") (codes "x") ≡ Err (BadConversion 4)
+bad_conversion : shown (codes "%n%n%q") (codes "x") ≡ Err (BadFormat 4)
 unfolding piece pieces
 bad_conversion = refl
 
-missing_value : shown (codes "%n%2n") (codes "x") ≡ Err (MissingValue 2)
+missing_value : shown (codes "%n%2n") (codes "x") ≡ Err (MissingNumber 2)
 unfolding piece pieces missing
 missing_value = refl
 
-percent_at_end : shown (codes "a%") [] ≡ Err (BadConversion 1)
+percent_at_end : shown (codes "a%") [] ≡ Err (BadFormat 1)
 unfolding piece pieces
 percent_at_end = refl
 

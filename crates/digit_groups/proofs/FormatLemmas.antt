@@ -8,10 +8,12 @@ use Rattle.std.proofs.Math.Seq.{drop-cons}
 use Rattle.std.proofs.lemmas.List.{take_rest, drop-drop, drop_all, length-append, append-nil, append_assoc}
 use Rattle.digit_groups.specs.declared.piece.Piece.{Piece}
 use Rattle.digit_groups.specs.declared.piece.Piece.TheVariants.{Literal, Convert}
-use Rattle.digit_groups.specs.declared.fault.ValueFault.{ValueFault}
-use Rattle.digit_groups.specs.declared.fault.ValueFault.TheVariants as faults
-use Rattle.digit_groups.specs.Refusals.{ValueRefusal, BadConversion, MissingValue, TooBig}
-use Rattle.digit_groups.specs.Formats.{piece, pieces, followed, good_pieces, values_behind, piece_text, pieces_text, missing, refusal, refusal_behind, within, at_most, formatted, unless_refused, fault_of, Refuses}
+use Rattle.digit_groups.specs.declared.fault.FormatFault.{FormatFault}
+use Rattle.digit_groups.specs.declared.fault.FormatFault.TheVariants as faults
+use Rattle.lc_base.specs.declared.refusal.FormatRefusal.{FormatRefusal}
+use Rattle.lc_base.specs.declared.refusal.FormatRefusal.TheVariants.{BadFormat, TooBig}
+use Rattle.lc_base.specs.Limits.{within}
+use Rattle.digit_groups.specs.Formats.{piece, pieces, followed, good_pieces, values_behind, piece_text, pieces_text, missing, refusal, refusal_behind, at_most, formatted, unless_refused, refusal_of, Refuses}
 
 -- the bytes from a place on
 pub from_index : (bs : List ℕ) (at : ℕ) → at < length bs → drop at bs ≡ get_or bs at 0 ∷ take (length bs - (at + 1)) (drop (at + 1) bs)
@@ -49,82 +51,82 @@ module _ {C : Type 0} (read : List ℕ → Option (C × ℕ)) where
 
 -- ---- refusals
 
-bad_behind : (C : Type 0) (lacking : Option ℕ) (at n : ℕ) → refusal_behind {C = C} lacking (Err at) n ≡ Some (BadConversion at)
-bad_behind C None at n = refl
-bad_behind C (Some place) at n = refl
+bad_behind : (C : Type 0) (lacks : ℕ → FormatRefusal) (lacking : Option ℕ) (at n : ℕ) → refusal_behind {C = C} lacks lacking (Err at) n ≡ Some (BadFormat at)
+bad_behind C lacks None at n = refl
+bad_behind C lacks (Some place) at n = refl
 
-pub refusal_literal : {C : Type 0} (lacking : Option ℕ) (at b n : ℕ) (r : Result (List (ℕ × Piece C)) ℕ) → refusal_behind lacking (followed (at, Literal b) r) n ≡ refusal_behind lacking r n
+pub refusal_literal : {C : Type 0} (lacks : ℕ → FormatRefusal) (lacking : Option ℕ) (at b n : ℕ) (r : Result (List (ℕ × Piece C)) ℕ) → refusal_behind lacks lacking (followed (at, Literal b) r) n ≡ refusal_behind lacks lacking r n
 unfolding missing
-refusal_literal None at b n (Ok ps) = refl
-refusal_literal (Some place) at b n (Ok ps) = refl
-refusal_literal None at b n (Err e) = refl
-refusal_literal (Some place) at b n (Err e) = refl
+refusal_literal lacks None at b n (Ok ps) = refl
+refusal_literal lacks (Some place) at b n (Ok ps) = refl
+refusal_literal lacks None at b n (Err e) = refl
+refusal_literal lacks (Some place) at b n (Err e) = refl
 
-pub refusal_value : {C : Type 0} (lacking : Option ℕ) (at n : ℕ) (c : C) (r : Result (List (ℕ × Piece C)) ℕ) → 0 < n → refusal_behind lacking (followed (at, Convert c) r) n ≡ refusal_behind lacking r (n - 1)
+pub refusal_value : {C : Type 0} (lacks : ℕ → FormatRefusal) (lacking : Option ℕ) (at n : ℕ) (c : C) (r : Result (List (ℕ × Piece C)) ℕ) → 0 < n → refusal_behind lacks lacking (followed (at, Convert c) r) n ≡ refusal_behind lacks lacking r (n - 1)
 unfolding missing
-refusal_value lacking at zero c r some = absurd (omega arith)
-refusal_value None at (suc n) c (Ok ps) some = ap (λ k. option_map (λ at. MissingValue at) (missing ps k)) (omega arith)
-refusal_value (Some place) at (suc n) c (Ok ps) some = refl
-refusal_value None at (suc n) c (Err e) some = refl
-refusal_value (Some place) at (suc n) c (Err e) some = refl
+refusal_value lacks lacking at zero c r some = absurd (omega arith)
+refusal_value lacks None at (suc n) c (Ok ps) some = ap (λ k. option_map lacks (missing ps k)) (omega arith)
+refusal_value lacks (Some place) at (suc n) c (Ok ps) some = refl
+refusal_value lacks None at (suc n) c (Err e) some = refl
+refusal_value lacks (Some place) at (suc n) c (Err e) some = refl
 
 -- once a value lacks the count of what is left does not matter
-pub refusal_lacking : {C : Type 0} (place at n m : ℕ) (p : Piece C) (r : Result (List (ℕ × Piece C)) ℕ) → refusal_behind (Some place) (followed (at, p) r) n ≡ refusal_behind (Some place) r m
-refusal_lacking place at n m p (Ok ps) = refl
-refusal_lacking place at n m p (Err e) = refl
+pub refusal_lacking : {C : Type 0} (lacks : ℕ → FormatRefusal) (place at n m : ℕ) (p : Piece C) (r : Result (List (ℕ × Piece C)) ℕ) → refusal_behind lacks (Some place) (followed (at, p) r) n ≡ refusal_behind lacks (Some place) r m
+refusal_lacking lacks place at n m p (Ok ps) = refl
+refusal_lacking lacks place at n m p (Err e) = refl
 
-pub refusal_missing : {C : Type 0} (at : ℕ) (c : C) (r : Result (List (ℕ × Piece C)) ℕ) (m : ℕ) → refusal_behind None (followed (at, Convert c) r) 0 ≡ refusal_behind (Some at) r m
+pub refusal_missing : {C : Type 0} (lacks : ℕ → FormatRefusal) (at : ℕ) (c : C) (r : Result (List (ℕ × Piece C)) ℕ) (m : ℕ) → refusal_behind lacks None (followed (at, Convert c) r) 0 ≡ refusal_behind lacks (Some at) r m
 unfolding missing
-refusal_missing at c (Ok ps) m = refl
-refusal_missing at c (Err e) m = refl
+refusal_missing lacks at c (Ok ps) m = refl
+refusal_missing lacks at c (Err e) m = refl
 
-over_behind : (C : Type 0) (lacking : Option ℕ) (n : ℕ) → refusal_behind {C = C} lacking (Ok []) n ≡ option_map (λ at. MissingValue at) lacking
+over_behind : (C : Type 0) (lacks : ℕ → FormatRefusal) (lacking : Option ℕ) (n : ℕ) → refusal_behind {C = C} lacks lacking (Ok []) n ≡ option_map lacks lacking
 unfolding missing
-over_behind C None n = refl
-over_behind C (Some place) n = refl
+over_behind C lacks None n = refl
+over_behind C lacks (Some place) n = refl
 
-module _ {C : Type 0} (read : List ℕ → Option (C × ℕ)) where
-  pub refusal_bad : (lacking : Option ℕ) (n : ℕ) (bs : List ℕ) (at : ℕ) → at < length bs → piece read (get_or bs at 0) (take (length bs - (at + 1)) (drop (at + 1) bs)) ≡ None → refusal_behind lacking (pieces read 0 at (drop at bs)) n ≡ Some (BadConversion at)
-  refusal_bad lacking n bs at lt e = ap (λ r. refusal_behind lacking r n) (piece_bad read bs at lt e) ∙ bad_behind C lacking at n
+module _ {C : Type 0} (read : List ℕ → Option (C × ℕ)) (lacks : ℕ → FormatRefusal) where
+  pub refusal_bad : (lacking : Option ℕ) (n : ℕ) (bs : List ℕ) (at : ℕ) → at < length bs → piece read (get_or bs at 0) (take (length bs - (at + 1)) (drop (at + 1) bs)) ≡ None → refusal_behind lacks lacking (pieces read 0 at (drop at bs)) n ≡ Some (BadFormat at)
+  refusal_bad lacking n bs at lt e = ap (λ r. refusal_behind lacks lacking r n) (piece_bad read bs at lt e) ∙ bad_behind C lacks lacking at n
 
   pub refusal_more : (lacking behind : Option ℕ) (n m : ℕ) (bs : List ℕ) (at used : ℕ) (p : Piece C) → at < length bs → piece read (get_or bs at 0) (take (length bs - (at + 1)) (drop (at + 1) bs)) ≡ Some (p, used) →
-      ((r : Result (List (ℕ × Piece C)) ℕ) → refusal_behind lacking (followed (at, p) r) n ≡ refusal_behind behind r m) →
-      refusal_behind lacking (pieces read 0 at (drop at bs)) n ≡ refusal_behind behind (pieces read 0 (at + (1 + used)) (drop (at + (1 + used)) bs)) m
-  refusal_more lacking behind n m bs at used p lt e same = ap (λ r. refusal_behind lacking r n) (piece_more read bs at used p lt e) ∙ same (pieces read 0 (at + (1 + used)) (drop (at + (1 + used)) bs))
+      ((r : Result (List (ℕ × Piece C)) ℕ) → refusal_behind lacks lacking (followed (at, p) r) n ≡ refusal_behind lacks behind r m) →
+      refusal_behind lacks lacking (pieces read 0 at (drop at bs)) n ≡ refusal_behind lacks behind (pieces read 0 (at + (1 + used)) (drop (at + (1 + used)) bs)) m
+  refusal_more lacking behind n m bs at used p lt e same = ap (λ r. refusal_behind lacks lacking r n) (piece_more read bs at used p lt e) ∙ same (pieces read 0 (at + (1 + used)) (drop (at + (1 + used)) bs))
 
-  pub refusal_over : (lacking : Option ℕ) (n : ℕ) (bs : List ℕ) (at : ℕ) → length bs ≤ at → refusal_behind lacking (pieces read 0 at (drop at bs)) n ≡ option_map (λ at. MissingValue at) lacking
-  refusal_over lacking n bs at ge = ap (λ r. refusal_behind lacking r n) (pieces_over read bs at ge) ∙ over_behind C lacking n
+  pub refusal_over : (lacking : Option ℕ) (n : ℕ) (bs : List ℕ) (at : ℕ) → length bs ≤ at → refusal_behind lacks lacking (pieces read 0 at (drop at bs)) n ≡ option_map lacks lacking
+  refusal_over lacking n bs at ge = ap (λ r. refusal_behind lacks lacking r n) (pieces_over read bs at ge) ∙ over_behind C lacks lacking n
 
 -- a piece whose value is there leaves the refusal of what stands behind it
-pub refusal_copied : {C : Type 0} (at b n : ℕ) (r : Result (List (ℕ × Piece C)) ℕ) → refusal (followed (at, Literal b) r) n ≡ refusal r n
+pub refusal_copied : {C : Type 0} (lacks : ℕ → FormatRefusal) (at b n : ℕ) (r : Result (List (ℕ × Piece C)) ℕ) → refusal lacks (followed (at, Literal b) r) n ≡ refusal lacks r n
 unfolding missing
-refusal_copied at b n (Ok ps) = refl
-refusal_copied at b n (Err e) = refl
+refusal_copied lacks at b n (Ok ps) = refl
+refusal_copied lacks at b n (Err e) = refl
 
-pub refusal_there : {C V : Type 0} (at : ℕ) (c : C) (r : Result (List (ℕ × Piece C)) ℕ) (values : List V) → 1 ≤ length values → refusal (followed (at, Convert c) r) (length values) ≡ refusal r (length (values_behind (Convert c) values))
+pub refusal_there : {C V : Type 0} (lacks : ℕ → FormatRefusal) (at : ℕ) (c : C) (r : Result (List (ℕ × Piece C)) ℕ) (values : List V) → 1 ≤ length values → refusal lacks (followed (at, Convert c) r) (length values) ≡ refusal lacks r (length (values_behind (Convert c) values))
 unfolding missing
-refusal_there at c r [] some = absurd (omega arith)
-refusal_there at c (Ok ps) (v ∷ values) some = refl
-refusal_there at c (Err e) (v ∷ values) some = refl
+refusal_there lacks at c r [] some = absurd (omega arith)
+refusal_there lacks at c (Ok ps) (v ∷ values) some = refl
+refusal_there lacks at c (Err e) (v ∷ values) some = refl
 
-pub refusal_none_left : {C V : Type 0} (at : ℕ) (c : C) (r : Result (List (ℕ × Piece C)) ℕ) (values : List V) → length values < 1 → refusal (followed (at, Convert c) r) (length values) ≡ None → ⊥
+pub refusal_none_left : {C V : Type 0} (lacks : ℕ → FormatRefusal) (at : ℕ) (c : C) (r : Result (List (ℕ × Piece C)) ℕ) (values : List V) → length values < 1 → refusal lacks (followed (at, Convert c) r) (length values) ≡ None → ⊥
 unfolding missing
-refusal_none_left at c (Ok ps) [] none e = cc
-refusal_none_left at c (Err place) [] none e = cc
-refusal_none_left at c r (v ∷ values) none e = absurd (omega arith)
+refusal_none_left lacks at c (Ok ps) [] none e = cc
+refusal_none_left lacks at c (Err place) [] none e = cc
+refusal_none_left lacks at c r (v ∷ values) none e = absurd (omega arith)
 
 -- nothing is refused where no byte is left
-refusal_at_end : (C : Type 0) (n : ℕ) → refusal {C = C} (Ok []) n ≡ None
+refusal_at_end : (C : Type 0) (lacks : ℕ → FormatRefusal) (n : ℕ) → refusal {C = C} lacks (Ok []) n ≡ None
 unfolding missing
-refusal_at_end C n = refl
+refusal_at_end C lacks n = refl
 
 -- ---- texts
 
-text_of_piece : {C V : Type 0} (text : C → V → List ℕ) (at n : ℕ) (p : Piece C) (r : Result (List (ℕ × Piece C)) ℕ) (values : List V) → refusal (followed (at, p) r) n ≡ None →
+text_of_piece : {C V : Type 0} (lacks : ℕ → FormatRefusal) (text : C → V → List ℕ) (at n : ℕ) (p : Piece C) (r : Result (List (ℕ × Piece C)) ℕ) (values : List V) → refusal lacks (followed (at, p) r) n ≡ None →
     pieces_text text (good_pieces (followed (at, p) r)) values ≡ piece_text text p values ++ pieces_text text (good_pieces r) (values_behind p values)
 unfolding pieces_text
-text_of_piece text at n p (Ok ps) values good = refl
-text_of_piece text at n p (Err e) values good = cc
+text_of_piece lacks text at n p (Ok ps) values good = refl
+text_of_piece lacks text at n p (Err e) values good = cc
 
 -- what a piece leaves of values that can be converted can be converted
 pub values_stay : {C V : Type 0} (is_value : V → Bool) (p : Piece C) (values : List V) → list_all is_value values ≡ true → list_all is_value (values_behind p values) ≡ true
@@ -140,47 +142,49 @@ within_fits max_len text fits = let no : nat_lt max_len (length text) ≡ false 
 within_long : (max_len : ℕ) (text : List ℕ) → max_len < length text → within max_len text ≡ Err TooBig
 within_long max_len text long = let yes : nat_lt max_len (length text) ≡ true = grind (arith, nat_tests) in rw yes refl
 
-pub refuses : (e : ValueFault) (max_len : ℕ) (text : List ℕ) → (e ≡ faults.TooBig) ⊎ (e ≡ faults.Memory) → (e ≡ faults.TooBig → max_len < length text) → Refuses e (within max_len text)
-refuses e max_len text (inl big) long = let P : ValueFault → Type 0 = λ z. Refuses z (within max_len text) in subst P (sym big) (within_long max_len text (long big))
-refuses e max_len text (inr memory) long = let P : ValueFault → Type 0 = λ z. Refuses z (within max_len text) in subst P (sym memory) tt
+pub refuses : (lacks : ℕ → FormatRefusal) (e : FormatFault) (max_len : ℕ) (text : List ℕ) → (e ≡ faults.TooBig) ⊎ (e ≡ faults.Memory) → (e ≡ faults.TooBig → max_len < length text) → Refuses lacks e (within max_len text)
+refuses lacks e max_len text (inl big) long = let P : FormatFault → Type 0 = λ z. Refuses lacks z (within max_len text) in subst P (sym big) (within_long max_len text (long big))
+refuses lacks e max_len text (inr memory) long = let P : FormatFault → Type 0 = λ z. Refuses lacks z (within max_len text) in subst P (sym memory) tt
 
 -- what a call says of a refusal
-pub refused : (r : Option ValueRefusal) (fault : ValueFault) (max_len : ℕ) (text : List ℕ) → Some fault ≡ option_map (λ why. fault_of why) r → Refuses fault (at_most max_len (unless_refused r text))
-refused None fault max_len text e = cc
-refused (Some (BadConversion at)) fault max_len text e = let same : fault_of (BadConversion at) ≡ fault = cc in let P : ValueFault → Type 0 = λ z. Refuses z (at_most max_len (unless_refused (Some (BadConversion at)) text)) in subst P same refl
-refused (Some (MissingValue at)) fault max_len text e = let same : fault_of (MissingValue at) ≡ fault = cc in let P : ValueFault → Type 0 = λ z. Refuses z (at_most max_len (unless_refused (Some (MissingValue at)) text)) in subst P same refl
-refused (Some TooBig) fault max_len text e = let same : fault_of TooBig ≡ fault = cc in let P : ValueFault → Type 0 = λ z. Refuses z (at_most max_len (unless_refused (Some TooBig) text)) in subst P same refl
+refused_so : (lacks : ℕ → FormatRefusal) (fault : FormatFault) (max_len : ℕ) (text : List ℕ) → Refuses lacks fault (at_most max_len (unless_refused (refusal_of lacks fault) text))
+refused_so lacks (faults.BadFormat at) max_len text = refl
+refused_so lacks (faults.MissingValue at) max_len text = refl
+refused_so lacks faults.TooBig max_len text = refl
+refused_so lacks faults.Memory max_len text = tt
 
-pub accepted : (r : Option ValueRefusal) → None ≡ option_map (λ why. fault_of why) r → r ≡ None
-accepted None e = refl
-accepted (Some why) e = cc
+pub refused : (lacks : ℕ → FormatRefusal) (r : Option FormatRefusal) (fault : FormatFault) (max_len : ℕ) (text : List ℕ) → refusal_of lacks fault ≡ r → Refuses lacks fault (at_most max_len (unless_refused r text))
+refused lacks r fault max_len text e = subst (λ o. Refuses lacks fault (at_most max_len (unless_refused o text))) e (refused_so lacks fault max_len text)
+
+pub accepted : (lacks : ℕ → FormatRefusal) (r : Option FormatRefusal) (fault : FormatFault) (max_len : ℕ) (text : List ℕ) → None ≡ r → (r ≡ None → Refuses lacks fault (within max_len text)) → Refuses lacks fault (at_most max_len (unless_refused r text))
+accepted lacks r fault max_len text e otherwise = subst (λ o. Refuses lacks fault (at_most max_len (unless_refused o text))) e (otherwise (sym e))
 
 -- ---- a text that is written piece by piece
 
 -- what is known of a text at a place of its format, with so many values left: what stands there of both makes the rest of it
-pub record IsWritten {C V : Type 0} (read : List ℕ → Option (C × ℕ)) (text : C → V → List ℕ) (format : List ℕ) (values : List V) (at : ℕ) (left : List V) (out : List ℕ) : Type 0 where
-  pub same : refusal (pieces read 0 0 format) (length values) ≡ refusal (pieces read 0 at (drop at format)) (length left)
-  pub rest : refusal (pieces read 0 0 format) (length values) ≡ None → pieces_text text (good_pieces (pieces read 0 0 format)) values ≡ out ++ pieces_text text (good_pieces (pieces read 0 at (drop at format))) left
+pub record IsWritten {C V : Type 0} (read : List ℕ → Option (C × ℕ)) (text : C → V → List ℕ) (lacks : ℕ → FormatRefusal) (format : List ℕ) (values : List V) (at : ℕ) (left : List V) (out : List ℕ) : Type 0 where
+  pub same : refusal lacks (pieces read 0 0 format) (length values) ≡ refusal lacks (pieces read 0 at (drop at format)) (length left)
+  pub rest : refusal lacks (pieces read 0 0 format) (length values) ≡ None → pieces_text text (good_pieces (pieces read 0 0 format)) values ≡ out ++ pieces_text text (good_pieces (pieces read 0 at (drop at format))) left
 
-module _ {C V : Type 0} (read : List ℕ → Option (C × ℕ)) (text : C → V → List ℕ) (format : List ℕ) (values : List V) where
-  pub none_written : IsWritten read text format values 0 values []
+module _ {C V : Type 0} (read : List ℕ → Option (C × ℕ)) (text : C → V → List ℕ) (lacks : ℕ → FormatRefusal) (format : List ℕ) (values : List V) where
+  pub none_written : IsWritten read text lacks format values 0 values []
   none_written = record { same = refl; rest = λ good. refl }
 
-module _ {C V : Type 0} (read : List ℕ → Option (C × ℕ)) (text : C → V → List ℕ) (format : List ℕ) (values : List V) (at next : ℕ) (left : List V) (out : List ℕ) (p : Piece C)
-    (w : IsWritten read text format values at left out) (here : pieces read 0 at (drop at format) ≡ followed (at, p) (pieces read 0 next (drop next format))) where
+module _ {C V : Type 0} (read : List ℕ → Option (C × ℕ)) (text : C → V → List ℕ) (lacks : ℕ → FormatRefusal) (format : List ℕ) (values : List V) (at next : ℕ) (left : List V) (out : List ℕ) (p : Piece C)
+    (w : IsWritten read text lacks format values at left out) (here : pieces read 0 at (drop at format) ≡ followed (at, p) (pieces read 0 next (drop next format))) where
   -- the text from this piece on
-  from_piece : refusal (pieces read 0 0 format) (length values) ≡ None →
+  from_piece : refusal lacks (pieces read 0 0 format) (length values) ≡ None →
       pieces_text text (good_pieces (pieces read 0 0 format)) values ≡ out ++ (piece_text text p left ++ pieces_text text (good_pieces (pieces read 0 next (drop next format))) (values_behind p left))
   from_piece good =
-      let good_here : refusal (followed (at, p) (pieces read 0 next (drop next format))) (length left) ≡ None = sym (ap (λ r. refusal r (length left)) here) ∙ (sym w.same ∙ good) in
+      let good_here : refusal lacks (followed (at, p) (pieces read 0 next (drop next format))) (length left) ≡ None = sym (ap (λ r. refusal lacks r (length left)) here) ∙ (sym w.same ∙ good) in
       w.rest good
       ∙ ap (λ r. out ++ pieces_text text (good_pieces r) left) here
-      ∙ ap (λ t. out ++ t) (text_of_piece text at (length left) p (pieces read 0 next (drop next format)) left good_here)
+      ∙ ap (λ t. out ++ t) (text_of_piece lacks text at (length left) p (pieces read 0 next (drop next format)) left good_here)
 
-  pub more_written : (behind : List V) (more : List ℕ) → refusal (pieces read 0 at (drop at format)) (length left) ≡ refusal (pieces read 0 next (drop next format)) (length (values_behind p left)) →
-      behind ≡ values_behind p left → more ≡ out ++ piece_text text p left → IsWritten read text format values next behind more
+  pub more_written : (behind : List V) (more : List ℕ) → refusal lacks (pieces read 0 at (drop at format)) (length left) ≡ refusal lacks (pieces read 0 next (drop next format)) (length (values_behind p left)) →
+      behind ≡ values_behind p left → more ≡ out ++ piece_text text p left → IsWritten read text lacks format values next behind more
   more_written behind more same is added = record {
-    same = w.same ∙ same ∙ ap (λ l. refusal (pieces read 0 next (drop next format)) (length l)) (sym is);
+    same = w.same ∙ same ∙ ap (λ l. refusal lacks (pieces read 0 next (drop next format)) (length l)) (sym is);
     rest = λ good.
         from_piece good
         ∙ sym (append_assoc out (piece_text text p left) (pieces_text text (good_pieces (pieces read 0 next (drop next format))) (values_behind p left)))
@@ -189,23 +193,23 @@ module _ {C V : Type 0} (read : List ℕ → Option (C × ℕ)) (text : C → V 
   }
 
   -- the text is too long where a piece of it is
-  pub piece_too_long : (max_len : ℕ) → refusal (pieces read 0 0 format) (length values) ≡ None → max_len - length out < length (piece_text text p left) →
+  pub piece_too_long : (max_len : ℕ) → refusal lacks (pieces read 0 0 format) (length values) ≡ None → max_len - length out < length (piece_text text p left) →
       max_len < length (pieces_text text (good_pieces (pieces read 0 0 format)) values)
   piece_too_long max_len good long =
       let tail : List ℕ = pieces_text text (good_pieces (pieces read 0 next (drop next format))) (values_behind p left) in
       omega (arith, ap length (from_piece good), length-append out (piece_text text p left ++ tail), length-append (piece_text text p left) tail, long)
 
-module _ {C V : Type 0} (read : List ℕ → Option (C × ℕ)) (text : C → V → List ℕ) (format : List ℕ) (values : List V) (at : ℕ) (left : List V) (out : List ℕ)
-    (w : IsWritten read text format values at left out) (over : length format ≤ at) where
+module _ {C V : Type 0} (read : List ℕ → Option (C × ℕ)) (text : C → V → List ℕ) (lacks : ℕ → FormatRefusal) (format : List ℕ) (values : List V) (at : ℕ) (left : List V) (out : List ℕ)
+    (w : IsWritten read text lacks format values at left out) (over : length format ≤ at) where
   -- a format of which nothing is left is not refused
-  no_refusal : refusal (pieces read 0 0 format) (length values) ≡ None
-  no_refusal = w.same ∙ ap (λ r. refusal r (length left)) (pieces_over read format at over) ∙ refusal_at_end C (length left)
+  no_refusal : refusal lacks (pieces read 0 0 format) (length values) ≡ None
+  no_refusal = w.same ∙ ap (λ r. refusal lacks r (length left)) (pieces_over read format at over) ∙ refusal_at_end C lacks (length left)
 
   all_written : pieces_text text (good_pieces (pieces read 0 0 format)) values ≡ out
   unfolding pieces_text
   all_written = w.rest no_refusal ∙ ap (λ r. out ++ pieces_text text (good_pieces r) left) (pieces_over read format at over) ∙ append-nil out
 
-  pub answer_written : (max_len : ℕ) → length out ≤ max_len → at_most max_len (formatted read text format values) ≡ Ok out
+  pub answer_written : (max_len : ℕ) → length out ≤ max_len → at_most max_len (formatted read text lacks format values) ≡ Ok out
   answer_written max_len fits =
       ap (λ o. at_most max_len (unless_refused o (pieces_text text (good_pieces (pieces read 0 0 format)) values))) no_refusal
       ∙ ap (λ t. within max_len t) all_written

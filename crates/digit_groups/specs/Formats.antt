@@ -1,10 +1,12 @@
 -- Formats and their texts: bytes that are copied, and conversions of values (XSH fprintf and strfmon; the refusals are our own).
-use Rattle.std.specs.Prelude.{◌≡◌, ℕ, zero, suc, ◌+◌, ◌==◌, nat_lt, List, [], ◌∷◌, ◌++◌, length, Option, Some, None, option_map, Result, Ok, Err, if◌then◌else◌}
+use Rattle.std.specs.Prelude.{◌≡◌, ℕ, zero, suc, ◌+◌, ◌==◌, List, [], ◌∷◌, ◌++◌, length, Option, Some, None, option_map, IfSome, Result, Ok, Err, if◌then◌else◌}
 use Rattle.digit_groups.specs.declared.piece.Piece.{Piece}
 use Rattle.digit_groups.specs.declared.piece.Piece.TheVariants.{Literal, Convert}
-use Rattle.digit_groups.specs.declared.fault.ValueFault.{ValueFault}
-use Rattle.digit_groups.specs.declared.fault.ValueFault.TheVariants as faults
-use Rattle.digit_groups.specs.Refusals.{ValueRefusal, BadConversion, MissingValue, TooBig}
+use Rattle.digit_groups.specs.declared.fault.FormatFault.{FormatFault}
+use Rattle.digit_groups.specs.declared.fault.FormatFault.TheVariants as faults
+use Rattle.lc_base.specs.declared.refusal.FormatRefusal.{FormatRefusal}
+use Rattle.lc_base.specs.declared.refusal.FormatRefusal.TheVariants.{BadFormat, TooBig}
+use Rattle.lc_base.specs.Limits.{within}
 
 -- ---- pieces
 
@@ -64,49 +66,38 @@ missing ((at, Convert c) ∷ ps) (suc n) = missing ps n
 
 -- ---- refusals
 
--- the first refusal of a format with so many values: a bad conversion goes before a missing value
-abbrev pub refusal : {C : Type 0} → Result (List (ℕ × Piece C)) ℕ → ℕ → Option ValueRefusal
-refusal (Err at) values = Some (BadConversion at)
-refusal (Ok ps) values = option_map (λ at. MissingValue at) (missing ps values)
+-- the first refusal of a format with so many values: a bad conversion goes before a missing value, whose refusal is told by its place
+abbrev pub refusal : {C : Type 0} → (ℕ → FormatRefusal) → Result (List (ℕ × Piece C)) ℕ → ℕ → Option FormatRefusal
+refusal lacks (Err at) values = Some (BadFormat at)
+refusal lacks (Ok ps) values = option_map lacks (missing ps values)
 
 -- the same behind pieces of which perhaps the one at this place lacked its value
-abbrev pub refusal_behind : {C : Type 0} → Option ℕ → Result (List (ℕ × Piece C)) ℕ → ℕ → Option ValueRefusal
-refusal_behind lacking (Err at) values = Some (BadConversion at)
-refusal_behind None (Ok ps) values = refusal (Ok ps) values
-refusal_behind (Some at) (Ok ps) values = Some (MissingValue at)
+abbrev pub refusal_behind : {C : Type 0} → (ℕ → FormatRefusal) → Option ℕ → Result (List (ℕ × Piece C)) ℕ → ℕ → Option FormatRefusal
+refusal_behind lacks lacking (Err at) values = Some (BadFormat at)
+refusal_behind lacks None (Ok ps) values = refusal lacks (Ok ps) values
+refusal_behind lacks (Some at) (Ok ps) values = Some (lacks at)
 
 -- the text, or what goes before it
-abbrev pub unless_refused : Option ValueRefusal → List ℕ → Result (List ℕ) ValueRefusal
+abbrev pub unless_refused : Option FormatRefusal → List ℕ → Result (List ℕ) FormatRefusal
 unless_refused None text = Ok text
 unless_refused (Some why) text = Err why
 
 -- the text of a format with its values, or the refusal
-abbrev pub formatted : {C V : Type 0} → (List ℕ → Option (C × ℕ)) → (C → V → List ℕ) → List ℕ → List V → Result (List ℕ) ValueRefusal
-formatted read text format values = unless_refused (refusal (pieces read 0 0 format) (length values)) (pieces_text text (good_pieces (pieces read 0 0 format)) values)
-
--- a text of at most so many bytes
-abbrev pub within : ℕ → List ℕ → Result (List ℕ) ValueRefusal
-within max_len text = if nat_lt max_len (length text) then Err TooBig else Ok text
+abbrev pub formatted : {C V : Type 0} → (List ℕ → Option (C × ℕ)) → (C → V → List ℕ) → (ℕ → FormatRefusal) → List ℕ → List V → Result (List ℕ) FormatRefusal
+formatted read text lacks format values = unless_refused (refusal lacks (pieces read 0 0 format) (length values)) (pieces_text text (good_pieces (pieces read 0 0 format)) values)
 
 -- an answer whose text has at most so many bytes
-abbrev pub at_most : ℕ → Result (List ℕ) ValueRefusal → Result (List ℕ) ValueRefusal
+abbrev pub at_most : ℕ → Result (List ℕ) FormatRefusal → Result (List ℕ) FormatRefusal
 at_most max_len (Ok text) = within max_len text
 at_most max_len (Err why) = Err why
 
--- an answer whose refusal goes by another name
-abbrev pub refused_as : {R : Type 0} → (ValueRefusal → R) → Result (List ℕ) ValueRefusal → Result (List ℕ) R
-refused_as name (Ok text) = Ok text
-refused_as name (Err why) = Err (name why)
-
--- the fault of a call that is refused so
-abbrev pub fault_of : ValueRefusal → ValueFault
-fault_of (BadConversion at) = faults.BadConversion at
-fault_of (MissingValue at) = faults.MissingValue at
-fault_of TooBig = faults.TooBig
+-- why there is no text, unless memory was wanting
+abbrev pub refusal_of : (ℕ → FormatRefusal) → FormatFault → Option FormatRefusal
+refusal_of lacks (faults.BadFormat at) = Some (BadFormat at)
+refusal_of lacks (faults.MissingValue at) = Some (lacks at)
+refusal_of lacks faults.TooBig = Some TooBig
+refusal_of lacks faults.Memory = None
 
 -- a fault is the refusal of the definition, or want of memory, which says nothing
-abbrev pub Refuses : ValueFault → Result (List ℕ) ValueRefusal → Type 0
-Refuses (faults.BadConversion at) answer = answer ≡ Err (BadConversion at)
-Refuses (faults.MissingValue at) answer = answer ≡ Err (MissingValue at)
-Refuses faults.TooBig answer = answer ≡ Err TooBig
-Refuses faults.Memory answer = Unit {0}
+abbrev pub Refuses : (ℕ → FormatRefusal) → FormatFault → Result (List ℕ) FormatRefusal → Type 0
+Refuses lacks e answer = IfSome (refusal_of lacks e) (λ why. answer ≡ Err why)

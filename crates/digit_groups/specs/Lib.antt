@@ -2,5 +2,4 @@ pub mod Digits
 pub mod Groups
 pub mod Numbers
 pub mod Conversions
-pub mod Refusals
 pub mod Formats

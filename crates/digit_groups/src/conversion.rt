@@ -3,13 +3,14 @@
 ghost use Rattle.std.specs.Prelude.{◌≡◌, ◌≤◌, length, IfSome};
 ghost use Rattle.digit_groups.specs.Conversions.{number_after};
 
-use crate::fault::ValueFault;
+use crate::fault::FormatFault;
 use crate::number::leading_number;
 
 /// A conversion of a value to text.
 pub trait FormatConversion: Copy {
     ghost use Rattle.std.specs.Prelude.{◌≡◌, ◌≤◌, ◌<◌, ◌++◌, ◌⊎◌, ℕ, List, Option, Bool, Err, true, length, IfSome, IfErr, OnOk};
-    ghost use Rattle.digit_groups.specs.declared.fault.ValueFault.TheVariants.{TooBig, Memory};
+    ghost use Rattle.lc_base.specs.declared.refusal.FormatRefusal.{FormatRefusal};
+    ghost use Rattle.digit_groups.specs.declared.fault.FormatFault.TheVariants.{TooBig, Memory};
 
     /// What says how values are written, as a category of a locale.
     type Category;
@@ -26,6 +27,9 @@ pub trait FormatConversion: Copy {
     /// Whether a value can be converted.
     ghost is_value: { Self.Value → Bool };
 
+    /// The refusal where no value is left for the `%` at a place.
+    ghost lacks: { ℕ → FormatRefusal };
+
     /// Reads the conversion that bytes behind a `%` begin with.
     fn read(bytes: &[u8]) -> Option<(Self, usize)>
         ensures is { result ≡ conversion bytes.now }
@@ -38,7 +42,7 @@ pub trait FormatConversion: Copy {
         category: &Self::Category,
         value: Self::Value,
         room: usize,
-    ) -> Result<(), ValueFault>
+    ) -> Result<(), FormatFault>
         requires { is_value value ≡ true }
         ensures ok { OnOk result (out.new.items ≡ out.old.items ++ text category.now self.now value) }
         ensures fits { OnOk result (length (text category.now self.now value) ≤ room) }

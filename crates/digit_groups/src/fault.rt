@@ -1,15 +1,15 @@
 //! Why values have no text.
 
 ghost use Rattle.std.specs.Prelude.{◌≡◌};
-ghost use Rattle.digit_groups.specs.declared.fault.ValueFault.TheVariants.{Memory};
+ghost use Rattle.digit_groups.specs.declared.fault.FormatFault.TheVariants.{Memory};
 
 use std::alloc::{AllocError, AllocFailed};
 
 /// Why a format and its values have no text.
 #[derive(Clone, Copy)]
-pub enum ValueFault {
+pub enum FormatFault {
     /// The `%` at this byte of the format begins no conversion.
-    BadConversion { at: usize },
+    BadFormat { at: usize },
     /// No value is left for the `%` at this byte of the format.
     MissingValue { at: usize },
     /// The text is longer than the limit.
@@ -18,18 +18,18 @@ pub enum ValueFault {
     Memory,
 }
 
-impl From<AllocError> for ValueFault {
+impl From<AllocError> for FormatFault {
     ghost from_gives = { λ _ e. e ≡ Memory };
 
-    fn from(_e: AllocError) -> ValueFault {
-        ValueFault::Memory
+    fn from(_e: AllocError) -> FormatFault {
+        FormatFault::Memory
     }
 }
 
-impl<T: Drop> From<AllocFailed<T>> for ValueFault {
+impl<T: Drop> From<AllocFailed<T>> for FormatFault {
     ghost from_gives = { λ _ e. e ≡ Memory };
 
-    fn from(_e: AllocFailed<T>) -> ValueFault {
-        ValueFault::Memory
+    fn from(_e: AllocFailed<T>) -> FormatFault {
+        FormatFault::Memory
     }
 }

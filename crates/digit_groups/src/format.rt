@@ -1,13 +1,15 @@
 //! Formats with their values, one piece after another.
 
-ghost use Rattle.std.specs.Prelude.{◌≡◌, ◌≢◌, ◌+◌, ◌<◌, ◌≤◌, ◌++◌, ◌⊎◌, length, drop, List, [], ◌∷◌, ℕ, Result, Ok, Err, None, option_map, OnOk, IfErr, IfSome, true};
+ghost use Rattle.std.specs.Prelude.{◌≡◌, ◌≢◌, ◌+◌, ◌<◌, ◌≤◌, ◌++◌, ◌⊎◌, length, drop, List, [], ◌∷◌, ℕ, Result, Ok, Err, None, option_and_then, OnOk, IfErr, IfSome, true};
 ghost use Rattle.std.specs.List.{list_all};
-ghost use Rattle.digit_groups.specs.Formats.{pieces, followed, good_pieces, values_behind, piece_text, pieces_text, refusal, refusal_behind, formatted, within, at_most, unless_refused, fault_of, Refuses};
+ghost use Rattle.lc_base.specs.declared.refusal.FormatRefusal.{FormatRefusal};
+ghost use Rattle.lc_base.specs.Limits.{within};
+ghost use Rattle.digit_groups.specs.Formats.{pieces, followed, good_pieces, values_behind, piece_text, pieces_text, refusal, refusal_behind, formatted, at_most, unless_refused, refusal_of, Refuses};
 ghost use Rattle.digit_groups.specs.declared.piece.Piece.{Piece};
-ghost use Rattle.digit_groups.specs.declared.fault.ValueFault.TheVariants.{TooBig, Memory};
+ghost use Rattle.digit_groups.specs.declared.fault.FormatFault.TheVariants.{TooBig, Memory};
 
 use crate::conversion::FormatConversion;
-use crate::fault::ValueFault;
+use crate::fault::FormatFault;
 use crate::piece::{Piece, piece_of};
 
 /// The fault of a format with so many values, which is that of its text where nothing is wrong: a
@@ -18,9 +20,9 @@ use crate::piece::{Piece, piece_of};
 pub fn first_fault<C: FormatConversion>(
     format: &[u8],
     values: usize,
-    fault: ValueFault,
-) -> ValueFault
-    ensures { (max : ℕ) (text : List ℕ) → (refusal (pieces C.conversion 0 0 format.now) values ≡ None → Refuses fault (within max text)) → Refuses result (at_most max (unless_refused (refusal (pieces C.conversion 0 0 format.now) values) text)) }
+    fault: FormatFault,
+) -> FormatFault
+    ensures { (max : ℕ) (text : List ℕ) → (refusal C.lacks (pieces C.conversion 0 0 format.now) values ≡ None → Refuses C.lacks fault (within max text)) → Refuses C.lacks result (at_most max (unless_refused (refusal C.lacks (pieces C.conversion 0 0 format.now) values) text)) }
 {
     match refusal::<C>(format, values) {
         Some(first) => first,
@@ -29,20 +31,20 @@ pub fn first_fault<C: FormatConversion>(
 }
 
 /// The first refusal of a format with so many values.
-fn refusal<C: FormatConversion>(format: &[u8], values: usize) -> Option<ValueFault>
-    ensures { result ≡ option_map (λ why. fault_of why) (refusal (pieces C.conversion 0 0 format.now) values) }
+fn refusal<C: FormatConversion>(format: &[u8], values: usize) -> Option<FormatFault>
+    ensures { option_and_then (λ fault. refusal_of C.lacks fault) result ≡ refusal C.lacks (pieces C.conversion 0 0 format.now) values }
 {
     let mut at = 0;
     let mut left = values;
     let mut lacking = None;
     while at < format.len() {
         let Some((piece, used)) = piece_of::<C>(format[at], &format[at + 1..]) else {
-            return Some(ValueFault::BadConversion { at });
+            return Some(FormatFault::BadFormat { at });
         };
         (left, lacking) = behind_piece(piece, at, left, lacking);
         at += 1 + used;
     }
-    Some(ValueFault::MissingValue { at: lacking? })
+    Some(FormatFault::MissingValue { at: lacking? })
 }
 
 /// The values that a piece leaves of so many, and the place of the first one that is missing.
@@ -54,7 +56,7 @@ fn behind_piece<C: Copy>(
     values: usize,
     lacking: Option<usize>,
 ) -> (usize, Option<usize>)
-    ensures { (r : Result (List (ℕ × Piece C)) ℕ) → refusal_behind lacking (followed (at, piece) r) values ≡ refusal_behind result.1 r result.0 }
+    ensures { (lacks : ℕ → FormatRefusal) (r : Result (List (ℕ × Piece C)) ℕ) → refusal_behind lacks lacking (followed (at, piece) r) values ≡ refusal_behind lacks result.1 r result.0 }
 {
     match (piece, lacking) {
         (Piece::Literal(_), _) => (values, lacking),
@@ -73,17 +75,17 @@ pub fn add_pieces<C: FormatConversion>(
     format: &[u8],
     values: &[C::Value],
     max: usize,
-) -> Result<(), ValueFault>
+) -> Result<(), FormatFault>
     requires good { list_all C.is_value values.now ≡ true }
     requires nothing { out.old.items ≡ [] }
-    ensures text { OnOk result (at_most max (formatted C.conversion (C.text category.now) format.now values.now) ≡ Ok out.new.items) }
-    ensures fault { IfErr result (λ e. refusal (pieces C.conversion 0 0 format.now) (length values.now) ≡ None → Refuses e (within max (pieces_text (C.text category.now) (good_pieces (pieces C.conversion 0 0 format.now)) values.now))) }
+    ensures text { OnOk result (at_most max (formatted C.conversion (C.text category.now) C.lacks format.now values.now) ≡ Ok out.new.items) }
+    ensures fault { IfErr result (λ e. refusal C.lacks (pieces C.conversion 0 0 format.now) (length values.now) ≡ None → Refuses C.lacks e (within max (pieces_text (C.text category.now) (good_pieces (pieces C.conversion 0 0 format.now)) values.now))) }
 {
     let mut at = 0;
     let mut left = values;
     while at < format.len() {
         let Some((piece, used, behind)) = piece_at::<C>(format, at, left) else {
-            return Err(ValueFault::BadConversion { at });
+            return Err(FormatFault::BadFormat { at });
         };
         let room = max - out.len();
         if let Err(fault) = add_piece(out, category, piece, left, room) {
@@ -107,8 +109,8 @@ fn piece_at<'a, C: FormatConversion>(
     ensures pieces { IfSome result (λ r. pieces C.conversion 0 at (drop at format.now) ≡ followed (at, r.0) (pieces C.conversion 0 (at + (1 + r.1)) (drop (at + (1 + r.1)) format.now))) }
     ensures within { IfSome result (λ r. at + (1 + r.1) ≤ length format.now) }
     ensures behind { IfSome result (λ r. r.2.now ≡ values_behind r.0 values.now) }
-    ensures same { IfSome result (λ r. refusal (pieces C.conversion 0 at (drop at format.now)) (length values.now) ≡ refusal (pieces C.conversion 0 (at + (1 + r.1)) (drop (at + (1 + r.1)) format.now)) (length (values_behind r.0 values.now))) }
-    ensures none { result ≡ None → refusal (pieces C.conversion 0 at (drop at format.now)) (length values.now) ≢ None }
+    ensures same { IfSome result (λ r. refusal C.lacks (pieces C.conversion 0 at (drop at format.now)) (length values.now) ≡ refusal C.lacks (pieces C.conversion 0 (at + (1 + r.1)) (drop (at + (1 + r.1)) format.now)) (length (values_behind r.0 values.now))) }
+    ensures none { result ≡ None → refusal C.lacks (pieces C.conversion 0 at (drop at format.now)) (length values.now) ≢ None }
 {
     let (piece, used) = piece_of::<C>(format[at], &format[at + 1..])?;
     let behind = values_behind(piece, values)?;
@@ -119,8 +121,8 @@ fn piece_at<'a, C: FormatConversion>(
 #[inline(always)]
 fn values_behind<C: Copy, V>(piece: Piece<C>, values: &[V]) -> Option<&[V]>
     ensures is { IfSome result (λ r. r.now ≡ values_behind piece values.now) }
-    ensures same { IfSome result (λ r. (at : ℕ) (rest : Result (List (ℕ × Piece C)) ℕ) → refusal (followed (at, piece) rest) (length values.now) ≡ refusal rest (length (values_behind piece values.now))) }
-    ensures none { result ≡ None → (at : ℕ) (rest : Result (List (ℕ × Piece C)) ℕ) → refusal (followed (at, piece) rest) (length values.now) ≢ None }
+    ensures same { IfSome result (λ r. (lacks : ℕ → FormatRefusal) (at : ℕ) (rest : Result (List (ℕ × Piece C)) ℕ) → refusal lacks (followed (at, piece) rest) (length values.now) ≡ refusal lacks rest (length (values_behind piece values.now))) }
+    ensures none { result ≡ None → (lacks : ℕ → FormatRefusal) (at : ℕ) (rest : Result (List (ℕ × Piece C)) ℕ) → refusal lacks (followed (at, piece) rest) (length values.now) ≢ None }
 {
     match (piece, values) {
         (Piece::Literal(_), _) => Some(values),
@@ -137,7 +139,7 @@ fn add_piece<C: FormatConversion>(
     piece: Piece<C>,
     values: &[C::Value],
     room: usize,
-) -> Result<(), ValueFault>
+) -> Result<(), FormatFault>
     requires { list_all C.is_value values.now ≡ true }
     ensures ok { OnOk result (out.new.items ≡ out.old.items ++ piece_text (C.text category.now) piece values.now) }
     ensures fits { OnOk result (length (piece_text (C.text category.now) piece values.now) ≤ room) }
@@ -152,14 +154,14 @@ fn add_piece<C: FormatConversion>(
 }
 
 /// Appends a byte, if there is room.
-fn add_byte(out: &mut Vec<u8>, byte: u8, room: usize) -> Result<(), ValueFault>
+fn add_byte(out: &mut Vec<u8>, byte: u8, room: usize) -> Result<(), FormatFault>
     ensures ok { OnOk result (out.new.items ≡ out.old.items ++ byte ∷ []) }
     ensures fits { OnOk result (1 ≤ room) }
     ensures too_big { result ≡ Err TooBig → room < 1 }
     ensures only { IfErr result (λ e. (e ≡ TooBig) ⊎ (e ≡ Memory)) }
 {
     if room == 0 {
-        return Err(ValueFault::TooBig);
+        return Err(FormatFault::TooBig);
     }
     out.push(byte)?;
     Ok(())

@@ -16,7 +16,7 @@ mod piece;
 
 pub use conversion::{FormatConversion, number_after};
 pub use digits::digit_count;
-pub use fault::ValueFault;
+pub use fault::FormatFault;
 pub use format::{add_pieces, first_fault};
 use lc_base::ByteText;
 pub use number::leading_number;

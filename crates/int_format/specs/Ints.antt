@@ -1,9 +1,8 @@
 -- The text of a format with its numbers (XSH fprintf: `d`, `i` and `u`, with the flag `'`).
 use Rattle.std.specs.Prelude.{◌≡◌, ℕ, ℤ, pos, negsuc, zero, suc, ◌+◌, ◌-◌, ◌^◌, nat_lt, ◌&&◌, Bool, true, false, List, [], ◌∷◌, ◌++◌, length, replicate, codes, Option, Some, None, is_none, unwrap_or, IfSome, Result, Ok, Err, if◌then◌else◌}
 use Rattle.digit_groups.specs.Groups.{grouped, separates}
-use Rattle.digit_groups.specs.Refusals.{ValueRefusal}
-use Rattle.digit_groups.specs.Refusals as formats
-use Rattle.digit_groups.specs.Formats.{formatted, within, refused_as}
+use Rattle.digit_groups.specs.Formats.{formatted}
+pub use Rattle.digit_groups.specs.Formats.{at_most}
 unfoldable pub use Rattle.digit_groups.specs.Formats.{pieces_text, missing}
 use Rattle.numeric_cat.specs.NumericValues.{NumericValues}
 use Rattle.int_format.specs.declared.format.Conversion.{Conversion}
@@ -62,20 +61,9 @@ conversion_text n c v = padded (fill_of c) (c.width - (length (sign_text c v) + 
 
 -- ---- a format
 
--- why a format and its numbers have no text
-abbrev pub int_refusal : ValueRefusal → FormatRefusal
-int_refusal (formats.BadConversion at) = BadFormat at
-int_refusal (formats.MissingValue at) = MissingNumber at
-int_refusal formats.TooBig = TooBig
-
 -- the text of a format with its numbers, or the refusal
 abbrev pub ints : NumericValues → List ℕ → List ℤ → Result (List ℕ) FormatRefusal
-ints n format numbers = refused_as int_refusal (formatted conversion (conversion_text n) format numbers)
-
--- an answer whose text has at most so many bytes
-abbrev pub at_most : ℕ → Result (List ℕ) FormatRefusal → Result (List ℕ) FormatRefusal
-at_most max_len (Ok text) = refused_as int_refusal (within max_len text)
-at_most max_len (Err why) = Err why
+ints n format numbers = formatted conversion (conversion_text n) (λ at. MissingNumber at) format numbers
 
 -- why there is no text, unless memory was wanting
 abbrev pub refusal_of : IntFault → Option FormatRefusal

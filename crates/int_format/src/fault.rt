@@ -1,12 +1,11 @@
 //! Why numbers have no text.
 
-ghost use Rattle.std.specs.Prelude.{◌≡◌, List, ℕ, Result};
-ghost use Rattle.digit_groups.specs.Refusals.{ValueRefusal};
-ghost use Rattle.digit_groups.specs.Formats.{refused_as};
+ghost use Rattle.std.specs.Prelude.{◌≡◌};
+ghost use Rattle.lc_base.specs.declared.refusal.FormatRefusal.TheVariants.{MissingNumber};
 ghost use Rattle.digit_groups.specs.Formats as formats;
-ghost use Rattle.int_format.specs.Ints.{Refuses, int_refusal, refusal_of};
+ghost use Rattle.int_format.specs.Ints.{refusal_of};
 
-use digit_groups::ValueFault;
+use digit_groups::FormatFault;
 use lc_base::FormatRefusal;
 use thiserror::Error;
 
@@ -41,15 +40,15 @@ impl IntFault {
     }
 }
 
-impl From<ValueFault> for IntFault {
-    ghost from_gives = { λ f e. (answer : Result (List ℕ) ValueRefusal) → formats.Refuses f answer → Refuses e (refused_as int_refusal answer) };
+impl From<FormatFault> for IntFault {
+    ghost from_gives = { λ f e. refusal_of e ≡ formats.refusal_of (λ at. MissingNumber at) f };
 
-    fn from(fault: ValueFault) -> IntFault {
+    fn from(fault: FormatFault) -> IntFault {
         match fault {
-            ValueFault::BadConversion { at } => IntFault::BadFormat { at },
-            ValueFault::MissingValue { at } => IntFault::MissingNumber { at },
-            ValueFault::TooBig => IntFault::TooBig,
-            ValueFault::Memory => IntFault::Memory,
+            FormatFault::BadFormat { at } => IntFault::BadFormat { at },
+            FormatFault::MissingValue { at } => IntFault::MissingNumber { at },
+            FormatFault::TooBig => IntFault::TooBig,
+            FormatFault::Memory => IntFault::Memory,
         }
     }
 }

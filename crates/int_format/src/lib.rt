@@ -12,7 +12,7 @@ mod layout;
 mod read;
 mod write;
 
-use digit_groups::{FormatConversion, ValueFault, add_pieces, first_fault};
+use digit_groups::{FormatConversion, FormatFault, add_pieces, first_fault};
 pub use fault::IntFault;
 use format::{Conversion, conversion_of};
 use lc_base::ByteText;
@@ -45,6 +45,7 @@ pub fn int_format(
 }
 
 impl FormatConversion for Conversion {
+    ghost use Rattle.lc_base.specs.declared.refusal.FormatRefusal.TheVariants.{MissingNumber};
     ghost use Rattle.int_format.specs.Formats.{conversion};
     ghost use Rattle.int_format.specs.Ints.{conversion_text, is_number};
 
@@ -58,6 +59,8 @@ impl FormatConversion for Conversion {
 
     ghost is_value = { is_number };
 
+    ghost lacks = { λ at. MissingNumber at };
+
     #[inline(always)]
     fn read(bytes: &[u8]) -> Option<(Conversion, usize)> {
         conversion_of(bytes)
@@ -70,7 +73,7 @@ impl FormatConversion for Conversion {
         category: &Numeric,
         value: i128,
         room: usize,
-    ) -> Result<(), ValueFault> {
+    ) -> Result<(), FormatFault> {
         add_conversion(out, category, self, value, room)
     }
 }

@@ -4,11 +4,11 @@ ghost use Rattle.std.specs.Prelude.{◌≡◌, ◌<◌, ◌≤◌, ◌⊎◌, le
 ghost use Rattle.digit_groups.specs.Digits.{last_digits};
 ghost use Rattle.digit_groups.specs.Groups.{grouped};
 ghost use Rattle.int_format.specs.Ints.{is_number, sizes_of, padded, conversion_text};
-ghost use Rattle.digit_groups.specs.declared.fault.ValueFault.TheVariants.{TooBig, Memory};
+ghost use Rattle.digit_groups.specs.declared.fault.FormatFault.TheVariants.{TooBig, Memory};
 
 use crate::format::Conversion;
 use crate::layout::{Fill, Laid, laid_out, sizes_of};
-use digit_groups::{ValueFault, group_into, write_digits};
+use digit_groups::{FormatFault, group_into, write_digits};
 use numeric_cat::Numeric;
 use std::alloc::AllocError;
 
@@ -91,7 +91,7 @@ pub fn add_conversion(
     c: &Conversion,
     value: i128,
     room: usize,
-) -> Result<(), ValueFault>
+) -> Result<(), FormatFault>
     requires { is_number value ≡ true }
     ensures ok { OnOk result (out.new.items ≡ out.old.items ++ conversion_text n.now c.now value) }
     ensures fits { OnOk result (length (conversion_text n.now c.now value) ≤ room) }
@@ -100,7 +100,7 @@ pub fn add_conversion(
 {
     let laid = laid_out(n, c, value);
     if laid.width > room as u128 {
-        return Err(ValueFault::TooBig);
+        return Err(FormatFault::TooBig);
     }
     add_text(out, n, c, &laid)?;
     Ok(())

@@ -1,9 +1,7 @@
 -- The text of a format with its amounts (XSH strfmon).
 use Rattle.std.specs.Prelude.{◌≡◌, ℕ, ℤ, pos, ◌-◌, nat_le, ◌==◌, int_lt, not, Bool, List, [], ◌++◌, length, replicate, codes, Option, Some, None, unwrap_or, IfSome, Result, Ok, Err, if◌then◌else◌}
 use Rattle.digit_groups.specs.Groups.{grouped, grouped_width}
-use Rattle.digit_groups.specs.Refusals.{ValueRefusal}
-use Rattle.digit_groups.specs.Refusals as formats
-use Rattle.digit_groups.specs.Formats.{formatted, at_most, refused_as}
+use Rattle.digit_groups.specs.Formats.{formatted, at_most}
 unfoldable pub use Rattle.digit_groups.specs.Formats.{pieces_text, missing}
 use Rattle.monetary_cat.specs.MonetaryValues.{MonetaryValues, text_of, number_of}
 use Rattle.monetary_cat.specs.declared.keys.MonText.TheVariants.{MonDecimalPoint, MonThousandsSep}
@@ -108,15 +106,9 @@ conversion_text v c a = in_field c.flags.left c.width (aligned_text v c a)
 
 -- ---- a format
 
--- why a format and its amounts have no text
-abbrev pub money_refusal : ValueRefusal → FormatRefusal
-money_refusal (formats.BadConversion at) = BadFormat at
-money_refusal (formats.MissingValue at) = MissingAmount at
-money_refusal formats.TooBig = TooBig
-
 -- the text of a format with its amounts, of at most so many bytes, or the refusal
 abbrev pub money : MonetaryValues → List ℕ → List MoneyAmount → ℕ → Result (List ℕ) FormatRefusal
-money v format amounts max_len = refused_as money_refusal (at_most max_len (formatted conversion (conversion_text v) format amounts))
+money v format amounts max_len = at_most max_len (formatted conversion (conversion_text v) (λ at. MissingAmount at) format amounts)
 
 -- why there is no text, unless memory was wanting
 abbrev pub refusal_of : MoneyFault → Option FormatRefusal

@@ -1,13 +1,12 @@
 //! Why amounts have no text.
 
-ghost use Rattle.std.specs.Prelude.{◌≡◌, List, ℕ, Result};
-ghost use Rattle.digit_groups.specs.Refusals.{ValueRefusal};
-ghost use Rattle.digit_groups.specs.Formats.{refused_as};
+ghost use Rattle.std.specs.Prelude.{◌≡◌};
+ghost use Rattle.lc_base.specs.declared.refusal.FormatRefusal.TheVariants.{MissingAmount};
 ghost use Rattle.digit_groups.specs.Formats as formats;
-ghost use Rattle.strfmon.specs.Money.{Refuses, money_refusal, refusal_of};
+ghost use Rattle.strfmon.specs.Money.{refusal_of};
 ghost use Rattle.strfmon.specs.declared.fault.MoneyFault.TheVariants.{Memory};
 
-use digit_groups::ValueFault;
+use digit_groups::FormatFault;
 use lc_base::FormatRefusal;
 use std::alloc::AllocError;
 use thiserror::Error;
@@ -51,15 +50,15 @@ impl From<AllocError> for MoneyFault {
     }
 }
 
-impl From<ValueFault> for MoneyFault {
-    ghost from_gives = { λ f e. (answer : Result (List ℕ) ValueRefusal) → formats.Refuses f answer → Refuses e (refused_as money_refusal answer) };
+impl From<FormatFault> for MoneyFault {
+    ghost from_gives = { λ f e. refusal_of e ≡ formats.refusal_of (λ at. MissingAmount at) f };
 
-    fn from(fault: ValueFault) -> MoneyFault {
+    fn from(fault: FormatFault) -> MoneyFault {
         match fault {
-            ValueFault::BadConversion { at } => MoneyFault::BadFormat { at },
-            ValueFault::MissingValue { at } => MoneyFault::MissingAmount { at },
-            ValueFault::TooBig => MoneyFault::TooBig,
-            ValueFault::Memory => MoneyFault::Memory,
+            FormatFault::BadFormat { at } => MoneyFault::BadFormat { at },
+            FormatFault::MissingValue { at } => MoneyFault::MissingAmount { at },
+            FormatFault::TooBig => MoneyFault::TooBig,
+            FormatFault::Memory => MoneyFault::Memory,
         }
     }
 }

@@ -2,7 +2,9 @@
 #![tactic(auto)]
 
 ghost use Rattle.std.specs.Prelude.{◌≡◌, [], length, None, Ok, OnOk, OnErr, IfErr};
-ghost use Rattle.digit_groups.specs.Formats.{pieces, good_pieces, pieces_text, refusal, formatted, within, at_most};
+ghost use Rattle.lc_base.specs.declared.refusal.FormatRefusal.TheVariants.{MissingAmount};
+ghost use Rattle.lc_base.specs.Limits.{within};
+ghost use Rattle.digit_groups.specs.Formats.{pieces, good_pieces, pieces_text, refusal};
 ghost use Rattle.digit_groups.specs.Formats as formats;
 ghost use Rattle.strfmon.specs.Formats.{conversion};
 ghost use Rattle.strfmon.specs.Money.{money, conversion_text, Answers};
@@ -15,7 +17,7 @@ mod layout;
 mod look;
 mod write;
 
-use digit_groups::{FormatConversion, ValueFault, add_pieces, first_fault};
+use digit_groups::{FormatConversion, FormatFault, add_pieces, first_fault};
 pub use fault::MoneyFault;
 use format::{Conversion, quick_conversion};
 pub use lc_base::Amount;
@@ -92,9 +94,9 @@ fn put_pieces(
     format: &[u8],
     amounts: &[Amount],
     max: usize,
-) -> Result<(), ValueFault>
-    ensures text { OnOk result (at_most max (formatted conversion (conversion_text m.now) format.now amounts.now) ≡ Ok out.new.items) }
-    ensures fault { IfErr result (λ e. refusal (pieces conversion 0 0 format.now) (length amounts.now) ≡ None → formats.Refuses e (within max (pieces_text (conversion_text m.now) (good_pieces (pieces conversion 0 0 format.now)) amounts.now))) }
+) -> Result<(), FormatFault>
+    ensures text { OnOk result (money m.now format.now amounts.now max ≡ Ok out.new.items) }
+    ensures fault { IfErr result (λ e. refusal (λ at. MissingAmount at) (pieces conversion 0 0 format.now) (length amounts.now) ≡ None → formats.Refuses (λ at. MissingAmount at) e (within max (pieces_text (conversion_text m.now) (good_pieces (pieces conversion 0 0 format.now)) amounts.now))) }
 {
     out.clear();
     let room = first_room(format, amounts.len(), max);
@@ -106,6 +108,7 @@ fn put_pieces(
 
 impl FormatConversion for Conversion {
     ghost use Rattle.std.specs.Prelude.{true};
+    ghost use Rattle.lc_base.specs.declared.refusal.FormatRefusal.TheVariants.{MissingAmount};
     ghost use Rattle.strfmon.specs.Formats.{conversion};
     ghost use Rattle.strfmon.specs.Money.{conversion_text};
 
@@ -119,6 +122,8 @@ impl FormatConversion for Conversion {
 
     ghost is_value = { λ _. true };
 
+    ghost lacks = { λ at. MissingAmount at };
+
     #[inline(always)]
     fn read(bytes: &[u8]) -> Option<(Conversion, usize)> {
         quick_conversion(bytes)
@@ -131,7 +136,7 @@ impl FormatConversion for Conversion {
         category: &Monetary,
         value: Amount,
         room: usize,
-    ) -> Result<(), ValueFault> {
+    ) -> Result<(), FormatFault> {
         add_amount(out, category, self, value, room)
     }
 }

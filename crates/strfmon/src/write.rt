@@ -5,13 +5,13 @@ ghost use Rattle.digit_groups.specs.Digits.{digit_count};
 ghost use Rattle.strfmon.specs.Money.{with_spaces, conversion_text};
 ghost use Rattle.strfmon.specs.Shown.{shown_fraction, shown_number, shown_parts};
 ghost use Rattle.strfmon.specs.Seen.{seen};
-ghost use Rattle.digit_groups.specs.declared.fault.ValueFault.TheVariants.{TooBig, Memory};
+ghost use Rattle.digit_groups.specs.declared.fault.FormatFault.TheVariants.{TooBig, Memory};
 
 use crate::decimal::Decimal;
 use crate::format::{Conversion, is_plain, plain_conversion};
 use crate::layout::{Laid, laid_out, radix_of, sizes_of};
 use crate::look::Look;
-use digit_groups::{ValueFault, write_before, write_digits, write_grouped};
+use digit_groups::{FormatFault, write_before, write_digits, write_grouped};
 use lc_base::Amount;
 use monetary_cat::{MonText, Monetary};
 
@@ -185,7 +185,7 @@ fn add_conversion(
     c: &Conversion,
     amount: Amount,
     room: usize,
-) -> Result<(), ValueFault>
+) -> Result<(), FormatFault>
     ensures ok { OnOk result (out.new.items ≡ out.old.items ++ conversion_text m.now c.now amount) }
     ensures fits { OnOk result (length (conversion_text m.now c.now amount) ≤ room) }
     ensures too_big { result ≡ Err TooBig → room < length (conversion_text m.now c.now amount) }
@@ -193,12 +193,12 @@ fn add_conversion(
 {
     let laid = laid_out(m, c, amount);
     if laid.layout.width + laid.field > room as u128 {
-        return Err(ValueFault::TooBig);
+        return Err(FormatFault::TooBig);
     }
     let start = out.len();
     let end = start
         .checked_add((laid.layout.width + laid.field) as usize)
-        .ok_or(ValueFault::Memory)?;
+        .ok_or(FormatFault::Memory)?;
     out.resize(end, 0)?;
     fill_field(
         &mut out[start..],
@@ -219,7 +219,7 @@ fn add_other(
     c: &Conversion,
     amount: Amount,
     room: usize,
-) -> Result<(), ValueFault>
+) -> Result<(), FormatFault>
     ensures ok { OnOk result (out.new.items ≡ out.old.items ++ conversion_text m.now c.now amount) }
     ensures fits { OnOk result (length (conversion_text m.now c.now amount) ≤ room) }
     ensures too_big { result ≡ Err TooBig → room < length (conversion_text m.now c.now amount) }
@@ -237,7 +237,7 @@ pub fn add_amount(
     c: &Conversion,
     amount: Amount,
     room: usize,
-) -> Result<(), ValueFault>
+) -> Result<(), FormatFault>
     ensures ok { OnOk result (out.new.items ≡ out.old.items ++ conversion_text m.now c.now amount) }
     ensures fits { OnOk result (length (conversion_text m.now c.now amount) ≤ room) }
     ensures too_big { result ≡ Err TooBig → room < length (conversion_text m.now c.now amount) }

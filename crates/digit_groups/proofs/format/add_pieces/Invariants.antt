@@ -6,7 +6,7 @@ use Rattle.digit_groups.proofs.format.add_pieces.Given as goal
 abbrev pub invariant-loop-at : goal.invariant-loop-at
 invariant-loop-at g l = record {
   good : list_all g.C.FormatConversion.is_value l.left ≡ true;
-  written : IsWritten g.C.FormatConversion.conversion (g.C.FormatConversion.text l.category) l.format l.values l.at l.left l.out.items;
+  written : IsWritten g.C.FormatConversion.conversion (g.C.FormatConversion.text l.category) g.C.FormatConversion.lacks l.format l.values l.at l.left l.out.items;
   room : length l.out.items ≤ l.max;
   within : l.at ≤ length l.format;
 }

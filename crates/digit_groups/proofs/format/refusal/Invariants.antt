@@ -4,7 +4,7 @@ use Rattle.digit_groups.proofs.format.refusal.Given as goal
 
 abbrev pub invariant-loop-at : goal.invariant-loop-at
 invariant-loop-at g l = record {
-  rest : refusal (pieces g.C.FormatConversion.conversion 0 0 l.format) l.values ≡ refusal_behind l.lacking (pieces g.C.FormatConversion.conversion 0 l.at (drop l.at l.format)) l.left;
+  rest : refusal g.C.FormatConversion.lacks (pieces g.C.FormatConversion.conversion 0 0 l.format) l.values ≡ refusal_behind g.C.FormatConversion.lacks l.lacking (pieces g.C.FormatConversion.conversion 0 l.at (drop l.at l.format)) l.left;
   within : l.at ≤ length l.format;
 }
 
