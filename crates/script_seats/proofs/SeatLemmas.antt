@@ -1,15 +1,14 @@
 -- What a call leaves of a thread at a shared table.
-use Rattle.std.proofs.Common.{◌≡◌, ℕ, ◌+◌, ◌≤◌, Bool, true, false, cond, List, [], ◌∷◌, ◌++◌, length, Option, Some, Result, Ok, Err, refl, sym, ap, ◌∙◌, subst, arith, eq-eqb}
+use Rattle.std.proofs.Common.{◌≡◌, ℕ, ◌+◌, ◌≤◌, Bool, true, false, cond, List, [], ◌∷◌, ◌++◌, length, Option, Some, Result, Ok, Err, refl, sym, ap, ◌∙◌, subst, absurd, arith, eq-eqb}
 use Rattle.std.specs.Prelude.{find, option_map, IfOk, OnOk}
 use Rattle.std.specs.List.{list_any}
-use Rattle.turn_gate.specs.declared.entry.Terms.{Terms}
 use Rattle.turn_gate.specs.Callers.{Gate}
 use Rattle.mask_compose.specs.Parts.{Parts}
 use Rattle.lc_base.specs.declared.handle.Handle.{Handle}
 use Rattle.lc_base.specs.declared.handle.Named.{Named}
 use Rattle.lc_base.specs.declared.handle.Named.TheVariants.{Of}
 use Rattle.handle_table.specs.declared.op.Refusal.{Refusal}
-use Rattle.handle_table.specs.Entry.{Op, Use, Hold, Release, SetGlobal, Reply, Was, Set, Held, Released, Refused, Entry, History, Setting, is_accepted}
+use Rattle.handle_table.specs.Entry.{Op, New, Dup, Free, Use, Hold, Release, SetGlobal, Install, Post, Fetch, Pins, End, Reply, Held, Released, Refused, Entry, History, Setting, is_accepted}
 use Rattle.handle_table.specs.History.{sets, global, global_at}
 use Rattle.handle_table.specs.Answer.{answer, own, IsLegal}
 use Rattle.thread_current.specs.Mine.{HeldData}
@@ -25,7 +24,7 @@ use Rattle.catalog_handles.specs.Entry.{History as CatalogHistory}
 use Rattle.catalog_handles.specs.declared.setting.CatalogSetting.{CatalogSetting}
 use Rattle.catalog_handles.specs.Reader.{ReaderData}
 use Rattle.catalog_handles.specs.Reader as readers
-use Rattle.script_seats.specs.Seated.{held_data, handed_out, KnowsSeated, IsSeatedAt, IsAskingAt, MayFollow, Gates, HasCalls, HasAsks, CanCall, AnswersSeated, is_held, IsTaken, IsUnheld}
+use Rattle.script_seats.specs.Seated.{held_data, handed_out, KnowsSeated, IsSeatedAt, IsAskingAt, MayFollow, Gates, HasCalls, HasAsks, CanCall, LeavesHolds, AnswersSeated, is_held, IsTaken, IsUnheld}
 use Rattle.script_seats.proofs.OwnCalls.{holds_says}
 use Rattle.script_seats.proofs.HoldLists.{holds_of, apart_holds, found_as}
 
@@ -89,6 +88,20 @@ pub keeps_holds : (op : Op) (reply : Reply) (os : List OpenHold) → hold_change
 keeps_holds op reply os keep =
     ap (λ change. cond (is_accepted reply) (changed os (object_held reply) change) os) keep ∙ either_way (is_accepted reply) os
 
+pub leaves_keep : (op : Op) → LeavesHolds op → hold_change op ≡ changes.Keep
+leaves_keep (New mask numbers base) p = refl
+leaves_keep (Dup n) p = refl
+leaves_keep (Free n) p = refl
+leaves_keep (Use n) p = refl
+leaves_keep (SetGlobal mask numbers) p = refl
+leaves_keep (Install m offer) p = refl
+leaves_keep (Post k n) p = refl
+leaves_keep (Fetch owner k) p = refl
+leaves_keep (Pins n) p = refl
+leaves_keep (Hold n) p = absurd p
+leaves_keep (Release n) p = absurd p
+leaves_keep End p = absurd p
+
 pub answers_plain : (gate : Gate Setting) (old new : Seated) (op : Op) (place : ℕ) (reply : Reply) → HasCalls 1 gate old
     → Answered gate old.mine new.mine op place reply → IsInOrder gate.terms new.mine → new.number ≡ old.number → new.holds.items ≡ old.holds.items
     → hold_change op ≡ changes.Keep → AnswersSeated gate old new op place reply
@@ -114,26 +127,6 @@ pub answers_fault : (gate : Gate Setting) (old new : Seated) (op : Op) (place : 
 answers_fault gate old new op place refusal at reply may a is number same at_fault =
     subst (λ (r : Reply). AnswersSeated gate old new op at r) (sym at_fault.1)
     (subst (λ (p : ℕ). AnswersSeated gate old new op p (Refused refusal)) (sym at_fault.0) (answers_refused gate old new op place refusal may a is number same))
-
--- a change of the global locale gives the object that it made
-pub answers_set : (gate : Gate Setting) (old new : Seated) (mask : ℕ) (numbers : List ℕ) (place version : ℕ) (object : Parts) → HasCalls 1 gate old
-    → Answered gate old.mine new.mine (SetGlobal mask numbers) place (Set version (global_at gate.terms.setting new.mine.seen version)) → IsInOrder gate.terms new.mine
-    → new.number ≡ old.number → new.holds.items ≡ old.holds.items
-    → ((terms : Terms Setting) → new.mine.terms ≡ Some terms → object ≡ global_at terms.setting new.mine.seen new.mine.cached) → new.mine.cached ≡ version
-    → AnswersSeated gate old new (SetGlobal mask numbers) place (Set version object)
-answers_set gate old new mask numbers place version object may a is number same newest cached =
-    let here : object ≡ global_at gate.terms.setting new.mine.seen version =
-    newest gate.terms (a.same.terms ∙ may.seated.thread.1) ∙ ap (global_at gate.terms.setting new.mine.seen) cached in
-    subst (λ (o : Parts). AnswersSeated gate old new (SetGlobal mask numbers) place (Set version o)) (sym here)
-    (answers_plain gate old new (SetGlobal mask numbers) place (Set version (global_at gate.terms.setting new.mine.seen version)) may a is number same refl)
-
--- a selection gives the object that is taken up
-pub answers_use : (gate : Gate Setting) (old new : Seated) (n : Named) (place : ℕ) (former : Named) (target now : Option Parts) → HasCalls 1 gate old
-    → Answered gate old.mine new.mine (Use n) place (Was former target) → IsInOrder gate.terms new.mine → new.number ≡ old.number → new.holds.items ≡ old.holds.items
-    → now ≡ target → AnswersSeated gate old new (Use n) place (Was former now)
-answers_use gate old new n place former target now may a is number same taken =
-    subst (λ (o : Option Parts). AnswersSeated gate old new (Use n) place (Was former o)) (sym taken)
-    (answers_plain gate old new (Use n) place (Was former target) may a is number same refl)
 
 -- an accepted Hold adds it
 pub answers_hold : (gate : Gate Setting) (old new : Seated) (n : Named) (place : ℕ) (held : HeldData) (object : Parts) → HasCalls 1 gate old

@@ -119,34 +119,20 @@ IsNoEnd (Pins n) = Unit {0}
 abbrev pub MayCall : Setting → Op → Type 0
 MayCall c op = Fits c op × IsNoEnd op
 
--- the calls that neither select, nor hold, nor change what all threads see; and those that do the last
-abbrev pub IsPlain : Op → Type 0
-IsPlain (New mask numbers base) = Unit {0}
-IsPlain (Dup n) = Unit {0}
-IsPlain (Free n) = Unit {0}
-IsPlain (Post k n) = Unit {0}
-IsPlain (Fetch owner k) = Unit {0}
-IsPlain (Pins n) = Unit {0}
-IsPlain (Use n) = ⊥
-IsPlain (Hold n) = ⊥
-IsPlain (Release n) = ⊥
-IsPlain (SetGlobal mask numbers) = ⊥
-IsPlain (Install m offer) = ⊥
-IsPlain End = ⊥
-
-abbrev pub IsChange : Op → Type 0
-IsChange (SetGlobal mask numbers) = Unit {0}
-IsChange (Install m offer) = Unit {0}
-IsChange (New mask numbers base) = ⊥
-IsChange (Dup n) = ⊥
-IsChange (Free n) = ⊥
-IsChange (Use n) = ⊥
-IsChange (Hold n) = ⊥
-IsChange (Release n) = ⊥
-IsChange (Post k n) = ⊥
-IsChange (Fetch owner k) = ⊥
-IsChange (Pins n) = ⊥
-IsChange End = ⊥
+-- an op that neither begins nor gives up a Hold, nor ends its thread
+abbrev pub LeavesHolds : Op → Type 0
+LeavesHolds (New mask numbers base) = Unit {0}
+LeavesHolds (Dup n) = Unit {0}
+LeavesHolds (Free n) = Unit {0}
+LeavesHolds (Use n) = Unit {0}
+LeavesHolds (SetGlobal mask numbers) = Unit {0}
+LeavesHolds (Install m offer) = Unit {0}
+LeavesHolds (Post k n) = Unit {0}
+LeavesHolds (Fetch owner k) = Unit {0}
+LeavesHolds (Pins n) = Unit {0}
+LeavesHolds (Hold n) = ⊥
+LeavesHolds (Release n) = ⊥
+LeavesHolds End = ⊥
 
 -- What a call leaves of a thread: its one entry, as the shared table says, and what it knows is right for what it has seen then
 pub record AnswersSeated (gate : Gate Setting) (old new : Seated) (op : Op) (place : ℕ) (reply : Reply) : Type 0 where

@@ -5,8 +5,7 @@ ghost use Rattle.std.specs.Option.{option_copied};
 ghost use Rattle.handle_table.specs.Entry as table;
 ghost use Rattle.handle_table.specs.Seen.{op_of, reply_of};
 ghost use Rattle.handle_table.specs.Table.{Fits};
-ghost use Rattle.thread_current.specs.Thread.{own_object};
-ghost use Rattle.script_seats.specs.Seated.{HasCalls, MayCall, IsPlain, IsChange, AnswersSeated, is_held, IsFirst, IsTaken, IsUnheld};
+ghost use Rattle.script_seats.specs.Seated.{HasCalls, MayCall, LeavesHolds, AnswersSeated, is_held, IsFirst, IsTaken, IsUnheld};
 
 use catalog_handles::{BookShare, CatalogOp, CatalogReply, Reader, SharedCatalogs};
 use category_store::Share;
@@ -211,92 +210,27 @@ impl<'a, R: Wait, G: OneTable> Beside<'a, R, G> {
         match op {
             Op::Hold { h } => self.hold(side, h),
             Op::Release { h } => Ok(self.release(side, h)),
-            Op::Use { to } => Ok(self.select(side, to)),
-            Op::SetGlobal { .. } | Op::Install { .. } => Ok(self.change(side, op)),
             Op::New { .. }
             | Op::Dup { .. }
             | Op::Free { .. }
+            | Op::Use { .. }
+            | Op::SetGlobal { .. }
+            | Op::Install { .. }
             | Op::Post { .. }
             | Op::Fetch { .. }
-            | Op::Pins { .. } => Ok(self.plain(side, op)),
+            | Op::Pins { .. } => Ok(self.asked(side, op)),
             Op::End => unreachable!(),
         }
     }
 
-    // A call that neither selects, nor holds, nor changes what all threads see.
-    fn plain(&self, side: &mut Seated, op: Op<Share>) -> (u64, Reply<Share>)
+    // A call that neither begins nor gives up a Hold.
+    fn asked(&self, side: &mut Seated, op: Op<Share>) -> (u64, Reply<Share>)
         requires calls { HasCalls 1 self.now.shared.now side.old }
-        requires op { Fits self.now.shared.now.terms.setting (op_of op) × IsPlain (op_of op) }
+        requires op { Fits self.now.shared.now.terms.setting (op_of op) × LeavesHolds (op_of op) }
         ensures answers { AnswersSeated self.now.shared.now side.old side.new (op_of op) result.0 (reply_of result.1) }
         ensures reader { side.new.reader ≡ side.old.reader }
     {
-        let (rt, shared, mine) = (self.rt, self.shared, &mut side.mine);
-        match op {
-            Op::New { mask, names, base } => match shared.newlocale(rt, mine, mask, names, base) {
-                Ok((place, handle)) => (place, Reply::Made(handle)),
-                Err(fault) => refused(fault),
-            },
-            Op::Dup { from } => match shared.duplocale(rt, mine, from) {
-                Ok((place, handle)) => (place, Reply::Made(handle)),
-                Err(fault) => refused(fault),
-            },
-            Op::Free { h } => match shared.freelocale(rt, mine, h) {
-                Ok(place) => (place, Reply::Freed),
-                Err(fault) => refused(fault),
-            },
-            Op::Post { cell, h } => match shared.post(rt, mine, cell, h) {
-                Ok(place) => (place, Reply::Posted),
-                Err(fault) => refused(fault),
-            },
-            Op::Fetch { owner, cell } => match shared.fetch(rt, mine, owner, cell) {
-                Ok((place, handle)) => (place, Reply::Got(handle)),
-                Err(fault) => refused(fault),
-            },
-            Op::Pins { h } => match shared.pins(rt, mine, h) {
-                Ok((place, count)) => (place, Reply::Pins(count)),
-                Err(fault) => refused(fault),
-            },
-            _ => unreachable!(),
-        }
-    }
-
-    // A call that changes the global locale, or what a locale name stands for.
-    fn change(&self, side: &mut Seated, op: Op<Share>) -> (u64, Reply<Share>)
-        requires calls { HasCalls 1 self.now.shared.now side.old }
-        requires op { Fits self.now.shared.now.terms.setting (op_of op) × IsChange (op_of op) }
-        ensures answers { AnswersSeated self.now.shared.now side.old side.new (op_of op) result.0 (reply_of result.1) }
-        ensures reader { side.new.reader ≡ side.old.reader }
-    {
-        let (rt, shared, mine) = (self.rt, self.shared, &mut side.mine);
-        match op {
-            Op::SetGlobal { mask, names } => match shared.setlocale(rt, mine, mask, names) {
-                Ok((place, version)) => {
-                    let object = mine.newest().share();
-                    (place, Reply::Set { version, object })
-                }
-                Err(fault) => refused(fault),
-            },
-            Op::Install { name, offer } => {
-                let (place, count) = shared.install(rt, mine, name, offer);
-                (place, Reply::Installed(count))
-            }
-            _ => unreachable!(),
-        }
-    }
-
-    // Selects what is named.
-    fn select(&self, side: &mut Seated, to: Named) -> (u64, Reply<Share>)
-        requires calls { HasCalls 1 self.now.shared.now side.old }
-        ensures answers { AnswersSeated self.now.shared.now side.old side.new (table.Use to) result.0 (reply_of result.1) }
-        ensures reader { side.new.reader ≡ side.old.reader }
-    {
-        match self.shared.uselocale(self.rt, &mut side.mine, to) {
-            Ok((place, former)) => {
-                let now = taken_up(&side.mine);
-                (place, Reply::Was { former, now })
-            }
-            Err(fault) => refused(fault),
-        }
+        self.shared.call(self.rt, &mut side.mine, op)
     }
 
     // Holds what is named.
@@ -331,16 +265,6 @@ impl<'a, R: Wait, G: OneTable> Beside<'a, R, G> {
                 (place, Reply::Refused(refusal))
             }
         }
-    }
-}
-
-// The object that a thread took up when it selected it.
-fn taken_up(mine: &Mine<Share>) -> Option<Object<Share>>
-    ensures { result ≡ own_object mine.now }
-{
-    match mine.own() {
-        Some(object) => Some(object.share()),
-        None => None,
     }
 }
 
