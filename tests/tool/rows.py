@@ -1,8 +1,9 @@
 #!/usr/bin/env python3
 """rows.py [PROGRAM]: whether the table of reasons of tool_messages has a row for each reason of lc_base, with each
-part and limit, and for each refusal of a command; and whether the man page names each command and each argument
-of tool_answers. With PROGRAM, a built tool, also whether each example that breaks a rule is refused for it, and
-each that keeps it is accepted. Prints what is lacking or wrong; the status is 1 where something is."""
+part and limit, and for each refusal of a command; whether each command of tool_answers has one row; and whether the
+man page names each command and each of its arguments. With PROGRAM, a built tool, also whether each example that
+breaks a rule is refused for it, and each that keeps it is accepted. Prints what is lacking or wrong; the status is 1
+where something is."""
 import os
 import re
 import subprocess
@@ -43,8 +44,14 @@ def quoted(file, form):
     return re.findall(form, open(file).read())
 
 
+COMMANDS = "crates/tool_answers/src/rows.rt"
+for enum in ("LocaleCommand", "ToolCommand"):
+    for it in variants(COMMANDS, enum):
+        if it != "Locale" and len(quoted(COMMANDS, rf"command: .*\b{enum}::{it}\b")) != 1:
+            print(f"tool_answers has not one row for {enum}::{it}")
+            lacking.append(it)
 page = open("docs/man/locale_tool.1").read().replace("\\-", "-")
-for it in quoted("crates/tool_answers/src/rows.rt", r'name: "(\w+)"'):
+for it in quoted(COMMANDS, r'name: "(\w+)"'):
     if not re.search(rf"\b{it}\b", page):
         print(f"docs/man/locale_tool.1 does not name {it}")
         lacking.append(it)

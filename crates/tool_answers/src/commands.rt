@@ -1,6 +1,6 @@
 //! The commands as the parser of words takes them.
 
-use crate::rows::{ArgRow, COMMANDS, CommandRow, LOCALE_ARGS, Takes};
+use crate::rows::{ArgRow, COMMANDS, CommandRow, LOCALE_ARGS, Takes, ToolCommand};
 use clap::{Arg, ArgAction, Command};
 use std::alloc::{AllocError, Global};
 
@@ -30,12 +30,20 @@ fn with_commands<'a>(
 /// The command of a row.
 fn command_of<'a>(alloc: Global, row: &CommandRow) -> Result<Command<'a>, AllocError> {
     let command = Command::new(alloc, row.name).about(row.about);
-    let command = if row.reads_locale {
+    let command = if reads_locale(row.command) {
         with_args(alloc, command, &LOCALE_ARGS)?
     } else {
         command
     };
     with_args(alloc, command, row.args)
+}
+
+/// Whether a command reads a locale, and so has the options that say which.
+fn reads_locale(command: ToolCommand) -> bool {
+    match command {
+        ToolCommand::Locale(_) => true,
+        ToolCommand::Check | ToolCommand::Explain | ToolCommand::Run | ToolCommand::Serial => false,
+    }
 }
 
 /// A command with the arguments of rows.

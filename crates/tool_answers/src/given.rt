@@ -1,6 +1,33 @@
-//! What the arguments of a command are given.
+//! The command that words give, and its arguments.
 
+use crate::rows::{COMMANDS, CommandRow, ToolCommand};
 use clap::ArgMatches;
+use std::alloc::Global;
+use tool_messages::Problem;
+use tool_reads::usage_problem;
+
+/// The command that words give, with what its arguments are given.
+pub fn command_given<'a, 'b>(
+    alloc: Global,
+    matches: &'a ArgMatches<'b>,
+) -> Result<(ToolCommand, &'a ArgMatches<'b>), Problem> {
+    if let Some((name, given)) = matches.subcommand() {
+        if let Some(command) = command_named(&COMMANDS, name) {
+            return Ok((command, given));
+        }
+    }
+    Err(usage_problem(alloc, b"COMMAND", b"a command is wanted"))
+}
+
+/// The command with a name among rows.
+fn command_named(rows: &[CommandRow], name: &str) -> Option<ToolCommand> {
+    for row in rows {
+        if row.name == name {
+            return Some(row.command);
+        }
+    }
+    None
+}
 
 /// The word with a name; empty where it is not given.
 pub fn word<'a>(matches: &'a ArgMatches<'_>, name: &str) -> &'a str {

@@ -1,19 +1,23 @@
 //! What the commands of the tool answer that run no script.
 #![tactic(auto)]
 
-mod answers;
 mod checking;
 mod clock;
 mod commands;
+mod explaining;
 mod fields;
 mod gathered;
 mod given;
+mod locale;
 mod progress;
 mod rows;
 mod when;
 
-pub use answers::answer_of;
+pub use checking::check_files;
 pub use commands::tool_command;
+pub use explaining::explain;
 pub use gathered::Gathered;
-pub use given::{strs, word};
+pub use given::{command_given, strs, word};
+pub use locale::read_locale;
+pub use rows::{LocaleCommand, ToolCommand};
 pub use when::tm_of;

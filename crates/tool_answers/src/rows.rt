@@ -1,12 +1,37 @@
-//! The table of commands.
+//! The commands, and their table.
 
-/// A command: what it is for, and its arguments.
+/// A command of the tool.
+#[derive(Clone, Copy)]
+pub enum ToolCommand {
+    /// One that reads a locale.
+    Locale(LocaleCommand),
+    Check,
+    Explain,
+    Run,
+    Serial,
+}
+
+/// A command that reads a locale.
+#[derive(Clone, Copy)]
+pub enum LocaleCommand {
+    Money,
+    Time,
+    Number,
+    Info,
+    Conv,
+    Parse,
+    Class,
+    Upper,
+    Lower,
+}
+
+/// The row of a command: its name, what it is for, and its arguments.
 #[derive(Clone, Copy)]
 pub struct CommandRow {
+    pub command: ToolCommand,
     pub name: &'static str,
     pub about: &'static str,
-    /// Whether it reads a locale, and so has the options that say which.
-    pub reads_locale: bool,
+    /// Those behind the options that say which locale is read, where it reads one.
     pub args: &'static [ArgRow],
 }
 
@@ -86,12 +111,12 @@ pub const LOCALE_ARGS: [ArgRow; 3] = [
     PATH,
 ];
 
-/// The commands.
+/// The rows of the commands, in the order in which help has them.
 pub const COMMANDS: [CommandRow; 13] = [
     CommandRow {
+        command: ToolCommand::Locale(LocaleCommand::Money),
         name: "money",
         about: "Prints amounts of money by a format of strfmon",
-        reads_locale: true,
         args: &[
             ArgRow {
                 name: "FORMAT",
@@ -106,9 +131,9 @@ pub const COMMANDS: [CommandRow; 13] = [
         ],
     },
     CommandRow {
+        command: ToolCommand::Locale(LocaleCommand::Time),
         name: "time",
         about: "Prints a time by a format of strftime",
-        reads_locale: true,
         args: &[
             ArgRow {
                 name: "FORMAT",
@@ -123,9 +148,9 @@ pub const COMMANDS: [CommandRow; 13] = [
         ],
     },
     CommandRow {
+        command: ToolCommand::Locale(LocaleCommand::Number),
         name: "number",
         about: "Prints whole numbers by a format of printf",
-        reads_locale: true,
         args: &[
             ArgRow {
                 name: "FORMAT",
@@ -140,9 +165,9 @@ pub const COMMANDS: [CommandRow; 13] = [
         ],
     },
     CommandRow {
+        command: ToolCommand::Locale(LocaleCommand::Info),
         name: "info",
         about: "Prints items of nl_langinfo",
-        reads_locale: true,
         args: &[ArgRow {
             name: "ITEM",
             takes: Takes::Words,
@@ -150,15 +175,15 @@ pub const COMMANDS: [CommandRow; 13] = [
         }],
     },
     CommandRow {
+        command: ToolCommand::Locale(LocaleCommand::Conv),
         name: "conv",
         about: "Prints how numbers and amounts are written, a field a line",
-        reads_locale: true,
         args: &[],
     },
     CommandRow {
+        command: ToolCommand::Locale(LocaleCommand::Parse),
         name: "parse",
         about: "Prints the fields of a time that a text has by a format of strptime",
-        reads_locale: true,
         args: &[
             ArgRow {
                 name: "FORMAT",
@@ -173,9 +198,9 @@ pub const COMMANDS: [CommandRow; 13] = [
         ],
     },
     CommandRow {
+        command: ToolCommand::Locale(LocaleCommand::Class),
         name: "class",
         about: "Prints whether characters are in a class",
-        reads_locale: true,
         args: &[
             ArgRow {
                 name: "NAME",
@@ -186,21 +211,21 @@ pub const COMMANDS: [CommandRow; 13] = [
         ],
     },
     CommandRow {
+        command: ToolCommand::Locale(LocaleCommand::Upper),
         name: "upper",
         about: "Prints the upper case of characters",
-        reads_locale: true,
         args: &[CHARACTERS],
     },
     CommandRow {
+        command: ToolCommand::Locale(LocaleCommand::Lower),
         name: "lower",
         about: "Prints the lower case of characters",
-        reads_locale: true,
         args: &[CHARACTERS],
     },
     CommandRow {
+        command: ToolCommand::Check,
         name: "check",
         about: "Checks locale sources, and charmaps, which have a line `CHARMAP`",
-        reads_locale: false,
         args: &[
             ArgRow {
                 name: "FILE",
@@ -217,9 +242,9 @@ pub const COMMANDS: [CommandRow; 13] = [
         ],
     },
     CommandRow {
+        command: ToolCommand::Explain,
         name: "explain",
         about: "Prints the rule of a reason, what breaks it and what keeps it",
-        reads_locale: false,
         args: &[ArgRow {
             name: "REASON",
             takes: Takes::Words,
@@ -227,15 +252,15 @@ pub const COMMANDS: [CommandRow; 13] = [
         }],
     },
     CommandRow {
+        command: ToolCommand::Run,
         name: "run",
         about: "Runs the scripts of bundles, the threads of a round beside each other",
-        reads_locale: false,
         args: &[BUNDLES, EXPLAIN, STRICT],
     },
     CommandRow {
+        command: ToolCommand::Serial,
         name: "serial",
         about: "Runs the scripts of bundles on one thread",
-        reads_locale: false,
         args: &[BUNDLES, EXPLAIN, STRICT],
     },
 ];

@@ -5,19 +5,20 @@ ghost use Rattle.tool_messages.specs.declared.answer.Problem.TheVariants.{Memory
 ghost use Rattle.tool_check.specs.Checked.{BeginsWith, IsSummary, IsChecked, IsWritten, accepted, refused};
 ghost use Rattle.tool_check.specs.Summary.{accepted_line, charmap_summary};
 
-use crate::declared::{accepted_sections, declared_classes};
+use crate::declared::declared_classes;
 use crate::faults::faults_of;
 use crate::found::Fault;
 use crate::summary::{push_charmap, push_locale};
 use crate::texts::is_charmap;
 use category_store::{Library, Share};
 use charset::Charset;
-use lc_base::{ByteText, TextFault};
+use keywords::Section;
+use lc_base::{ByteText, List, TextFault};
 use std::alloc::{AllocError, Global};
 use std::rt::Files;
 use tool_files::{
-    Sources, Wanted, charset_of, fault_message, fault_problem, file_text, library_of, load_with,
-    sections_of,
+    Loaded, Sources, Wanted, charset_of, fault_message, fault_problem, file_text, library_of,
+    load_with,
 };
 use tool_messages::Problem;
 
@@ -111,7 +112,7 @@ fn charmap_read(
 {
     match charset_of(alloc, sources) {
         Ok(charset) => accepted(charmap_summary(alloc, is_asked, path, &charset)),
-        Err(fault) => Err(fault_problem(alloc, sources, fault)),
+        Err(fault) => Err(fault_problem(alloc, sources, None, fault)),
     }
 }
 
@@ -165,8 +166,8 @@ fn locale_checked<R: Files>(
         charmap: how.charmap,
         folders: how.folders,
     };
-    match load_with(rt, alloc, &wanted, Some((path, text))) {
-        Ok(sources) => sources_checked(alloc, how.summary, path, &sources),
+    match load_with(rt, alloc, &wanted, Some((path, text)), how.summary) {
+        Ok(loaded) => sources_checked(alloc, how.summary, path, &loaded),
         Err(problem) => Err(problem),
     }
 }
@@ -176,14 +177,14 @@ fn sources_checked(
     alloc: Global,
     is_asked: bool,
     path: &str,
-    sources: &Sources,
+    loaded: &Loaded,
 ) -> Result<Checked, Problem>
     ensures { IfOk result (IsChecked is_asked path.now) }
 {
-    match library_of(alloc, sources) {
-        Ok(library) => accepted(locale_summary(alloc, is_asked, path, sources, &library)),
+    match library_of(alloc, &loaded.sources) {
+        Ok(library) => accepted(locale_summary(alloc, is_asked, path, loaded, &library)),
         Err(TextFault::At(place, reason)) => {
-            refused(fault_messages(alloc, sources, Fault { place, reason }))
+            refused(fault_messages(alloc, loaded, Fault { place, reason }))
         }
         Err(TextFault::Memory) => Err(Problem::Memory),
     }
@@ -194,7 +195,7 @@ fn locale_summary(
     alloc: Global,
     is_asked: bool,
     path: &str,
-    sources: &Sources,
+    loaded: &Loaded,
     library: &Library,
 ) -> Result<ByteText, AllocError>
     ensures { IfOk result (IsSummary is_asked path.now) }
@@ -202,61 +203,59 @@ fn locale_summary(
     if !is_asked {
         return Ok(ByteText::from_vec(Vec::new(alloc)));
     }
-    match charset_of(alloc, sources) {
-        Ok(charset) => summary_in(alloc, path, sources, library, &charset),
-        Err(_) => Err(AllocError),
-    }
+    summary_of(alloc, path, loaded, library)
 }
 
-/// The summary of a locale in its charset.
-fn summary_in(
+/// The summary of a locale.
+fn summary_of(
     alloc: Global,
     path: &str,
-    sources: &Sources,
+    loaded: &Loaded,
     library: &Library,
-    charset: &Charset,
 ) -> Result<ByteText, AllocError>
     ensures { IfOk result (BeginsWith (accepted_line path.now)) }
 {
     let mut summary = Vec::new(alloc);
-    let sections = accepted_sections(sections_of(alloc, sources, charset))?;
+    let read = loaded.sections.as_slice();
+    let sections = first_sections(read)?;
     let ctype = library.compiled(Share { number: 1 }).ctype();
-    let declared = declared_classes(alloc, sources.locales.as_slice(), charset, ctype)?;
+    let declared = declared_classes(alloc, read, ctype)?;
     push_locale(
         &mut summary,
         path.as_bytes(),
-        sections.as_slice(),
-        charset,
+        sections,
+        &loaded.charset,
         ctype,
         declared.as_slice(),
     )?;
     Ok(ByteText::from_vec(summary))
 }
 
-/// The messages of the faults of a source.
-fn fault_messages(alloc: Global, sources: &Sources, first: Fault) -> Result<ByteText, Problem> {
-    match charset_of(alloc, sources) {
-        Ok(charset) => messages_in(alloc, sources, &charset, first),
-        Err(fault) => Err(fault_problem(alloc, sources, fault)),
+/// The sections of the first source, which was accepted.
+fn first_sections(read: &[Option<List<Section>>]) -> Result<&[Section], AllocError> {
+    match read {
+        [Some(first), ..] => Ok(first.as_slice()),
+        [None, ..] | [] => Err(AllocError),
     }
 }
 
-/// The same, in the charset of the source.
-fn messages_in(
-    alloc: Global,
-    sources: &Sources,
-    charset: &Charset,
-    first: Fault,
-) -> Result<ByteText, Problem> {
-    let faults = faults_of(alloc, sources, charset, first)?;
-    Ok(messages_of(alloc, sources, faults.as_slice())?)
+/// The messages of the faults of a source.
+fn fault_messages(alloc: Global, loaded: &Loaded, first: Fault) -> Result<ByteText, Problem> {
+    let faults = faults_of(alloc, &loaded.sources, &loaded.charset, first)?;
+    Ok(messages_of(alloc, loaded, faults.as_slice())?)
 }
 
 /// The messages of faults.
-fn messages_of(alloc: Global, sources: &Sources, faults: &[Fault]) -> Result<ByteText, AllocError> {
+fn messages_of(alloc: Global, loaded: &Loaded, faults: &[Fault]) -> Result<ByteText, AllocError> {
     let mut messages = Vec::new(alloc);
     for fault in faults {
-        let message = fault_message(alloc, sources, fault.place, fault.reason)?;
+        let message = fault_message(
+            alloc,
+            &loaded.sources,
+            Some(&loaded.charset),
+            fault.place,
+            fault.reason,
+        )?;
         messages.extend_from_slice(message.as_bytes())?;
     }
     Ok(ByteText::from_vec(messages))

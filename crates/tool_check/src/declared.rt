@@ -1,32 +1,25 @@
 //! The classes that a locale declares.
 
-use charset::Charset;
 use ctype_classes::Ctype;
 use keywords::{Body, Entry, Section, ValueRef, Values};
-use lc_base::{Block, ByteText, List, TextFault};
+use lc_base::{ByteText, List};
 use std::alloc::{AllocError, Global};
-use tool_files::sections_in;
 
-/// The names that accepted sources declare for classes and that are classes of the category, each once.
+/// The names that the sections of accepted sources declare for classes and that are classes of the category,
+/// each once.
 pub fn declared_classes(
     alloc: Global,
-    sources: &[Block],
-    charset: &Charset,
+    sources: &[Option<List<Section>>],
     ctype: &Ctype,
 ) -> Result<Vec<ByteText>, AllocError> {
     let mut names = Vec::new(alloc);
-    for source in sources {
-        let sections = accepted_sections(sections_in(alloc, source, charset))?;
-        push_declared(alloc, &mut names, sections.as_slice(), ctype)?;
+    for read in sources {
+        match read {
+            Some(sections) => push_declared(alloc, &mut names, sections.as_slice(), ctype)?,
+            None => return Err(AllocError),
+        }
     }
     Ok(names)
-}
-
-/// The sections of a source that was accepted.
-pub fn accepted_sections(
-    read: Result<List<Section>, TextFault>,
-) -> Result<List<Section>, AllocError> {
-    read.ok().ok_or(AllocError)
 }
 
 /// Adds what sections declare.

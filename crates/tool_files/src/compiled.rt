@@ -79,18 +79,6 @@ pub fn sized_library(
     Library::build(alloc, charmaps, locales, &later, None)
 }
 
-/// The sections of the first source.
-pub fn sections_of(
-    alloc: Global,
-    sources: &Sources,
-    charset: &Charset,
-) -> Result<List<Section>, TextFault> {
-    match sources.locales.as_slice() {
-        [first, ..] => sections_in(alloc, first, charset),
-        [] => Ok(List::of(Vec::new(alloc))),
-    }
-}
-
 /// The sections of a source.
 pub fn sections_in(
     alloc: Global,

@@ -1,10 +1,10 @@
-//! The locales that a source copies.
+//! What is read of a source, with the locales that it copies.
 
 use crate::compiled::sections_in;
 use crate::format::word_at;
 use charset::Charset;
 use keywords::{Body, Section};
-use lc_base::{Block, ByteText, Category, Place, TextFault, next_line};
+use lc_base::{Block, ByteText, Category, List, Place, TextFault, next_line};
 use std::alloc::{AllocError, Global};
 
 /// The keyword that copies the category of another locale.
@@ -17,18 +17,42 @@ pub struct CopiedName {
     pub name: ByteText,
 }
 
-/// The names of the locales that a block copies; where it is refused, those of its lines that begin with
-/// `copy`, which may be a guess.
+/// What is read of a block.
+#[derive(Drop)]
+pub struct ReadBlock {
+    /// Its sections; `None` where it is refused.
+    pub sections: Option<List<Section>>,
+    /// The names of the locales that it copies; where it is refused, those of its lines that begin with
+    /// `copy`, which may be a guess.
+    pub copied: Vec<CopiedName>,
+}
+
+/// Reads a block.
+pub fn read_block(
+    alloc: Global,
+    block: &Block,
+    charset: &Charset,
+) -> Result<ReadBlock, AllocError> {
+    match sections_in(alloc, block, charset) {
+        Ok(sections) => Ok(ReadBlock {
+            copied: names_in(alloc, sections.as_slice())?,
+            sections: Some(sections),
+        }),
+        Err(TextFault::At(..)) => Ok(ReadBlock {
+            copied: names_in_lines(alloc, block)?,
+            sections: None,
+        }),
+        Err(TextFault::Memory) => Err(AllocError),
+    }
+}
+
+/// The names of the locales that a block copies.
 pub fn copied_names(
     alloc: Global,
     block: &Block,
     charset: &Charset,
 ) -> Result<Vec<CopiedName>, AllocError> {
-    match sections_in(alloc, block, charset) {
-        Ok(sections) => names_in(alloc, sections.as_slice()),
-        Err(TextFault::At(..)) => names_in_lines(alloc, block),
-        Err(TextFault::Memory) => Err(AllocError),
-    }
+    Ok(read_block(alloc, block, charset)?.copied)
 }
 
 /// The names of the locales that sections copy.

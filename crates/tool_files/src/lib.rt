@@ -12,9 +12,9 @@ mod shown;
 mod sized;
 mod sources;
 
-pub use compiled::{charset_of, library_of, sections_in, sections_of, sized_library};
+pub use compiled::{charset_of, library_of, sized_library};
 pub use copies::{CopiedName, copied_names};
 pub use files::{FILE_LIMIT, file_text};
-pub use loading::{Wanted, load, load_with};
+pub use loading::{Loaded, Wanted, load, load_with};
 pub use shown::{fault_message, fault_problem, text_problem};
 pub use sources::Sources;

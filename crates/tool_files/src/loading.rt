@@ -1,13 +1,14 @@
 //! The files that a command reads.
 
 use crate::compiled::charset_of;
-use crate::copies::{CopiedName, copied_names};
+use crate::copies::{CopiedName, read_block};
 use crate::files::file_text;
 use crate::parts::with_categories;
 use crate::shown::fault_problem;
 use crate::sources::Sources;
 use charset::Charset;
-use lc_base::{Block, ByteText, Category, Limit, Reason, TextFault};
+use keywords::Section;
+use lc_base::{Block, ByteText, Category, Limit, List, Reason, TextFault};
 use locale_sources::is_posix;
 use std::alloc::{AllocError, Global};
 use std::fs;
@@ -27,6 +28,25 @@ pub struct Wanted<'a> {
     pub folders: &'a [&'a str],
 }
 
+/// The files of a command, and what was read of them. (A library reads the blocks of files by itself.)
+pub struct Loaded {
+    pub sources: Sources,
+    /// The charset in which the sources are.
+    pub charset: Charset,
+    /// The sections of each source, where they were read; `None` of one that is refused.
+    pub sections: Vec<Option<List<Section>>>,
+}
+
+impl Drop for Loaded {
+    fn drop(self) {
+        let Loaded {
+            sources: _,
+            charset: _,
+            sections: _,
+        } = self;
+    }
+}
+
 /// What is read of the files of locales.
 #[derive(Clone, Copy)]
 struct Reading<'a> {
@@ -34,6 +54,8 @@ struct Reading<'a> {
     categories: Option<&'a [Category]>,
     /// Where the files of copied locales are looked for.
     folders: &'a [&'a str],
+    /// Whether sections are read: they are asked for, or the files of the locales that they copy are.
+    has_sections: bool,
 }
 
 /// Reads the files of a command: its charmap, and of its locale, and of those that are copied, the sections of
@@ -43,10 +65,11 @@ pub fn load<R: Files>(
     alloc: Global,
     wanted: &Wanted<'_>,
     categories: &[Category],
-) -> Result<Sources, Problem> {
+) -> Result<Loaded, Problem> {
     let reading = Reading {
         categories: Some(categories),
         folders: wanted.folders,
+        has_sections: !wanted.folders.is_empty(),
     };
     match wanted.locale {
         Some(path) => {
@@ -58,16 +81,18 @@ pub fn load<R: Files>(
 }
 
 /// Reads the whole files of a command but for its locale, whose path and text are given: what is read of a
-/// pipe is there once.
+/// pipe is there once. The sections are read where they are asked for.
 pub fn load_with<R: Files>(
     rt: &R,
     alloc: Global,
     wanted: &Wanted<'_>,
     locale: Option<(&str, ByteText)>,
-) -> Result<Sources, Problem> {
+    is_asked: bool,
+) -> Result<Loaded, Problem> {
     let reading = Reading {
         categories: None,
         folders: wanted.folders,
+        has_sections: is_asked || !wanted.folders.is_empty(),
     };
     load_parts(rt, alloc, wanted.charmap, locale, &reading)
 }
@@ -78,15 +103,16 @@ fn load_parts<R: Files>(
     charmap: Option<&str>,
     locale: Option<(&str, ByteText)>,
     reading: &Reading<'_>,
-) -> Result<Sources, Problem> {
+) -> Result<Loaded, Problem> {
     let mut sources = Sources::new(alloc);
-    match load_into(rt, alloc, charmap, locale, reading, &mut sources) {
-        Ok(()) => Ok(sources),
+    match add_named_files(rt, alloc, charmap, locale, reading, &mut sources) {
+        Ok(()) => in_charset(rt, alloc, reading, sources),
         Err(problem) => Err(problem),
     }
 }
 
-fn load_into<R: Files>(
+/// Adds the files that words name.
+fn add_named_files<R: Files>(
     rt: &R,
     alloc: Global,
     charmap: Option<&str>,
@@ -95,12 +121,41 @@ fn load_into<R: Files>(
     sources: &mut Sources,
 ) -> Result<(), Problem> {
     add_charmap(rt, alloc, charmap, sources)?;
-    if let Some((path, text)) = locale {
-        add_text(alloc, path, text, reading, sources)?;
+    match locale {
+        Some((path, text)) => Ok(add_text(alloc, path, text, reading, sources)?),
+        None => Ok(()),
     }
-    match charset_of(alloc, sources) {
-        Ok(charset) => add_copies(rt, alloc, reading, &charset, sources),
-        Err(fault) => Err(fault_problem(alloc, sources, fault)),
+}
+
+/// Reads the charset of files, and in it their sources.
+fn in_charset<R: Files>(
+    rt: &R,
+    alloc: Global,
+    reading: &Reading<'_>,
+    sources: Sources,
+) -> Result<Loaded, Problem> {
+    match charset_of(alloc, &sources) {
+        Ok(charset) => with_copies(rt, alloc, reading, sources, charset),
+        Err(fault) => Err(fault_problem(alloc, &sources, None, fault)),
+    }
+}
+
+/// Adds the files of the locales that sources copy.
+fn with_copies<R: Files>(
+    rt: &R,
+    alloc: Global,
+    reading: &Reading<'_>,
+    sources: Sources,
+    charset: Charset,
+) -> Result<Loaded, Problem> {
+    let mut loaded = Loaded {
+        sources,
+        charset,
+        sections: Vec::new(alloc),
+    };
+    match add_copies(rt, alloc, reading, &mut loaded) {
+        Ok(()) => Ok(loaded),
+        Err(problem) => Err(problem),
     }
 }
 
@@ -155,30 +210,35 @@ fn charset_name(alloc: Global, charmaps: &[Block]) -> Result<ByteText, AllocErro
     }
 }
 
-/// Adds the files of the locales that are copied, and of those that they copy in turn.
+/// Reads the sections of each source, and adds the files of the locales that they copy.
 fn add_copies<R: Files>(
     rt: &R,
     alloc: Global,
     reading: &Reading<'_>,
-    charset: &Charset,
-    sources: &mut Sources,
+    loaded: &mut Loaded,
 ) -> Result<(), Problem> {
+    if !reading.has_sections {
+        return Ok(());
+    }
     for number in 0..FILES_MOST {
-        let names = names_at(alloc, sources.locales.as_slice(), number, charset)?;
-        add_named(rt, alloc, reading, names.as_slice(), sources)?;
+        let names = read_at(alloc, loaded, number)?;
+        add_named(rt, alloc, reading, names.as_slice(), &mut loaded.sources)?;
     }
     Ok(())
 }
 
-/// The names of the locales that the source with a number copies.
-fn names_at(
+/// Reads the sections of the source with a number, if there is one: the names of the locales that they copy.
+fn read_at(
     alloc: Global,
-    locales: &[Block],
+    loaded: &mut Loaded,
     number: usize,
-    charset: &Charset,
 ) -> Result<Vec<CopiedName>, AllocError> {
-    match locales.get(number) {
-        Some(block) => copied_names(alloc, block, charset),
+    match loaded.sources.locales.as_slice().get(number) {
+        Some(block) => {
+            let read = read_block(alloc, block, &loaded.charset)?;
+            loaded.sections.push(read.sections)?;
+            Ok(read.copied)
+        }
         None => Ok(Vec::new(alloc)),
     }
 }
@@ -241,7 +301,7 @@ fn add_next<R: Files>(
 ) -> Result<(), Problem> {
     if sources.locales.len() >= FILES_MOST {
         let fault = TextFault::At(copied.place, Reason::OverLimit(Limit::Locales));
-        return Err(fault_problem(alloc, sources, fault));
+        return Err(fault_problem(alloc, sources, None, fault));
     }
     add_file(rt, alloc, path, reading, sources)
 }

@@ -2,7 +2,6 @@
 
 ghost use Rattle.tool_files.specs.Told.{IsTold};
 
-use crate::compiled::charset_of;
 use crate::copies::name_at;
 use crate::format::{byte_place, from_place};
 use crate::hints::{push_hint_of, push_hint_of_bytes, push_hint_of_copy};
@@ -13,15 +12,22 @@ use script_out::push_refusal;
 use std::alloc::{AllocError, Global};
 use tool_messages::{Problem, Spot, line_of, name_of, push_fault, push_hints, rule_of};
 
-/// The problem of a fault in files.
-pub fn fault_problem(alloc: Global, sources: &Sources, fault: TextFault) -> Problem
+/// The problem of a fault in files, of which the charset is given where it was read.
+pub fn fault_problem(
+    alloc: Global,
+    sources: &Sources,
+    charset: Option<&Charset>,
+    fault: TextFault,
+) -> Problem
     ensures { IsTold fault result }
 {
     match fault {
-        TextFault::At(place, reason) => match fault_message(alloc, sources, place, reason) {
-            Ok(message) => Problem::Refused(message),
-            Err(_) => Problem::Memory,
-        },
+        TextFault::At(place, reason) => {
+            match fault_message(alloc, sources, charset, place, reason) {
+                Ok(message) => Problem::Refused(message),
+                Err(_) => Problem::Memory,
+            }
+        }
         TextFault::Memory => Problem::Memory,
     }
 }
@@ -30,14 +36,14 @@ pub fn fault_problem(alloc: Global, sources: &Sources, fault: TextFault) -> Prob
 pub fn fault_message(
     alloc: Global,
     sources: &Sources,
+    charset: Option<&Charset>,
     place: Place,
     reason: Reason,
 ) -> Result<ByteText, AllocError> {
     let mut message = Vec::new(alloc);
     let file = file_of(&sources.paths, place.line);
     let text = text_of(sources, file);
-    let charset = charset_for(alloc, sources, reason);
-    let spot = shown_place(text, charset.as_ref(), place_in(file, place), reason);
+    let spot = shown_place(text, charset, place_in(file, place), reason);
     let source = line_of(text, spot.line);
     push_fault_of(alloc, &mut message, file.path, spot, source, reason)?;
     push_hint_of_copy(&mut message, reason, copied_path(sources, text, spot))?;
@@ -46,14 +52,6 @@ pub fn fault_message(
     }
     push_hints(&mut message, text, source)?;
     Ok(ByteText::from_vec(message))
-}
-
-/// The charset that tells where a fault is shown, if that is asked for.
-fn charset_for(alloc: Global, sources: &Sources, reason: Reason) -> Option<Charset> {
-    match reason {
-        Reason::BadFormat(_) => charset_of(alloc, sources).ok(),
-        _ => None,
-    }
 }
 
 /// The file of the locale whose name stands at a place.

@@ -1,0 +1,147 @@
+//! What the commands print that read a locale.
+
+use crate::rows::LocaleCommand;
+use crate::{strs, tm_of, word};
+use category_store::{Compiled, Share};
+use clap::ArgMatches;
+use lc_base::{ByteText, Category};
+use std::alloc::Global;
+use std::rt::{Env, Files};
+use std::time::Clock;
+use time_cat::Time;
+use tool_files::{Loaded, Wanted, fault_problem, library_of, load};
+use tool_messages::Problem;
+use tool_reads::{
+    LentCategories, class_lines, conv_lines, info_lines, item_categories, lower_lines, money_line,
+    number_line, parsed_lines, time_line, upper_lines,
+};
+
+/// What a command prints that reads a locale.
+pub fn read_locale<R: Files + Env + Clock + AllocGlobal + Clone + Drop>(
+    rt: &R,
+    alloc: Global,
+    command: LocaleCommand,
+    given: &ArgMatches<'_>,
+) -> Result<ByteText, Problem> {
+    match loaded_for(rt, alloc, command, given) {
+        Ok(loaded) => by_files(rt, alloc, command, given, &loaded),
+        Err(problem) => Err(problem),
+    }
+}
+
+/// Reads the files of a command, and of its locale the categories that the command asks for.
+fn loaded_for<R: Files>(
+    rt: &R,
+    alloc: Global,
+    command: LocaleCommand,
+    given: &ArgMatches<'_>,
+) -> Result<Loaded, Problem> {
+    let wanted = wanted_files(given);
+    match command {
+        LocaleCommand::Money => load(rt, alloc, &wanted, &[Category::Monetary]),
+        LocaleCommand::Number => load(rt, alloc, &wanted, &[Category::Numeric]),
+        LocaleCommand::Time | LocaleCommand::Parse => load(rt, alloc, &wanted, &[Category::Time]),
+        LocaleCommand::Conv => load(rt, alloc, &wanted, &[Category::Numeric, Category::Monetary]),
+        LocaleCommand::Class | LocaleCommand::Upper | LocaleCommand::Lower => {
+            load(rt, alloc, &wanted, &[Category::Ctype])
+        }
+        LocaleCommand::Info => {
+            let categories = item_categories(alloc, strs(given, "ITEM"))?;
+            load(rt, alloc, &wanted, categories.as_slice())
+        }
+    }
+}
+
+/// The files that the words of a command name.
+fn wanted_files<'a>(given: &'a ArgMatches<'_>) -> Wanted<'a> {
+    Wanted {
+        locale: given.get_str("locale"),
+        charmap: given.get_str("charmap"),
+        folders: strs(given, "path"),
+    }
+}
+
+/// What a command prints of files that were read.
+fn by_files<R: Files + Env + Clock + AllocGlobal + Clone + Drop>(
+    rt: &R,
+    alloc: Global,
+    command: LocaleCommand,
+    given: &ArgMatches<'_>,
+    loaded: &Loaded,
+) -> Result<ByteText, Problem> {
+    match library_of(alloc, &loaded.sources) {
+        Ok(library) => {
+            let locale = library.compiled(Share {
+                number: number_of(loaded),
+            });
+            by_locale(rt, alloc, command, given, loaded, locale)
+        }
+        Err(fault) => {
+            let charset = Some(&loaded.charset);
+            Err(fault_problem(alloc, &loaded.sources, charset, fault))
+        }
+    }
+}
+
+/// The number of the locale that is read: that of the first source, or of the POSIX locale.
+fn number_of(loaded: &Loaded) -> u32 {
+    if loaded.sources.locales.is_empty() {
+        0
+    } else {
+        1
+    }
+}
+
+/// What a command prints of its compiled locale.
+fn by_locale<R: Files + Env + Clock + AllocGlobal + Clone + Drop>(
+    rt: &R,
+    alloc: Global,
+    command: LocaleCommand,
+    given: &ArgMatches<'_>,
+    loaded: &Loaded,
+    locale: Compiled<'_>,
+) -> Result<ByteText, Problem> {
+    let format = word(given, "FORMAT");
+    let characters = strs(given, "CHARACTER");
+    let charset = &loaded.charset;
+    let ctype = locale.ctype();
+    match command {
+        LocaleCommand::Money => {
+            money_line(alloc, locale.monetary(), format, strs(given, "AMOUNT"))
+        }
+        LocaleCommand::Number => {
+            number_line(alloc, locale.numeric(), format, strs(given, "NUMBER"))
+        }
+        LocaleCommand::Time => timed(rt, alloc, locale.time(), format, given.get_str("WHEN")),
+        LocaleCommand::Parse => parsed_lines(alloc, locale.time(), format, word(given, "TEXT")),
+        LocaleCommand::Info => items(alloc, strs(given, "ITEM"), locale),
+        LocaleCommand::Conv => Ok(conv_lines(alloc, locale.numeric(), locale.monetary())?),
+        LocaleCommand::Class => class_lines(alloc, ctype, charset, word(given, "NAME"), characters),
+        LocaleCommand::Upper => upper_lines(alloc, ctype, charset, characters),
+        LocaleCommand::Lower => lower_lines(alloc, ctype, charset, characters),
+    }
+}
+
+/// The text of a time, which is that of the clock where no word says it.
+fn timed<R: Files + Env + Clock + AllocGlobal + Clone + Drop>(
+    rt: &R,
+    alloc: Global,
+    time: &Time,
+    format: &str,
+    when: Option<&str>,
+) -> Result<ByteText, Problem> {
+    let tm = tm_of(rt, when.unwrap_or("now"))?;
+    time_line(alloc, time, format, &tm)
+}
+
+/// The items with these names.
+fn items(alloc: Global, names: &[&str], locale: Compiled<'_>) -> Result<ByteText, Problem> {
+    let categories = LentCategories {
+        ctype: locale.ctype(),
+        numeric: locale.numeric(),
+        monetary: locale.monetary(),
+        time: locale.time(),
+        messages: locale.messages(),
+    };
+    info_lines(alloc, &categories, names)
+}
