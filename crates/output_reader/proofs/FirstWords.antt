@@ -7,11 +7,11 @@ use Rattle.lc_base.specs.declared.category.Category.TheVariants as categories
 use Rattle.lc_base.specs.Categories.{category_name}
 use Rattle.time_cat.specs.declared.tm.TmField.{TmField}
 use Rattle.time_cat.specs.declared.tm.TmField.TheVariants as fields
-use Rattle.handles.specs.declared.handle.Handle.{Handle}
-use Rattle.handles.specs.declared.handle.Named.{Named}
+use Rattle.lc_base.specs.declared.handle.Handle.{Handle}
+use Rattle.lc_base.specs.declared.handle.Named.{Named}
 use Rattle.handle_table.specs.declared.op.Refusal.TheVariants as refusals
 use Rattle.time_cat.specs.declared.parsed.Parsed.{Parsed}
-use Rattle.byte_words.specs.Tables.{first_named}
+use Rattle.lc_base.specs.Tables.{first_named}
 use Rattle.script_out.specs.declared.output.Said.{Said}
 use Rattle.script_out.specs.declared.output.Said.TheVariants as said
 use Rattle.script_out.specs.declared.output.Why.{Why}

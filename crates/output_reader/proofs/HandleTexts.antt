@@ -3,7 +3,7 @@ use Rattle.std.proofs.Common.{◌≡◌, ℕ, ◌^◌, ◌<◌, List, [], ◌∷
 use Rattle.std.specs.Prelude.{codes}
 use Rattle.std.specs.Fmt.{decimal}
 use Rattle.std.proofs.lemmas.List.{append_assoc}
-use Rattle.handles.specs.declared.handle.Handle.{Handle}
+use Rattle.lc_base.specs.declared.handle.Handle.{Handle}
 use Rattle.script_out.specs.Output.{handle_text}
 use Rattle.output_reader.specs.Reading.{Lacks}
 use Rattle.output_reader.proofs.Cuts.{never_lacks}

@@ -1,8 +1,8 @@
 //! Handles, places, versions, refusals and the fields of a time.
 
 ghost use Rattle.std.specs.Prelude.{◌≡◌, ◌≢◌, ℕ, ◌<◌, ◌^◌, ◌∷◌, length, [], Option, List, IfOk, IfSome, IsNone, slice_index_or};
-ghost use Rattle.handles.specs.declared.handle.Handle.{Handle};
-ghost use Rattle.handles.specs.declared.handle.Named.{Named};
+ghost use Rattle.lc_base.specs.declared.handle.Handle.{Handle};
+ghost use Rattle.lc_base.specs.declared.handle.Named.{Named};
 ghost use Rattle.time_cat.specs.declared.parsed.Parsed.{Parsed};
 ghost use Rattle.script_out.specs.declared.output.Places.{Places};
 ghost use Rattle.script_out.specs.declared.output.Why.{Why};
@@ -15,8 +15,7 @@ use crate::pieces::{behind, cut, first_word, index, is_word, number, small, smal
 use crate::unread::Unread;
 use crate::words::{WhyForm, category, field, why_form};
 use handle_table::Refusal;
-use handles::{Handle, Named};
-use lc_base::{ByteText, List};
+use lc_base::{ByteText, Handle, List, Named};
 use script_out::{Places, Why};
 
 /// The number of a thread of this name.

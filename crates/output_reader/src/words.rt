@@ -4,12 +4,11 @@ ghost use Rattle.std.specs.Prelude.{◌≡◌, map, Some};
 ghost use Rattle.lc_base.specs.declared.category.Category.{Category};
 ghost use Rattle.lc_base.specs.Categories.{category_name};
 ghost use Rattle.time_cat.specs.declared.tm.TmField.{TmField};
-ghost use Rattle.byte_words.specs.Tables.{first_named};
+ghost use Rattle.lc_base.specs.Tables.{first_named};
 ghost use Rattle.script_out.specs.Output.{field_text};
 
-use byte_words::first_named;
 use handle_table::Refusal;
-use lc_base::Category;
+use lc_base::{Category, first_named};
 use script_out::Why;
 use time_cat::TmField;
 

@@ -1,5 +1,5 @@
 use Rattle.std.proofs.Common.{ap, sym, ◌∙◌, map}
-use Rattle.byte_words.specs.Tables.{first_named}
+use Rattle.lc_base.specs.Tables.{first_named}
 use Rattle.output_reader.specs.declared.words.TheConstants.{CATEGORY_NAMES}
 use Rattle.output_reader.proofs.FirstWords.{category_found}
 use Rattle.output_reader.proofs.words.category.Goals as goal

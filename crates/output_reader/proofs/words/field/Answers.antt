@@ -1,5 +1,5 @@
 use Rattle.std.proofs.Common.{ap, sym, ◌∙◌, map}
-use Rattle.byte_words.specs.Tables.{first_named}
+use Rattle.lc_base.specs.Tables.{first_named}
 use Rattle.output_reader.specs.declared.words.TheConstants.{FIELDS}
 use Rattle.output_reader.proofs.FirstWords.{field_found}
 use Rattle.output_reader.proofs.words.field.Goals as goal
