@@ -3,10 +3,11 @@
 ghost use Rattle.std.specs.Prelude.{◌≡◌, ◌++◌, ◌∷◌, [], ℕ, List, Result, Err, map, true, IfSome, IfOk, OnOk};
 ghost use Rattle.std.specs.List.{list_all};
 ghost use Rattle.lc_base.specs.declared.refusal.FormatRefusal.{FormatRefusal};
-ghost use Rattle.int_format.specs.Ints.{is_number};
+ghost use Rattle.int_format.specs.Ints.{at_most, ints, is_number};
 ghost use Rattle.langinfo.specs.Conv.{encoded};
 ghost use Rattle.langinfo.specs.Lent.{lconv_of};
 ghost use Rattle.strfmon.specs.Money.{money};
+ghost use Rattle.strftime_fields.specs.Answers.{answer};
 ghost use Rattle.strptime_fields.specs.Scans.{answer_of};
 ghost use Rattle.script_lines.specs.Reads.{ctype_in, numeric_in, monetary_in, time_in, messages_in, info_said, more_sizes, sizes_text, conv_texts, conv_numbers, fields_said, conv_said, class_said, why_of, text_said, money_said, time_given, time_said, number_said, scanned_said, parse_said, local};
 
@@ -334,7 +335,7 @@ fn time_given(alloc: Global, time: &UncheckedTime) -> Result<Result<Tm, TmRange>
     ))
 }
 
-/// The text of a time, or why there is none.
+/// What the time of a command replies.
 fn time_said(
     alloc: Global,
     library: &Library,
@@ -349,8 +350,20 @@ fn time_said(
         Ok(tm) => tm,
         Err(range) => return Ok(Said::Refused(Why::TmRange(range.field))),
     };
-    let values = time_in(library, object);
-    match strftime(alloc, values, format.as_bytes(), &tm, max as usize) {
+    time_text(alloc, time_in(library, object), max, format, &tm)
+}
+
+/// The text of a time, or why there is none.
+fn time_text(
+    alloc: Global,
+    values: &Time,
+    max: u32,
+    format: &Format,
+    tm: &Tm,
+) -> Result<Said, AllocError>
+    ensures { IfOk result (λ said. said ≡ text_said (answer values.now tm.now format.now max)) }
+{
+    match strftime(alloc, values, format.as_bytes(), tm, max as usize) {
         Ok(text) => Ok(Said::Text(text)),
         Err(fault) => refused_said(fault.refusal()),
     }
@@ -369,7 +382,7 @@ fn numbers_given(alloc: Global, numbers: &[WrittenNumber]) -> Result<Vec<i128>, 
     Ok(given)
 }
 
-/// The text of whole numbers, or why there is none.
+/// What the whole numbers of a command reply.
 fn number_said(
     alloc: Global,
     library: &Library,
@@ -381,14 +394,27 @@ fn number_said(
     ensures { IfOk result (λ said. said ≡ number_said library.now object.now max format.now numbers.now) }
 {
     let numbers = numbers_given(alloc, numbers.as_slice())?;
-    let values = numeric_in(library, object);
-    match int_format(
+    number_text(
         alloc,
-        values,
-        format.as_bytes(),
+        numeric_in(library, object),
+        max,
+        format,
         numbers.as_slice(),
-        max as usize,
-    ) {
+    )
+}
+
+/// The text of whole numbers, or why there is none.
+fn number_text(
+    alloc: Global,
+    values: &Numeric,
+    max: u32,
+    format: &Format,
+    numbers: &[i128],
+) -> Result<Said, AllocError>
+    requires { list_all is_number numbers.now ≡ true }
+    ensures { IfOk result (λ said. said ≡ text_said (at_most max (ints values.now format.now numbers.now))) }
+{
+    match int_format(alloc, values, format.as_bytes(), numbers, max as usize) {
         Ok(text) => Ok(Said::Text(text)),
         Err(fault) => refused_said(fault.refusal()),
     }
