@@ -1,6 +1,7 @@
 -- The items and localeconv's fields of a few locales.
 use Rattle.std.proofs.Common.{◌≡◌, ℕ, List, [], ◌∷◌, map, refl, ap}
 use Rattle.std.specs.Prelude.{ℤ, codes, pos, negsuc}
+use Rattle.std.specs.Borrow.{Bor}
 use Rattle.lc_base.specs.declared.place.Place.{Place}
 use Rattle.lc_base.specs.declared.item.Item.{Item}
 use Rattle.lc_base.specs.declared.item.Item.TheVariants as items
@@ -15,9 +16,10 @@ use Rattle.monetary_cat.specs.Monetary.{text, number}
 use Rattle.time_cat.specs.Values.{values_of}
 use Rattle.messages_cat.specs.Messages as messages
 use Rattle.langinfo.specs.Items.{info}
-use Rattle.langinfo.specs.Conv.{encoded, groups, conv}
-use Rattle.langinfo.specs.Lent.{lconv_of}
-use Rattle.langinfo.specs.declared.conv.LentConv.{LentConv}
+use Rattle.langinfo.specs.Conv.{encoded, groups, conv, chars_of}
+use Rattle.langinfo.specs.Lent.{owned_text}
+use Rattle.langinfo.specs.declared.field.ConvText.TheVariants.{Bytes, Sizes}
+use Rattle.langinfo.specs.declared.field.LentText.TheVariants as lent_texts
 
 -- a keyword with one operand, and with several
 abbrev here : Place
@@ -197,30 +199,32 @@ groups_empty = refl
 
 -- the fields of the POSIX locale
 conv_posix : conv numeric.posix_values monetary.posix_values ≡ record {
-  decimal_point = codes ".";
-  thousands_sep = [];
-  grouping = [];
-  int_curr_symbol = [];
-  currency_symbol = [];
-  mon_decimal_point = [];
-  mon_thousands_sep = [];
-  mon_grouping = [];
-  positive_sign = [];
-  negative_sign = [];
-  int_frac_digits = 127;
-  frac_digits = 127;
-  p_cs_precedes = 127;
-  p_sep_by_space = 127;
-  n_cs_precedes = 127;
-  n_sep_by_space = 127;
-  p_sign_posn = 127;
-  n_sign_posn = 127;
-  int_p_cs_precedes = 127;
-  int_n_cs_precedes = 127;
-  int_p_sep_by_space = 127;
-  int_n_sep_by_space = 127;
-  int_p_sign_posn = 127;
-  int_n_sign_posn = 127;
+  texts =
+      (codes "decimal_point", Bytes (codes ".")) ∷
+      (codes "thousands_sep", Bytes []) ∷
+      (codes "grouping", Sizes []) ∷
+      (codes "int_curr_symbol", Bytes []) ∷
+      (codes "currency_symbol", Bytes []) ∷
+      (codes "mon_decimal_point", Bytes []) ∷
+      (codes "mon_thousands_sep", Bytes []) ∷
+      (codes "mon_grouping", Sizes []) ∷
+      (codes "positive_sign", Bytes []) ∷
+      (codes "negative_sign", Bytes []) ∷ [];
+  numbers =
+      (codes "int_frac_digits", 127) ∷
+      (codes "frac_digits", 127) ∷
+      (codes "p_cs_precedes", 127) ∷
+      (codes "p_sep_by_space", 127) ∷
+      (codes "n_cs_precedes", 127) ∷
+      (codes "n_sep_by_space", 127) ∷
+      (codes "p_sign_posn", 127) ∷
+      (codes "n_sign_posn", 127) ∷
+      (codes "int_p_cs_precedes", 127) ∷
+      (codes "int_n_cs_precedes", 127) ∷
+      (codes "int_p_sep_by_space", 127) ∷
+      (codes "int_n_sep_by_space", 127) ∷
+      (codes "int_p_sign_posn", 127) ∷
+      (codes "int_n_sign_posn", 127) ∷ [];
 }
 unfolding text number
 conv_posix = refl
@@ -257,43 +261,45 @@ amounts_of =
     with (codes "int_n_sign_posn") (Number (pos 23)) ∷ []
 
 conv_all : conv (numeric.values_of numbers_of) (monetary.values_of amounts_of) ≡ record {
-  decimal_point = codes ",";
-  thousands_sep = codes "_";
-  grouping = 3 ∷ 127 ∷ [];
-  int_curr_symbol = codes "ABC ";
-  currency_symbol = codes "c";
-  mon_decimal_point = codes "d";
-  mon_thousands_sep = codes "t";
-  mon_grouping = 4 ∷ [];
-  positive_sign = codes "p";
-  negative_sign = codes "n";
-  int_frac_digits = 10;
-  frac_digits = 11;
-  p_cs_precedes = 12;
-  p_sep_by_space = 13;
-  n_cs_precedes = 14;
-  n_sep_by_space = 15;
-  p_sign_posn = 16;
-  n_sign_posn = 17;
-  int_p_cs_precedes = 18;
-  int_n_cs_precedes = 19;
-  int_p_sep_by_space = 20;
-  int_n_sep_by_space = 21;
-  int_p_sign_posn = 22;
-  int_n_sign_posn = 23;
+  texts =
+      (codes "decimal_point", Bytes (codes ",")) ∷
+      (codes "thousands_sep", Bytes (codes "_")) ∷
+      (codes "grouping", Sizes (3 ∷ 127 ∷ [])) ∷
+      (codes "int_curr_symbol", Bytes (codes "ABC ")) ∷
+      (codes "currency_symbol", Bytes (codes "c")) ∷
+      (codes "mon_decimal_point", Bytes (codes "d")) ∷
+      (codes "mon_thousands_sep", Bytes (codes "t")) ∷
+      (codes "mon_grouping", Sizes (4 ∷ [])) ∷
+      (codes "positive_sign", Bytes (codes "p")) ∷
+      (codes "negative_sign", Bytes (codes "n")) ∷ [];
+  numbers =
+      (codes "int_frac_digits", 10) ∷
+      (codes "frac_digits", 11) ∷
+      (codes "p_cs_precedes", 12) ∷
+      (codes "p_sep_by_space", 13) ∷
+      (codes "n_cs_precedes", 14) ∷
+      (codes "n_sep_by_space", 15) ∷
+      (codes "p_sign_posn", 16) ∷
+      (codes "n_sign_posn", 17) ∷
+      (codes "int_p_cs_precedes", 18) ∷
+      (codes "int_n_cs_precedes", 19) ∷
+      (codes "int_p_sep_by_space", 20) ∷
+      (codes "int_n_sep_by_space", 21) ∷
+      (codes "int_p_sign_posn", 22) ∷
+      (codes "int_n_sign_posn", 23) ∷ [];
 }
 unfolding text number
 conv_all = refl
 
+chars_of_sizes : chars_of (Sizes (3 ∷ 127 ∷ [])) ≡ 3 ∷ 127 ∷ []
+chars_of_sizes = refl
+
 -- ---- what categories lend
 
 -- sizes of groups become chars
-sizes_lent : (lent : LentConv) → lent.grouping.now ≡ pos 3 ∷ pos 300 ∷ negsuc 0 ∷ [] → (lconv_of lent).grouping ≡ 3 ∷ 127 ∷ 127 ∷ []
-sizes_lent lent is = ap (λ (sizes : List ℤ). map encoded sizes) is
+sizes_lent : (sizes : Bor (List ℤ)) → sizes.now ≡ pos 3 ∷ pos 300 ∷ negsuc 0 ∷ [] → owned_text (lent_texts.Sizes sizes) ≡ Sizes (3 ∷ 127 ∷ 127 ∷ [])
+sizes_lent sizes is = ap (λ (s : List ℤ). Sizes (map encoded s)) is
 
--- a text and a number stay as they are
-text_lent : (lent : LentConv) → lent.positive_sign.now ≡ codes "+" → (lconv_of lent).positive_sign ≡ codes "+"
-text_lent lent is = is
-
-number_lent : (lent : LentConv) → lent.frac_digits ≡ 2 → (lconv_of lent).frac_digits ≡ 2
-number_lent lent is = is
+-- a text stays as it is
+text_lent : (text : Bor (List ℕ)) → text.now ≡ codes "+" → owned_text (lent_texts.Bytes text) ≡ Bytes (codes "+")
+text_lent text is = ap (λ (t : List ℕ). Bytes t) is

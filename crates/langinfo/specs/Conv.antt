@@ -1,9 +1,11 @@
 -- The fields of localeconv's structure (XSH localeconv, XBD <locale.h>).
-use Rattle.std.specs.Prelude.{ℕ, ℤ, pos, negsuc, ◌==◌, min, List, [], ◌∷◌, if◌then◌else◌}
+use Rattle.std.specs.Prelude.{ℕ, ℤ, pos, negsuc, ◌==◌, min, List, [], ◌∷◌, codes, if◌then◌else◌}
 use Rattle.numeric_cat.specs.NumericValues.{NumericValues}
 use Rattle.monetary_cat.specs.declared.keys.MonText.TheVariants.{IntCurrSymbol, CurrencySymbol, MonDecimalPoint, MonThousandsSep, PositiveSign, NegativeSign}
 use Rattle.monetary_cat.specs.declared.keys.MonNumber.TheVariants.{IntFracDigits, FracDigits, PCsPrecedes, PSepBySpace, NCsPrecedes, NSepBySpace, PSignPosn, NSignPosn, IntPCsPrecedes, IntNCsPrecedes, IntPSepBySpace, IntNSepBySpace, IntPSignPosn, IntNSignPosn}
 use Rattle.monetary_cat.specs.MonetaryValues.{MonetaryValues, text_of, number_of}
+use Rattle.langinfo.specs.declared.field.ConvText.{ConvText}
+use Rattle.langinfo.specs.declared.field.ConvText.TheVariants.{Bytes, Sizes}
 use Rattle.langinfo.specs.declared.conv.Lconv.{Lconv}
 
 -- what stands for a value that the locale does not tell: CHAR_MAX (XBD <limits.h>; that it is 127 is our own)
@@ -28,31 +30,43 @@ abbrev pub groups : List ℤ → List ℕ
 groups [] = []
 groups (size ∷ sizes) = if encoded size == unknown then [] else sizes_of (size ∷ sizes)
 
--- what localeconv gives: each field is the value of its keyword
+-- the bytes of a text as C has it
+abbrev pub chars_of : ConvText → List ℕ
+chars_of (Bytes bytes) = bytes
+chars_of (Sizes chars) = chars
+
+-- the fields that are texts: the name of each in C, and the value of its keyword
+abbrev pub text_fields : NumericValues → MonetaryValues → List (List ℕ × ConvText)
+text_fields numeric monetary =
+    (codes "decimal_point", Bytes numeric.decimal_point) ∷
+    (codes "thousands_sep", Bytes numeric.thousands_sep) ∷
+    (codes "grouping", Sizes (groups numeric.grouping)) ∷
+    (codes "int_curr_symbol", Bytes (text_of monetary IntCurrSymbol)) ∷
+    (codes "currency_symbol", Bytes (text_of monetary CurrencySymbol)) ∷
+    (codes "mon_decimal_point", Bytes (text_of monetary MonDecimalPoint)) ∷
+    (codes "mon_thousands_sep", Bytes (text_of monetary MonThousandsSep)) ∷
+    (codes "mon_grouping", Sizes (groups monetary.mon_grouping)) ∷
+    (codes "positive_sign", Bytes (text_of monetary PositiveSign)) ∷
+    (codes "negative_sign", Bytes (text_of monetary NegativeSign)) ∷ []
+
+-- the fields that are numbers: the name of each in C, and the value of its keyword
+abbrev pub number_fields : MonetaryValues → List (List ℕ × ℕ)
+number_fields monetary =
+    (codes "int_frac_digits", encoded (number_of monetary IntFracDigits)) ∷
+    (codes "frac_digits", encoded (number_of monetary FracDigits)) ∷
+    (codes "p_cs_precedes", encoded (number_of monetary PCsPrecedes)) ∷
+    (codes "p_sep_by_space", encoded (number_of monetary PSepBySpace)) ∷
+    (codes "n_cs_precedes", encoded (number_of monetary NCsPrecedes)) ∷
+    (codes "n_sep_by_space", encoded (number_of monetary NSepBySpace)) ∷
+    (codes "p_sign_posn", encoded (number_of monetary PSignPosn)) ∷
+    (codes "n_sign_posn", encoded (number_of monetary NSignPosn)) ∷
+    (codes "int_p_cs_precedes", encoded (number_of monetary IntPCsPrecedes)) ∷
+    (codes "int_n_cs_precedes", encoded (number_of monetary IntNCsPrecedes)) ∷
+    (codes "int_p_sep_by_space", encoded (number_of monetary IntPSepBySpace)) ∷
+    (codes "int_n_sep_by_space", encoded (number_of monetary IntNSepBySpace)) ∷
+    (codes "int_p_sign_posn", encoded (number_of monetary IntPSignPosn)) ∷
+    (codes "int_n_sign_posn", encoded (number_of monetary IntNSignPosn)) ∷ []
+
+-- what localeconv gives
 abbrev pub conv : NumericValues → MonetaryValues → Lconv
-conv numeric monetary = record {
-  decimal_point = numeric.decimal_point;
-  thousands_sep = numeric.thousands_sep;
-  grouping = groups numeric.grouping;
-  int_curr_symbol = text_of monetary IntCurrSymbol;
-  currency_symbol = text_of monetary CurrencySymbol;
-  mon_decimal_point = text_of monetary MonDecimalPoint;
-  mon_thousands_sep = text_of monetary MonThousandsSep;
-  mon_grouping = groups monetary.mon_grouping;
-  positive_sign = text_of monetary PositiveSign;
-  negative_sign = text_of monetary NegativeSign;
-  int_frac_digits = encoded (number_of monetary IntFracDigits);
-  frac_digits = encoded (number_of monetary FracDigits);
-  p_cs_precedes = encoded (number_of monetary PCsPrecedes);
-  p_sep_by_space = encoded (number_of monetary PSepBySpace);
-  n_cs_precedes = encoded (number_of monetary NCsPrecedes);
-  n_sep_by_space = encoded (number_of monetary NSepBySpace);
-  p_sign_posn = encoded (number_of monetary PSignPosn);
-  n_sign_posn = encoded (number_of monetary NSignPosn);
-  int_p_cs_precedes = encoded (number_of monetary IntPCsPrecedes);
-  int_n_cs_precedes = encoded (number_of monetary IntNCsPrecedes);
-  int_p_sep_by_space = encoded (number_of monetary IntPSepBySpace);
-  int_n_sep_by_space = encoded (number_of monetary IntNSepBySpace);
-  int_p_sign_posn = encoded (number_of monetary IntPSignPosn);
-  int_n_sign_posn = encoded (number_of monetary IntNSignPosn);
-}
+conv numeric monetary = record { texts = text_fields numeric monetary; numbers = number_fields monetary }

@@ -2,106 +2,56 @@
 
 ghost use Rattle.std.specs.Prelude.{◌≡◌, map, IfOk};
 ghost use Rattle.monetary_cat.specs.MonetaryValues.{number_of};
-ghost use Rattle.langinfo.specs.Conv.{conv, encoded, groups, sizes_of};
-ghost use Rattle.langinfo.specs.Lent.{lconv_of};
+ghost use Rattle.langinfo.specs.Conv.{conv, encoded, groups, number_fields, sizes_of, text_fields};
+ghost use Rattle.langinfo.specs.Lent.{lconv_of, owned_numbers, owned_text, owned_texts};
 
-use lc_base::ByteText;
-use monetary_cat::{MonNumber, MonText, Monetary};
+use crate::field::LentText::{Bytes, Sizes};
+use crate::field::{ConvText, FieldName, LentText};
+use lc_base::{ByteText, List};
+use monetary_cat::MonNumber::{
+    FracDigits, IntFracDigits, IntNCsPrecedes, IntNSepBySpace, IntNSignPosn, IntPCsPrecedes,
+    IntPSepBySpace, IntPSignPosn, NCsPrecedes, NSepBySpace, NSignPosn, PCsPrecedes, PSepBySpace,
+    PSignPosn,
+};
+use monetary_cat::MonText::{
+    CurrencySymbol, IntCurrSymbol, MonDecimalPoint, MonThousandsSep, NegativeSign, PositiveSign,
+};
+use monetary_cat::{MonNumber, Monetary};
 use numeric_cat::Numeric;
 use std::alloc::{AllocError, Global};
 
-/// How numbers and amounts are written, the fields in the order of the standard's page.
+/// The number of fields that are texts.
+pub const CONV_TEXTS: usize = 10;
+
+/// The number of fields that are numbers.
+pub const CONV_NUMBERS: usize = 14;
+
+/// How numbers and amounts are written: the fields that are texts and those that are numbers, each
+/// with its name, in the order of the standard's page.
 ///
 /// In a number 127 (`CHAR_MAX`) says that the locale does not tell it. The bytes of a grouping are
 /// the sizes of groups, the first next to the radix; the last counts for all that are left, or none
 /// is left to be grouped where it is 127.
 #[derive(Debug)]
 pub struct Lconv {
-    pub decimal_point: ByteText,
-    pub thousands_sep: ByteText,
-    pub grouping: ByteText,
-    pub int_curr_symbol: ByteText,
-    pub currency_symbol: ByteText,
-    pub mon_decimal_point: ByteText,
-    pub mon_thousands_sep: ByteText,
-    pub mon_grouping: ByteText,
-    pub positive_sign: ByteText,
-    pub negative_sign: ByteText,
-    pub int_frac_digits: u8,
-    pub frac_digits: u8,
-    pub p_cs_precedes: u8,
-    pub p_sep_by_space: u8,
-    pub n_cs_precedes: u8,
-    pub n_sep_by_space: u8,
-    pub p_sign_posn: u8,
-    pub n_sign_posn: u8,
-    pub int_p_cs_precedes: u8,
-    pub int_n_cs_precedes: u8,
-    pub int_p_sep_by_space: u8,
-    pub int_n_sep_by_space: u8,
-    pub int_p_sign_posn: u8,
-    pub int_n_sign_posn: u8,
+    pub texts: List<(FieldName, ConvText)>,
+    pub numbers: List<(FieldName, u8)>,
 }
 
 impl Drop for Lconv {
     fn drop(self) {
         let Lconv {
-            decimal_point: _,
-            thousands_sep: _,
-            grouping: _,
-            int_curr_symbol: _,
-            currency_symbol: _,
-            mon_decimal_point: _,
-            mon_thousands_sep: _,
-            mon_grouping: _,
-            positive_sign: _,
-            negative_sign: _,
-            int_frac_digits: _,
-            frac_digits: _,
-            p_cs_precedes: _,
-            p_sep_by_space: _,
-            n_cs_precedes: _,
-            n_sep_by_space: _,
-            p_sign_posn: _,
-            n_sign_posn: _,
-            int_p_cs_precedes: _,
-            int_n_cs_precedes: _,
-            int_p_sep_by_space: _,
-            int_n_sep_by_space: _,
-            int_p_sign_posn: _,
-            int_n_sign_posn: _,
+            texts: _,
+            numbers: _,
         } = self;
     }
 }
 
-/// The fields of localeconv, lent by the categories: of a grouping the sizes that count, of which
-/// `encoded` makes chars.
+/// The fields of localeconv with their names, the texts lent by the categories.
 #[derive(Drop)]
 pub struct LentConv<'a> {
-    pub decimal_point: &'a [u8],
-    pub thousands_sep: &'a [u8],
-    pub grouping: &'a [i32],
-    pub int_curr_symbol: &'a [u8],
-    pub currency_symbol: &'a [u8],
-    pub mon_decimal_point: &'a [u8],
-    pub mon_thousands_sep: &'a [u8],
-    pub mon_grouping: &'a [i32],
-    pub positive_sign: &'a [u8],
-    pub negative_sign: &'a [u8],
-    pub int_frac_digits: u8,
-    pub frac_digits: u8,
-    pub p_cs_precedes: u8,
-    pub p_sep_by_space: u8,
-    pub n_cs_precedes: u8,
-    pub n_sep_by_space: u8,
-    pub p_sign_posn: u8,
-    pub n_sign_posn: u8,
-    pub int_p_cs_precedes: u8,
-    pub int_n_cs_precedes: u8,
-    pub int_p_sep_by_space: u8,
-    pub int_n_sep_by_space: u8,
-    pub int_p_sign_posn: u8,
-    pub int_n_sign_posn: u8,
+    pub texts: [(&'a [u8], LentText<'a>); CONV_TEXTS],
+    pub numbers: [(&'a [u8], u8); CONV_NUMBERS],
 }
 
 /// What stands for a value that the locale does not tell: `CHAR_MAX`.
@@ -115,71 +65,102 @@ pub fn localeconv(
 ) -> Result<Lconv, AllocError>
     ensures { IfOk result (λ l. l ≡ conv numeric.now monetary.now) }
 {
-    owned(alloc, &lent_conv(numeric, monetary))
+    let texts = owned_texts(alloc, &text_fields(numeric, monetary))?;
+    let numbers = owned_numbers(alloc, &number_fields(monetary))?;
+    Ok(Lconv {
+        texts: List::of(texts),
+        numbers: List::of(numbers),
+    })
 }
 
-/// The fields with their own texts.
-fn owned(alloc: Global, lent: &LentConv<'_>) -> Result<Lconv, AllocError>
-    ensures { IfOk result (λ l. l ≡ lconv_of lent.now) }
+/// Texts of their own, each with its name.
+fn owned_texts(
+    alloc: Global,
+    lent: &[(&'static [u8], LentText<'_>)],
+) -> Result<Vec<(FieldName, ConvText)>, AllocError>
+    ensures { IfOk result (λ fields. fields.items ≡ owned_texts lent.entry.now) }
 {
-    Ok(Lconv {
-        decimal_point: ByteText::of(alloc, lent.decimal_point)?,
-        thousands_sep: ByteText::of(alloc, lent.thousands_sep)?,
-        grouping: chars(alloc, lent.grouping)?,
-        int_curr_symbol: ByteText::of(alloc, lent.int_curr_symbol)?,
-        currency_symbol: ByteText::of(alloc, lent.currency_symbol)?,
-        mon_decimal_point: ByteText::of(alloc, lent.mon_decimal_point)?,
-        mon_thousands_sep: ByteText::of(alloc, lent.mon_thousands_sep)?,
-        mon_grouping: chars(alloc, lent.mon_grouping)?,
-        positive_sign: ByteText::of(alloc, lent.positive_sign)?,
-        negative_sign: ByteText::of(alloc, lent.negative_sign)?,
-        int_frac_digits: lent.int_frac_digits,
-        frac_digits: lent.frac_digits,
-        p_cs_precedes: lent.p_cs_precedes,
-        p_sep_by_space: lent.p_sep_by_space,
-        n_cs_precedes: lent.n_cs_precedes,
-        n_sep_by_space: lent.n_sep_by_space,
-        p_sign_posn: lent.p_sign_posn,
-        n_sign_posn: lent.n_sign_posn,
-        int_p_cs_precedes: lent.int_p_cs_precedes,
-        int_n_cs_precedes: lent.int_n_cs_precedes,
-        int_p_sep_by_space: lent.int_p_sep_by_space,
-        int_n_sep_by_space: lent.int_n_sep_by_space,
-        int_p_sign_posn: lent.int_p_sign_posn,
-        int_n_sign_posn: lent.int_n_sign_posn,
-    })
+    let mut fields = Vec::with_capacity(alloc, lent.len())?;
+    for (name, text) in lent {
+        fields.push((FieldName(name), owned_text(alloc, text)?))?;
+    }
+    Ok(fields)
+}
+
+/// Numbers, each with its name.
+fn owned_numbers(
+    alloc: Global,
+    lent: &[(&'static [u8], u8)],
+) -> Result<Vec<(FieldName, u8)>, AllocError>
+    ensures { IfOk result (λ fields. fields.items ≡ owned_numbers lent.entry.now) }
+{
+    let mut fields = Vec::with_capacity(alloc, lent.len())?;
+    for (name, number) in lent {
+        fields.push((FieldName(name), *number))?;
+    }
+    Ok(fields)
+}
+
+/// A text of its own.
+fn owned_text(alloc: Global, lent: &LentText<'_>) -> Result<ConvText, AllocError>
+    ensures { IfOk result (λ text. text ≡ owned_text lent.now) }
+{
+    match lent {
+        Bytes(bytes) => Ok(ConvText::Bytes(ByteText::of(alloc, bytes)?)),
+        Sizes(sizes) => Ok(ConvText::Sizes(chars(alloc, sizes)?)),
+    }
 }
 
 /// The fields of localeconv in the locale that has these categories, which lend them.
 pub fn lent_conv<'a>(numeric: &'a Numeric, monetary: &'a Monetary) -> LentConv<'a>
     ensures { lconv_of result ≡ conv numeric.now monetary.now }
 {
-    LentConv {
-        decimal_point: numeric.decimal_point(),
-        thousands_sep: numeric.thousands_sep(),
-        grouping: groups(numeric.grouping()),
-        int_curr_symbol: monetary.text(MonText::IntCurrSymbol),
-        currency_symbol: monetary.text(MonText::CurrencySymbol),
-        mon_decimal_point: monetary.text(MonText::MonDecimalPoint),
-        mon_thousands_sep: monetary.text(MonText::MonThousandsSep),
-        mon_grouping: groups(monetary.grouping()),
-        positive_sign: monetary.text(MonText::PositiveSign),
-        negative_sign: monetary.text(MonText::NegativeSign),
-        int_frac_digits: number(monetary, MonNumber::IntFracDigits),
-        frac_digits: number(monetary, MonNumber::FracDigits),
-        p_cs_precedes: number(monetary, MonNumber::PCsPrecedes),
-        p_sep_by_space: number(monetary, MonNumber::PSepBySpace),
-        n_cs_precedes: number(monetary, MonNumber::NCsPrecedes),
-        n_sep_by_space: number(monetary, MonNumber::NSepBySpace),
-        p_sign_posn: number(monetary, MonNumber::PSignPosn),
-        n_sign_posn: number(monetary, MonNumber::NSignPosn),
-        int_p_cs_precedes: number(monetary, MonNumber::IntPCsPrecedes),
-        int_n_cs_precedes: number(monetary, MonNumber::IntNCsPrecedes),
-        int_p_sep_by_space: number(monetary, MonNumber::IntPSepBySpace),
-        int_n_sep_by_space: number(monetary, MonNumber::IntNSepBySpace),
-        int_p_sign_posn: number(monetary, MonNumber::IntPSignPosn),
-        int_n_sign_posn: number(monetary, MonNumber::IntNSignPosn),
-    }
+    let texts = text_fields(numeric, monetary);
+    let numbers = number_fields(monetary);
+    LentConv { texts, numbers }
+}
+
+/// The fields that are texts, each with its name in C and the value of its keyword.
+fn text_fields<'n, 'a>(
+    numeric: &'a Numeric,
+    monetary: &'a Monetary,
+) -> [(&'n [u8], LentText<'a>); CONV_TEXTS]
+    ensures { owned_texts result ≡ text_fields numeric.now monetary.now }
+{
+    [
+        (b"decimal_point", Bytes(numeric.decimal_point())),
+        (b"thousands_sep", Bytes(numeric.thousands_sep())),
+        (b"grouping", Sizes(groups(numeric.grouping()))),
+        (b"int_curr_symbol", Bytes(monetary.text(IntCurrSymbol))),
+        (b"currency_symbol", Bytes(monetary.text(CurrencySymbol))),
+        (b"mon_decimal_point", Bytes(monetary.text(MonDecimalPoint))),
+        (b"mon_thousands_sep", Bytes(monetary.text(MonThousandsSep))),
+        (b"mon_grouping", Sizes(groups(monetary.grouping()))),
+        (b"positive_sign", Bytes(monetary.text(PositiveSign))),
+        (b"negative_sign", Bytes(monetary.text(NegativeSign))),
+    ]
+}
+
+/// The fields that are numbers, each with its name in C and the value of its keyword.
+fn number_fields<'n>(monetary: &Monetary) -> [(&'n [u8], u8); CONV_NUMBERS]
+    ensures { owned_numbers result ≡ number_fields monetary.now }
+{
+    [
+        (b"int_frac_digits", number(monetary, IntFracDigits)),
+        (b"frac_digits", number(monetary, FracDigits)),
+        (b"p_cs_precedes", number(monetary, PCsPrecedes)),
+        (b"p_sep_by_space", number(monetary, PSepBySpace)),
+        (b"n_cs_precedes", number(monetary, NCsPrecedes)),
+        (b"n_sep_by_space", number(monetary, NSepBySpace)),
+        (b"p_sign_posn", number(monetary, PSignPosn)),
+        (b"n_sign_posn", number(monetary, NSignPosn)),
+        (b"int_p_cs_precedes", number(monetary, IntPCsPrecedes)),
+        (b"int_n_cs_precedes", number(monetary, IntNCsPrecedes)),
+        (b"int_p_sep_by_space", number(monetary, IntPSepBySpace)),
+        (b"int_n_sep_by_space", number(monetary, IntNSepBySpace)),
+        (b"int_p_sign_posn", number(monetary, IntPSignPosn)),
+        (b"int_n_sign_posn", number(monetary, IntNSignPosn)),
+    ]
 }
 
 /// The number of a keyword.

@@ -3,9 +3,11 @@
 
 mod categories;
 mod conv;
+mod field;
 mod items;
 mod keyword;
 
 pub use categories::{Categories, LentCategories};
-pub use conv::{Lconv, LentConv, encoded, lent_conv, localeconv};
+pub use conv::{CONV_NUMBERS, CONV_TEXTS, Lconv, LentConv, encoded, lent_conv, localeconv};
+pub use field::{ConvText, FieldName, LentText};
 pub use items::{item_text, nl_langinfo};

@@ -9,6 +9,7 @@ use Rattle.lc_base.specs.declared.reason.Reason.TheVariants.{BadLine}
 use Rattle.lc_base.specs.declared.refusal.FormatRefusal.TheVariants.{BadFormat, MissingAmount, MissingNumber, Mismatch, TooBig}
 use Rattle.time_cat.specs.Times.{time_of}
 use Rattle.langinfo.specs.declared.conv.Lconv.{Lconv}
+use Rattle.langinfo.specs.declared.field.ConvText.TheVariants.{Bytes, Sizes}
 use Rattle.shared_objects.specs.Shared.{Shared}
 use Rattle.shared_objects.specs.Objects.{first_object}
 use Rattle.locale_c.specs.declared.answer.TheConstants.{OK, NO_OBJECT, TAKEN, BAD_TEXT, BAD_MASK, NO_DATA, TOO_SMALL, BAD_FORMAT, MISSING, BAD_AMOUNT, TM_RANGE, NO_ITEM, NO_CLASS, MISMATCH}
@@ -145,36 +146,17 @@ scan_without_object = refl
 
 abbrev fields : Lconv
 fields = record {
-  decimal_point = codes ",";
-  thousands_sep = [];
-  grouping = 3 ∷ [];
-  int_curr_symbol = codes "EUR ";
-  currency_symbol = codes "E";
-  mon_decimal_point = codes ",";
-  mon_thousands_sep = codes ".";
-  mon_grouping = 3 ∷ 127 ∷ [];
-  positive_sign = [];
-  negative_sign = codes "-";
-  int_frac_digits = 2;
-  frac_digits = 127;
-  p_cs_precedes = 0;
-  p_sep_by_space = 1;
-  n_cs_precedes = 0;
-  n_sep_by_space = 1;
-  p_sign_posn = 3;
-  n_sign_posn = 4;
-  int_p_cs_precedes = 1;
-  int_n_cs_precedes = 1;
-  int_p_sep_by_space = 0;
-  int_n_sep_by_space = 0;
-  int_p_sign_posn = 2;
-  int_n_sign_posn = 1;
+  texts =
+      (codes "a", Bytes (codes ",")) ∷
+      (codes "b", Bytes []) ∷
+      (codes "c", Sizes (3 ∷ 127 ∷ [])) ∷
+      (codes "d", Bytes (codes "EUR ")) ∷ [];
+  numbers = (codes "e", 2) ∷ (codes "f", 127) ∷ [];
 }
 
 -- a NUL between two texts, and none behind the last
-ten_texts : conv_text fields ≡ codes "," ++ 0 ∷ 0 ∷ 3 ∷ 0 ∷ codes "EUR " ++ 0 ∷ codes "E" ++ 0 ∷ codes "," ++ 0 ∷ codes "." ++ 0 ∷ 3 ∷ 127 ∷ 0 ∷ 0 ∷ codes "-"
-ten_texts = refl
+four_texts : conv_text fields ≡ codes "," ++ 0 ∷ 0 ∷ 3 ∷ 127 ∷ 0 ∷ codes "EUR "
+four_texts = refl
 
-lengths : (lconv_of fields).int_curr_symbol ∷ (lconv_of fields).currency_symbol ∷ (lconv_of fields).mon_grouping ∷ (lconv_of fields).positive_sign ∷ (lconv_of fields).n_sign_posn ∷ (lconv_of fields).int_n_sign_posn ∷ []
-    ≡ 4 ∷ 1 ∷ 2 ∷ 0 ∷ 4 ∷ 1 ∷ []
-lengths = refl
+lengths_and_numbers : lconv_of fields ≡ record { lengths = 1 ∷ 0 ∷ 2 ∷ 4 ∷ []; numbers = 2 ∷ 127 ∷ [] }
+lengths_and_numbers = refl

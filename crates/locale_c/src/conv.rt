@@ -1,12 +1,13 @@
 //! The fields of localeconv, as C has them.
 
-ghost use Rattle.std.specs.Prelude.{◌≡◌, ◌++◌, ◌∷◌, IfOk, OnOk, OnErr};
+ghost use Rattle.std.specs.Prelude.{◌≡◌, ◌++◌, length, IfOk, OnOk, OnErr};
+ghost use Rattle.langinfo.specs.declared.conv.TheConstants.{CONV_NUMBERS, CONV_TEXTS};
 ghost use Rattle.locale_c.specs.Answers.{UnlessOk, told};
-ghost use Rattle.locale_c.specs.Conv.{conv_text, lconv_of, conv_in};
+ghost use Rattle.locale_c.specs.Conv.{behind_nuls, conv_in, conv_text, lconv_of, lengths_of, numbers_of};
 
 use crate::answer::LoAnswer;
 use crate::buffer::put_text;
-use langinfo::Lconv;
+use langinfo::{CONV_NUMBERS, CONV_TEXTS, ConvText, FieldName, Lconv};
 use lc_base::ByteText;
 use shared_objects::SharedObject;
 use std::alloc::{AllocError, Global};
@@ -16,87 +17,67 @@ use std::alloc::{AllocError, Global};
 #[repr(C)]
 #[derive(Clone, Copy, Debug, PartialEq, Eq)]
 pub struct LoLconv {
-    pub decimal_point: usize,
-    pub thousands_sep: usize,
-    pub grouping: usize,
-    pub int_curr_symbol: usize,
-    pub currency_symbol: usize,
-    pub mon_decimal_point: usize,
-    pub mon_thousands_sep: usize,
-    pub mon_grouping: usize,
-    pub positive_sign: usize,
-    pub negative_sign: usize,
-    pub int_frac_digits: u8,
-    pub frac_digits: u8,
-    pub p_cs_precedes: u8,
-    pub p_sep_by_space: u8,
-    pub n_cs_precedes: u8,
-    pub n_sep_by_space: u8,
-    pub p_sign_posn: u8,
-    pub n_sign_posn: u8,
-    pub int_p_cs_precedes: u8,
-    pub int_n_cs_precedes: u8,
-    pub int_p_sep_by_space: u8,
-    pub int_n_sep_by_space: u8,
-    pub int_p_sign_posn: u8,
-    pub int_n_sign_posn: u8,
+    pub lengths: [usize; CONV_TEXTS],
+    pub numbers: [u8; CONV_NUMBERS],
 }
 
 /// The lengths and numbers of the fields.
 fn lconv_of(fields: &Lconv) -> LoLconv
+    requires texts { length fields.now.texts ≡ CONV_TEXTS }
+    requires numbers { length fields.now.numbers ≡ CONV_NUMBERS }
     ensures { result ≡ lconv_of fields.now }
 {
     LoLconv {
-        decimal_point: fields.decimal_point.as_bytes().len(),
-        thousands_sep: fields.thousands_sep.as_bytes().len(),
-        grouping: fields.grouping.as_bytes().len(),
-        int_curr_symbol: fields.int_curr_symbol.as_bytes().len(),
-        currency_symbol: fields.currency_symbol.as_bytes().len(),
-        mon_decimal_point: fields.mon_decimal_point.as_bytes().len(),
-        mon_thousands_sep: fields.mon_thousands_sep.as_bytes().len(),
-        mon_grouping: fields.mon_grouping.as_bytes().len(),
-        positive_sign: fields.positive_sign.as_bytes().len(),
-        negative_sign: fields.negative_sign.as_bytes().len(),
-        int_frac_digits: fields.int_frac_digits,
-        frac_digits: fields.frac_digits,
-        p_cs_precedes: fields.p_cs_precedes,
-        p_sep_by_space: fields.p_sep_by_space,
-        n_cs_precedes: fields.n_cs_precedes,
-        n_sep_by_space: fields.n_sep_by_space,
-        p_sign_posn: fields.p_sign_posn,
-        n_sign_posn: fields.n_sign_posn,
-        int_p_cs_precedes: fields.int_p_cs_precedes,
-        int_n_cs_precedes: fields.int_n_cs_precedes,
-        int_p_sep_by_space: fields.int_p_sep_by_space,
-        int_n_sep_by_space: fields.int_n_sep_by_space,
-        int_p_sign_posn: fields.int_p_sign_posn,
-        int_n_sign_posn: fields.int_n_sign_posn,
+        lengths: lengths_of(fields.texts.as_slice()),
+        numbers: numbers_of(fields.numbers.as_slice()),
     }
 }
 
-/// Adds a NUL and a text.
-fn push_next(out: &mut Vec<u8>, text: &[u8]) -> Result<(), AllocError>
-    ensures { OnOk result (out.new.items ≡ out.old.items ++ 0 ∷ text.now) }
+/// The lengths of texts.
+fn lengths_of(fields: &[(FieldName, ConvText)]) -> [usize; CONV_TEXTS]
+    requires { length fields.now ≡ CONV_TEXTS }
+    ensures { result ≡ lengths_of fields.now }
 {
-    out.push(0)?;
-    out.extend_from_slice(text)
+    let mut lengths = [0; CONV_TEXTS];
+    for (i, (_, text)) in fields.iter().enumerate() {
+        lengths[i] = text.as_bytes().len();
+    }
+    lengths
+}
+
+/// Numbers without their names.
+fn numbers_of(fields: &[(FieldName, u8)]) -> [u8; CONV_NUMBERS]
+    requires { length fields.now ≡ CONV_NUMBERS }
+    ensures { result ≡ numbers_of fields.now }
+{
+    let mut numbers = [0; CONV_NUMBERS];
+    for (i, (_, number)) in fields.iter().enumerate() {
+        numbers[i] = *number;
+    }
+    numbers
 }
 
 /// The texts of the fields, with a NUL between them.
 fn conv_text(alloc: Global, fields: &Lconv) -> Result<ByteText, AllocError>
     ensures { IfOk result (λ t. t ≡ conv_text fields.now) }
 {
-    let mut out = Vec::from_slice(alloc, fields.decimal_point.as_bytes())?;
-    push_next(&mut out, fields.thousands_sep.as_bytes())?;
-    push_next(&mut out, fields.grouping.as_bytes())?;
-    push_next(&mut out, fields.int_curr_symbol.as_bytes())?;
-    push_next(&mut out, fields.currency_symbol.as_bytes())?;
-    push_next(&mut out, fields.mon_decimal_point.as_bytes())?;
-    push_next(&mut out, fields.mon_thousands_sep.as_bytes())?;
-    push_next(&mut out, fields.mon_grouping.as_bytes())?;
-    push_next(&mut out, fields.positive_sign.as_bytes())?;
-    push_next(&mut out, fields.negative_sign.as_bytes())?;
+    let mut out = Vec::new(alloc);
+    if let [(_, first), rest @ ..] = fields.texts.as_slice() {
+        out.extend_from_slice(first.as_bytes())?;
+        push_behind(&mut out, rest)?;
+    }
     Ok(ByteText::from_vec(out))
+}
+
+/// Adds texts, each behind a NUL.
+fn push_behind(out: &mut Vec<u8>, fields: &[(FieldName, ConvText)]) -> Result<(), AllocError>
+    ensures { OnOk result (out.new.items ≡ out.old.items ++ behind_nuls fields.now) }
+{
+    for (_, text) in fields {
+        out.push(0)?;
+        out.extend_from_slice(text.as_bytes())?;
+    }
+    Ok(())
 }
 
 /// Puts the texts of localeconv into a buffer, each with a NUL behind it, and gives their lengths and

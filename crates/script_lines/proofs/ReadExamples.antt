@@ -10,7 +10,7 @@ use Rattle.digit_groups.specs.Numbers.{number_behind}
 use Rattle.ctype_classes.specs.CtypeValues.{CtypeValues}
 use Rattle.monetary_cat.specs.MonetaryValues.{MonetaryValues}
 use Rattle.monetary_cat.specs.declared.values.FormNumbers.{FormNumbers}
-use Rattle.monetary_cat.specs.Monetary.{text, number}
+use Rattle.monetary_cat.specs.Monetary.{posix_values, text}
 use Rattle.strfmon.specs.Formats.{flags_behind, conversion, piece, pieces}
 use Rattle.strfmon.specs.Cells.{cell}
 use Rattle.strfmon.specs.Looks.{look_of}
@@ -31,10 +31,12 @@ use Rattle.lc_base.specs.Amounts.{MoneyAmount}
 use Rattle.script_words.specs.declared.given.UncheckedTime.{UncheckedTime}
 use Rattle.script_commands.specs.declared.command.Read.{Read}
 use Rattle.script_commands.specs.declared.command.Read.TheVariants.{Info, Conv, Class, Upper, Lower, Money, Time, Parse}
+use Rattle.langinfo.specs.declared.field.ConvText.TheVariants.{Bytes, Sizes}
+use Rattle.langinfo.specs.Conv.{conv}
 use Rattle.script_out.specs.declared.output.Said.{Said}
 use Rattle.script_out.specs.declared.output.Said.TheVariants as said
 use Rattle.script_out.specs.declared.output.Why.TheVariants as whys
-use Rattle.script_lines.specs.Reads.{sizes_text, local}
+use Rattle.script_lines.specs.Reads.{sizes_text, fields_said, local}
 
 -- ---- a locale with a class of its own, and with dollars in groups of three
 
@@ -42,17 +44,13 @@ abbrev classes : CtypeValues
 classes = record { codeset = codes "DEMO"; classes = (codes "vowel", (97, 97) ∷ (101, 101) ∷ []) ∷ []; upper = (97, 65) ∷ []; lower = (65, 97) ∷ [] }
 
 abbrev before : FormNumbers
-before = record { frac_digits = pos 2; p_cs_precedes = pos 1; p_sep_by_space = pos 0; n_cs_precedes = pos 1; n_sep_by_space = pos 0; p_sign_posn = pos 1; n_sign_posn = pos 1 }
-
-abbrev unknown : FormNumbers
-unknown = record { frac_digits = negsuc 0; p_cs_precedes = negsuc 0; p_sep_by_space = negsuc 0; n_cs_precedes = negsuc 0; n_sep_by_space = negsuc 0; p_sign_posn = negsuc 0; n_sign_posn = negsuc 0 }
+before = record posix_values.local { frac_digits = pos 2; p_cs_precedes = pos 1; p_sep_by_space = pos 0; n_cs_precedes = pos 1; n_sep_by_space = pos 0; p_sign_posn = pos 1; n_sign_posn = pos 1 }
 
 abbrev dollars : MonetaryValues
-dollars = record {
-  texts = record { int_curr_symbol = codes "USD "; currency_symbol = codes "$"; mon_decimal_point = codes "."; mon_thousands_sep = codes ","; positive_sign = []; negative_sign = codes "-" };
+dollars = record posix_values {
+  texts = record posix_values.texts { int_curr_symbol = codes "USD "; currency_symbol = codes "$"; mon_decimal_point = codes "."; mon_thousands_sep = codes ","; positive_sign = []; negative_sign = codes "-" };
   mon_grouping = pos 3 ∷ pos 3 ∷ [];
   local = before;
-  international = unknown;
 }
 
 abbrev library : Catalog
@@ -119,17 +117,16 @@ three_sizes : sizes_text (3 ∷ 12 ∷ 127 ∷ []) ≡ codes "3;12;127"
 unfolding digits
 three_sizes = refl
 
-fields : of_a Conv ≡ said.Conv
-    (codes "." ∷ [] ∷ [] ∷ codes "USD " ∷ codes "$" ∷ codes "." ∷ codes "," ∷ codes "3;3" ∷ [] ∷ codes "-" ∷ [])
-    (127 ∷ 2 ∷ 1 ∷ 0 ∷ 1 ∷ 0 ∷ 1 ∷ 1 ∷ 127 ∷ 127 ∷ 127 ∷ 127 ∷ 127 ∷ 127 ∷ [])
-unfolding digits
+fields : of_a Conv ≡ fields_said (conv posix_locale.numeric dollars)
 fields = refl
 
-posix_fields : of_posix Conv ≡ said.Conv
-    (codes "." ∷ [] ∷ [] ∷ [] ∷ [] ∷ [] ∷ [] ∷ [] ∷ [] ∷ [] ∷ [])
-    (127 ∷ 127 ∷ 127 ∷ 127 ∷ 127 ∷ 127 ∷ 127 ∷ 127 ∷ 127 ∷ 127 ∷ 127 ∷ 127 ∷ 127 ∷ 127 ∷ [])
-unfolding text number
-posix_fields = refl
+amounts_of_another_locale : local library (record { ctype = 0; numeric = 0; monetary = 1; time = 0; messages = 0 }) Conv ≡ fields_said (conv posix_locale.numeric dollars)
+amounts_of_another_locale = refl
+
+-- texts as they are, sizes of groups as numbers
+printed : fields_said (record { texts = (codes "a", Bytes (codes ".")) ∷ (codes "b", Sizes (3 ∷ 127 ∷ [])) ∷ []; numbers = (codes "c", 2) ∷ [] }) ≡ said.Conv (codes "." ∷ codes "3;127" ∷ []) (2 ∷ [])
+unfolding digits
+printed = refl
 
 -- ---- formats
 

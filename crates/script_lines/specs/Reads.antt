@@ -1,5 +1,5 @@
 -- What a read of an object replies (XSH nl_langinfo, localeconv, iswctype, towupper, towlower, strfmon, strftime, fprintf and strptime; the words of a refusal are our own).
-use Rattle.std.specs.Prelude.{ℕ, ℤ, Bool, List, [], ◌∷◌, ◌++◌, Option, Some, None, Result, Ok, Err}
+use Rattle.std.specs.Prelude.{ℕ, ℤ, Bool, List, [], ◌∷◌, ◌++◌, map, Option, Some, None, Result, Ok, Err}
 use Rattle.std.specs.Fmt.{decimal}
 use Rattle.std.specs.List.{flat_map}
 use Rattle.lc_base.specs.declared.item.Item.{Item}
@@ -21,6 +21,8 @@ use Rattle.strftime_fields.specs.Answers.{answer}
 use Rattle.int_format.specs.Ints.{at_most, ints}
 use Rattle.strptime_fields.specs.Scans.{Scanned, scan}
 use Rattle.langinfo.specs.declared.conv.Lconv.{Lconv}
+use Rattle.langinfo.specs.declared.field.ConvText.{ConvText}
+use Rattle.langinfo.specs.declared.field.ConvText.TheVariants.{Bytes, Sizes}
 use Rattle.langinfo.specs.Items.{info}
 use Rattle.langinfo.specs.Conv.{conv}
 use Rattle.category_store.specs.Catalog.{Catalog}
@@ -66,24 +68,22 @@ abbrev pub sizes_text : List ℕ → List ℕ
 sizes_text [] = []
 sizes_text (size ∷ sizes) = decimal size ++ more_sizes sizes
 
+-- a text as it is printed: sizes of groups as such
+abbrev pub shown : ConvText → List ℕ
+shown (Bytes bytes) = bytes
+shown (Sizes sizes) = sizes_text sizes
+
 -- the fields that are texts, in the order in which they are printed
-abbrev pub conv_texts : Lconv → List (List ℕ)
-conv_texts l =
-    l.decimal_point ∷ l.thousands_sep ∷ sizes_text l.grouping
-    ∷ l.int_curr_symbol ∷ l.currency_symbol ∷ l.mon_decimal_point ∷ l.mon_thousands_sep ∷ sizes_text l.mon_grouping
-    ∷ l.positive_sign ∷ l.negative_sign ∷ []
+abbrev pub conv_texts : List (List ℕ × ConvText) → List (List ℕ)
+conv_texts fields = map (λ (f : List ℕ × ConvText). shown f.1) fields
 
 -- the fields that are numbers, in that order
-abbrev pub conv_numbers : Lconv → List ℕ
-conv_numbers l =
-    l.int_frac_digits ∷ l.frac_digits
-    ∷ l.p_cs_precedes ∷ l.p_sep_by_space ∷ l.n_cs_precedes ∷ l.n_sep_by_space ∷ l.p_sign_posn ∷ l.n_sign_posn
-    ∷ l.int_p_cs_precedes ∷ l.int_n_cs_precedes ∷ l.int_p_sep_by_space ∷ l.int_n_sep_by_space
-    ∷ l.int_p_sign_posn ∷ l.int_n_sign_posn ∷ []
+abbrev pub conv_numbers : List (List ℕ × ℕ) → List ℕ
+conv_numbers fields = map (λ (f : List ℕ × ℕ). f.1) fields
 
 -- the fields of localeconv
 abbrev pub fields_said : Lconv → Said
-fields_said l = said.Conv (conv_texts l) (conv_numbers l)
+fields_said l = said.Conv (conv_texts l.texts) (conv_numbers l.numbers)
 
 abbrev pub conv_said : Catalog → Parts → Said
 conv_said library object = fields_said (conv (numeric_in library object) (monetary_in library object))

@@ -5,16 +5,16 @@ ghost use Rattle.std.specs.List.{list_all};
 ghost use Rattle.lc_base.specs.declared.refusal.FormatRefusal.{FormatRefusal};
 ghost use Rattle.int_format.specs.Ints.{at_most, ints, is_number};
 ghost use Rattle.langinfo.specs.Conv.{encoded};
-ghost use Rattle.langinfo.specs.Lent.{lconv_of};
+ghost use Rattle.langinfo.specs.Lent.{lconv_of, owned_numbers, owned_text, owned_texts};
 ghost use Rattle.strfmon.specs.Money.{money};
 ghost use Rattle.strftime_fields.specs.Answers.{answer};
 ghost use Rattle.strptime_fields.specs.Scans.{answer_of};
-ghost use Rattle.script_lines.specs.Reads.{ctype_in, numeric_in, monetary_in, time_in, messages_in, info_said, more_sizes, sizes_text, conv_texts, conv_numbers, fields_said, conv_said, class_said, why_of, text_said, money_said, time_given, time_said, number_said, scanned_said, parse_said, local};
+ghost use Rattle.script_lines.specs.Reads.{ctype_in, numeric_in, monetary_in, time_in, messages_in, info_said, more_sizes, sizes_text, shown, conv_texts, conv_numbers, fields_said, conv_said, class_said, why_of, text_said, money_said, time_given, time_said, number_said, scanned_said, parse_said, local};
 
 use category_store::{Library, Share};
 use ctype_classes::Ctype;
 use int_format::int_format;
-use langinfo::{LentConv, encoded, lent_conv, nl_langinfo};
+use langinfo::{CONV_NUMBERS, LentConv, LentText, encoded, lent_conv, nl_langinfo};
 use lc_base::{Amount, ByteText, Category, FormatRefusal, Item, List};
 use mask_compose::Object;
 use messages_cat::Messages;
@@ -135,87 +135,48 @@ fn conv_said(alloc: Global, library: &Library, object: &Object<Share>) -> Result
 fn fields_said(alloc: Global, fields: &LentConv<'_>) -> Result<Said, AllocError>
     ensures { IfOk result (λ said. said ≡ fields_said (lconv_of fields.now)) }
 {
-    let mut block = Vec::with_capacity(alloc, 14)?;
-    let texts = conv_texts(alloc, &mut block, fields)?;
-    let numbers = conv_numbers(block, fields)?;
+    let mut block = Vec::with_capacity(alloc, CONV_NUMBERS)?;
+    let texts = conv_texts(alloc, &mut block, &fields.texts)?;
+    let numbers = conv_numbers(block, &fields.numbers)?;
     Ok(Said::Conv(texts, numbers))
 }
 
-/// What ten texts of a few bytes take.
+/// What texts of a few bytes take.
 const ROOM: usize = 128;
 
 /// The fields that are texts, in the order in which they are printed.
 fn conv_texts(
     alloc: Global,
     block: &mut Vec<u8>,
-    fields: &LentConv<'_>,
+    fields: &[(&[u8], LentText<'_>)],
 ) -> Result<Texts, AllocError>
-    ensures { IfOk result (λ texts. texts ≡ conv_texts (lconv_of fields.now)) }
+    ensures { IfOk result (λ texts. texts ≡ conv_texts (owned_texts fields.entry.now)) }
 {
     let mut texts = Texts::with_room(alloc, ROOM)?;
-    push_number_texts(&mut texts, block, fields)?;
-    push_money_texts(&mut texts, fields)?;
-    push_sign_texts(&mut texts, block, fields)?;
+    for (_, text) in fields {
+        push_text(&mut texts, block, text)?;
+    }
     Ok(texts)
 }
 
-/// Adds the texts of plain numbers.
-fn push_number_texts(
-    texts: &mut Texts,
-    block: &mut Vec<u8>,
-    fields: &LentConv<'_>,
-) -> Result<(), AllocError>
-    ensures { OnOk result (texts.new ≡ texts.old ++ fields.now.decimal_point.now ∷ fields.now.thousands_sep.now ∷ sizes_text (map encoded fields.now.grouping.now) ∷ []) }
+/// Adds a text as it is printed.
+fn push_text(texts: &mut Texts, block: &mut Vec<u8>, text: &LentText<'_>) -> Result<(), AllocError>
+    ensures { OnOk result (texts.new ≡ texts.old ++ shown (owned_text text.now) ∷ []) }
 {
-    texts.push(fields.decimal_point)?;
-    texts.push(fields.thousands_sep)?;
-    push_sizes(texts, block, fields.grouping)
-}
-
-/// Adds the texts of amounts of money up to their groups.
-fn push_money_texts(texts: &mut Texts, fields: &LentConv<'_>) -> Result<(), AllocError>
-    ensures { OnOk result (texts.new ≡ texts.old ++ fields.now.int_curr_symbol.now ∷ fields.now.currency_symbol.now ∷ fields.now.mon_decimal_point.now ∷ fields.now.mon_thousands_sep.now ∷ []) }
-{
-    texts.push(fields.int_curr_symbol)?;
-    texts.push(fields.currency_symbol)?;
-    texts.push(fields.mon_decimal_point)?;
-    texts.push(fields.mon_thousands_sep)
-}
-
-/// Adds the texts of amounts of money from their groups on.
-fn push_sign_texts(
-    texts: &mut Texts,
-    block: &mut Vec<u8>,
-    fields: &LentConv<'_>,
-) -> Result<(), AllocError>
-    ensures { OnOk result (texts.new ≡ texts.old ++ sizes_text (map encoded fields.now.mon_grouping.now) ∷ fields.now.positive_sign.now ∷ fields.now.negative_sign.now ∷ []) }
-{
-    push_sizes(texts, block, fields.mon_grouping)?;
-    texts.push(fields.positive_sign)?;
-    texts.push(fields.negative_sign)
+    match text {
+        LentText::Bytes(bytes) => texts.push(bytes),
+        LentText::Sizes(sizes) => push_sizes(texts, block, sizes),
+    }
 }
 
 /// The fields that are numbers, in the order in which they are printed.
-fn conv_numbers(mut block: Vec<u8>, fields: &LentConv<'_>) -> Result<List<u8>, AllocError>
-    ensures { IfOk result (λ numbers. numbers ≡ conv_numbers (lconv_of fields.now)) }
+fn conv_numbers(mut block: Vec<u8>, fields: &[(&[u8], u8)]) -> Result<List<u8>, AllocError>
+    ensures { IfOk result (λ numbers. numbers ≡ conv_numbers (owned_numbers fields.entry.now)) }
 {
     block.clear();
-    block.extend_from_slice(&[
-        fields.int_frac_digits,
-        fields.frac_digits,
-        fields.p_cs_precedes,
-        fields.p_sep_by_space,
-        fields.n_cs_precedes,
-        fields.n_sep_by_space,
-        fields.p_sign_posn,
-        fields.n_sign_posn,
-        fields.int_p_cs_precedes,
-        fields.int_n_cs_precedes,
-        fields.int_p_sep_by_space,
-        fields.int_n_sep_by_space,
-        fields.int_p_sign_posn,
-        fields.int_n_sign_posn,
-    ])?;
+    for (_, number) in fields {
+        block.push(*number)?;
+    }
     Ok(List::of(block))
 }
 

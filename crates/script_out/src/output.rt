@@ -82,7 +82,7 @@ pub enum Said {
     Text(ByteText),
     /// strptime: the fields that were read, and the index of the first byte that was not read.
     Parsed(Parsed, usize),
-    /// localeconv: the ten fields that are texts, and the fourteen that are numbers.
+    /// localeconv: the fields that are texts, and those that are numbers.
     Conv(Texts, List<u8>),
     /// iswctype: whether the value is of the class.
     Class(bool),

@@ -3,6 +3,7 @@ use Rattle.std.proofs.Common.{◌≡◌, ℕ, List, [], ◌∷◌, Some, None, O
 use Rattle.std.specs.Prelude.{codes, ℤ, pos, negsuc, Result}
 use Rattle.digit_groups.specs.Groups.{separated, separators}
 use Rattle.monetary_cat.specs.MonetaryValues.{MonetaryValues}
+use Rattle.monetary_cat.specs.Monetary.{posix_values}
 use Rattle.lc_base.specs.declared.refusal.FormatRefusal.{FormatRefusal}
 use Rattle.lc_base.specs.declared.refusal.FormatRefusal.TheVariants.{BadFormat, MissingAmount, TooBig}
 use Rattle.strfmon.specs.declared.fault.MoneyFault.TheVariants as faults
@@ -15,8 +16,8 @@ use Rattle.strfmon.specs.Money.{money, text_with, pieces_text, missing, refusal_
 
 -- a locale that writes dollars
 abbrev us : MonetaryValues
-us = record {
-  texts = record {
+us = record posix_values {
+  texts = record posix_values.texts {
     int_curr_symbol = codes "USD ";
     currency_symbol = codes "$";
     mon_decimal_point = codes ".";
@@ -25,8 +26,8 @@ us = record {
     negative_sign = codes "-";
   };
   mon_grouping = pos 3 ∷ pos 3 ∷ [];
-  local = record { frac_digits = pos 2; p_cs_precedes = pos 1; p_sep_by_space = pos 0; n_cs_precedes = pos 1; n_sep_by_space = pos 0; p_sign_posn = pos 1; n_sign_posn = pos 1 };
-  international = record { frac_digits = pos 2; p_cs_precedes = negsuc 0; p_sep_by_space = negsuc 0; n_cs_precedes = negsuc 0; n_sep_by_space = negsuc 0; p_sign_posn = negsuc 0; n_sign_posn = negsuc 0 };
+  local = record posix_values.local { frac_digits = pos 2; p_cs_precedes = pos 1; p_sep_by_space = pos 0; n_cs_precedes = pos 1; n_sep_by_space = pos 0; p_sign_posn = pos 1; n_sign_posn = pos 1 };
+  international = record posix_values.international { frac_digits = pos 2; p_cs_precedes = negsuc 0; p_sep_by_space = negsuc 0; n_cs_precedes = negsuc 0; n_sep_by_space = negsuc 0; p_sign_posn = negsuc 0; n_sign_posn = negsuc 0 };
 }
 
 -- the text of one amount, without a limit that matters

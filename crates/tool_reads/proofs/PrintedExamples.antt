@@ -1,9 +1,11 @@
 -- What commands print, on small examples.
 use Rattle.std.proofs.Common.{◌≡◌, ℕ, List, [], ◌∷◌, ◌++◌, map, true, Some, None, Ok, Err, refl}
 use Rattle.std.specs.Prelude.{codes}
+use Rattle.std.specs.Fmt.{digits}
+use Rattle.langinfo.specs.declared.field.ConvText.TheVariants.{Bytes, Sizes}
 use Rattle.script_words.specs.Tables.{items_table}
 use Rattle.tool_reads.specs.Answers.{WrongWord, NoAnswer, Defined, each_of}
-use Rattle.tool_reads.specs.Printed.{item_names, field, number_field, sizes_text, zeros, class_text}
+use Rattle.tool_reads.specs.Printed.{item_names, field, number_field, sizes_text, text_lines, number_lines, conv_lines, zeros, class_text}
 
 -- without words each item of the table is printed, in its order
 all_items : item_names ≡ map (λ row. row.0) items_table
@@ -19,6 +21,12 @@ an_absent_field = refl
 
 no_sizes : sizes_text [] ≡ []
 no_sizes = refl
+
+-- a line for each field, the texts first
+all_fields : conv_lines (record { texts = (codes "a", Bytes (codes ".")) ∷ (codes "b", Sizes (3 ∷ 127 ∷ [])) ∷ []; numbers = (codes "c", 2) ∷ [] })
+    ≡ codes "a=\".\"" ++ 10 ∷ codes "b=3;127" ++ 10 ∷ codes "c=2" ++ 10 ∷ []
+unfolding conv_lines text_lines number_lines field digits
+all_fields = refl
 
 -- `U+E9` is the name U00E9, `U+1F600` the name U0001F600
 zeros_of_two : zeros 2 ≡ 48 ∷ 48 ∷ []

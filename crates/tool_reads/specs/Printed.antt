@@ -16,6 +16,8 @@ use Rattle.int_format.specs.Ints.{at_most, ints}
 use Rattle.time_cat.specs.declared.parsed.Parsed.{Parsed}
 use Rattle.strptime_fields.specs.Scans.{Scanned, scan}
 use Rattle.langinfo.specs.declared.conv.Lconv.{Lconv}
+use Rattle.langinfo.specs.declared.field.ConvText.{ConvText}
+use Rattle.langinfo.specs.declared.field.ConvText.TheVariants.{Bytes, Sizes}
 use Rattle.lc_base.specs.declared.item.Item.{Item}
 use Rattle.script_words.specs.Numbers.{amount_of_word, number_of_word}
 use Rattle.lc_base.specs.Tables.{first_named}
@@ -165,56 +167,22 @@ abbrev pub sizes_text : List ℕ → List ℕ
 sizes_text [] = []
 sizes_text (size ∷ sizes) = decimal size ++ more_sizes sizes
 
--- the texts of LC_NUMERIC
-unfoldable pub numeric_texts : Lconv → List ℕ
-numeric_texts l =
-    field (codes "decimal_point") (quoted l.decimal_point)
-    ++ field (codes "thousands_sep") (quoted l.thousands_sep)
-    ++ field (codes "grouping") (sizes_text l.grouping)
+-- a text as it is shown: in quotes, or as sizes of groups
+abbrev pub shown : ConvText → List ℕ
+shown (Bytes bytes) = quoted bytes
+shown (Sizes sizes) = sizes_text sizes
 
--- the texts of LC_MONETARY
-unfoldable pub symbol_texts : Lconv → List ℕ
-symbol_texts l =
-    field (codes "int_curr_symbol") (quoted l.int_curr_symbol)
-    ++ field (codes "currency_symbol") (quoted l.currency_symbol)
-
-unfoldable pub separator_texts : Lconv → List ℕ
-separator_texts l =
-    field (codes "mon_decimal_point") (quoted l.mon_decimal_point)
-    ++ field (codes "mon_thousands_sep") (quoted l.mon_thousands_sep)
-
-unfoldable pub sign_texts : Lconv → List ℕ
-sign_texts l =
-    field (codes "mon_grouping") (sizes_text l.mon_grouping)
-    ++ field (codes "positive_sign") (quoted l.positive_sign)
-    ++ field (codes "negative_sign") (quoted l.negative_sign)
+-- a line for each text with its name
+unfoldable pub text_lines : List (List ℕ × ConvText) → List ℕ
+text_lines fields = flat_map (λ f. field f.0 (shown f.1)) fields
 
 -- a line for each number with its name
-unfoldable pub number_fields : List (List ℕ × ℕ) → List ℕ
-number_fields rows = flat_map (λ row. field row.0 (decimal row.1)) rows
-
--- the numbers of localeconv with their names
-abbrev pub named_numbers : Lconv → List (List ℕ × ℕ)
-named_numbers l =
-    (codes "int_frac_digits", l.int_frac_digits)
-    ∷ (codes "frac_digits", l.frac_digits)
-    ∷ (codes "p_cs_precedes", l.p_cs_precedes)
-    ∷ (codes "p_sep_by_space", l.p_sep_by_space)
-    ∷ (codes "n_cs_precedes", l.n_cs_precedes)
-    ∷ (codes "n_sep_by_space", l.n_sep_by_space)
-    ∷ (codes "p_sign_posn", l.p_sign_posn)
-    ∷ (codes "n_sign_posn", l.n_sign_posn)
-    ∷ (codes "int_p_cs_precedes", l.int_p_cs_precedes)
-    ∷ (codes "int_n_cs_precedes", l.int_n_cs_precedes)
-    ∷ (codes "int_p_sep_by_space", l.int_p_sep_by_space)
-    ∷ (codes "int_n_sep_by_space", l.int_n_sep_by_space)
-    ∷ (codes "int_p_sign_posn", l.int_p_sign_posn)
-    ∷ (codes "int_n_sign_posn", l.int_n_sign_posn)
-    ∷ []
+unfoldable pub number_lines : List (List ℕ × ℕ) → List ℕ
+number_lines fields = flat_map (λ f. field f.0 (decimal f.1)) fields
 
 -- a line for each field
 unfoldable pub conv_lines : Lconv → List ℕ
-conv_lines l = numeric_texts l ++ symbol_texts l ++ separator_texts l ++ sign_texts l ++ number_fields (named_numbers l)
+conv_lines l = text_lines l.texts ++ number_lines l.numbers
 
 -- ---- characters
 
