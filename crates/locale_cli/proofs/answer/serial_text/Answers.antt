@@ -1,10 +1,10 @@
-use Rattle.std.proofs.Common.{◌≡◌, List, ap, ◌∙◌}
-use Rattle.std.proofs.lemmas.Result.{IfOk-weaker}
+use Rattle.std.proofs.Common.{◌≡◌, ℕ, List, subst}
+use Rattle.std.specs.Prelude.{IfOk}
 use Rattle.script_out.specs.declared.output.OutLine.{OutLine}
 use Rattle.script_out.specs.Output.{printed}
 use Rattle.locale_cli.proofs.answer.serial_text.Goals as goal
 
 pub returns : goal.returns
 returns c =
-    IfOk-weaker c.print-text.result _ _ (λ text is.
-    is ∙ ap (λ names. printed c.in_ok-lines.lines names) c.threads.ensures ∙ ap (λ (ls : List OutLine). printed ls c.args.plan.now.bundle.threads) c.in_ok-lines.ensures.lines) c.print-text.ensures
+    subst (λ (lines : List OutLine). IfOk c.print-text.result (λ (text : List ℕ). text ≡ printed lines c.args.plan.now.bundle.threads)) c.in_ok-lines.ensures.lines
+    (subst (λ (names : List (List ℕ)). IfOk c.print-text.result (λ (text : List ℕ). text ≡ printed c.in_ok-lines.lines names)) c.threads.ensures c.print-text.ensures)
