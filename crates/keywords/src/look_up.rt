@@ -2,6 +2,7 @@
 
 ghost use Rattle.std.specs.Prelude.{◌≡◌, map, option_map};
 ghost use Rattle.keywords.specs.LookUp.{row_in, keyword_of, takes_of, rule_of, posix_in, posix_text, posix_number, posix_texts, posix_ranges, posix_pairs};
+ghost use Rattle.keywords.specs.Table.{keywords};
 ghost use Rattle.keywords.specs.Rows.{value_of, row_of};
 
 use crate::row::{Keyword, Operands, Posix, Rule};
@@ -21,17 +22,24 @@ fn row_in(mut rows: &[Keyword], name: &[u8]) -> Option<Keyword>
     None
 }
 
+/// The rows of a category.
+fn rows_of(category: Category) -> &'static [Keyword]
+    ensures { map row_of result.now ≡ keywords category }
+{
+    match category {
+        Category::Ctype => &CTYPE,
+        Category::Numeric => &NUMERIC,
+        Category::Monetary => &MONETARY,
+        Category::Time => &TIME,
+        Category::Messages => &MESSAGES,
+    }
+}
+
 /// The row of a keyword.
 fn keyword_of(category: Category, name: &[u8]) -> Option<Keyword>
     ensures { option_map row_of result ≡ keyword_of category name.now }
 {
-    match category {
-        Category::Ctype => row_in(&CTYPE, name),
-        Category::Numeric => row_in(&NUMERIC, name),
-        Category::Monetary => row_in(&MONETARY, name),
-        Category::Time => row_in(&TIME, name),
-        Category::Messages => row_in(&MESSAGES, name),
-    }
+    row_in(rows_of(category), name)
 }
 
 /// What a keyword of a category takes, if the category has it.

@@ -65,7 +65,7 @@ const MONTHS: [&[u8]; 12] = [
 
 /// The keywords of `LC_CTYPE`.
 #[rattlefmt::skip]
-pub const CTYPE: [Keyword; 16] = [
+pub static CTYPE: [Keyword; 16] = [
     Keyword { name: b"copy", takes: Operands::Copied, rule: Rule::Free, posix: Posix::Nothing },
     Keyword { name: b"upper", takes: Operands::Characters, rule: Rule::Free, posix: Posix::Ranges(&[]) },
     Keyword { name: b"lower", takes: Operands::Characters, rule: Rule::Free, posix: Posix::Ranges(&[]) },
@@ -86,7 +86,7 @@ pub const CTYPE: [Keyword; 16] = [
 
 /// The keywords of `LC_NUMERIC`.
 #[rattlefmt::skip]
-pub const NUMERIC: [Keyword; 4] = [
+pub static NUMERIC: [Keyword; 4] = [
     Keyword { name: b"copy", takes: Operands::Copied, rule: Rule::Free, posix: Posix::Nothing },
     Keyword { name: b"decimal_point", takes: Operands::One(Element::Quote), rule: Rule::NotEmpty, posix: Posix::Text(b".") },
     Keyword { name: b"thousands_sep", takes: Operands::One(Element::Quote), rule: Rule::Free, posix: Posix::Text(b"") },
@@ -95,7 +95,7 @@ pub const NUMERIC: [Keyword; 4] = [
 
 /// The keywords of `LC_MONETARY`.
 #[rattlefmt::skip]
-pub const MONETARY: [Keyword; 22] = [
+pub static MONETARY: [Keyword; 22] = [
     Keyword { name: b"copy", takes: Operands::Copied, rule: Rule::Free, posix: Posix::Nothing },
     Keyword { name: b"int_curr_symbol", takes: Operands::One(Element::Quote), rule: Rule::EmptyOrFour, posix: Posix::Text(b"") },
     Keyword { name: b"currency_symbol", takes: Operands::One(Element::Quote), rule: Rule::Free, posix: Posix::Text(b"") },
@@ -122,7 +122,7 @@ pub const MONETARY: [Keyword; 22] = [
 
 /// The keywords of `LC_TIME`.
 #[rattlefmt::skip]
-pub const TIME: [Keyword; 23] = [
+pub static TIME: [Keyword; 23] = [
     Keyword { name: b"copy", takes: Operands::Copied, rule: Rule::Free, posix: Posix::Nothing },
     Keyword { name: b"abday", takes: Operands::Several(Element::Quote), rule: Rule::Names(7), posix: Posix::Texts(&SHORT_WEEKDAYS) },
     Keyword { name: b"day", takes: Operands::Several(Element::Quote), rule: Rule::Names(7), posix: Posix::Texts(&WEEKDAYS) },
@@ -150,7 +150,7 @@ pub const TIME: [Keyword; 23] = [
 
 /// The keywords of `LC_MESSAGES`.
 #[rattlefmt::skip]
-pub const MESSAGES: [Keyword; 5] = [
+pub static MESSAGES: [Keyword; 5] = [
     Keyword { name: b"copy", takes: Operands::Copied, rule: Rule::Free, posix: Posix::Nothing },
     Keyword { name: b"yesexpr", takes: Operands::One(Element::Quote), rule: Rule::Free, posix: Posix::Text(b"^[yY]") },
     Keyword { name: b"noexpr", takes: Operands::One(Element::Quote), rule: Rule::Free, posix: Posix::Text(b"^[nN]") },
