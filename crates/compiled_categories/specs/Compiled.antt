@@ -7,8 +7,7 @@ use Rattle.ctype_classes.specs.CtypeValues.{CtypeValues}
 use Rattle.ctype_classes.specs.Ctype.{ctype_values, posix_values as posix_classes}
 use Rattle.numeric_cat.specs.NumericValues.{NumericValues}
 use Rattle.numeric_cat.specs.Numeric.{numeric_values, posix_values}
-use Rattle.monetary_cat.specs.MonetaryValues.{MonetaryValues}
-use Rattle.monetary_cat.specs.Monetary.{monetary_values, posix_values as posix_money}
+use Rattle.monetary_cat.specs.Monetary.{MonetaryValues, monetary_values, posix_values as posix_money}
 use Rattle.time_cat.specs.TimeValues.{TimeValues}
 use Rattle.time_cat.specs.Values.{time_values, posix_values as posix_times}
 use Rattle.messages_cat.specs.MessagesValues.{MessagesValues}

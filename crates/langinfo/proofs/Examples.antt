@@ -12,7 +12,7 @@ use Rattle.charset.specs.CodedSet.{CodedSet, utf8, posix, set_name}
 use Rattle.ctype_classes.specs.CtypeValues.{CtypeValues}
 use Rattle.numeric_cat.specs.Numeric as numeric
 use Rattle.monetary_cat.specs.Monetary as monetary
-use Rattle.monetary_cat.specs.Monetary.{text, number}
+use Rattle.monetary_cat.specs.Monetary.{text, number, sign_numbers}
 use Rattle.time_cat.specs.Values.{values_of}
 use Rattle.messages_cat.specs.Messages as messages
 use Rattle.langinfo.specs.Items.{info}
@@ -44,118 +44,118 @@ abbrev of_posix : Item → List ℕ
 of_posix item = asked posix [] item
 
 code_set : of_posix items.Codeset ≡ codes "US-ASCII"
-unfolding text number values_of
+unfolding text number sign_numbers values_of
 code_set = refl
 
 other_code_set : asked utf8 [] items.Codeset ≡ codes "UTF-8"
-unfolding text number values_of
+unfolding text number sign_numbers values_of
 other_code_set = refl
 
 radix : of_posix items.Radixchar ≡ codes "."
-unfolding text number values_of
+unfolding text number sign_numbers values_of
 radix = refl
 
 separator : of_posix items.Thousep ≡ []
-unfolding text number values_of
+unfolding text number sign_numbers values_of
 separator = refl
 
 yes : of_posix items.Yesexpr ≡ codes "^[yY]"
-unfolding text number values_of
+unfolding text number sign_numbers values_of
 yes = refl
 
 no : of_posix items.Noexpr ≡ codes "^[nN]"
-unfolding text number values_of
+unfolding text number sign_numbers values_of
 no = refl
 
 no_currency : of_posix items.Crncystr ≡ []
-unfolding text number values_of
+unfolding text number sign_numbers values_of
 no_currency = refl
 
 date_and_time : of_posix items.DTFmt ≡ codes "%a %b %e %H:%M:%S %Y"
-unfolding text number values_of
+unfolding text number sign_numbers values_of
 date_and_time = refl
 
 date : of_posix items.DFmt ≡ codes "%m/%d/%y"
-unfolding text number values_of
+unfolding text number sign_numbers values_of
 date = refl
 
 clock : of_posix items.TFmt ≡ codes "%H:%M:%S"
-unfolding text number values_of
+unfolding text number sign_numbers values_of
 clock = refl
 
 half_day_clock : of_posix items.TFmtAmpm ≡ codes "%I:%M:%S %p"
-unfolding text number values_of
+unfolding text number sign_numbers values_of
 half_day_clock = refl
 
 before_noon : of_posix items.AmStr ≡ codes "AM"
-unfolding text number values_of
+unfolding text number sign_numbers values_of
 before_noon = refl
 
 after_noon : of_posix items.PmStr ≡ codes "PM"
-unfolding text number values_of
+unfolding text number sign_numbers values_of
 after_noon = refl
 
 -- the week begins on Sunday, and the year in January
 first_day : of_posix items.Day1 ≡ codes "Sunday"
-unfolding text number values_of
+unfolding text number sign_numbers values_of
 first_day = refl
 
 second_day : of_posix items.Day2 ≡ codes "Monday"
-unfolding text number values_of
+unfolding text number sign_numbers values_of
 second_day = refl
 
 last_day : of_posix items.Day7 ≡ codes "Saturday"
-unfolding text number values_of
+unfolding text number sign_numbers values_of
 last_day = refl
 
 last_short_day : of_posix items.Abday7 ≡ codes "Sat"
-unfolding text number values_of
+unfolding text number sign_numbers values_of
 last_short_day = refl
 
 first_month : of_posix items.Mon1 ≡ codes "January"
-unfolding text number values_of
+unfolding text number sign_numbers values_of
 first_month = refl
 
 last_month : of_posix items.Mon12 ≡ codes "December"
-unfolding text number values_of
+unfolding text number sign_numbers values_of
 last_month = refl
 
 second_short_month : of_posix items.Abmon2 ≡ codes "Feb"
-unfolding text number values_of
+unfolding text number sign_numbers values_of
 second_short_month = refl
 
 no_era : of_posix items.Era ≡ []
-unfolding text number values_of
+unfolding text number sign_numbers values_of
 no_era = refl
 
 no_digits : of_posix items.AltDigits ≡ []
-unfolding text number values_of
+unfolding text number sign_numbers values_of
 no_digits = refl
 
 -- segments and digits with ; between
 two_segments : asked utf8 (with_two (codes "era") (Text (codes "a")) (Text (codes "b")) ∷ []) items.Era ≡ codes "a;b"
-unfolding text number values_of
+unfolding text number sign_numbers values_of
 two_segments = refl
 
 one_digit : asked utf8 (with (codes "alt_digits") (Text (codes "x")) ∷ []) items.AltDigits ≡ codes "x"
-unfolding text number values_of
+unfolding text number sign_numbers values_of
 one_digit = refl
 
 two_digits : asked utf8 (with_two (codes "alt_digits") (Text []) (Text (codes "x")) ∷ []) items.AltDigits ≡ codes ";x"
-unfolding text number values_of
+unfolding text number sign_numbers values_of
 two_digits = refl
 
 -- the formats of eras
 era_date : asked utf8 (with (codes "era_d_fmt") (Text (codes "%Ey")) ∷ []) items.EraDFmt ≡ codes "%Ey"
-unfolding text number values_of
+unfolding text number sign_numbers values_of
 era_date = refl
 
 era_date_and_time : asked utf8 (with (codes "era_d_t_fmt") (Text (codes "%Ex")) ∷ []) items.EraDTFmt ≡ codes "%Ex"
-unfolding text number values_of
+unfolding text number sign_numbers values_of
 era_date_and_time = refl
 
 era_clock : asked utf8 (with (codes "era_t_fmt") (Text (codes "%H")) ∷ []) items.EraTFmt ≡ codes "%H"
-unfolding text number values_of
+unfolding text number sign_numbers values_of
 era_clock = refl
 
 -- the symbol before the number, behind it, at an unknown place, and none
@@ -163,19 +163,19 @@ abbrev symbol : Entry
 symbol = with (codes "currency_symbol") (Text (codes "$"))
 
 currency_before : asked utf8 (symbol ∷ with (codes "p_cs_precedes") (Number (pos 1)) ∷ []) items.Crncystr ≡ codes "-$"
-unfolding text number values_of
+unfolding text number sign_numbers values_of
 currency_before = refl
 
 currency_behind : asked utf8 (symbol ∷ with (codes "p_cs_precedes") (Number (pos 0)) ∷ []) items.Crncystr ≡ codes "+$"
-unfolding text number values_of
+unfolding text number sign_numbers values_of
 currency_behind = refl
 
 currency_anywhere : asked utf8 (symbol ∷ []) items.Crncystr ≡ codes "-$"
-unfolding text number values_of
+unfolding text number sign_numbers values_of
 currency_anywhere = refl
 
 currency_nowhere : asked utf8 (with (codes "p_cs_precedes") (Number (pos 0)) ∷ []) items.Crncystr ≡ []
-unfolding text number values_of
+unfolding text number sign_numbers values_of
 currency_nowhere = refl
 
 -- groups up to a 0; a -1 ends them as 127, and is nothing where it is the first
@@ -226,7 +226,7 @@ conv_posix : conv numeric.posix_values monetary.posix_values ≡ record {
       (codes "int_p_sign_posn", 127) ∷
       (codes "int_n_sign_posn", 127) ∷ [];
 }
-unfolding text number
+unfolding text number sign_numbers
 conv_posix = refl
 
 -- a locale whose fields all differ
@@ -288,7 +288,7 @@ conv_all : conv (numeric.values_of numbers_of) (monetary.values_of amounts_of) �
       (codes "int_p_sign_posn", 22) ∷
       (codes "int_n_sign_posn", 23) ∷ [];
 }
-unfolding text number
+unfolding text number sign_numbers
 conv_all = refl
 
 chars_of_sizes : chars_of (Sizes (3 ∷ 127 ∷ [])) ≡ 3 ∷ 127 ∷ []

@@ -3,7 +3,7 @@ use Rattle.std.specs.Prelude.{ℕ, ℤ, pos, negsuc, ◌==◌, min, List, [], �
 use Rattle.numeric_cat.specs.NumericValues.{NumericValues}
 use Rattle.monetary_cat.specs.declared.keys.MonText.TheVariants.{IntCurrSymbol, CurrencySymbol, MonDecimalPoint, MonThousandsSep, PositiveSign, NegativeSign}
 use Rattle.monetary_cat.specs.declared.keys.MonNumber.TheVariants.{IntFracDigits, FracDigits, PCsPrecedes, PSepBySpace, NCsPrecedes, NSepBySpace, PSignPosn, NSignPosn, IntPCsPrecedes, IntNCsPrecedes, IntPSepBySpace, IntNSepBySpace, IntPSignPosn, IntNSignPosn}
-use Rattle.monetary_cat.specs.MonetaryValues.{MonetaryValues, text_of, number_of}
+use Rattle.monetary_cat.specs.Monetary.{MonetaryValues, text_of, number_of}
 use Rattle.langinfo.specs.declared.field.ConvText.{ConvText}
 use Rattle.langinfo.specs.declared.field.ConvText.TheVariants.{Bytes, Sizes}
 use Rattle.langinfo.specs.declared.conv.Lconv.{Lconv}

@@ -3,7 +3,7 @@
 ghost use Rattle.std.specs.Prelude.{◌≡◌};
 ghost use Rattle.ctype_classes.specs.CtypeValues.{CtypeValues};
 ghost use Rattle.numeric_cat.specs.NumericValues.{NumericValues};
-ghost use Rattle.monetary_cat.specs.MonetaryValues.{MonetaryValues};
+ghost use Rattle.monetary_cat.specs.Monetary.{MonetaryValues};
 ghost use Rattle.time_cat.specs.TimeValues.{TimeValues};
 ghost use Rattle.messages_cat.specs.MessagesValues.{MessagesValues};
 

@@ -1,7 +1,7 @@
 //! The fields of localeconv's structure (XSH localeconv, XBD <locale.h>).
 
 ghost use Rattle.std.specs.Prelude.{◌≡◌, map, IfOk};
-ghost use Rattle.monetary_cat.specs.MonetaryValues.{number_of};
+ghost use Rattle.monetary_cat.specs.Monetary.{number_of};
 ghost use Rattle.langinfo.specs.Conv.{conv, encoded, groups, number_fields, sizes_of, text_fields};
 ghost use Rattle.langinfo.specs.Lent.{lconv_of, owned_numbers, owned_text, owned_texts};
 

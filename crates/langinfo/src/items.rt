@@ -2,7 +2,7 @@
 
 ghost use Rattle.std.specs.Prelude.{◌≡◌, ◌∷◌, IfOk};
 ghost use Rattle.std.specs.Cow.{cow_slice_items};
-ghost use Rattle.monetary_cat.specs.MonetaryValues.{text_of, number_of};
+ghost use Rattle.monetary_cat.specs.Monetary.{text_of, number_of};
 ghost use Rattle.monetary_cat.specs.declared.keys.MonText.TheVariants as texts;
 ghost use Rattle.monetary_cat.specs.declared.keys.MonNumber.TheVariants as numbers;
 ghost use Rattle.langinfo.specs.Items.{info, currency, sign};

@@ -11,10 +11,9 @@ use std::alloc::{AllocError, Global};
 use std::marker::Model;
 
 mod keys;
-mod values;
 
 pub use keys::{MonNumber, MonText};
-use values::{FormNumbers, MoneyTexts, international_of, local_of, texts_of};
+use keys::{FormNumbers, MoneyTexts, international_of, local_of, texts_of};
 
 /// The values of the keywords of `LC_MONETARY`, of the locale or else of the POSIX locale.
 #[derive(Debug)]
@@ -37,7 +36,7 @@ impl Drop for Monetary {
 }
 
 impl Model for Monetary {
-    ghost use Rattle.monetary_cat.specs.MonetaryValues.{MonetaryValues};
+    ghost use Rattle.monetary_cat.specs.Monetary.{MonetaryValues};
 
     ghost Value = { MonetaryValues };
 
@@ -50,8 +49,6 @@ impl Model for Monetary {
 }
 
 impl Monetary {
-    ghost use Rattle.monetary_cat.specs.MonetaryValues.{text_of, number_of};
-
     /// The category that a keyword list defines. A keyword that is absent has its POSIX value: an
     /// empty text, or -1.
     ///
@@ -69,42 +66,6 @@ impl Monetary {
         ensures { IfOk result (λ m. m ≡ posix_values) }
     {
         values_of(alloc, &[])
-    }
-
-    /// The text of a keyword.
-    pub fn text(&self, key: MonText) -> &[u8]
-        ensures { result.now ≡ text_of self.now key }
-    {
-        match key {
-            MonText::IntCurrSymbol => self.texts.int_curr_symbol.as_bytes(),
-            MonText::CurrencySymbol => self.texts.currency_symbol.as_bytes(),
-            MonText::MonDecimalPoint => self.texts.mon_decimal_point.as_bytes(),
-            MonText::MonThousandsSep => self.texts.mon_thousands_sep.as_bytes(),
-            MonText::PositiveSign => self.texts.positive_sign.as_bytes(),
-            MonText::NegativeSign => self.texts.negative_sign.as_bytes(),
-        }
-    }
-
-    /// The number of a keyword.
-    pub fn number(&self, key: MonNumber) -> i32
-        ensures { result ≡ number_of self.now key }
-    {
-        match key {
-            MonNumber::IntFracDigits => self.international.frac_digits,
-            MonNumber::FracDigits => self.local.frac_digits,
-            MonNumber::PCsPrecedes => self.local.p_cs_precedes,
-            MonNumber::PSepBySpace => self.local.p_sep_by_space,
-            MonNumber::NCsPrecedes => self.local.n_cs_precedes,
-            MonNumber::NSepBySpace => self.local.n_sep_by_space,
-            MonNumber::PSignPosn => self.local.p_sign_posn,
-            MonNumber::NSignPosn => self.local.n_sign_posn,
-            MonNumber::IntPCsPrecedes => self.international.p_cs_precedes,
-            MonNumber::IntNCsPrecedes => self.international.n_cs_precedes,
-            MonNumber::IntPSepBySpace => self.international.p_sep_by_space,
-            MonNumber::IntNSepBySpace => self.international.n_sep_by_space,
-            MonNumber::IntPSignPosn => self.international.p_sign_posn,
-            MonNumber::IntNSignPosn => self.international.n_sign_posn,
-        }
     }
 
     /// The sizes of groups, the first next to the radix, each from -1 to 126.

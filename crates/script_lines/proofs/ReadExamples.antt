@@ -8,9 +8,8 @@ use Rattle.digit_groups.specs.Digits.{last_digits}
 use Rattle.digit_groups.specs.Groups.{separated, separators}
 use Rattle.digit_groups.specs.Numbers.{number_behind}
 use Rattle.ctype_classes.specs.CtypeValues.{CtypeValues}
-use Rattle.monetary_cat.specs.MonetaryValues.{MonetaryValues}
-use Rattle.monetary_cat.specs.declared.values.FormNumbers.{FormNumbers}
-use Rattle.monetary_cat.specs.Monetary.{posix_values, text}
+use Rattle.monetary_cat.specs.Monetary.{MonetaryValues, posix_values, text}
+use Rattle.monetary_cat.specs.declared.keys.FormNumbers.{FormNumbers}
 use Rattle.strfmon.specs.Formats.{flags_behind, conversion, piece, pieces}
 use Rattle.strfmon.specs.Cells.{cell}
 use Rattle.strfmon.specs.Looks.{look_of}
@@ -44,7 +43,7 @@ abbrev classes : CtypeValues
 classes = record { codeset = codes "DEMO"; classes = (codes "vowel", (97, 97) ∷ (101, 101) ∷ []) ∷ []; upper = (97, 65) ∷ []; lower = (65, 97) ∷ [] }
 
 abbrev before : FormNumbers
-before = record posix_values.local { frac_digits = pos 2; p_cs_precedes = pos 1; p_sep_by_space = pos 0; n_cs_precedes = pos 1; n_sep_by_space = pos 0; p_sign_posn = pos 1; n_sign_posn = pos 1 }
+before = record posix_values.local { frac_digits = pos 2; plus = record { cs_precedes = pos 1; sep_by_space = pos 0; sign_posn = pos 1 }; minus = record { cs_precedes = pos 1; sep_by_space = pos 0; sign_posn = pos 1 } }
 
 abbrev dollars : MonetaryValues
 dollars = record posix_values {

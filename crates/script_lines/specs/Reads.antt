@@ -10,7 +10,7 @@ use Rattle.ctype_classes.specs.CtypeValues.{CtypeValues}
 use Rattle.ctype_classes.specs.Classes.{class_answer}
 use Rattle.ctype_classes.specs.Case.{image}
 use Rattle.numeric_cat.specs.NumericValues.{NumericValues}
-use Rattle.monetary_cat.specs.MonetaryValues.{MonetaryValues}
+use Rattle.monetary_cat.specs.Monetary.{MonetaryValues}
 use Rattle.messages_cat.specs.MessagesValues.{MessagesValues}
 use Rattle.time_cat.specs.declared.tm.TmRange.{TmRange}
 use Rattle.time_cat.specs.TimeValues.{TimeValues}

@@ -10,7 +10,7 @@ use Rattle.mask_compose.specs.Parts.{Parts, part_of, composed}
 use Rattle.mask_compose.specs.Offer.{Offered, no_offer}
 use Rattle.ctype_classes.specs.CtypeValues.{CtypeValues}
 use Rattle.numeric_cat.specs.NumericValues.{NumericValues}
-use Rattle.monetary_cat.specs.MonetaryValues.{MonetaryValues}
+use Rattle.monetary_cat.specs.Monetary.{MonetaryValues}
 use Rattle.time_cat.specs.TimeValues.{TimeValues}
 use Rattle.messages_cat.specs.MessagesValues.{MessagesValues}
 use Rattle.compiled_categories.specs.Locale.{Locale}

@@ -2,8 +2,7 @@
 use Rattle.std.proofs.Common.{◌≡◌, ℕ, List, [], ◌∷◌, Some, None, Ok, Err, refl}
 use Rattle.std.specs.Prelude.{codes, ℤ, pos, negsuc, Result}
 use Rattle.digit_groups.specs.Groups.{separated, separators}
-use Rattle.monetary_cat.specs.MonetaryValues.{MonetaryValues}
-use Rattle.monetary_cat.specs.Monetary.{posix_values}
+use Rattle.monetary_cat.specs.Monetary.{MonetaryValues, posix_values}
 use Rattle.lc_base.specs.declared.refusal.FormatRefusal.{FormatRefusal}
 use Rattle.lc_base.specs.declared.refusal.FormatRefusal.TheVariants.{BadFormat, MissingAmount, TooBig}
 use Rattle.strfmon.specs.declared.fault.MoneyFault.TheVariants as faults
@@ -26,8 +25,8 @@ us = record posix_values {
     negative_sign = codes "-";
   };
   mon_grouping = pos 3 ∷ pos 3 ∷ [];
-  local = record posix_values.local { frac_digits = pos 2; p_cs_precedes = pos 1; p_sep_by_space = pos 0; n_cs_precedes = pos 1; n_sep_by_space = pos 0; p_sign_posn = pos 1; n_sign_posn = pos 1 };
-  international = record posix_values.international { frac_digits = pos 2; p_cs_precedes = negsuc 0; p_sep_by_space = negsuc 0; n_cs_precedes = negsuc 0; n_sep_by_space = negsuc 0; p_sign_posn = negsuc 0; n_sign_posn = negsuc 0 };
+  local = record posix_values.local { frac_digits = pos 2; plus = record { cs_precedes = pos 1; sep_by_space = pos 0; sign_posn = pos 1 }; minus = record { cs_precedes = pos 1; sep_by_space = pos 0; sign_posn = pos 1 } };
+  international = record posix_values.international { frac_digits = pos 2; plus = record { cs_precedes = negsuc 0; sep_by_space = negsuc 0; sign_posn = negsuc 0 }; minus = record { cs_precedes = negsuc 0; sep_by_space = negsuc 0; sign_posn = negsuc 0 } };
 }
 
 -- the text of one amount, without a limit that matters

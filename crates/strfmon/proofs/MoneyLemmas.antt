@@ -3,7 +3,7 @@ use Rattle.std.proofs.Common.{◌≡◌, ℕ, ◌+◌, ◌-◌, ◌/◌, ◌^◌
 use Rattle.std.specs.Prelude.{◌==◌, not}
 use Rattle.std.specs.List.{list_all}
 use Rattle.std.proofs.lemmas.Bool.Decides.{nat_tests}
-use Rattle.monetary_cat.specs.MonetaryValues.{MonetaryValues, text_of}
+use Rattle.monetary_cat.specs.Monetary.{MonetaryValues, text_of}
 use Rattle.strfmon.specs.declared.format.Conversion.{Conversion}
 use Rattle.lc_base.specs.Amounts.{MoneyAmount}
 use Rattle.std.proofs.lemmas.List.{length-append, length-replicate, append_assoc}

@@ -1,6 +1,6 @@
 -- How an amount of one sign looks: its sign, its symbol and where they stand (XSH strfmon, XBD 7.3.3).
 use Rattle.std.specs.Prelude.{ℕ, ℤ, pos, negsuc, ◌==◌, ◌&&◌, ◌||◌, not, Bool, true, false, List, [], ◌∷◌, ◌++◌, length, take, drop, codes, Option, Some, None, if◌then◌else◌}
-use Rattle.monetary_cat.specs.MonetaryValues.{MonetaryValues, text_of, number_of}
+use Rattle.monetary_cat.specs.Monetary.{MonetaryValues, text_of, number_of}
 use Rattle.monetary_cat.specs.declared.keys.MonText.TheVariants.{IntCurrSymbol, CurrencySymbol, PositiveSign, NegativeSign}
 use Rattle.monetary_cat.specs.declared.keys.MonNumber.TheVariants.{PCsPrecedes, PSepBySpace, NCsPrecedes, NSepBySpace, PSignPosn, NSignPosn, IntPCsPrecedes, IntNCsPrecedes, IntPSepBySpace, IntNSepBySpace, IntPSignPosn, IntNSignPosn}
 use Rattle.strfmon.specs.declared.format.Signs.{Signs}

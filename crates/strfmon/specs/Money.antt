@@ -3,7 +3,7 @@ use Rattle.std.specs.Prelude.{◌≡◌, ℕ, ℤ, pos, ◌-◌, nat_le, ◌==�
 use Rattle.digit_groups.specs.Groups.{grouped, grouped_width}
 use Rattle.digit_groups.specs.Formats.{formatted, at_most}
 unfoldable pub use Rattle.digit_groups.specs.Formats.{pieces_text, missing}
-use Rattle.monetary_cat.specs.MonetaryValues.{MonetaryValues, text_of, number_of}
+use Rattle.monetary_cat.specs.Monetary.{MonetaryValues, text_of, number_of}
 use Rattle.monetary_cat.specs.declared.keys.MonText.TheVariants.{MonDecimalPoint, MonThousandsSep}
 use Rattle.monetary_cat.specs.declared.keys.MonNumber.TheVariants.{IntFracDigits, FracDigits}
 use Rattle.strfmon.specs.declared.format.Conversion.{Conversion}

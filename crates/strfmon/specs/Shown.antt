@@ -1,7 +1,7 @@
 -- The text of a rounded amount, part for part as the definitions have it for the amount.
 use Rattle.std.specs.Prelude.{ℕ, ◌-◌, ◌==◌, List, [], ◌++◌, replicate, unwrap_or, if◌then◌else◌}
 use Rattle.digit_groups.specs.Groups.{grouped}
-use Rattle.monetary_cat.specs.MonetaryValues.{MonetaryValues, text_of}
+use Rattle.monetary_cat.specs.Monetary.{MonetaryValues, text_of}
 use Rattle.monetary_cat.specs.declared.keys.MonText.TheVariants.{MonThousandsSep}
 use Rattle.strfmon.specs.declared.decimal.Decimal.{Decimal}
 use Rattle.strfmon.specs.declared.format.Conversion.{Conversion}

@@ -8,7 +8,7 @@ use Rattle.monetary_cat.specs.declared.keys.MonText.TheVariants as texts
 use Rattle.monetary_cat.specs.declared.keys.MonNumber.TheVariants as numbers
 use Rattle.ctype_classes.specs.CtypeValues.{CtypeValues}
 use Rattle.numeric_cat.specs.NumericValues.{NumericValues}
-use Rattle.monetary_cat.specs.MonetaryValues.{MonetaryValues, text_of, number_of}
+use Rattle.monetary_cat.specs.Monetary.{MonetaryValues, text_of, number_of}
 use Rattle.time_cat.specs.TimeValues.{TimeValues, format_text, text_at, joined}
 use Rattle.messages_cat.specs.MessagesValues.{MessagesValues}
 use Rattle.tool_reads.specs.ItemCategories.{LocaleValues, AreAlike, keyword_category, category_of, item_text}

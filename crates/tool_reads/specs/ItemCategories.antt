@@ -8,7 +8,7 @@ use Rattle.lc_base.specs.Tables.{first_named}
 use Rattle.script_words.specs.Tables.{items_table}
 use Rattle.ctype_classes.specs.CtypeValues.{CtypeValues}
 use Rattle.numeric_cat.specs.NumericValues.{NumericValues}
-use Rattle.monetary_cat.specs.MonetaryValues.{MonetaryValues}
+use Rattle.monetary_cat.specs.Monetary.{MonetaryValues}
 use Rattle.time_cat.specs.TimeValues.{TimeValues}
 use Rattle.messages_cat.specs.MessagesValues.{MessagesValues}
 use Rattle.langinfo.specs.declared.keyword.Keyword.{Keyword}

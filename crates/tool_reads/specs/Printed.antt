@@ -7,7 +7,7 @@ use Rattle.ctype_classes.specs.CtypeValues.{CtypeValues}
 use Rattle.ctype_classes.specs.Classes.{class_answer}
 use Rattle.ctype_classes.specs.Case.{image}
 use Rattle.numeric_cat.specs.NumericValues.{NumericValues}
-use Rattle.monetary_cat.specs.MonetaryValues.{MonetaryValues}
+use Rattle.monetary_cat.specs.Monetary.{MonetaryValues}
 use Rattle.time_cat.specs.TimeValues.{TimeValues}
 use Rattle.time_cat.specs.Times.{TmValues}
 use Rattle.strfmon.specs.Money.{money}
