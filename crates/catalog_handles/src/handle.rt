@@ -6,7 +6,7 @@ ghost use Rattle.catalog_handles.specs.Entry.{catalog_handles};
 use generations::Numbers;
 
 /// A message catalog descriptor (XSH catopen): the `generation`-th that its owner got in a row.
-#[derive(Clone, Copy, Debug, PartialEq, Eq)]
+#[derive(Clone, Copy, PartialEq, Eq)]
 pub struct CatalogHandle {
     /// The number of the thread that opened the catalog.
     pub owner: u32,

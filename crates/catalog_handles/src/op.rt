@@ -37,7 +37,7 @@ pub enum CatalogReply<B: Part> {
 }
 
 /// Why an op is refused.
-#[derive(Clone, Copy, Debug, PartialEq, Eq)]
+#[derive(Clone, Copy, PartialEq, Eq)]
 pub enum CatalogRefusal {
     /// No thread was given the handle.
     NeverMade,

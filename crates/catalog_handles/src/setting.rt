@@ -1,7 +1,7 @@
 //! What catalogs are made for.
 
 /// How many threads may have catalogs open, and how many each. No call changes it.
-#[derive(Clone, Copy, Debug, PartialEq, Eq)]
+#[derive(Clone, Copy, PartialEq, Eq)]
 pub struct CatalogSetting {
     /// The number of threads.
     pub threads: u32,

@@ -3,7 +3,7 @@
 use mask_compose::Part;
 
 /// A message catalog by its number: its place among the catalogs of a bundle, from 0.
-#[derive(Clone, Copy, Debug, PartialEq, Eq)]
+#[derive(Clone, Copy, PartialEq, Eq)]
 pub struct BookShare {
     /// The place.
     pub number: u32,

@@ -51,7 +51,7 @@ impl Model for Library {
 }
 
 /// A category of the mask whose locale no block names.
-#[derive(Clone, Copy, Debug, PartialEq, Eq)]
+#[derive(Clone, Copy, PartialEq, Eq)]
 pub struct NoData {
     pub category: Category,
 }

@@ -6,7 +6,7 @@ use std::alloc::{AllocError, Global};
 use std::marker::Model;
 
 /// Byte strings, numbered in the order in which they were added.
-#[derive(Debug, Drop)]
+#[derive(Drop)]
 pub struct ByteStrings {
     bytes: Vec<u8>,
     /// Where each begins and ends.

@@ -16,7 +16,6 @@ use std::alloc::{AllocError, Global};
 use std::marker::Model;
 
 /// A coded character set with the names of its characters (XBD 6).
-#[derive(Debug)]
 pub struct Charset {
     kind: Kind,
 }

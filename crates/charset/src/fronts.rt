@@ -17,7 +17,7 @@ use std::marker::Model;
 const FEW: usize = 256;
 
 /// Fronts of names, numbered in the order in which they came first.
-#[derive(Debug, Drop)]
+#[derive(Drop)]
 pub struct Fronts {
     strings: ByteStrings,
     /// The numbers of the earlier ones, in the order of their bytes.

@@ -1,7 +1,7 @@
 use crate::listed::Listed;
 
 /// Which charset it is.
-#[derive(Debug, Drop)]
+#[derive(Drop)]
 pub enum Kind {
     Utf8,
     Posix,

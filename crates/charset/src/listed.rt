@@ -15,7 +15,7 @@ use std::marker::Model;
 const PORTABLE_CODES: [(u32, u32); 3] = [(0, 0), (7, 13), (32, 126)];
 
 /// A code set name, names with their wide values, and all wide values.
-#[derive(Debug, Drop)]
+#[derive(Drop)]
 pub struct Listed {
     name: ByteText,
     names: CharacterNames,

@@ -18,7 +18,7 @@ use std::marker::Model;
 pub const NAME_LIMIT: usize = 65536;
 
 /// Names with wide values. Names that count up are one entry.
-#[derive(Debug, Drop)]
+#[derive(Drop)]
 pub struct CharacterNames {
     fronts: Fronts,
     spans: Spans,

@@ -9,7 +9,7 @@ use std::collections::BTreeMap;
 use std::marker::Model;
 
 /// Tails of one width that count up by one, and wide values that do so with them.
-#[derive(Clone, Copy, Debug)]
+#[derive(Clone, Copy)]
 pub struct Block {
     pub width: u32,
     /// The number of the first tail.
@@ -21,7 +21,7 @@ pub struct Block {
 }
 
 /// The names of a front with these tails.
-#[derive(Clone, Copy, Debug)]
+#[derive(Clone, Copy)]
 pub struct Span {
     /// The number of the front.
     pub front: u32,
@@ -35,7 +35,7 @@ pub type Spot = (u32, u32, u32);
 type Ends = BTreeMap<Spot, u32>;
 
 /// Spans of which no two have a name in common, in the order of the text.
-#[derive(Debug, Drop)]
+#[derive(Drop)]
 pub struct Spans {
     spans: Vec<Span>,
     ends: Ends,

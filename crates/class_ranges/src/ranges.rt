@@ -10,7 +10,6 @@ use std::marker::Model;
 
 /// A set of wide values, seen as its ranges: each a first and a last value, in order, disjoint and
 /// not adjacent.
-#[derive(Debug)]
 pub struct Ranges {
     ranges: Vec<(u32, u32)>,
 }

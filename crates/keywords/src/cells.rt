@@ -10,7 +10,7 @@ use std::alloc::{AllocError, Global};
 use std::marker::Model;
 
 /// A value, or where it lies.
-#[derive(Clone, Copy, Debug, PartialEq, Eq)]
+#[derive(Clone, Copy, PartialEq, Eq)]
 enum Content {
     /// A text of so many bytes, the first of which has this number.
     Short(u16, u32),
@@ -26,7 +26,7 @@ enum Content {
 }
 
 /// A value with its place.
-#[derive(Clone, Copy, Debug, PartialEq, Eq)]
+#[derive(Clone, Copy, PartialEq, Eq)]
 struct Cell {
     place: Place,
     content: Content,
@@ -34,7 +34,6 @@ struct Cell {
 
 /// The operands of a keyword line, decoded, each with its place. A value takes 16 bytes, a pair, a
 /// range and a text of more than 65535 bytes 8 more, and a text its bytes.
-#[derive(Debug)]
 pub struct Values {
     cells: Vec<Cell>,
     pairs: Vec<(u32, u32)>,

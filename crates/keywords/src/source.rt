@@ -4,7 +4,7 @@ use crate::cells::Values;
 use lc_base::{ByteText, Category, List, Place};
 
 /// An operand of a keyword, decoded.
-#[derive(Debug, Drop)]
+#[derive(Drop)]
 pub enum Value {
     /// The bytes of a text.
     Text(ByteText),
@@ -17,7 +17,6 @@ pub enum Value {
 }
 
 /// A keyword line of a section.
-#[derive(Debug)]
 pub struct Entry {
     /// Where the keyword stands.
     pub place: Place,
@@ -37,7 +36,7 @@ impl Drop for Entry {
 }
 
 /// What a section says.
-#[derive(Debug, Drop)]
+#[derive(Drop)]
 pub enum Body {
     /// It copies the category of the locale of this name, which stands at this place.
     Copy(Place, ByteText),
@@ -46,7 +45,6 @@ pub enum Body {
 }
 
 /// The section of a category.
-#[derive(Debug)]
 pub struct Section {
     pub category: Category,
     /// Where its header stands.
@@ -65,7 +63,7 @@ impl Drop for Section {
 }
 
 /// A whole locale source.
-#[derive(Debug, Drop)]
+#[derive(Drop)]
 pub struct LocaleSource {
     pub sections: List<Section>,
 }

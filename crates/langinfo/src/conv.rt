@@ -32,7 +32,6 @@ pub const CONV_NUMBERS: usize = 14;
 /// In a number 127 (`CHAR_MAX`) says that the locale does not tell it. The bytes of a grouping are
 /// the sizes of groups, the first next to the radix; the last counts for all that are left, or none
 /// is left to be grouped where it is 127.
-#[derive(Debug)]
 pub struct Lconv {
     pub texts: List<(FieldName, ConvText)>,
     pub numbers: List<(FieldName, u8)>,

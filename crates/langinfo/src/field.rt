@@ -7,7 +7,6 @@ use lc_base::ByteText;
 use std::marker::Model;
 
 /// The name of a field in C.
-#[derive(Debug)]
 pub struct FieldName(pub &'static [u8]);
 
 impl Model for FieldName {
@@ -34,7 +33,6 @@ impl FieldName {
 }
 
 /// The value of a field that is a text.
-#[derive(Debug)]
 pub enum ConvText {
     /// A text of the locale.
     Bytes(ByteText),

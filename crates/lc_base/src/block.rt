@@ -4,7 +4,6 @@ use crate::list::ByteText;
 
 /// A block of a bundle: the lines of a charmap's or a locale's source, between its directive and
 /// its `.end`.
-#[derive(Debug)]
 pub struct Block {
     /// The name of the charmap or the locale.
     pub name: ByteText,
@@ -28,7 +27,6 @@ impl Drop for Block {
 }
 
 /// A later version of a locale, which a thread installs while others run.
-#[derive(Debug)]
 pub struct Later {
     /// The key by which a command names it.
     pub key: ByteText,

@@ -81,7 +81,7 @@ pub fn number_for(numbers: &[u32; 5], category: Category) -> u32
 }
 
 /// A set of categories, as newlocale and setlocale take one (XSH newlocale). The empty set is allowed.
-#[derive(Clone, Copy, Debug, PartialEq, Eq)]
+#[derive(Clone, Copy, PartialEq, Eq)]
 pub struct Mask {
     bits: u32,
 }

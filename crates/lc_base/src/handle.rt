@@ -1,7 +1,7 @@
 //! Handles of locale objects.
 
 /// A handle: the `generation`-th object that its owner made in a row.
-#[derive(Clone, Copy, Debug, PartialEq, Eq)]
+#[derive(Clone, Copy, PartialEq, Eq)]
 pub struct Handle {
     /// The number of the thread that made the object.
     pub owner: u32,
@@ -12,7 +12,7 @@ pub struct Handle {
 }
 
 /// What an op names: an object by its handle, or the global locale (`LC_GLOBAL_LOCALE`).
-#[derive(Clone, Copy, Debug, PartialEq, Eq)]
+#[derive(Clone, Copy, PartialEq, Eq)]
 pub enum Named {
     /// The global locale.
     Global,

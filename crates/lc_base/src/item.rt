@@ -2,7 +2,7 @@
 
 /// What a program asks of a locale by nl_langinfo (XSH nl_langinfo), in the order of the table of
 /// XBD <langinfo.h>.
-#[derive(Clone, Copy, Debug, PartialEq, Eq)]
+#[derive(Clone, Copy, PartialEq, Eq)]
 pub enum Item {
     /// `CODESET`: the name of the coded character set.
     Codeset,

@@ -6,7 +6,6 @@ use std::alloc::{AllocError, Global};
 use std::marker::Model;
 
 /// A list of values, made from a `Vec` and given back as one without taking memory.
-#[derive(Debug)]
 pub struct List<T> {
     items: Vec<T>,
 }
@@ -64,7 +63,6 @@ impl<T> List<T> {
 }
 
 /// Bytes of a text, which need not be UTF-8.
-#[derive(Debug)]
 pub struct ByteText {
     bytes: Vec<u8>,
 }

@@ -15,7 +15,7 @@ use std::marker::Model;
 /// Its calls are numbered from 0, up to 2^64 - 1, which is above each number of a failing call.
 /// Exactly the calls whose numbers it was given fail. Each other call gives as many bytes as the
 /// buffer takes and are left, but no more than a step.
-#[derive(Debug, Drop)]
+#[derive(Drop)]
 pub struct MemSource {
     bytes: ByteText,
     given: usize,
@@ -111,7 +111,7 @@ fn is_among(failing: &[u32], call: u64) -> bool
 /// Exactly the calls whose numbers it was given fail, and each write of a piece that is not empty
 /// to a full sink. Each other call takes as many bytes as there are and it has room for, but no
 /// more than a step.
-#[derive(Debug, Drop)]
+#[derive(Drop)]
 pub struct MemSink {
     bytes: Vec<u8>,
     room: usize,

@@ -2,7 +2,7 @@
 
 /// Why a format has no text of what it is given (XSH strfmon, strftime, fprintf), or a text none of what
 /// the format reads (XSH strptime). Bytes are counted from 0.
-#[derive(Clone, Copy, Debug, PartialEq, Eq)]
+#[derive(Clone, Copy, PartialEq, Eq)]
 pub enum FormatRefusal {
     /// The `%` at this byte of the format begins no conversion.
     BadFormat { at: usize },

@@ -13,7 +13,7 @@ use std::marker::Model;
 /// read too.
 ///
 /// Contracts see the reader and the count of faults.
-#[derive(Debug, Drop)]
+#[derive(Drop)]
 pub struct StdSource<R> {
     inner: R,
     faults: u64,
@@ -77,7 +77,7 @@ impl<R: Read> Source for StdSource<R> {
 /// `BufWriter`, can be lent by `&mut` and flushed by its owner.
 ///
 /// Contracts see the writer and the count of faults.
-#[derive(Debug, Drop)]
+#[derive(Drop)]
 pub struct StdSink<W> {
     inner: W,
     faults: u64,

@@ -10,14 +10,13 @@ use std::alloc::Global;
 use std::marker::Model;
 
 /// A text in two pieces, one behind the other.
-#[derive(Debug, Drop)]
+#[derive(Drop)]
 pub struct Halves {
     pub front: Vec<u8>,
     pub back: Vec<u8>,
 }
 
 /// A text in four pieces, one behind the other.
-#[derive(Debug)]
 pub struct Pieces {
     front: Halves,
     back: Halves,

@@ -11,7 +11,6 @@ use std::alloc::{AllocError, Global};
 use std::marker::Model;
 
 /// The values of the keywords of `LC_MESSAGES`, of the locale or else of the POSIX locale.
-#[derive(Debug)]
 pub struct Messages {
     yesexpr: ByteText,
     noexpr: ByteText,

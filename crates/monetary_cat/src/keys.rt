@@ -10,7 +10,7 @@ use lc_base::{ByteText, Category};
 use std::alloc::{AllocError, Global};
 
 /// A keyword of `LC_MONETARY` with a text.
-#[derive(Clone, Copy, Debug, PartialEq, Eq)]
+#[derive(Clone, Copy, PartialEq, Eq)]
 pub enum MonText {
     /// The international currency symbol: empty, or three bytes and what stands between it and the number.
     IntCurrSymbol,
@@ -30,7 +30,7 @@ pub enum MonText {
 ///
 /// `P` is of amounts that are not negative and `N` of negative ones; those with `Int` before are of
 /// the international form.
-#[derive(Clone, Copy, Debug, PartialEq, Eq)]
+#[derive(Clone, Copy, PartialEq, Eq)]
 pub enum MonNumber {
     /// Fraction digits in the international form, to 18.
     IntFracDigits,
@@ -54,7 +54,7 @@ pub enum MonNumber {
 }
 
 /// The texts.
-#[derive(Debug, Drop)]
+#[derive(Drop)]
 pub struct MoneyTexts {
     pub int_curr_symbol: ByteText,
     pub currency_symbol: ByteText,
@@ -65,7 +65,7 @@ pub struct MoneyTexts {
 }
 
 /// The numbers of amounts of one sign.
-#[derive(Clone, Copy, Debug)]
+#[derive(Clone, Copy)]
 pub struct SignNumbers {
     pub cs_precedes: i32,
     pub sep_by_space: i32,
@@ -73,7 +73,7 @@ pub struct SignNumbers {
 }
 
 /// The numbers of one form, the local or the international one.
-#[derive(Clone, Copy, Debug)]
+#[derive(Clone, Copy)]
 pub struct FormNumbers {
     pub frac_digits: i32,
     /// Of amounts that are not negative.

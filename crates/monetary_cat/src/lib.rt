@@ -16,7 +16,6 @@ pub use keys::{MonNumber, MonText};
 use keys::{FormNumbers, MoneyTexts, international_of, local_of, texts_of};
 
 /// The values of the keywords of `LC_MONETARY`, of the locale or else of the POSIX locale.
-#[derive(Debug)]
 pub struct Monetary {
     texts: MoneyTexts,
     mon_grouping: List<i32>,

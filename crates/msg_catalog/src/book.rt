@@ -9,7 +9,6 @@ use std::alloc::{AllocError, Global};
 use std::marker::Model;
 
 /// A message of a catalog.
-#[derive(Debug)]
 pub struct Message {
     /// The number of its set, from 1 to 255.
     pub set: u32,
@@ -32,7 +31,6 @@ impl Drop for Message {
 /// The messages of a catalog, each found by its set and number (XSH catgets).
 ///
 /// Contracts see the messages in the order of their sets, and in a set of their numbers.
-#[derive(Debug)]
 pub struct Book {
     messages: Vec<Message>,
 }

@@ -11,7 +11,6 @@ use std::alloc::{AllocError, Global};
 use std::marker::Model;
 
 /// The values of the keywords of `LC_NUMERIC`, of the locale or else of the POSIX locale.
-#[derive(Debug)]
 pub struct Numeric {
     decimal_point: ByteText,
     thousands_sep: ByteText,

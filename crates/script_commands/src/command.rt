@@ -4,7 +4,7 @@ use lc_base::{Amount, ByteText, Handle, Item, List};
 use script_words::{CategoryArgument, CommandText, Format, UncheckedTime, WrittenNumber};
 
 /// What a command names.
-#[derive(Debug, Drop)]
+#[derive(Drop)]
 pub enum Target {
     /// `GLOBAL`: the global locale.
     Global,
@@ -16,7 +16,7 @@ pub enum Target {
 
 /// A message catalog that a command names. The variables of catalogs have names of their own: one of
 /// locales may have the same name.
-#[derive(Debug, Drop)]
+#[derive(Drop)]
 pub enum OpenCatalog {
     /// What the variable of this name stands for.
     Variable(ByteText),
@@ -26,7 +26,7 @@ pub enum OpenCatalog {
 
 /// What a command reads from an object. The forms with a handle have the same words behind it; for
 /// localeconv there is none (XSH localeconv).
-#[derive(Debug, Drop)]
+#[derive(Drop)]
 pub enum Read {
     /// `info ITEM`, `info_l H ITEM`: nl_langinfo, nl_langinfo_l.
     Info(Item),
@@ -73,7 +73,7 @@ pub enum Read {
 }
 
 /// A command. The bits of a mask are kept as they are written, also bits that no category has.
-#[derive(Debug, Drop)]
+#[derive(Drop)]
 pub enum Command {
     /// `new N MASK LOC`, `new N MASK LOC H`: newlocale.
     New {
@@ -162,7 +162,7 @@ pub enum Command {
 }
 
 /// A command with its place in the script.
-#[derive(Debug, Drop)]
+#[derive(Drop)]
 pub struct Placed {
     /// The round, from 1.
     pub round: u32,

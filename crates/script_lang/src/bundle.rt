@@ -24,7 +24,7 @@ pub const ROUND_LIMIT: u32 = 64;
 pub const COMMAND_LIMIT: usize = 20000;
 
 /// A bundle: charmaps, locale sources, message catalogs, and a script for threads.
-#[derive(Debug, Drop)]
+#[derive(Drop)]
 pub struct Bundle {
     /// The charmaps, in order.
     pub charmaps: List<Block>,

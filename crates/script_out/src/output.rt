@@ -15,7 +15,7 @@ use std::alloc::{AllocError, Global};
 use time_cat::{Parsed, TmField};
 
 /// The positions of a line's entries in the history.
-#[derive(Clone, Copy, Debug, PartialEq, Eq)]
+#[derive(Clone, Copy, PartialEq, Eq)]
 pub enum Places {
     /// The line made no entry.
     None,
@@ -27,7 +27,7 @@ pub enum Places {
 }
 
 /// Why a command is refused.
-#[derive(Clone, Copy, Debug, PartialEq, Eq)]
+#[derive(Clone, Copy, PartialEq, Eq)]
 pub enum Why {
     /// The command names a variable that no earlier accepted command of the thread bound.
     Unset,
@@ -55,7 +55,6 @@ pub enum Why {
 }
 
 /// A printed reply.
-#[derive(Debug)]
 pub enum Said {
     /// newlocale and duplocale: the handle of the object that was made or changed; fetch: the handle
     /// in the cell.
@@ -124,7 +123,6 @@ impl Drop for Said {
 }
 
 /// A printed line.
-#[derive(Debug)]
 pub struct OutLine {
     /// The round, from 1.
     pub round: u32,

@@ -8,7 +8,6 @@ use std::alloc::{AllocError, Global};
 use std::marker::Model;
 
 /// A list of texts, which takes one block of memory. Each has its length in front of it.
-#[derive(Debug)]
 pub struct Texts {
     count: usize,
     block: Vec<u8>,

@@ -8,7 +8,7 @@ pub trait Pause {
 }
 
 /// No pause.
-#[derive(Clone, Copy, Debug)]
+#[derive(Clone, Copy)]
 pub struct NoPause;
 
 impl Pause for NoPause {

@@ -3,7 +3,7 @@
 use lc_base::Category;
 
 /// The categories that a setlocale names (XSH setlocale).
-#[derive(Clone, Copy, Debug, PartialEq, Eq)]
+#[derive(Clone, Copy, PartialEq, Eq)]
 pub enum CategoryArgument {
     /// `LC_ALL`.
     All,

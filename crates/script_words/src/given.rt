@@ -40,7 +40,6 @@ pub const TIME_DIGITS: usize = 9;
 pub const ZONE_LIMIT: usize = 32;
 
 /// A format of at most 1024 bytes.
-#[derive(Debug)]
 pub struct Format {
     text: ByteText,
 }
@@ -85,7 +84,7 @@ impl Format {
 }
 
 /// A whole number as it is written, from -2^63 to 2^64 - 1.
-#[derive(Clone, Copy, Debug)]
+#[derive(Clone, Copy)]
 pub struct WrittenNumber {
     number: i128,
 }
@@ -126,7 +125,6 @@ impl WrittenNumber {
 }
 
 /// A text of at most 1024 bytes that a command is given in quotes.
-#[derive(Debug)]
 pub struct CommandText {
     text: ByteText,
 }
@@ -179,7 +177,6 @@ impl CommandText {
 }
 
 /// A time as it is written, whose fields may be out of range.
-#[derive(Debug)]
 pub struct UncheckedTime {
     pub year: i32,
     /// From 1.

@@ -10,7 +10,7 @@ use lc_base::{ByteText, Reason, is_blank};
 use std::alloc::{AllocError, Global};
 
 /// The least part of a line that has a meaning of its own.
-#[derive(Debug, Drop)]
+#[derive(Drop)]
 pub enum Atom {
     /// A byte that stands for itself, with the meaning that it has by its place.
     Bare(u8),

@@ -14,7 +14,7 @@ use std::alloc::{AllocError, Global};
 use std::marker::Model;
 
 /// What a byte is.
-#[derive(Clone, Copy, Debug, PartialEq, Eq)]
+#[derive(Clone, Copy, PartialEq, Eq)]
 pub enum Mark {
     /// A byte that stands bare.
     AsItself,
@@ -29,7 +29,7 @@ pub enum Mark {
 }
 
 /// Atoms of a line, in two bytes of memory for each byte.
-#[derive(Debug, Drop)]
+#[derive(Drop)]
 pub struct Atoms {
     marks: Vec<Mark>,
     bytes: Vec<u8>,

@@ -14,7 +14,6 @@ use lc_base::{Place, TextFault};
 use std::alloc::Global;
 
 /// A part of a line up to a bare blank, or the line's end.
-#[derive(Debug)]
 pub struct Field {
     /// The place of its first byte. An empty field stands at the line's end.
     pub place: Place,

@@ -4,7 +4,7 @@ use crate::pieces::Pieces;
 use lc_base::{ByteText, List, Place};
 
 /// A part of an operand.
-#[derive(Debug, Drop)]
+#[derive(Drop)]
 pub enum OperandPiece {
     /// A byte, written as itself, after the escape character, or as a number.
     Byte(u8),
@@ -13,7 +13,7 @@ pub enum OperandPiece {
 }
 
 /// An operand.
-#[derive(Debug, Drop)]
+#[derive(Drop)]
 pub enum Operand {
     /// A run of bytes, perhaps empty, with names and escapes.
     Plain(Pieces),
@@ -26,7 +26,7 @@ pub enum Operand {
 }
 
 /// A logical line, read.
-#[derive(Debug, Drop)]
+#[derive(Drop)]
 pub struct Line {
     /// The place of the keyword.
     pub place: Place,

@@ -21,7 +21,6 @@ use std::alloc::{AllocError, Global};
 use std::marker::Model;
 
 /// The logical lines of a text: joined, without comments, blank lines and head lines.
-#[derive(Debug)]
 pub struct Lines {
     store: Store,
 }

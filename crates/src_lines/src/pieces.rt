@@ -10,7 +10,7 @@ use std::alloc::{AllocError, Global};
 use std::marker::Model;
 
 /// The pieces of an operand: bytes and characters' names.
-#[derive(Debug, Drop)]
+#[derive(Drop)]
 pub struct Pieces {
     atoms: Atoms,
 }

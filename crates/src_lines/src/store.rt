@@ -11,14 +11,14 @@ use std::alloc::{AllocError, Global};
 use std::marker::Model;
 
 /// From this byte of a logical line on its bytes stand in this line of the text.
-#[derive(Clone, Copy, Debug, PartialEq, Eq)]
+#[derive(Clone, Copy, PartialEq, Eq)]
 pub struct Join {
     pub at: u32,
     pub line: u32,
 }
 
 /// A logical line: a part of the bytes, and a part of the joins.
-#[derive(Clone, Copy, Debug, PartialEq, Eq)]
+#[derive(Clone, Copy, PartialEq, Eq)]
 struct Span {
     signs: Signs,
     line: u32,
@@ -29,7 +29,7 @@ struct Span {
 }
 
 /// Logical lines, and behind them the one that is being joined, the draft.
-#[derive(Debug, Drop)]
+#[derive(Drop)]
 pub struct Store {
     bytes: Vec<u8>,
     joins: Vec<Join>,

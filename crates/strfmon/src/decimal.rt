@@ -9,7 +9,7 @@ use digit_groups::digit_count;
 use lc_base::Amount;
 
 /// An amount whose fraction is rounded.
-#[derive(Clone, Copy, Debug)]
+#[derive(Clone, Copy)]
 pub struct Decimal {
     /// How many fraction digits are shown.
     pub precision: usize,

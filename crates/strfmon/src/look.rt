@@ -10,7 +10,7 @@ use digit_groups::write_before;
 use monetary_cat::{MonNumber, MonText, Monetary};
 
 /// cs_precedes, sep_by_space and sign_posn.
-#[derive(Clone, Copy, Debug)]
+#[derive(Clone, Copy)]
 pub struct Placing {
     pub precedes: usize,
     pub separation: usize,

@@ -12,7 +12,7 @@ pub struct Locales<P: Part> {
 }
 
 /// What can be asked without a step.
-#[derive(Clone, Copy, Debug, PartialEq, Eq)]
+#[derive(Clone, Copy, PartialEq, Eq)]
 pub enum Ask {
     /// The global object.
     Global,

@@ -11,7 +11,6 @@ pub const NAME_FRONT: usize = 16;
 
 /// The name of a day, a month or a half day (XBD 7.3.5.2). A short name lies in the value itself, at
 /// its front.
-#[derive(Debug)]
 pub struct Name {
     front: [u8; NAME_FRONT],
     text: ByteText,

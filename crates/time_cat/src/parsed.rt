@@ -1,7 +1,7 @@
 //! The fields of a time that a text has.
 
 /// The fields that a text has, each where an item of the format says it (XBD time.h, struct tm).
-#[derive(Clone, Copy, Debug, PartialEq, Eq)]
+#[derive(Clone, Copy, PartialEq, Eq)]
 pub struct Parsed {
     /// From 0 to 9999.
     pub year: Option<i32>,

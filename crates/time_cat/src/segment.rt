@@ -10,7 +10,7 @@ use lc_base::{ByteText, cut_at, few_digits};
 use std::alloc::{AllocError, Global};
 
 /// A date.
-#[derive(Clone, Copy, Debug)]
+#[derive(Clone, Copy)]
 pub struct Date {
     /// The year, counted so that the year 1 is 10001.
     pub year: u16,
@@ -19,7 +19,7 @@ pub struct Date {
 }
 
 /// An end of a segment.
-#[derive(Clone, Copy, Debug)]
+#[derive(Clone, Copy)]
 pub enum End {
     /// Before all dates.
     BeforeAll,
@@ -29,7 +29,6 @@ pub enum End {
 }
 
 /// A segment of an era.
-#[derive(Debug)]
 pub struct Segment {
     /// Whether years count up behind the start.
     pub forward: bool,
@@ -55,7 +54,7 @@ impl Drop for Segment {
 }
 
 /// The parts of a segment in its text.
-#[derive(Clone, Copy, Debug)]
+#[derive(Clone, Copy)]
 pub struct SegmentText<'a> {
     pub forward: bool,
     pub offset: u16,

@@ -12,7 +12,6 @@ use lc_base::{ByteText, Category, List};
 use std::alloc::{AllocError, Global};
 
 /// The names of days, months and half days.
-#[derive(Debug)]
 pub struct NameLists {
     pub abday: List<Name>,
     pub day: List<Name>,
@@ -34,7 +33,6 @@ impl Drop for NameLists {
 }
 
 /// The formats.
-#[derive(Debug)]
 pub struct FormatTexts {
     pub d_t_fmt: ByteText,
     pub d_fmt: ByteText,

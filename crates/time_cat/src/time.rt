@@ -19,7 +19,6 @@ use std::alloc::{AllocError, Global};
 use std::marker::Model;
 
 /// The values of the keywords of `LC_TIME`, of the locale or else of the POSIX locale.
-#[derive(Debug)]
 pub struct Time {
     names: NameLists,
     formats: FormatTexts,
@@ -55,7 +54,7 @@ impl Model for Time {
 }
 
 /// The era of a date.
-#[derive(Clone, Copy, Debug)]
+#[derive(Clone, Copy)]
 pub struct EraHit<'a> {
     /// The year in the era, which may be below 0.
     pub year: i32,

@@ -7,7 +7,7 @@ use lc_base::ByteText;
 use std::marker::Model;
 
 /// A field of a time.
-#[derive(Clone, Copy, Debug, PartialEq, Eq)]
+#[derive(Clone, Copy, PartialEq, Eq)]
 pub enum TmField {
     /// From 1 to 9999.
     Year,
@@ -30,14 +30,13 @@ pub enum TmField {
 }
 
 /// The first field of a time that is out of its range.
-#[derive(Clone, Copy, Debug, PartialEq, Eq)]
+#[derive(Clone, Copy, PartialEq, Eq)]
 pub struct TmRange {
     pub field: TmField,
 }
 
 /// A time, each field in its range. The day of the week and that of the year are as given, whatever
 /// the date is.
-#[derive(Debug)]
 pub struct Tm {
     year: u32,
     mon: u32,
