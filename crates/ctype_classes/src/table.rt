@@ -44,7 +44,7 @@ impl<'a> AutomaticMembers<'a> {
 
 /// The classes with their automatic members.
 #[rattlefmt::skip]
-pub const TABLE: [AutomaticMembers<'static>; 12] = [
+pub static TABLE: [AutomaticMembers<'static>; 12] = [
     AutomaticMembers {
         name: b"upper",
         always: &[(65, 90)],
