@@ -6,7 +6,7 @@ ghost use Rattle.int_format.specs.Formats.{mark_of, with_mark, flags, modifier, 
 use digit_groups::{leading_number, number_after};
 
 /// A flag.
-#[derive(Clone, Copy, PartialEq, Eq)]
+#[derive(Clone, Copy)]
 pub enum Mark {
     /// `'`: digits in groups.
     Groups,
@@ -21,7 +21,7 @@ pub enum Mark {
 }
 
 /// The flags of a conversion.
-#[derive(Clone, Copy, PartialEq, Eq)]
+#[derive(Clone, Copy)]
 pub struct Flags {
     pub groups: bool,
     pub left: bool,
@@ -31,7 +31,7 @@ pub struct Flags {
 }
 
 /// The conversion of one number.
-#[derive(Clone, Copy, PartialEq, Eq)]
+#[derive(Clone, Copy)]
 pub struct Conversion {
     pub flags: Flags,
     /// The least number of bytes.

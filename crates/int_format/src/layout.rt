@@ -14,7 +14,7 @@ use numeric_cat::Numeric;
 const MODULUS: u128 = 1 << 64;
 
 /// Where the bytes stand that fill a field.
-#[derive(Clone, Copy, PartialEq, Eq)]
+#[derive(Clone, Copy)]
 pub enum Fill {
     /// Spaces before the sign.
     Before,

@@ -10,7 +10,7 @@ use std::alloc::{AllocError, Global};
 use std::marker::Model;
 
 /// A value, or where it lies.
-#[derive(Clone, Copy, PartialEq, Eq)]
+#[derive(Clone, Copy)]
 enum Content {
     /// A text of so many bytes, the first of which has this number.
     Short(u16, u32),
@@ -26,7 +26,7 @@ enum Content {
 }
 
 /// A value with its place.
-#[derive(Clone, Copy, PartialEq, Eq)]
+#[derive(Clone, Copy)]
 struct Cell {
     place: Place,
     content: Content,

@@ -1,7 +1,7 @@
 //! What the table says of a keyword.
 
 /// What one operand is read as.
-#[derive(Clone, Copy, PartialEq, Eq)]
+#[derive(Clone, Copy)]
 pub enum Element {
     /// A pair of characters.
     CasePair,
@@ -14,7 +14,7 @@ pub enum Element {
 }
 
 /// What a keyword takes.
-#[derive(Clone, Copy, PartialEq, Eq)]
+#[derive(Clone, Copy)]
 pub enum Operands {
     /// The name of the locale whose category is copied.
     Copied,
@@ -29,7 +29,7 @@ pub enum Operands {
 }
 
 /// What the operands of a keyword must be, beyond their kind.
-#[derive(Clone, Copy, PartialEq, Eq)]
+#[derive(Clone, Copy)]
 pub enum Rule {
     /// Nothing more.
     Free,

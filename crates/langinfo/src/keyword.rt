@@ -7,7 +7,7 @@ use lc_base::Item;
 use time_cat::TimeText;
 
 /// A keyword of a category; where it has several operands, with the number of one, from 0.
-#[derive(Clone, Copy, PartialEq, Eq)]
+#[derive(Clone, Copy)]
 pub enum Keyword {
     /// `<code_set_name>`: the name of the charset of `LC_CTYPE`.
     CodeSetName,

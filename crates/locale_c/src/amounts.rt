@@ -9,7 +9,7 @@ use strfmon::Amount;
 
 /// An amount of units / 10^scale. C has `lo_amount` for it.
 #[repr(C)]
-#[derive(Clone, Copy, PartialEq, Eq)]
+#[derive(Clone, Copy)]
 pub struct LoAmount {
     pub units: i64,
     pub scale: u8,

@@ -57,7 +57,7 @@ pub const MISMATCH: u32 = 15;
 
 /// What a call answers: a code, and a number whose meaning the call says. C has `lo_answer` for it.
 #[repr(C)]
-#[derive(Clone, Copy, PartialEq, Eq)]
+#[derive(Clone, Copy)]
 pub struct LoAnswer {
     pub code: u32,
     pub n: usize,

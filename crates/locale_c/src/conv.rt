@@ -15,7 +15,7 @@ use std::alloc::{AllocError, Global};
 /// How numbers and amounts are written: the lengths of the texts, and the numbers, in the order of
 /// the standard's page. C has `lo_lconv` for it.
 #[repr(C)]
-#[derive(Clone, Copy, PartialEq, Eq)]
+#[derive(Clone, Copy)]
 pub struct LoLconv {
     pub lengths: [usize; CONV_TEXTS],
     pub numbers: [u8; CONV_NUMBERS],

@@ -12,7 +12,7 @@ use std::alloc::{AllocError, Global};
 
 /// The line and the column of a fault, each from 1. C has `lo_place` for it.
 #[repr(C)]
-#[derive(Clone, Copy, PartialEq, Eq)]
+#[derive(Clone, Copy)]
 pub struct LoPlace {
     pub line: u32,
     pub column: u32,

@@ -9,7 +9,7 @@ use strptime_fields::{Parsed, ScanFault};
 
 /// The fields of a time that a text has; -1 where it does not tell one. C has `lo_parsed` for it.
 #[repr(C)]
-#[derive(Clone, Copy, PartialEq, Eq)]
+#[derive(Clone, Copy)]
 pub struct LoParsed {
     pub year: i32,
     pub mon: i32,

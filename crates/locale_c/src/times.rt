@@ -9,7 +9,7 @@ use strftime_fields::{Tm, TmField, TmRange};
 
 /// A broken-down time. C has `lo_tm` for it.
 #[repr(C)]
-#[derive(Clone, Copy, PartialEq, Eq)]
+#[derive(Clone, Copy)]
 pub struct LoTm {
     /// From 1 to 9999.
     pub year: i32,

@@ -14,7 +14,7 @@ use lc_base::{ByteText, are_digits};
 use script_words::behind_front;
 
 /// What the program is to do.
-#[derive(Clone, Copy, PartialEq, Eq)]
+#[derive(Clone, Copy)]
 pub enum Request {
     /// To read the input and answer it in a mode.
     Read(Mode),

@@ -20,7 +20,7 @@ pub const DEFAULT_GENERATIONS: u32 = 65535;
 pub const MOST_GENERATIONS: u32 = 2147483647;
 
 /// What the program is to do.
-#[derive(Clone, Copy, PartialEq, Eq)]
+#[derive(Clone, Copy)]
 pub enum Mode {
     /// Read the bundle and count what it has.
     Check,

@@ -6,7 +6,7 @@ ghost use Rattle.output_reader.specs.declared.unread.Unread.TheVariants.{Memory}
 use std::alloc::{AllocError, AllocFailed};
 
 /// Why a piece of a line is not read.
-#[derive(Clone, Copy, PartialEq, Eq)]
+#[derive(Clone, Copy)]
 pub enum Unread {
     /// No value prints as these bytes.
     Unprinted,

@@ -13,7 +13,7 @@ use script_out::Why;
 use time_cat::TmField;
 
 /// What stands behind the first word of a reply.
-#[derive(Clone, Copy, PartialEq, Eq)]
+#[derive(Clone, Copy)]
 pub enum ReplyForm {
     Handle,
     Freed,
@@ -38,7 +38,7 @@ pub enum ReplyForm {
 }
 
 /// What stands behind the first word of the reason of a refused command.
-#[derive(Clone, Copy, PartialEq, Eq)]
+#[derive(Clone, Copy)]
 pub enum WhyForm {
     /// The word says it all.
     Whole(Why),

@@ -75,7 +75,7 @@ impl Plan {
 }
 
 /// How many of each a bundle has.
-#[derive(Clone, Copy, PartialEq, Eq)]
+#[derive(Clone, Copy)]
 pub struct Counts {
     /// `.locale` blocks; later versions are not counted, nor are catalogs.
     pub locales: u32,

@@ -6,7 +6,7 @@ use crate::bytes::{blanks, word_length};
 use lc_base::Place;
 
 /// Where a byte of a line stands.
-#[derive(Clone, Copy, PartialEq, Eq)]
+#[derive(Clone, Copy)]
 pub enum Within {
     /// Outside of quotes.
     Bare,

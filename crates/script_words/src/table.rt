@@ -7,7 +7,7 @@ ghost use Rattle.script_words.specs.Tables.{directives_table, items_table};
 use lc_base::{Item, first_named};
 
 /// What a line that begins with `.` says.
-#[derive(Clone, Copy, PartialEq, Eq)]
+#[derive(Clone, Copy)]
 pub enum Directive {
     /// `.charmap NAME`: a block with a charmap.
     Charmap,

@@ -14,7 +14,7 @@ use lc_base::{ByteText, CATEGORIES, CELLS, Category, Mask, cut_at, decimal_numbe
 use std::alloc::{AllocError, Global};
 
 /// What stands before a byte of a quoted text.
-#[derive(Clone, Copy, PartialEq, Eq)]
+#[derive(Clone, Copy)]
 pub enum Quoting {
     /// A byte of the text, or the opening quote.
     Text,

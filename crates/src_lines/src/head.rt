@@ -10,7 +10,7 @@ use crate::words::{Word, blanks, next_word};
 use lc_base::{Place, Reason};
 
 /// What becomes of a logical line.
-#[derive(Clone, Copy, PartialEq, Eq)]
+#[derive(Clone, Copy)]
 pub struct Fate {
     /// The signs from the next line on.
     pub signs: Signs,

@@ -1,7 +1,7 @@
 //! The signs of a source and its kind.
 
 /// The signs in force at a line.
-#[derive(Clone, Copy, PartialEq, Eq)]
+#[derive(Clone, Copy)]
 pub struct Signs {
     /// The escape character, `\` at first.
     pub escape: u8,
@@ -10,7 +10,7 @@ pub struct Signs {
 }
 
 /// Which kind of source a text is.
-#[derive(Clone, Copy, PartialEq, Eq)]
+#[derive(Clone, Copy)]
 pub enum Kind {
     /// A locale source, with head lines `escape_char` and `comment_char` (XBD 7.3).
     Locale,

@@ -11,14 +11,14 @@ use std::alloc::{AllocError, Global};
 use std::marker::Model;
 
 /// From this byte of a logical line on its bytes stand in this line of the text.
-#[derive(Clone, Copy, PartialEq, Eq)]
+#[derive(Clone, Copy)]
 pub struct Join {
     pub at: u32,
     pub line: u32,
 }
 
 /// A logical line: a part of the bytes, and a part of the joins.
-#[derive(Clone, Copy, PartialEq, Eq)]
+#[derive(Clone, Copy)]
 struct Span {
     signs: Signs,
     line: u32,

@@ -6,7 +6,7 @@ ghost use Rattle.strfmon.specs.Cells.{cell, cell_at};
 use Part::{Close, Open, Sign, Space, Symbol};
 
 /// A part of the text beside a number.
-#[derive(Clone, Copy, PartialEq, Eq)]
+#[derive(Clone, Copy)]
 pub enum Part {
     /// `(`
     Open,

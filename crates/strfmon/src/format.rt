@@ -6,7 +6,7 @@ ghost use Rattle.strfmon.specs.Formats.{mark_of, with_mark, with_fill, with_flag
 use digit_groups::{leading_number, number_after};
 
 /// How the sign of an amount shows.
-#[derive(Clone, Copy, PartialEq, Eq)]
+#[derive(Clone, Copy)]
 pub enum Signs {
     /// By the locale's signs.
     Plus,
@@ -15,7 +15,7 @@ pub enum Signs {
 }
 
 /// A flag of one byte.
-#[derive(Clone, Copy, PartialEq, Eq)]
+#[derive(Clone, Copy)]
 pub enum Mark {
     /// `^`: digits without groups.
     NoGroups,
@@ -30,7 +30,7 @@ pub enum Mark {
 }
 
 /// The flags of a conversion.
-#[derive(Clone, Copy, PartialEq, Eq)]
+#[derive(Clone, Copy)]
 pub struct Flags {
     /// The byte after `=`, which fills in front of whole digits.
     pub fill: Option<u8>,
@@ -41,7 +41,7 @@ pub struct Flags {
 }
 
 /// The conversion of one amount.
-#[derive(Clone, Copy, PartialEq, Eq)]
+#[derive(Clone, Copy)]
 pub struct Conversion {
     pub flags: Flags,
     /// The least number of bytes.

@@ -9,7 +9,7 @@ use std::alloc::{AllocError, AllocFailed};
 use time_cat::Name;
 
 /// Why a text is given up. It is as small as can be, since each piece of a text is asked for it.
-#[derive(Clone, Copy, PartialEq, Eq)]
+#[derive(Clone, Copy)]
 pub enum Stop {
     /// The text is longer than it may be.
     TooBig,

@@ -7,7 +7,7 @@ ghost use Rattle.strftime_fields.specs.Reading.{IsShort};
 use time_cat::{Conversion, TimeText, conversion_of};
 
 /// A piece of a format that needs no second look.
-#[derive(Clone, Copy, PartialEq, Eq)]
+#[derive(Clone, Copy)]
 pub enum Short {
     /// A byte that stands for itself.
     Byte(u8),
@@ -16,7 +16,7 @@ pub enum Short {
 }
 
 /// What a first look at the piece did that bytes begin with.
-#[derive(Clone, Copy, PartialEq, Eq)]
+#[derive(Clone, Copy)]
 pub enum Seen {
     /// It is this piece, and its text is added.
     Added(Short),

@@ -5,7 +5,7 @@ ghost use Rattle.time_cat.specs.Weeks.{is_leap, days_of, behind_monday, sunday_w
 ghost use Rattle.strftime_fields.specs.Calendar.{AreWeeks};
 
 /// A week with its year.
-#[derive(Clone, Copy, PartialEq, Eq)]
+#[derive(Clone, Copy)]
 pub struct WeekOfYear {
     pub year: u32,
     /// From 1 to 53.

@@ -12,7 +12,7 @@ pub struct Locales<P: Part> {
 }
 
 /// What can be asked without a step.
-#[derive(Clone, Copy, PartialEq, Eq)]
+#[derive(Clone, Copy)]
 pub enum Ask {
     /// The global object.
     Global,

@@ -4,7 +4,7 @@ ghost use Rattle.std.specs.Prelude.{◌≡◌, Some};
 ghost use Rattle.time_cat.specs.Conversions.{conversion};
 
 /// A format keyword of `LC_TIME` (XBD 7.3.5.2).
-#[derive(Clone, Copy, PartialEq, Eq)]
+#[derive(Clone, Copy)]
 pub enum TimeText {
     /// `d_t_fmt`, of rank 4.
     DateTime,
@@ -23,7 +23,7 @@ pub enum TimeText {
 }
 
 /// A list of names.
-#[derive(Clone, Copy, PartialEq, Eq)]
+#[derive(Clone, Copy)]
 pub enum NameList {
     ShortWeekday,
     Weekday,
@@ -33,7 +33,7 @@ pub enum NameList {
 }
 
 /// A number of a time.
-#[derive(Clone, Copy, PartialEq, Eq)]
+#[derive(Clone, Copy)]
 pub enum Quantity {
     Century,
     YearOfCentury,
@@ -63,7 +63,7 @@ pub enum Quantity {
 }
 
 /// How a number is written.
-#[derive(Clone, Copy, PartialEq, Eq)]
+#[derive(Clone, Copy)]
 pub enum Layout {
     /// Without padding.
     Bare,
@@ -76,7 +76,7 @@ pub enum Layout {
 }
 
 /// What a conversion gives.
-#[derive(Clone, Copy, PartialEq, Eq)]
+#[derive(Clone, Copy)]
 pub enum Shows {
     /// A name of the locale.
     Name(NameList),
@@ -111,7 +111,7 @@ pub enum Shows {
 }
 
 /// A conversion of a format.
-#[derive(Clone, Copy, PartialEq, Eq)]
+#[derive(Clone, Copy)]
 pub struct Conversion {
     /// A format of the locale holds only conversions of lower rank than its own.
     pub rank: u8,

@@ -9,7 +9,7 @@ use crate::steps::Steps;
 use std::sync::ledger::Ledger;
 
 /// What stands at a place of a format.
-#[derive(Clone, Copy, PartialEq, Eq)]
+#[derive(Clone, Copy)]
 pub enum Step {
     /// The format ends here.
     End,

@@ -30,7 +30,7 @@ pub enum TmField {
 }
 
 /// The first field of a time that is out of its range.
-#[derive(Clone, Copy, PartialEq, Eq)]
+#[derive(Clone, Copy)]
 pub struct TmRange {
     pub field: TmField,
 }
