@@ -5,6 +5,7 @@ ghost use Rattle.handle_table.specs.Entry.{Setting as SettingData, History};
 ghost use Rattle.handle_table.specs.Shelf.{opening_offer};
 ghost use Rattle.handle_table.specs.History.{made, live, holding, pins, free_row, selection, posted, object};
 ghost use Rattle.handle_table.specs.Rows.{row_at};
+ghost use Rattle.handle_table.specs.Kept.{RowsStand, ObjectsStand, SelectionsStand, CellsStand, GlobalStands};
 ghost use Rattle.handle_table.specs.Effects.{selected, after_make, after_rebuild, after_free, after_use, after_hold, after_release, after_set, after_install, after_post, after_end};
 
 use crate::numbers::numbers;
@@ -101,6 +102,45 @@ fn nothing_installed<P: Part>(
     Ok(installed)
 }
 
+/// The rows of each thread, in which nothing was made, with a place for the object of each.
+fn empty_rows<P: Part>(
+    alloc: Global,
+    setting: &Setting<P>,
+) -> Result<(Grid<Row>, Grid<Object<P>>), AllocError>
+    ensures rows { IfOk result (λ parts. RowsStand setting.now [] parts.0) }
+    ensures objects { IfOk result (λ parts. ObjectsStand setting.now [] parts.1) }
+{
+    let threads = setting.threads;
+    let count = threads as usize * setting.rows as usize;
+    let rows = filled(alloc, Row::EMPTY, count)?;
+    let objects = copies(alloc, &setting.posix().object, count)?;
+    Ok((
+        Grid::of(threads, setting.rows, rows),
+        Grid::of(threads, setting.rows, objects),
+    ))
+}
+
+/// For each thread, that it selects the global locale, and that nothing stands in its cells.
+fn nothing_selected<P: Part>(
+    alloc: Global,
+    setting: &Setting<P>,
+) -> Result<(Vec<Named>, Grid<Option<Handle>>), AllocError>
+    ensures selections { IfOk result (λ parts. SelectionsStand setting.now [] parts.0.items) }
+    ensures cells { IfOk result (λ parts. CellsStand setting.now [] parts.1) }
+{
+    let threads = setting.threads;
+    let selections = filled(alloc, Named::Global, threads as usize)?;
+    let cells = filled(alloc, None, threads as usize * CELLS as usize)?;
+    Ok((selections, Grid::of(threads, CELLS, cells)))
+}
+
+/// The global locale at first, which is the POSIX locale.
+fn first_global<P: Part>(setting: &Setting<P>) -> GlobalLocale<P>
+    ensures { GlobalStands setting.now [] result }
+{
+    GlobalLocale::new(setting.posix().object.share())
+}
+
 impl<P: Part> Kept<P> {
     ghost use Rattle.handle_table.specs.Kept.{Keeps};
     ghost use Rattle.handle_table.specs.Accepted.{SameShape};
@@ -111,19 +151,17 @@ impl<P: Part> Kept<P> {
         ensures keeps { IfOk result (λ kept. Keeps setting.now [] kept) }
         ensures table { IfOk result (λ kept. IsTable setting.now kept 0) }
     {
-        let threads = setting.threads;
-        let places = threads as usize * setting.rows as usize;
-        let rows = filled(alloc, Row::EMPTY, places)?;
-        let objects = copies(alloc, &setting.posix().object, places)?;
-        let cells = filled(alloc, None, threads as usize * CELLS as usize)?;
+        let installed = nothing_installed(alloc, setting.opening.len())?;
+        let (rows, objects) = empty_rows(alloc, setting)?;
+        let (selections, cells) = nothing_selected(alloc, setting)?;
         Ok(Kept {
-            rows: Grid::of(threads, setting.rows, rows),
-            objects: Grid::of(threads, setting.rows, objects),
-            selections: filled(alloc, Named::Global, threads as usize)?,
-            cells: Grid::of(threads, CELLS, cells),
-            installed: nothing_installed(alloc, setting.opening.len())?,
+            rows,
+            objects,
+            selections,
+            cells,
+            installed,
             installs: 0,
-            global: GlobalLocale::new(setting.posix().object.share()),
+            global: first_global(setting),
         })
     }
 

@@ -116,7 +116,7 @@ wants_object H (Of h) rest g m s = record {
   stale = stale_first (made H h) (live H h) rest s;
 }
 
-none_there : {A : Type 0} (x : A) → None ≡ Some x → ⊥
+pub none_there : {A : Type 0} (x : A) → None ≡ Some x → ⊥
 none_there x p = cc p
 
 too_many_only : (o : Option ℕ) (r : Refusal) → (r ≡ TooMany → ⊥) → first_reason (too_many o ∷ []) ≡ Some r → ⊥
@@ -129,7 +129,7 @@ too_many_where (Some row) = (λ p. absurd (cc p), λ p. absurd (cc p))
 
 -- ---- the calls
 
-data_where : (o : Option Category) (k : Category) (rest : List (Option Refusal)) → (first_reason rest ≡ Some (NoData k) → ⊥)
+pub data_where : (o : Option Category) (k : Category) (rest : List (Option Refusal)) → (first_reason rest ≡ Some (NoData k) → ⊥)
     → (first_reason (option_map NoData o ∷ rest) ≡ Some (NoData k)) ↔ (o ≡ Some k)
 data_where None k rest non = (λ p. absurd (non p), λ p. absurd (cc p))
 data_where (Some j) k rest non = (λ p. (let q : NoData j ≡ NoData k = same_value (NoData j) (NoData k) p in cc q), λ p. ap (option_map NoData) p)

@@ -3,7 +3,7 @@ use Rattle.std.specs.Prelude.{◌≡◌, ℕ, Option, Some, None, Result, Ok, Er
 use Rattle.lc_base.specs.declared.handle.Named.{Named}
 use Rattle.lc_base.specs.declared.handle.Named.TheVariants.{Global, Of}
 use Rattle.handle_table.specs.declared.op.Refusal.{Refusal}
-use Rattle.handle_table.specs.Entry.{History}
+use Rattle.handle_table.specs.Entry.{Reply, Set, Refused, History}
 use Rattle.handle_table.specs.History.{made, live, holding}
 use Rattle.thread_current.specs.declared.shared.Fault.{Fault}
 
@@ -11,6 +11,12 @@ use Rattle.thread_current.specs.declared.shared.Fault.{Fault}
 abbrev pub refusal_in : {X : Type 0} → Result X Fault → Option Refusal
 refusal_in (Ok x) = None
 refusal_in (Err fault) = Some fault.refusal
+
+-- the reply is one to a change of the global locale: what it made, or why it was refused
+abbrev pub IsOfChange : Reply → Type 0
+IsOfChange (Set version object) = Unit {0}
+IsOfChange (Refused refusal) = Unit {0}
+IsOfChange _ = ⊥
 
 -- no entry made the handle that is named
 abbrev pub IsNeverMade : History → Named → Type 0

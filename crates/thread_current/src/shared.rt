@@ -3,6 +3,7 @@ ghost use Rattle.std.specs.Prelude.{◌≡◌, ◌≢◌, ◌↔◌, ℕ, ◌*�
 ghost use Rattle.std.specs.List.{All, range_with_len};
 ghost use Rattle.std.specs.Option.{IsNone, IsSomeAnd};
 ghost use Rattle.lc_base.specs.declared.category.Category.{Category};
+ghost use Rattle.mask_compose.specs.Parts.{Parts};
 ghost use Rattle.mask_compose.specs.Offer.{AreOnShelf};
 ghost use Rattle.turn_gate.specs.Callers.{IsSeatOf, IsSameCaller};
 ghost use Rattle.turn_gate.specs.Ends.{SomeCaller};
@@ -19,7 +20,7 @@ ghost use Rattle.handle_table.specs.Seen.{op_of, reply_of};
 ghost use Rattle.thread_current.specs.Seen.{entries_of};
 ghost use Rattle.thread_current.specs.Thread.{IsThreadOf, IsInOrder, IsPart, After, Leaves, takes_up, Answered, SawMore, Keeps, KeepsSelection, KeepsHolds, GoesOnFrom, before, selected, own_object, holds, first_thread, thread_of};
 ghost use Rattle.thread_current.specs.Mine.{IsUnused};
-ghost use Rattle.thread_current.specs.Causes.{refusal_in, IsNeverMade, IsStale, IsThere, IsHeldAlready};
+ghost use Rattle.thread_current.specs.Causes.{refusal_in, IsOfChange, IsNeverMade, IsStale, IsThere, IsHeldAlready};
 
 use crate::held::Held;
 use crate::locales::{Ask, Locales};
@@ -87,6 +88,22 @@ fn share_any<P: Part>(object: &Option<Object<P>>) -> Option<Object<P>>
     match object {
         Some(object) => Some(object.share()),
         None => None,
+    }
+}
+
+// The version that the reply to a change of the global locale gives, or why it was refused.
+fn version_set<P: Part>(place: u64, reply: &Reply<P>) -> Result<(u64, u32), Fault>
+    requires { IsOfChange (reply_of reply.now) }
+    ensures { MatchResult result (λ r. (r.0 ≡ place) × ((object : Parts) × (reply_of reply.now ≡ data_of.Set r.1 object)))
+        (λ f. (f.place ≡ place) × (reply_of reply.now ≡ data_of.Refused f.refusal)) }
+{
+    match reply {
+        Reply::Set { version, .. } => Ok((place, *version)),
+        Reply::Refused(refusal) => Err(Fault {
+            place,
+            refusal: *refusal,
+        }),
+        _ => unreachable!(),
     }
 }
 
@@ -344,11 +361,7 @@ impl<P: Part> Shared<P> {
         ensures no_data { (k : Category) → (refusal_in result ≡ Some (refusals.NoData k)) ↔ (lacking self.now.terms.setting (before mine.new) mask names ≡ Some k) }
     {
         let (place, reply) = self.change(rt, mine, mask, names);
-        match reply {
-            Reply::Set { version, .. } => Ok((place, version)),
-            Reply::Refused(refusal) => Err(Fault { place, refusal }),
-            _ => unreachable!(),
-        }
+        version_set(place, &reply)
     }
 
     /// Lets a locale name, which is not 0, stand for something else from now on, and gives the number

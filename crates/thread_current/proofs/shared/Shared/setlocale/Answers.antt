@@ -1,24 +1,34 @@
-use Rattle.std.proofs.Common.{◌≡◌, ℕ, subst}
-use Rattle.mask_compose.specs.Parts.{Parts}
-use Rattle.handle_table.specs.declared.op.Reply.{Reply as ReplyOf}
-use Rattle.handle_table.specs.declared.op.Reply.TheVariants as replies
-use Rattle.handle_table.specs.Entry.{SetGlobal}
 use Rattle.handle_table.specs.Seen.{reply_of}
-use Rattle.thread_current.specs.Thread.{Answered}
-use Rattle.thread_current.proofs.Calls.{SetDone, set_done}
+use Rattle.thread_current.proofs.Changed.{Changed, changed, of_change}
 use Rattle.thread_current.proofs.shared.Shared.setlocale.Given as given
 use Rattle.thread_current.proofs.shared.Shared.setlocale.Goals as goal
-use Rattle.thread_current.proofs.shared.Shared.setlocale.Goals.{Joined-reply-2, in-Set, in-Refused}
+use Rattle.thread_current.proofs.shared.Shared.setlocale.Goals.{Joined-reply}
 
-done : (g : given.Over) (c : Joined-reply-2 g) (version : ℕ) (object : Parts) → c.change-place.result.1 ≡ replies.Set version object
-    → SetDone c.args.self.now c.args.mine.now c.change-place.new.mine c.args.mask c.args.names c.change-place.result.0 version
-done g c version object is =
-    set_done c.args.self.now c.args.mine.now c.change-place.new.mine c.args.mask c.args.names c.change-place.result.0 version object
-    (subst (λ (r : ReplyOf g.row.P.Denot). Answered c.args.self.now c.args.mine.now c.change-place.new.mine (SetGlobal c.args.mask c.args.names) c.change-place.result.0 (reply_of r))
-    is c.change-place.ensures.answered)
+pub version_set-requires : goal.version_set-requires
+version_set-requires g c = of_change _ _ _ _ c.change-place.ensures.answered.reply_is
+
+done : (g : given.Over) (c : Joined-reply g) → Changed c.args.self.now c.args.mine.now c.change-place.new.mine c.args.mask c.args.names c.version_set.result
+done g c =
+    changed c.args.self.now c.args.mine.now c.change-place.new.mine c.args.mask c.args.names c.change-place.result.0 (reply_of c.change-place.result.1) c.version_set.result
+    c.change-place.ensures.answered c.change-place.ensures.leaves c.version_set.ensures
 
 pub returns-clause-made : goal.returns-clause-made
-returns-clause-made g c = elim c.match-reply.branch [ in-Set w ↦ rw w.result-is (done g c w.in-Set.version _ w.in-Set.is).made | in-Refused w ↦ rw w.result-is tt ]
+returns-clause-made g c = (done g c).made
+
+pub returns-clause-fault : goal.returns-clause-fault
+returns-clause-fault g c = (done g c).fault
 
 pub returns-clause-version : goal.returns-clause-version
-returns-clause-version g c = elim c.match-reply.branch [ in-Set w ↦ rw w.result-is (done g c w.in-Set.version _ w.in-Set.is).version | in-Refused w ↦ rw w.result-is tt ]
+returns-clause-version g c = (done g c).version
+
+pub returns-clause-selection : goal.returns-clause-selection
+returns-clause-selection g c = (done g c).selection
+
+pub returns-clause-holds : goal.returns-clause-holds
+returns-clause-holds g c = (done g c).holds
+
+pub returns-clause-cached : goal.returns-clause-cached
+returns-clause-cached g c = (done g c).cached
+
+pub returns-clause-no_data : goal.returns-clause-no_data
+returns-clause-no_data g c = (done g c).no_data
