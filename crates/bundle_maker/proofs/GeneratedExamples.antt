@@ -2,9 +2,8 @@
 use Rattle.std.proofs.Common.{◌≡◌, ◌++◌, refl}
 use Rattle.std.specs.Prelude.{codes}
 use Rattle.std.specs.Fmt.{digits}
-use Rattle.bundle_maker.specs.declared.locales.TheConstants.{LOCALES}
 use Rattle.bundle_maker.specs.declared.text.TheConstants.{MOST_COMMANDS}
-use Rattle.bundle_maker.specs.Generated.{next_number, number_behind, drawn_command, command_line, commands_text, generated}
+use Rattle.bundle_maker.specs.Generated.{locales_text, next_number, number_behind, drawn_command, command_line, commands_text, generated}
 
 -- ---- numbers
 
@@ -77,7 +76,7 @@ unfolding commands_text drawn_command
 of_the_second_thread = refl
 
 -- a thread may be without commands
-least_bundle : generated 0 1 ≡ LOCALES.now ++ codes ".thread T0\nnew a LC_ALL us\n.thread T1\n.thread T2\n.thread T3\n"
+least_bundle : generated 0 1 ≡ locales_text ++ codes ".thread T0\nnew a LC_ALL us\n.thread T1\n.thread T2\n.thread T3\n"
 unfolding generated commands_text digits
 least_bundle = refl
 

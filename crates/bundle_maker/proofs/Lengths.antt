@@ -7,9 +7,8 @@ use Rattle.std.proofs.Math.Nat.{mod-lt, div-le_self}
 use Rattle.std.proofs.lemmas.Fmt.{length-decimal-le}
 use Rattle.std.proofs.lemmas.List.FromFn.{length-range_with_len}
 use Rattle.script_out.specs.Output.{newline}
-use Rattle.bundle_maker.specs.declared.locales.TheConstants.{LOCALES}
-use Rattle.bundle_maker.specs.declared.text.TheConstants.{THREADS, MOST_COMMANDS}
-use Rattle.bundle_maker.specs.Generated.{number_behind, two_digits, two_numbers, amount_command, day_command, class_command, commands_with, drawn_command, command_line, own_line, commands_text, thread_text, generated}
+use Rattle.bundle_maker.specs.declared.text.TheConstants.{MOST_COMMANDS}
+use Rattle.bundle_maker.specs.Generated.{us_locale, fr_locale, locales_text, number_behind, two_digits, two_numbers, amount_command, day_command, class_command, commands_with, drawn_command, command_line, own_line, commands_text, thread_text, generated}
 
 -- ---- commands
 
@@ -76,7 +75,7 @@ commands_short : (seed commands thread : ℕ) → length (commands_text seed com
 unfolding commands_text
 commands_short seed commands thread =
     let f : ℕ → List ℕ = λ i. own_line thread i (number_behind seed (i + 1)) in
-    let each : (i : ℕ) → length (f i) ≤ 46 = λ i. own_short (i % THREADS == thread) (command_line i (number_behind seed (i + 1))) (line_short _ (number_behind seed (i + 1) / 2 ^ 33)) in
+    let each : (i : ℕ) → length (f i) ≤ 46 = λ i. own_short (i % 4 == thread) (command_line i (number_behind seed (i + 1))) (line_short _ (number_behind seed (i + 1) / 2 ^ 33)) in
     let all = pieces_short f 46 each (range_with_len 0 commands) in
     rw (length-range_with_len 0 commands) at all
 
@@ -91,10 +90,15 @@ four_short : (k most : ℕ) (front a b c d : List ℕ) → length front ≤ 2000
     → length (front ++ (a ++ (b ++ (c ++ (d ++ []))))) ≤ most
 four_short k most front a b c d p q r s t few = omega (arith, length-append front (a ++ (b ++ (c ++ (d ++ [])))), length-append a (b ++ (c ++ (d ++ []))), length-append b (c ++ (d ++ [])), length-append c (d ++ []), length-append d [])
 
+-- how long the locales are
+locales_short : length locales_text ≤ 2000
+unfolding us_locale fr_locale locales_text
+locales_short = lit≤ tt
+
 pub generated_short : (seed commands : ℕ) → commands ≤ MOST_COMMANDS → length (generated seed commands) ≤ 16777216
 unfolding generated
 generated_short seed commands few =
     let f : ℕ → List ℕ = thread_text seed commands in
-    four_short (46 * commands + 16) 16777216 LOCALES.now (f 0) (f 1) (f 2) (f 3) (lit≤ tt)
+    four_short (46 * commands + 16) 16777216 locales_text (f 0) (f 1) (f 2) (f 3) locales_short
     (thread_short seed commands 0 (lit< tt)) (thread_short seed commands 1 (lit< tt)) (thread_short seed commands 2 (lit< tt)) (thread_short seed commands 3 (lit< tt))
     (omega (arith, few))

@@ -3,15 +3,108 @@ use Rattle.std.specs.Prelude.{ℕ, zero, suc, ◌+◌, ◌*◌, ◌/◌, ◌%◌
 use Rattle.std.specs.List.{range_with_len}
 use Rattle.std.specs.Fmt.{decimal}
 use Rattle.script_out.specs.Output.{newline}
-use Rattle.bundle_maker.specs.declared.commands.TheConstants.{FIRST_COMMANDS}
-use Rattle.bundle_maker.specs.declared.text.TheConstants.{THREADS, FACTOR, SUMMAND}
-use Rattle.bundle_maker.specs.declared.locales.TheConstants.{LOCALES}
+
+-- ---- the locales
+
+-- lines, each with its end
+abbrev pub in_lines : List (List ℕ) → List ℕ
+in_lines lines = flat_map (λ (line : List ℕ). line ++ newline) lines
+
+-- an American locale
+unfoldable pub us_locale : List ℕ
+us_locale = in_lines (
+    codes ".locale us UTF-8" ∷
+    codes "LC_CTYPE" ∷
+    codes "END LC_CTYPE" ∷
+    codes "LC_NUMERIC" ∷
+    codes "decimal_point \".\"" ∷
+    codes "thousands_sep \",\"" ∷
+    codes "grouping 3;3" ∷
+    codes "END LC_NUMERIC" ∷
+    codes "LC_MONETARY" ∷
+    codes "int_curr_symbol \"USD \"" ∷
+    codes "currency_symbol \"$\"" ∷
+    codes "mon_decimal_point \".\"" ∷
+    codes "mon_thousands_sep \",\"" ∷
+    codes "mon_grouping 3;3" ∷
+    codes "positive_sign \"\"" ∷
+    codes "negative_sign \"-\"" ∷
+    codes "int_frac_digits 2" ∷
+    codes "frac_digits 2" ∷
+    codes "p_cs_precedes 1" ∷
+    codes "p_sep_by_space 0" ∷
+    codes "n_cs_precedes 1" ∷
+    codes "n_sep_by_space 0" ∷
+    codes "p_sign_posn 1" ∷
+    codes "n_sign_posn 1" ∷
+    codes "END LC_MONETARY" ∷
+    codes "LC_TIME" ∷
+    codes "d_t_fmt \"%a %d %b %Y %r\"" ∷
+    codes "d_fmt \"%m/%d/%Y\"" ∷
+    codes "t_fmt \"%r\"" ∷
+    codes "END LC_TIME" ∷
+    codes "LC_MESSAGES" ∷
+    codes "END LC_MESSAGES" ∷
+    codes ".end" ∷
+    [])
+
+-- a French locale
+unfoldable pub fr_locale : List ℕ
+fr_locale = in_lines (
+    codes ".locale fr UTF-8" ∷
+    codes "LC_CTYPE" ∷
+    codes "END LC_CTYPE" ∷
+    codes "LC_NUMERIC" ∷
+    codes "decimal_point \",\"" ∷
+    codes "thousands_sep \" \"" ∷
+    codes "grouping 3" ∷
+    codes "END LC_NUMERIC" ∷
+    codes "LC_MONETARY" ∷
+    codes "int_curr_symbol \"EUR \"" ∷
+    codes "currency_symbol \"<U20AC>\"" ∷
+    codes "mon_decimal_point \",\"" ∷
+    codes "mon_thousands_sep \" \"" ∷
+    codes "mon_grouping 3" ∷
+    codes "negative_sign \"-\"" ∷
+    codes "int_frac_digits 2" ∷
+    codes "frac_digits 2" ∷
+    codes "p_cs_precedes 0" ∷
+    codes "p_sep_by_space 1" ∷
+    codes "n_cs_precedes 0" ∷
+    codes "n_sep_by_space 1" ∷
+    codes "p_sign_posn 1" ∷
+    codes "n_sign_posn 1" ∷
+    codes "END LC_MONETARY" ∷
+    codes "LC_TIME" ∷
+    codes "abday \"dim\";\"lun\";\"mar\";\"mer\";\"jeu\";\"ven\";\"sam\"" ∷
+    codes "day \"dimanche\";\"lundi\";\"mardi\";\"mercredi\";\"jeudi\";\\" ∷
+    codes "\"vendredi\";\"samedi\"" ∷
+    codes "abmon \"janv\";\"f<U00E9>vr\";\"mars\";\"avr\";\"mai\";\"juin\";\\" ∷
+    codes "\"juil\";\"ao<U00FB>t\";\"sept\";\"oct\";\"nov\";\"d<U00E9>c\"" ∷
+    codes "mon \"janvier\";\"f<U00E9>vrier\";\"mars\";\"avril\";\"mai\";\"juin\";\\" ∷
+    codes "\"juillet\";\"ao<U00FB>t\";\"septembre\";\"octobre\";\"novembre\";\"d<U00E9>cembre\"" ∷
+    codes "am_pm \"\";\"\"" ∷
+    codes "d_t_fmt \"%a %d %b %Y %T\"" ∷
+    codes "d_fmt \"%d/%m/%Y\"" ∷
+    codes "t_fmt \"%T\"" ∷
+    codes "t_fmt_ampm \"\"" ∷
+    codes "END LC_TIME" ∷
+    codes "LC_MESSAGES" ∷
+    codes "yesexpr \"^[oOyY]\"" ∷
+    codes "noexpr \"^[nN]\"" ∷
+    codes "END LC_MESSAGES" ∷
+    codes ".end" ∷
+    [])
+
+-- both
+unfoldable pub locales_text : List ℕ
+locales_text = us_locale ++ fr_locale
 
 -- ---- the numbers of a seed
 
 -- the number behind another one, modulo 2^64
 abbrev pub next_number : ℕ → ℕ
-next_number x = (x * FACTOR + SUMMAND) % 2 ^ 64
+next_number x = (x * 6364136223846793005 + 1442695040888963407) % 2 ^ 64
 
 -- the number so many steps behind a seed
 abbrev pub number_behind : ℕ → ℕ → ℕ
@@ -60,13 +153,13 @@ drawn_command draw = slice_index_or (commands_with (draw / 8)) (draw % 8) []
 
 -- the line of a command: each of the first four makes an object, and a later one goes by the upper 31 bits of its number
 abbrev pub command_line : ℕ → ℕ → List ℕ
-command_line i number = (if nat_lt i FIRST_COMMANDS then codes "new a LC_ALL us" else drawn_command (number / 2 ^ 33)) ++ newline
+command_line i number = (if nat_lt i 4 then codes "new a LC_ALL us" else drawn_command (number / 2 ^ 33)) ++ newline
 
 -- ---- the bundle
 
 -- the line of a command where its turn is that of the thread, and nothing else
 abbrev pub own_line : ℕ → ℕ → ℕ → List ℕ
-own_line thread i number = if i % THREADS == thread then command_line i number else []
+own_line thread i number = if i % 4 == thread then command_line i number else []
 
 -- the commands of a thread, among the first so many: each fourth, in order
 unfoldable pub commands_text : ℕ → ℕ → ℕ → List ℕ
@@ -78,4 +171,4 @@ thread_text seed commands thread = codes ".thread T" ++ decimal thread ++ newlin
 
 -- the bundle with so many commands that a seed makes
 unfoldable pub generated : ℕ → ℕ → List ℕ
-generated seed commands = LOCALES.now ++ flat_map (thread_text seed commands) (range_with_len 0 THREADS)
+generated seed commands = locales_text ++ flat_map (thread_text seed commands) (range_with_len 0 4)

@@ -4,7 +4,6 @@ use Rattle.std.specs.List.{sum_by, starts_with}
 use Rattle.std.specs.Fmt.{decimal}
 use Rattle.script_out.specs.declared.output.OutLine.{OutLine}
 use Rattle.script_out.specs.Output.{newline, reply_text}
-use Rattle.bundle_maker.specs.declared.text.TheConstants.{THREADS}
 
 -- whether a reply begins with `refused`
 abbrev pub is_refusal : List ℕ → Bool
@@ -28,7 +27,7 @@ reply_bytes rounds names lines = sum_by (bytes_of rounds names) lines
 -- the line of so many commands in so many rounds: how many were refused, and the bytes of their replies
 abbrev pub summary : ℕ → ℕ → List (List ℕ) → List OutLine → List ℕ
 summary commands rounds names lines =
-    codes "made: threads " ++ decimal THREADS ++
+    codes "made: threads " ++ decimal 4 ++
     codes " commands " ++ decimal commands ++
     codes " refused " ++ decimal (refused_count rounds names lines) ++
     codes " bytes " ++ decimal (reply_bytes rounds names lines) ++ newline
