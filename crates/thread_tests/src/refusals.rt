@@ -2,7 +2,7 @@
 ghost use Rattle.std.specs.Prelude.{◌≡◌, ℕ, ◌+◌, ◌<◌, ◌≤◌, length, IfOk, map};
 ghost use Rattle.std.specs.List.{range_with_len};
 ghost use Rattle.handle_table.specs.Table.{IsOpening};
-ghost use Rattle.thread_current.specs.Thread.{first_thread};
+ghost use Rattle.thread_current.specs.Thread.{IsThreadOf, first_thread};
 ghost use Rattle.thread_tests.specs.Rounds.{MayMake};
 
 use crate::threads::{Number, offered};
@@ -26,6 +26,8 @@ fn three_names(alloc: Global) -> Result<List<Offer<Number>>, AllocError>
     offers.push_reserved(offered(2, Mask::one(Category::Numeric)));
     Ok(List::of(offers))
 }
+
+type TwoThreads = (Shared<Number>, Mine<Number>, Mine<Number>);
 
 // The two threads before their first calls.
 #[tactic(auto, using(crate::proofs::Rounds::starts))]
@@ -148,25 +150,93 @@ fn check_rows<R: Wait + Abort>(
     }
 }
 
-/// A thread goes on with the global object that it read last until it has seen a later version.
-#[test]
-fn cached_pair(rt: HostRuntime) -> Result<(), Fail> {
-    let alloc = rt.alloc();
-    let (shared, threads) = Shared::new(&rt, alloc, 2, 1, 4, 120, three_names(alloc)?)?;
-    let (mut a, mut b) = two_of(&shared, threads);
-    let first = shared.cached(&mut a).map(numbers);
-    let set = shared.setlocale(&rt, &mut b, Mask::all(), [1; 5]);
-    shared.meet(&mut a, &mut b);
-    let late = shared.cached(&mut a).map(numbers);
-    let (version, object) = shared.current(&rt, &mut a);
-    let last = shared.cached(&mut a).map(numbers);
-    let own = shared.cached(&mut b).map(numbers);
+// A table of three names, and its two threads.
+fn two_threads<R: Wait>(rt: &R, alloc: Global) -> Result<TwoThreads, AllocError>
+    ensures first { IfOk result (λ r. MayMake r.0 120 r.1) }
+    ensures second { IfOk result (λ r. MayMake r.0 120 r.2) }
+    ensures shelf { IfOk result (λ r. length r.0.terms.setting.opening ≡ 3) }
+    ensures threads { IfOk result (λ r. r.0.terms.setting.threads ≡ 2) }
+{
+    let (shared, threads) = Shared::new(rt, alloc, 2, 1, 4, 120, three_names(alloc)?)?;
+    let (first, second) = two_of(&shared, threads);
+    Ok((shared, first, second))
+}
+
+// What the thread has read of the global locale, where no later version was seen.
+#[tactic(auto, using(crate::proofs::Rounds::made_none))]
+fn cached(shared: &Shared<Number>, mine: &mut Mine<Number>) -> Option<(u32, u32)>
+    requires { IsThreadOf shared.now mine.old }
+    ensures { (n : ℕ) → MayMake shared.now n mine.old → MayMake shared.now n mine.new }
+{
+    shared.cached(mine).map(numbers)
+}
+
+// What the thread reads of the global locale.
+#[tactic(auto, using(crate::proofs::Rounds::made_none))]
+fn current<R: Wait>(rt: &R, shared: &Shared<Number>, mine: &mut Mine<Number>) -> (Option<u32>, u32)
+    requires { IsThreadOf shared.now mine.old }
+    ensures { (n : ℕ) → MayMake shared.now n mine.old → MayMake shared.now n mine.new }
+{
+    let (version, object) = shared.current(rt, mine);
+    (version, object.part(Category::Ctype).0)
+}
+
+// Sets the global locale to the second name.
+#[tactic(auto, using(crate::proofs::Rounds::made_one))]
+fn set_second<R: Wait>(
+    rt: &R,
+    shared: &Shared<Number>,
+    mine: &mut Mine<Number>,
+) -> Result<(u64, u32), Fault>
+    requires may { MayMake shared.now 1 mine.old }
+    requires shelf { length shared.now.terms.setting.opening ≡ 3 }
+    ensures { (n : ℕ) → MayMake shared.now (n + 1) mine.old → MayMake shared.now n mine.new }
+{
+    shared.setlocale(rt, mine, Mask::all(), [1; 5])
+}
+
+// Each of the two threads sees what the other has seen.
+#[tactic(auto, using(crate::proofs::Rounds::made_none))]
+fn meet(shared: &Shared<Number>, a: &mut Mine<Number>, b: &mut Mine<Number>)
+    requires a { IsThreadOf shared.now a.old }
+    requires b { IsThreadOf shared.now b.old }
+    ensures a { (n : ℕ) → MayMake shared.now n a.old → MayMake shared.now n a.new }
+    ensures b { (n : ℕ) → MayMake shared.now n b.old → MayMake shared.now n b.new }
+{
+    shared.meet(a, b);
+}
+
+// The first thread reads the global locale before and after the second one sets it.
+fn check_cached<R: Wait + Abort>(
+    rt: &R,
+    shared: &Shared<Number>,
+    a: &mut Mine<Number>,
+    b: &mut Mine<Number>,
+)
+    requires a { MayMake shared.now 120 a.old }
+    requires b { MayMake shared.now 120 b.old }
+    requires shelf { length shared.now.terms.setting.opening ≡ 3 }
+{
+    let first = cached(shared, a);
+    let set = set_second(rt, shared, b);
+    meet(shared, a, b);
+    let late = cached(shared, a);
+    let (version, number) = current(rt, shared, a);
+    let last = cached(shared, a);
+    let own = cached(shared, b);
     assert_eq!(rt;
         (first, late, last, own),
         (Some((0, 0)), None, Some((1, 1)), Some((1, 1)))
     );
     assert_eq!(rt; set, Ok((0, 1)));
-    assert_eq!(rt; (version, object.part(Category::Ctype).0), (Some(1), 1));
+    assert_eq!(rt; (version, number), (Some(1), 1));
+}
+
+/// A thread goes on with the global object that it read last until it has seen a later version.
+#[test]
+fn cached_pair(rt: HostRuntime) -> Result<(), Fail> {
+    let (shared, mut a, mut b) = two_threads(&rt, rt.alloc())?;
+    check_cached(&rt, &shared, &mut a, &mut b);
     Ok(())
 }
 
@@ -237,9 +307,7 @@ const SECOND_ROWS: [RefusedCall; 9] = [
 /// Each call with each of its refusals.
 #[test]
 fn refusals(rt: HostRuntime) -> Result<(), Fail> {
-    let alloc = rt.alloc();
-    let (shared, threads) = Shared::new(&rt, alloc, 2, 1, 4, 120, three_names(alloc)?)?;
-    let (mut first, mut second) = two_of(&shared, threads);
+    let (shared, mut first, mut second) = two_threads(&rt, rt.alloc())?;
     check_rows(&rt, &shared, &mut first, &FIRST_ROWS);
     check_rows(&rt, &shared, &mut second, &SECOND_ROWS);
     Ok(())

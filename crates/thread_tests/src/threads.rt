@@ -5,15 +5,16 @@ ghost use Rattle.turn_gate.specs.Callers.{IsSeatOf};
 ghost use Rattle.handle_table.specs.Table.{IsOpening};
 ghost use Rattle.thread_tests.specs.declared.threads.TheConstants.{ENTRIES};
 ghost use Rattle.thread_current.specs.Thread.{IsThreadOf, first_thread};
+ghost use Rattle.thread_tests.specs.Back.{AreBack};
 ghost use Rattle.thread_tests.specs.Rounds.{MayMake};
 
-use handle_table::Table;
 use lc_base::{CATEGORIES, List, Mask, Named};
 use mask_compose::{Object, Offer, Part};
 use std::alloc::{AllocError, Global};
 use std::sync::Wait;
+use std::sync::atomic::{AtomicU64, Ordering};
 use std::test::Fail;
-use std::thread::{Threads, join};
+use std::thread::{Threads, map_vec};
 use thread_current::{Locales, Mine, Shared};
 use turn_gate::Seat;
 
@@ -210,10 +211,29 @@ fn set_all<R: Wait>(rt: &R, shared: &Shared<Number>, mine: &mut Mine<Number>) ->
     is_well
 }
 
-type Ended = (Seat<Locales<Number>>, bool);
+// Sets the global locale, or makes objects. Whether all that went well.
+fn set_or_make<R: Wait>(
+    rt: &R,
+    shared: &Shared<Number>,
+    mine: &mut Mine<Number>,
+    sets: bool,
+) -> bool
+    requires may { MayMake shared.now ENTRIES mine.old }
+    requires shelf { length shared.now.terms.setting.opening ≡ 3 }
+    ensures may { MayMake shared.now 1 mine.new }
+    ensures same { mine.new.number ≡ mine.old.number }
+{
+    if sets {
+        set_all(rt, shared, mine)
+    } else {
+        make_all(rt, shared, mine)
+    }
+}
+
+type Ended = Seat<Locales<Number>>;
 
 // The thread ends, with its seat.
-fn end<R: Wait>(rt: &R, shared: &Shared<Number>, mine: Mine<Number>) -> Seat<Locales<Number>>
+fn end<R: Wait>(rt: &R, shared: &Shared<Number>, mine: Mine<Number>) -> Ended
     requires { MayMake shared.now 1 mine }
     ensures { IsSeatOf shared.now result × (result.number ≡ mine.number) }
 {
@@ -221,165 +241,48 @@ fn end<R: Wait>(rt: &R, shared: &Shared<Number>, mine: Mine<Number>) -> Seat<Loc
     seat
 }
 
-// A thread that makes objects.
-fn maker<R: Wait>(rt: &R, shared: &Shared<Number>, mut mine: Mine<Number>) -> Ended
+/// How many threads have come, and for how many all went well.
+#[derive(Drop)]
+struct Counts {
+    came: AtomicU64,
+    well: AtomicU64,
+}
+
+// The whole of a thread: the last one to come sets the global locale, and the others make objects.
+fn work<R: Wait>(rt: &R, shared: &Shared<Number>, counts: &Counts, mut mine: Mine<Number>) -> Ended
     requires may { MayMake shared.now ENTRIES mine }
     requires shelf { length shared.now.terms.setting.opening ≡ 3 }
-    ensures { IsSeatOf shared.now result.0 × (result.0.number ≡ mine.number) }
+    ensures { IsSeatOf shared.now result × (result.number ≡ mine.number) }
 {
-    let is_well = make_all(rt, shared, &mut mine);
-    (end(rt, shared, mine), is_well)
+    let is_last = counts.came.fetch_add(1, Ordering::SeqCst) == 4;
+    if set_or_make(rt, shared, &mut mine, is_last) {
+        counts.well.fetch_add(1, Ordering::SeqCst);
+    }
+    end(rt, shared, mine)
 }
 
-// The thread that sets the global locale.
-fn setter<R: Wait>(rt: &R, shared: &Shared<Number>, mut mine: Mine<Number>) -> Ended
-    requires may { MayMake shared.now ENTRIES mine }
-    requires shelf { length shared.now.terms.setting.opening ≡ 3 }
-    ensures { IsSeatOf shared.now result.0 × (result.0.number ≡ mine.number) }
-{
-    let is_well = set_all(rt, shared, &mut mine);
-    (end(rt, shared, mine), is_well)
-}
-
-type Two<T> = (T, T);
-
-// Two makers beside each other.
-fn two_makers<R: Threads + Wait + Sync>(
-    rt: &R,
-    shared: &Shared<Number>,
-    mine: Two<Mine<Number>>,
-) -> Two<Ended>
-    requires first { MayMake shared.now ENTRIES mine.0 }
-    requires second { MayMake shared.now ENTRIES mine.1 }
-    requires shelf { length shared.now.terms.setting.opening ≡ 3 }
-    ensures first { IsSeatOf shared.now result.0.0 × (result.0.0.number ≡ mine.0.number) }
-    ensures second { IsSeatOf shared.now result.1.0 × (result.1.0.number ≡ mine.1.number) }
-{
-    let (first, second) = mine;
-    join(
-        rt,
-        || -> Ended
-            requires { MayMake shared.now ENTRIES first × (length shared.now.terms.setting.opening ≡ 3) }
-            ensures { IsSeatOf shared.entry.now result.0 × (result.0.number ≡ first.number) }
-        { maker(rt, shared, first) },
-        || -> Ended
-            requires { MayMake shared.now ENTRIES second × (length shared.now.terms.setting.opening ≡ 3) }
-            ensures { IsSeatOf shared.entry.now result.0 × (result.0.number ≡ second.number) }
-        { maker(rt, shared, second) },
-    )
-}
-
-// Four makers beside each other.
-fn four_makers<R: Threads + Wait + Sync>(
-    rt: &R,
-    shared: &Shared<Number>,
-    mine: Two<Two<Mine<Number>>>,
-) -> Two<Two<Ended>>
-    requires front { MayMake shared.now ENTRIES mine.0.0 × MayMake shared.now ENTRIES mine.0.1 }
-    requires back { MayMake shared.now ENTRIES mine.1.0 × MayMake shared.now ENTRIES mine.1.1 }
-    requires shelf { length shared.now.terms.setting.opening ≡ 3 }
-    ensures first { IsSeatOf shared.now result.0.0.0 × (result.0.0.0.number ≡ mine.0.0.number) }
-    ensures second { IsSeatOf shared.now result.0.1.0 × (result.0.1.0.number ≡ mine.0.1.number) }
-    ensures third { IsSeatOf shared.now result.1.0.0 × (result.1.0.0.number ≡ mine.1.0.number) }
-    ensures fourth { IsSeatOf shared.now result.1.1.0 × (result.1.1.0.number ≡ mine.1.1.number) }
-{
-    let (front, back) = mine;
-    join(
-        rt,
-        || -> Two<Ended>
-            requires { MayMake shared.now ENTRIES front.0 × MayMake shared.now ENTRIES front.1 × (length shared.now.terms.setting.opening ≡ 3) }
-            ensures first { IsSeatOf shared.entry.now result.0.0 × (result.0.0.number ≡ front.0.number) }
-            ensures second { IsSeatOf shared.entry.now result.1.0 × (result.1.0.number ≡ front.1.number) }
-        { two_makers(rt, shared, front) },
-        || -> Two<Ended>
-            requires { MayMake shared.now ENTRIES back.0 × MayMake shared.now ENTRIES back.1 × (length shared.now.terms.setting.opening ≡ 3) }
-            ensures first { IsSeatOf shared.entry.now result.0.0 × (result.0.0.number ≡ back.0.number) }
-            ensures second { IsSeatOf shared.entry.now result.1.0 × (result.1.0.number ≡ back.1.number) }
-        { two_makers(rt, shared, back) },
-    )
-}
-
-// Four makers beside a thread that sets the global locale.
+// The work of five threads beside each other.
+#[tactic(auto, using(crate::proofs::Rounds::starts))]
 fn five_threads<R: Threads + Wait + Sync>(
     rt: &R,
     shared: &Shared<Number>,
-    mine: Two<Two<Mine<Number>>>,
-    last: Mine<Number>,
-) -> (Two<Two<Ended>>, Ended)
-    requires front { MayMake shared.now ENTRIES mine.0.0 × MayMake shared.now ENTRIES mine.0.1 }
-    requires back { MayMake shared.now ENTRIES mine.1.0 × MayMake shared.now ENTRIES mine.1.1 }
-    requires last { MayMake shared.now ENTRIES last }
-    requires shelf { length shared.now.terms.setting.opening ≡ 3 }
-    ensures first { IsSeatOf shared.now result.0.0.0.0 × (result.0.0.0.0.number ≡ mine.0.0.number) }
-    ensures second { IsSeatOf shared.now result.0.0.1.0 × (result.0.0.1.0.number ≡ mine.0.1.number) }
-    ensures third { IsSeatOf shared.now result.0.1.0.0 × (result.0.1.0.0.number ≡ mine.1.0.number) }
-    ensures fourth { IsSeatOf shared.now result.0.1.1.0 × (result.0.1.1.0.number ≡ mine.1.1.number) }
-    ensures last { IsSeatOf shared.now result.1.0 × (result.1.0.number ≡ last.number) }
-{
-    join(
-        rt,
-        || -> Two<Two<Ended>>
-            requires { MayMake shared.now ENTRIES mine.0.0 × MayMake shared.now ENTRIES mine.0.1 × MayMake shared.now ENTRIES mine.1.0 × MayMake shared.now ENTRIES mine.1.1 × (length shared.now.terms.setting.opening ≡ 3) }
-            ensures first { IsSeatOf shared.entry.now result.0.0.0 × (result.0.0.0.number ≡ mine.0.0.number) }
-            ensures second { IsSeatOf shared.entry.now result.0.1.0 × (result.0.1.0.number ≡ mine.0.1.number) }
-            ensures third { IsSeatOf shared.entry.now result.1.0.0 × (result.1.0.0.number ≡ mine.1.0.number) }
-            ensures fourth { IsSeatOf shared.entry.now result.1.1.0 × (result.1.1.0.number ≡ mine.1.1.number) }
-        { four_makers(rt, shared, mine) },
-        || -> Ended
-            requires { MayMake shared.now ENTRIES last × (length shared.now.terms.setting.opening ≡ 3) }
-            ensures { IsSeatOf shared.entry.now result.0 × (result.0.number ≡ last.number) }
-        { setter(rt, shared, last) },
-    )
-}
-
-// The five threads before their first calls.
-#[tactic(auto, using(crate::proofs::Rounds::starts))]
-fn five_of(
-    shared: &Shared<Number>,
+    counts: &Counts,
     threads: List<Mine<Number>>,
-) -> (Two<Two<Mine<Number>>>, Mine<Number>)
+) -> Result<List<Ended>, AllocError>
     requires threads { threads ≡ map (first_thread shared.now) (range_with_len 0 5) }
-    requires quota { shared.now.terms.quota ≡ ENTRIES }
-    ensures first { MayMake shared.now ENTRIES result.0.0.0 × (result.0.0.0.number ≡ 0) }
-    ensures second { MayMake shared.now ENTRIES result.0.0.1 × (result.0.0.1.number ≡ 1) }
-    ensures third { MayMake shared.now ENTRIES result.0.1.0 × (result.0.1.0.number ≡ 2) }
-    ensures fourth { MayMake shared.now ENTRIES result.0.1.1 × (result.0.1.1.number ≡ 3) }
-    ensures last { MayMake shared.now ENTRIES result.1 × (result.1.number ≡ 4) }
+    requires terms { (shared.now.terms.seats ≡ 5) × (shared.now.terms.quota ≡ ENTRIES) }
+    requires shelf { length shared.now.terms.setting.opening ≡ 3 }
+    ensures { IfOk result (AreBack shared.now) }
 {
-    let mut all = threads.into_vec();
-    let (Some(fifth), Some(fourth)) = (all.pop(), all.pop()) else {
-        unreachable!()
-    };
-    let (Some(third), Some(second)) = (all.pop(), all.pop()) else {
-        unreachable!()
-    };
-    let Some(first) = all.pop() else {
-        unreachable!()
-    };
-    (((first, second), (third, fourth)), fifth)
-}
-
-// The table, once the five threads have ended.
-fn close_five(
-    alloc: Global,
-    shared: Shared<Number>,
-    seats: (Two<Two<Ended>>, Ended),
-) -> Result<Table<Number>, AllocError>
-    requires seats { shared.terms.seats ≡ 5 }
-    requires first { IsSeatOf shared seats.0.0.0.0 × (seats.0.0.0.0.number ≡ 0) }
-    requires second { IsSeatOf shared seats.0.0.1.0 × (seats.0.0.1.0.number ≡ 1) }
-    requires third { IsSeatOf shared seats.0.1.0.0 × (seats.0.1.0.0.number ≡ 2) }
-    requires fourth { IsSeatOf shared seats.0.1.1.0 × (seats.0.1.1.0.number ≡ 3) }
-    requires last { IsSeatOf shared seats.1.0 × (seats.1.0.number ≡ 4) }
-{
-    let ((front, back), last) = seats;
-    let mut all = Vec::with_capacity(alloc, 5)?;
-    all.push_reserved(front.0.0);
-    all.push_reserved(front.1.0);
-    all.push_reserved(back.0.0);
-    all.push_reserved(back.1.0);
-    all.push_reserved(last.0);
-    Ok(shared.close(List::of(all)))
+    let back = map_vec(
+        rt,
+        threads.into_vec(),
+        &|mine: Mine<Number>| -> Ended
+            requires { MayMake shared.now ENTRIES mine × (length shared.now.terms.setting.opening ≡ 3) }
+            ensures { IsSeatOf shared.entry.now result × (result.number ≡ mine.number) }
+        { work(rt, shared, counts, mine) },
+    )?;
+    Ok(List::of(back))
 }
 
 /// Four threads that each make, use, free and read 5000 objects of their own in one row, while a
@@ -389,13 +292,13 @@ fn close_five(
 fn five_threads_at_one_table(rt: HostRuntime) -> Result<(), Fail> {
     let alloc = rt.alloc();
     let (shared, threads) = Shared::new(&rt, alloc, 5, 1, MAKES, ENTRIES, shelf(alloc)?)?;
-    let (mine, last) = five_of(&shared, threads);
-    let ended = five_threads(&rt, &shared, mine, last);
-    let ((front, back), setter) = &ended;
-    let makers_are_well = front.0.1 && front.1.1 && back.0.1 && back.1.1;
-    let setter_is_well = setter.1;
-    let table = close_five(alloc, shared, ended)?;
-    assert!(rt; makers_are_well && setter_is_well);
+    let counts = Counts {
+        came: AtomicU64::new(0),
+        well: AtomicU64::new(0),
+    };
+    let ended = five_threads(&rt, &shared, &counts, threads)?;
+    let table = shared.close(ended);
+    assert_eq!(rt; counts.well.load(Ordering::SeqCst), 5);
     assert_eq!(rt; table.steps(), 4 * ENTRIES + SETS + 1);
     assert!(rt; table.global().version() == SETS && is_all_of(table.global().peek(), 1));
     Ok(())

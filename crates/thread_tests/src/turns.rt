@@ -3,12 +3,14 @@ ghost use Rattle.std.specs.Prelude.{◌≡◌, ℕ, ◌+◌, ◌<◌, ◌≤◌,
 ghost use Rattle.std.specs.Prelude.{map};
 ghost use Rattle.std.specs.List.{range_with_len};
 ghost use Rattle.turn_gate.specs.Callers.{IsSeatOf, first_caller};
+ghost use Rattle.thread_tests.specs.Back.{AreBack};
 
 use lc_base::List;
 use std::alloc::{AllocError, Global};
 use std::sync::Wait;
+use std::sync::atomic::{AtomicU64, Ordering};
 use std::test::Fail;
-use std::thread::{Threads, join};
+use std::thread::{Threads, join, map_vec};
 use turn_gate::{Machine, Seat, Turns};
 
 /// A register, whose calls write a number and reply with the one before. Its version counts the
@@ -80,58 +82,37 @@ fn empty_register(callers: u32) -> Register
     }
 }
 
-// Writes the numbers from 1 on, and gives the places.
+type Caller = Seat<Register>;
+
+// Writes the numbers from 1 on, and counts each call at the mark of its place.
 fn write_all<R: Wait>(
     rt: &R,
-    alloc: Global,
     turns: &Turns<Register>,
-    mut seat: Seat<Register>,
+    mut seat: Caller,
     count: u32,
-) -> Result<(Seat<Register>, Vec<u64>), AllocError>
+    marks: &[AtomicU64],
+) -> Caller
     requires seat { IsSeatOf turns.now seat }
     requires may { seat.number < turns.now.terms.setting }
     requires quota { length seat.own + count ≤ turns.now.terms.quota }
-    ensures { IfOk result (λ r. IsSeatOf turns.now r.0 × (r.0.number ≡ seat.number)) }
+    ensures { IsSeatOf turns.now result × (result.number ≡ seat.number) }
 {
-    let mut places = Vec::with_capacity(alloc, count as usize)?;
     for number in 0..count {
         let (place, _former) = turns.turn(rt, &mut seat, number + 1);
-        places.push(place)?;
+        mark(marks, place);
     }
-    Ok((seat, places))
+    seat
 }
 
-type Written = Result<(Seat<Register>, Vec<u64>), AllocError>;
-
-// The same by two threads.
-fn write_by_two<R: Threads + Wait + Sync>(
-    rt: &R,
-    alloc: Global,
-    turns: &Turns<Register>,
-    first: Seat<Register>,
-    second: Seat<Register>,
-    count: u32,
-) -> (Written, Written)
-    requires first { IsSeatOf turns.now first × (first.number < turns.now.terms.setting) × (length first.own + count ≤ turns.now.terms.quota) }
-    requires second { IsSeatOf turns.now second × (second.number < turns.now.terms.setting) × (length second.own + count ≤ turns.now.terms.quota) }
-    ensures first { IfOk result.0 (λ r. IsSeatOf turns.now r.0 × (r.0.number ≡ first.number)) }
-    ensures second { IfOk result.1 (λ r. IsSeatOf turns.now r.0 × (r.0.number ≡ second.number)) }
-{
-    join(
-        rt,
-        || -> Written
-            requires { IsSeatOf turns.now first × (first.number < turns.now.terms.setting) × (length first.own + count ≤ turns.now.terms.quota) }
-            ensures { IfOk result (λ r. IsSeatOf turns.entry.now r.0 × (r.0.number ≡ first.number)) }
-        { write_all(rt, alloc, turns, first, count) },
-        || -> Written
-            requires { IsSeatOf turns.now second × (second.number < turns.now.terms.setting) × (length second.own + count ≤ turns.now.terms.quota) }
-            ensures { IfOk result (λ r. IsSeatOf turns.entry.now r.0 × (r.0.number ≡ second.number)) }
-        { write_all(rt, alloc, turns, second, count) },
-    )
+// Counts a call at the mark of its place.
+fn mark(marks: &[AtomicU64], place: u64) {
+    if let Some(mark) = marks.get(place as usize) {
+        mark.fetch_add(1, Ordering::SeqCst);
+    }
 }
 
 // Looks again and again. True if no version was lower than the one before.
-fn look_all(turns: &Turns<Register>, mut seat: Seat<Register>, count: u32) -> (Seat<Register>, bool)
+fn look_all(turns: &Turns<Register>, mut seat: Caller, count: u32) -> (Caller, bool)
     requires { IsSeatOf turns.now seat }
     ensures { IsSeatOf turns.now result.0 × (result.0.number ≡ seat.number) }
 {
@@ -146,7 +127,7 @@ fn look_all(turns: &Turns<Register>, mut seat: Seat<Register>, count: u32) -> (S
 }
 
 // The last two seats.
-fn two_of(turns: &Turns<Register>, seats: List<Seat<Register>>) -> (Seat<Register>, Seat<Register>)
+fn two_of(turns: &Turns<Register>, seats: List<Caller>) -> (Caller, Caller)
     requires { seats ≡ map (first_caller turns.now) (range_with_len 0 2) }
     ensures { (result.0 ≡ first_caller turns.now 0) × (result.1 ≡ first_caller turns.now 1) }
 {
@@ -164,8 +145,8 @@ fn two_of(turns: &Turns<Register>, seats: List<Seat<Register>>) -> (Seat<Registe
 fn close_two(
     alloc: Global,
     turns: Turns<Register>,
-    first: Seat<Register>,
-    second: Seat<Register>,
+    first: Caller,
+    second: Caller,
 ) -> Result<Register, AllocError>
     requires seats { IsSeatOf turns first × IsSeatOf turns second }
     requires numbers { (turns.terms.seats ≡ 2) × (first.number ≡ 0) × (second.number ≡ 1) }
@@ -176,22 +157,55 @@ fn close_two(
     Ok(turns.close(List::of(all)))
 }
 
+// Writes two numbers, and gives the places.
+fn write_two<R: Wait>(
+    rt: &R,
+    turns: &Turns<Register>,
+    seat: &mut Caller,
+    numbers: [u32; 2],
+) -> [u64; 2]
+    requires seat { IsSeatOf turns.now seat.old }
+    requires may { seat.old.number < turns.now.terms.setting }
+    requires quota { length seat.old.own + 2 ≤ turns.now.terms.quota }
+    ensures { IsSeatOf turns.now seat.new × (seat.new.number ≡ seat.old.number) }
+{
+    let [one, two] = numbers;
+    let (first, _) = turns.turn(rt, seat, one);
+    let (second, _) = turns.turn(rt, seat, two);
+    [first, second]
+}
+
+// What both look up after they met.
+fn versions_of_both(turns: &Turns<Register>, first: &mut Caller, second: &mut Caller) -> (u32, u32)
+    requires { IsSeatOf turns.now first.old × IsSeatOf turns.now second.old }
+    ensures first { IsSeatOf turns.now first.new × (first.new.number ≡ first.old.number) }
+    ensures second { IsSeatOf turns.now second.new × (second.new.number ≡ second.old.number) }
+{
+    turns.meet(first, second);
+    (turns.look(first), turns.look(second))
+}
+
+// The version and the number, by a turn.
+fn peek<R: Wait>(rt: &R, turns: &Turns<Register>, seat: &mut Caller) -> (u32, u32)
+    requires { IsSeatOf turns.now seat.old }
+    ensures { IsSeatOf turns.now seat.new × (seat.new.number ≡ seat.old.number) }
+{
+    turns.peek(rt, seat, &())
+}
+
 /// Two seats with a quota of 2 make two calls each; both then see the version after all four, and
 /// the register that comes back has made them.
 #[test]
 fn quotas(rt: HostRuntime) -> Result<(), Fail> {
     let (turns, seats) = Turns::new(&rt, rt.alloc(), empty_register(2), 2, 2)?;
     let (mut first, mut second) = two_of(&turns, seats);
-    let places = [
-        turns.turn(&rt, &mut first, 7).0,
-        turns.turn(&rt, &mut first, 7).0,
-        turns.turn(&rt, &mut second, 8).0,
-        turns.turn(&rt, &mut second, 9).0,
-    ];
-    assert_eq!(rt; places, [0, 1, 2, 3]);
-    turns.meet(&mut first, &mut second);
-    assert_eq!(rt; (turns.look(&mut first), turns.look(&mut second)), (3, 3));
-    assert_eq!(rt; turns.peek(&rt, &mut first, &()), (3, 9));
+    let places = (
+        write_two(&rt, &turns, &mut first, [7, 7]),
+        write_two(&rt, &turns, &mut second, [8, 9]),
+    );
+    assert_eq!(rt; places, ([0, 1], [2, 3]));
+    assert_eq!(rt; versions_of_both(&turns, &mut first, &mut second), (3, 3));
+    assert_eq!(rt; peek(&rt, &turns, &mut first), (3, 9));
     let register = close_two(rt.alloc(), turns, first, second)?;
     assert_eq!(rt;
         (register.calls, register.changes, register.number),
@@ -200,135 +214,74 @@ fn quotas(rt: HostRuntime) -> Result<(), Fail> {
     Ok(())
 }
 
-// The four seats.
-pub(crate) fn four_of<M: Machine>(
-    turns: &Turns<M>,
-    seats: List<Seat<M>>,
-) -> ((Seat<M>, Seat<M>), (Seat<M>, Seat<M>))
-    requires { seats ≡ map (first_caller turns.now) (range_with_len 0 4) }
-    ensures first { (result.0.0 ≡ first_caller turns.now 0) × (result.0.1 ≡ first_caller turns.now 1) }
-    ensures last { (result.1.0 ≡ first_caller turns.now 2) × (result.1.1 ≡ first_caller turns.now 3) }
-{
-    let mut all = seats.into_vec();
-    let Some(fourth) = all.pop() else {
-        unreachable!()
-    };
-    let Some(third) = all.pop() else {
-        unreachable!()
-    };
-    let Some(second) = all.pop() else {
-        unreachable!()
-    };
-    let Some(first) = all.pop() else {
-        unreachable!()
-    };
-    ((first, second), (third, fourth))
-}
-
-// Closes four seats, and gives the machine.
-pub(crate) fn close_four<M: Machine>(
-    alloc: Global,
-    turns: Turns<M>,
-    front: (Seat<M>, Seat<M>),
-    back: (Seat<M>, Seat<M>),
-) -> Result<M, AllocError>
-    requires front { IsSeatOf turns front.0 × IsSeatOf turns front.1 × (front.0.number ≡ 0) × (front.1.number ≡ 1) }
-    requires back { IsSeatOf turns back.0 × IsSeatOf turns back.1 × (back.0.number ≡ 2) × (back.1.number ≡ 3) }
-    requires seats { turns.terms.seats ≡ 4 }
-{
-    let mut all = Vec::with_capacity(alloc, 4)?;
-    all.push_reserved(front.0);
-    all.push_reserved(front.1);
-    all.push_reserved(back.0);
-    all.push_reserved(back.1);
-    Ok(turns.close(List::of(all)))
-}
-
-// Marks the places. Err where one is marked twice, or is past the end.
-fn mark(marks: &mut [bool], places: &[u64]) -> Result<(), Fail> {
-    for place in places {
-        let marked = marks.get_mut(*place as usize).ok_or("a place")?;
-        if *marked {
-            return Err("twice".into());
-        }
-        *marked = true;
-    }
-    Ok(())
-}
-
-type Two = (Seat<Register>, Seat<Register>);
-
 // The same by four threads.
 fn write_by_four<R: Threads + Wait + Sync>(
     rt: &R,
-    alloc: Global,
     turns: &Turns<Register>,
-    front: Two,
-    back: Two,
-) -> ((Written, Written), (Written, Written))
-    requires front { (front.0 ≡ first_caller turns.now 0) × (front.1 ≡ first_caller turns.now 1) }
-    requires back { (back.0 ≡ first_caller turns.now 2) × (back.1 ≡ first_caller turns.now 3) }
-    requires terms { (turns.now.terms.setting ≡ 4) × (turns.now.terms.quota ≡ 10000) }
-    ensures front { IfOk result.0.0 (λ r. IsSeatOf turns.now r.0 × (r.0.number ≡ 0)) × IfOk result.0.1 (λ r. IsSeatOf turns.now r.0 × (r.0.number ≡ 1)) }
-    ensures back { IfOk result.1.0 (λ r. IsSeatOf turns.now r.0 × (r.0.number ≡ 2)) × IfOk result.1.1 (λ r. IsSeatOf turns.now r.0 × (r.0.number ≡ 3)) }
+    seats: List<Caller>,
+    marks: &[AtomicU64],
+) -> Result<List<Caller>, AllocError>
+    requires seats { seats ≡ map (first_caller turns.now) (range_with_len 0 4) }
+    requires terms { (turns.now.terms.seats ≡ 4) × (turns.now.terms.setting ≡ 4) × (turns.now.terms.quota ≡ 10000) }
+    ensures { IfOk result (AreBack turns.now) }
 {
-    let (first, second) = front;
-    let (third, fourth) = back;
-    join(
+    let back = map_vec(
         rt,
-        || -> (Written, Written)
-            requires { (first ≡ first_caller turns.now 0) × (second ≡ first_caller turns.now 1) × (turns.now.terms.setting ≡ 4) × (turns.now.terms.quota ≡ 10000) }
-            ensures { IfOk result.0 (λ r. IsSeatOf turns.entry.now r.0 × (r.0.number ≡ 0)) × IfOk result.1 (λ r. IsSeatOf turns.entry.now r.0 × (r.0.number ≡ 1)) }
-        { write_by_two(rt, alloc, turns, first, second, 10000) },
-        || -> (Written, Written)
-            requires { (third ≡ first_caller turns.now 2) × (fourth ≡ first_caller turns.now 3) × (turns.now.terms.setting ≡ 4) × (turns.now.terms.quota ≡ 10000) }
-            ensures { IfOk result.0 (λ r. IsSeatOf turns.entry.now r.0 × (r.0.number ≡ 2)) × IfOk result.1 (λ r. IsSeatOf turns.entry.now r.0 × (r.0.number ≡ 3)) }
-        { write_by_two(rt, alloc, turns, third, fourth, 10000) },
-    )
+        seats.into_vec(),
+        &|seat: Caller| -> Caller
+            requires { IsSeatOf turns.now seat × (seat.number < turns.now.terms.setting) × (length seat.own + 10000 ≤ turns.now.terms.quota) }
+            ensures { IsSeatOf turns.entry.now result × (result.number ≡ seat.number) }
+        { write_all(rt, turns, seat, 10000, marks) },
+    )?;
+    Ok(List::of(back))
+}
+
+// So many marks, at which nothing is counted yet.
+fn unmarked(alloc: Global, count: usize) -> Result<Vec<AtomicU64>, AllocError> {
+    let mut marks = Vec::with_capacity(alloc, count)?;
+    for _ in 0..count {
+        marks.push(AtomicU64::new(0))?;
+    }
+    Ok(marks)
+}
+
+// Whether one call is counted at each mark.
+fn are_marked_once(marks: &[AtomicU64]) -> bool {
+    marks.iter().all(|mark| mark.load(Ordering::SeqCst) == 1)
 }
 
 /// Four threads of 10000 calls each get the places 0 to 39999, each once, and the register that
 /// comes back has made them all.
 #[test]
 fn four_threads(rt: HostRuntime) -> Result<(), Fail> {
-    let alloc = rt.alloc();
-    let (turns, seats) = Turns::new(&rt, alloc, empty_register(4), 4, 10000)?;
-    let (front, back) = four_of(&turns, seats);
-    let (front, back) = write_by_four(&rt, alloc, &turns, front, back);
-    let ((first, one), (second, two)) = (front.0?, front.1?);
-    let ((third, three), (fourth, four)) = (back.0?, back.1?);
-    let mut marks = Vec::from_elem(alloc, false, 40000)?;
-    mark(marks.as_mut_slice(), one.as_slice())?;
-    mark(marks.as_mut_slice(), two.as_slice())?;
-    mark(marks.as_mut_slice(), three.as_slice())?;
-    mark(marks.as_mut_slice(), four.as_slice())?;
-    let all = marks.iter().all(|marked| *marked);
-    let register = close_four(alloc, turns, (first, second), (third, fourth))?;
-    assert!(rt; all && register.calls == 40000);
+    let marks = unmarked(rt.alloc(), 40000)?;
+    let (turns, seats) = Turns::new(&rt, rt.alloc(), empty_register(4), 4, 10000)?;
+    let seats = write_by_four(&rt, &turns, seats, marks.as_slice())?;
+    let register = turns.close(seats);
+    assert!(rt; are_marked_once(marks.as_slice()) && register.calls == 40000);
     Ok(())
 }
 
 // One thread writes, and the other looks.
 fn write_and_look<R: Threads + Wait + Sync>(
     rt: &R,
-    alloc: Global,
     turns: &Turns<Register>,
-    first: Seat<Register>,
-    second: Seat<Register>,
+    first: Caller,
+    second: Caller,
     count: u32,
-) -> (Written, (Seat<Register>, bool))
+) -> (Caller, (Caller, bool))
     requires first { IsSeatOf turns.now first × (first.number < turns.now.terms.setting) × (length first.own + count ≤ turns.now.terms.quota) }
     requires second { IsSeatOf turns.now second }
-    ensures first { IfOk result.0 (λ r. IsSeatOf turns.now r.0 × (r.0.number ≡ first.number)) }
+    ensures first { IsSeatOf turns.now result.0 × (result.0.number ≡ first.number) }
     ensures second { IsSeatOf turns.now result.1.0 × (result.1.0.number ≡ second.number) }
 {
     join(
         rt,
-        || -> Written
+        || -> Caller
             requires { IsSeatOf turns.now first × (first.number < turns.now.terms.setting) × (length first.own + count ≤ turns.now.terms.quota) }
-            ensures { IfOk result (λ r. IsSeatOf turns.entry.now r.0 × (r.0.number ≡ first.number)) }
-        { write_all(rt, alloc, turns, first, count) },
-        || -> (Seat<Register>, bool)
+            ensures { IsSeatOf turns.entry.now result × (result.number ≡ first.number) }
+        { write_all(rt, turns, first, count, &[]) },
+        || -> (Caller, bool)
             requires { IsSeatOf turns.now second }
             ensures { IsSeatOf turns.entry.now result.0 × (result.0.number ≡ second.number) }
         { look_all(turns, second, count) },
@@ -342,8 +295,7 @@ fn looks_and_meets(rt: HostRuntime) -> Result<(), Fail> {
     let alloc = rt.alloc();
     let (turns, seats) = Turns::new(&rt, alloc, empty_register(2), 2, 2000)?;
     let (first, second) = two_of(&turns, seats);
-    let (writer, (mut second, rises)) = write_and_look(&rt, alloc, &turns, first, second, 2000);
-    let (mut first, _places) = writer?;
+    let (mut first, (mut second, rises)) = write_and_look(&rt, &turns, first, second, 2000);
     turns.meet(&mut first, &mut second);
     let version = turns.look(&mut second);
     let register = close_two(alloc, turns, first, second)?;

@@ -1,15 +1,17 @@
 //! The test that a release wakes those who sleep.
-ghost use Rattle.std.specs.Prelude.{◌≡◌, ◌<◌, length};
+ghost use Rattle.std.specs.Prelude.{◌≡◌, ◌<◌, length, IfOk, map};
+ghost use Rattle.std.specs.List.{range_with_len};
 ghost use Rattle.turn_gate.specs.Callers.{IsSeatOf, first_caller};
+ghost use Rattle.thread_tests.specs.Back.{AreBack};
 ghost use Rattle.thread_tests.specs.declared.waking.TheConstants.{CALLERS};
 
-use crate::turns::{close_four, four_of};
-use std::alloc::Global;
+use lc_base::List;
+use std::alloc::{AllocError, Global};
 use std::sync::atomic::{AtomicU64, Ordering};
 use std::sync::{Arc, Wait};
 use std::test::Fail;
 use std::thread;
-use std::thread::{Threads, join};
+use std::thread::{Threads, map_vec};
 use turn_gate::{Machine, Seat, Turns};
 
 /// How many callers there are.
@@ -92,61 +94,26 @@ fn call<R: Wait>(rt: &R, turns: &Turns<Holder>, came: &AtomicU64, mut seat: Call
     seat
 }
 
-// One call of each of two callers, in threads of their own.
-fn call_both<R: Threads + Wait + Sync>(
-    rt: &R,
-    turns: &Turns<Holder>,
-    came: &AtomicU64,
-    first: Caller,
-    second: Caller,
-) -> (Caller, Caller)
-    requires first { IsSeatOf turns.now first × (first.number < CALLERS) × (length first.own < turns.now.terms.quota) }
-    requires second { IsSeatOf turns.now second × (second.number < CALLERS) × (length second.own < turns.now.terms.quota) }
-    ensures first { IsSeatOf turns.now result.0 × (result.0.number ≡ first.number) }
-    ensures second { IsSeatOf turns.now result.1 × (result.1.number ≡ second.number) }
-{
-    join(
-        rt,
-        || -> Caller
-            requires { IsSeatOf turns.now first × (first.number < CALLERS) × (length first.own < turns.now.terms.quota) }
-            ensures { IsSeatOf turns.entry.now result × (result.number ≡ first.number) }
-        { call(rt, turns, came, first) },
-        || -> Caller
-            requires { IsSeatOf turns.now second × (second.number < CALLERS) × (length second.own < turns.now.terms.quota) }
-            ensures { IsSeatOf turns.entry.now result × (result.number ≡ second.number) }
-        { call(rt, turns, came, second) },
-    )
-}
-
-type Two = (Caller, Caller);
-
 // One call of each of four callers, in threads of their own.
 fn call_all<R: Threads + Wait + Sync>(
     rt: &R,
     turns: &Turns<Holder>,
     came: &AtomicU64,
-    front: Two,
-    back: Two,
-) -> (Two, Two)
-    requires front { (front.0 ≡ first_caller turns.now 0) × (front.1 ≡ first_caller turns.now 1) }
-    requires back { (back.0 ≡ first_caller turns.now 2) × (back.1 ≡ first_caller turns.now 3) }
-    requires quota { turns.now.terms.quota ≡ 1 }
-    ensures front { IsSeatOf turns.now result.0.0 × IsSeatOf turns.now result.0.1 × (result.0.0.number ≡ 0) × (result.0.1.number ≡ 1) }
-    ensures back { IsSeatOf turns.now result.1.0 × IsSeatOf turns.now result.1.1 × (result.1.0.number ≡ 2) × (result.1.1.number ≡ 3) }
+    seats: List<Caller>,
+) -> Result<List<Caller>, AllocError>
+    requires seats { seats ≡ map (first_caller turns.now) (range_with_len 0 4) }
+    requires terms { (turns.now.terms.seats ≡ 4) × (turns.now.terms.quota ≡ 1) }
+    ensures { IfOk result (AreBack turns.now) }
 {
-    let (first, second) = front;
-    let (third, fourth) = back;
-    join(
+    let back = map_vec(
         rt,
-        || -> Two
-            requires { (first ≡ first_caller turns.now 0) × (second ≡ first_caller turns.now 1) × (turns.now.terms.quota ≡ 1) }
-            ensures { IsSeatOf turns.entry.now result.0 × IsSeatOf turns.entry.now result.1 × (result.0.number ≡ 0) × (result.1.number ≡ 1) }
-        { call_both(rt, turns, came, first, second) },
-        || -> Two
-            requires { (third ≡ first_caller turns.now 2) × (fourth ≡ first_caller turns.now 3) × (turns.now.terms.quota ≡ 1) }
-            ensures { IsSeatOf turns.entry.now result.0 × IsSeatOf turns.entry.now result.1 × (result.0.number ≡ 2) × (result.1.number ≡ 3) }
-        { call_both(rt, turns, came, third, fourth) },
-    )
+        seats.into_vec(),
+        &|seat: Caller| -> Caller
+            requires { IsSeatOf turns.now seat × (seat.number < CALLERS) × (length seat.own < turns.now.terms.quota) }
+            ensures { IsSeatOf turns.entry.now result × (result.number ≡ seat.number) }
+        { call(rt, turns, came, seat) },
+    )?;
+    Ok(List::of(back))
 }
 
 /// Callers that fell asleep while another had the turn are woken, one after the other. A gate that
@@ -159,9 +126,8 @@ fn sleepers_are_woken(rt: HostRuntime) -> Result<(), Fail> {
         calls: 0,
     };
     let (turns, seats) = Turns::new(&rt, rt.alloc(), holder, CALLERS, 1)?;
-    let (front, back) = four_of(&turns, seats);
-    let (front, back) = call_all(&rt, &turns, &came, front, back);
-    let holder = close_four(rt.alloc(), turns, front, back)?;
+    let seats = call_all(&rt, &turns, &came, seats)?;
+    let holder = turns.close(seats);
     assert_eq!(rt; holder.calls, CALLERS);
     Ok(())
 }
