@@ -65,7 +65,7 @@ enum {
     LO_NO_OBJECT = 1,
     /* The handle `out` has an object already. */
     LO_TAKEN = 2,
-    /* Memory is wanting. */
+    /* Out of memory. */
     LO_NO_MEMORY = 3,
     /* The text has 2^31 bytes or more. */
     LO_TOO_LONG = 4,

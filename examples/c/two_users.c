@@ -1,5 +1,5 @@
 /*
- * Two users beside each other: each formats an amount and a date in a locale of its own, on a thread of
+ * Two users at the same time: each formats an amount and a date in a locale of its own, on a thread of
  * its own. Takes the file of the locale sources, examples/two_users.bundle.
  */
 #include "locale_objects.h"

@@ -1,6 +1,6 @@
 /*
  * Each call of include/locale_objects.h: what it gives, each code once, buffers of each size that is too
- * small, each allocation that fails, and four threads beside each other, which get the texts that one thread
+ * small, each allocation that fails, and four threads concurrently, which get the texts that one thread
  * gets, with 100000 calls each or as many as the first word says. Ends with status 0 where all is as wanted.
  * To be linked with -Wl,--wrap=malloc,--wrap=realloc.
  */

@@ -157,7 +157,7 @@ def writes(program, mode, text, wanted):
 
 
 def begun_beside(program):
-    """The threads of a script run beside each other: each round starts one for each, or one fewer where the
+    """The threads of a script run concurrently: each round starts one for each, or one fewer where the
     caller is one of them. `serial` starts none, and `make` runs its script as `run` does."""
     rounds, count = 5, 16
     script = "".join(

@@ -40,7 +40,7 @@ fn block_from(tail: &[u8], more: u32, value: u32) -> Block
 }
 
 /// Adds names that count up: the first one and so many more, the first with this wide value, and
-/// tells whether all are new. Where one is not, or memory is wanting, some may have been added.
+/// tells whether all are new. Where one is not, or memory runs out, some may have been added.
 pub fn add_names(
     alloc: Global,
     names: &mut CharacterNames,

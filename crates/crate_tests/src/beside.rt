@@ -1,4 +1,4 @@
-//! Threads of a script that run beside each other: each waits for a command of the other.
+//! Threads of a script that run concurrently: each waits for a command of the other.
 
 use bundle_maker::{generate, summary};
 use lc_base::{ByteText, TextFault};
@@ -206,7 +206,7 @@ fn look_loads_anew(rt: HostRuntime) -> Result<(), Fail> {
     Ok(())
 }
 
-// The summary of a made bundle with eight commands whose threads run beside each other, and that of the
+// The summary of a made bundle with eight commands whose threads run concurrently, and that of the
 // same bundle on one thread.
 fn made_summaries<R: Threads + Wait + Sync>(
     rt: &R,
@@ -235,7 +235,7 @@ fn summaries<R: Threads + Wait + Sync>(
     Ok((beside, alone))
 }
 
-/// The threads of a made bundle run beside each other: two of them hold a command until one of the
+/// The threads of a made bundle run concurrently: two of them hold a command until one of the
 /// other is about to run. What they come to is what they come to one after the other.
 #[test]
 fn workers_of_make(rt: HostRuntime) -> Result<(), Fail> {

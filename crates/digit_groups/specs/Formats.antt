@@ -91,13 +91,13 @@ abbrev pub at_most : ℕ → Result (List ℕ) FormatRefusal → Result (List �
 at_most max_len (Ok text) = within max_len text
 at_most max_len (Err why) = Err why
 
--- why there is no text, unless memory was wanting
+-- why there is no text, unless it was out of memory
 abbrev pub refusal_of : (ℕ → FormatRefusal) → FormatFault → Option FormatRefusal
 refusal_of lacks (faults.BadFormat at) = Some (BadFormat at)
 refusal_of lacks (faults.MissingValue at) = Some (lacks at)
 refusal_of lacks faults.TooBig = Some TooBig
 refusal_of lacks faults.Memory = None
 
--- a fault is the refusal of the definition, or want of memory, which says nothing
+-- a fault is the refusal of the definition, or out of memory, which says nothing
 abbrev pub Refuses : (ℕ → FormatRefusal) → FormatFault → Result (List ℕ) FormatRefusal → Type 0
 Refuses lacks e answer = IfSome (refusal_of lacks e) (λ why. answer ≡ Err why)

@@ -14,7 +14,7 @@ pub enum FormatFault {
     MissingValue { at: usize },
     /// The text is longer than the limit.
     TooBig,
-    /// Memory was wanting.
+    /// Out of memory.
     Memory,
 }
 

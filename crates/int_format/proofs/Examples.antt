@@ -147,11 +147,11 @@ five_digits = refl
 no_digits : digit_count 0 ≡ 0
 no_digits = refl
 
--- a fault is the refusal of its name, and want of memory is none
+-- a fault is the refusal of its name, and out of memory is none
 refusals : refusal_of (faults.BadFormat 6) ∷ refusal_of (faults.MissingNumber 3) ∷ refusal_of faults.TooBig ∷ refusal_of faults.Memory ∷ [] ≡ Some (BadFormat 6) ∷ Some (MissingNumber 3) ∷ Some TooBig ∷ None ∷ []
 refusals = refl
 
--- a text answers for itself alone, and want of memory for whatever there is
+-- a text answers for itself alone, and out of memory for whatever there is
 own_text : Answers (λ (t : List ℕ). t) (Ok (codes "1")) (Ok (codes "1"))
 own_text = refl
 

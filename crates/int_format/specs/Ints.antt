@@ -65,18 +65,18 @@ conversion_text n c v = padded (fill_of c) (c.width - (length (sign_text c v) + 
 abbrev pub ints : NumericValues → List ℕ → List ℤ → Result (List ℕ) FormatRefusal
 ints n format numbers = formatted conversion (conversion_text n) (λ at. MissingNumber at) format numbers
 
--- why there is no text, unless memory was wanting
+-- why there is no text, unless it was out of memory
 abbrev pub refusal_of : IntFault → Option FormatRefusal
 refusal_of (faults.BadFormat at) = Some (BadFormat at)
 refusal_of (faults.MissingNumber at) = Some (MissingNumber at)
 refusal_of faults.TooBig = Some TooBig
 refusal_of faults.Memory = None
 
--- a fault is the refusal of the definition, or want of memory, which says nothing
+-- a fault is the refusal of the definition, or out of memory, which says nothing
 abbrev pub Refuses : IntFault → Result (List ℕ) FormatRefusal → Type 0
 Refuses e answer = IfSome (refusal_of e) (λ why. answer ≡ Err why)
 
--- a result, its text seen by view, is the answer, unless memory is wanting
+-- a result, its text seen by view, is the answer, unless it is out of memory
 abbrev pub Answers : {X : Type 0} → (X → List ℕ) → Result X IntFault → Result (List ℕ) FormatRefusal → Type 0
 Answers view (Ok x) answer = answer ≡ Ok (view x)
 Answers view (Err e) answer = Refuses e answer

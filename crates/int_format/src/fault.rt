@@ -21,13 +21,13 @@ pub enum IntFault {
     /// The text is longer than the limit.
     #[error("the text is longer than the limit")]
     TooBig,
-    /// Memory was wanting.
-    #[error("memory was wanting")]
+    /// Out of memory.
+    #[error("out of memory")]
     Memory,
 }
 
 impl IntFault {
-    /// Why there is no text, unless memory was wanting.
+    /// Why there is no text, unless it was out of memory.
     pub fn refusal(self) -> Option<FormatRefusal>
         ensures { result ≡ refusal_of self }
     {

@@ -210,7 +210,7 @@ impl Values {
     }
 
     /// These values and one more. Their texts have less than 2 to the power of 32 bytes in all: more
-    /// is refused as memory that is wanting.
+    /// is refused as out of memory.
     pub fn with(self, place: Place, value: Value) -> Result<Values, AllocError>
         ensures { IfOk result (λ values. values ≡ self ++ (place, value) ∷ []) }
     {

@@ -118,6 +118,6 @@ gives_not-other h =
 gives_not-fault : Gives (λ (n : ℕ). n) (Err (At at NoEnd)) (Ok 5) → ⊥
 gives_not-fault h = absurd (cc)
 
--- want of memory may come instead of each of them
+-- out of memory may come instead of each of them
 gives-memory : Gives (λ (n : ℕ). n) (Err Memory) (Ok 5)
 gives-memory = tt

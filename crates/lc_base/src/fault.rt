@@ -12,7 +12,7 @@ use std::alloc::{AllocError, AllocFailed};
 pub enum TextFault {
     /// The first broken rule, at its place.
     At(Place, Reason),
-    /// Memory was wanting.
+    /// Out of memory.
     Memory,
 }
 

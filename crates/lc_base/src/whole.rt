@@ -23,8 +23,8 @@ pub enum ReadRefusal {
     /// More bytes came than the limit allows.
     #[error("more bytes came than the limit allows")]
     TooLarge,
-    /// Memory was wanting.
-    #[error("memory was wanting")]
+    /// Out of memory.
+    #[error("out of memory")]
     Memory,
 }
 

@@ -12,7 +12,7 @@ unless_holds : (b : Bool) (P : Type 0) → P → Unless b P
 unless_holds true P p = tt
 unless_holds false P p = p
 
--- what always holds does unless memory is wanting
+-- what always holds does unless it is out of memory
 pub stands : (a : LoAnswer) (P : Type 0) → P → UnlessMemory a P
 stands a P p = unless_holds (nat_eq a.code NO_MEMORY) P p
 

@@ -41,7 +41,7 @@ abbrev pub Unless : Bool → Type 0 → Type 0
 Unless true P = Unit {0}
 Unless false P = P
 
--- a fact of an answer, unless memory is wanting
+-- a fact of an answer, unless it is out of memory
 abbrev pub UnlessMemory : LoAnswer → Type 0 → Type 0
 UnlessMemory a P = Unless (nat_eq a.code NO_MEMORY) P
 

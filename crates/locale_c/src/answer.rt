@@ -16,7 +16,7 @@ pub const NO_OBJECT: u32 = 1;
 /// The handle for the result is of an object already.
 pub const TAKEN: u32 = 2;
 
-/// Memory was wanting.
+/// Out of memory.
 pub const NO_MEMORY: u32 = 3;
 
 /// The text has 2^31 bytes or more.
@@ -83,7 +83,7 @@ pub fn refusal_told(refusal: FormatRefusal) -> LoAnswer
     }
 }
 
-/// The answer where a format has no text, unless memory was wanting.
+/// The answer where a format has no text, unless it was out of memory.
 pub fn no_text(refusal: Option<FormatRefusal>) -> Result<LoAnswer, AllocError>
     ensures { (buffer : List ℕ) (text : Result (List ℕ) FormatRefusal) → IfSome refusal (λ why. text ≡ Err why) → IfOk result (λ a. (a, buffer) ≡ text_told buffer text) }
 {
@@ -93,7 +93,7 @@ pub fn no_text(refusal: Option<FormatRefusal>) -> Result<LoAnswer, AllocError>
     }
 }
 
-/// An answer, or that memory is wanting.
+/// An answer, or out of memory.
 pub fn or_memory(answer: Result<LoAnswer, AllocError>) -> LoAnswer
     ensures { MatchResult answer (λ a. result ≡ a) (λ _. result ≡ answered NO_MEMORY 0) }
 {

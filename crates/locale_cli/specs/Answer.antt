@@ -71,7 +71,7 @@ answer_for out = record { status = status_for out; text = text_for out }
 abbrev pub IsAnswer : Mode → List ℕ → Answer → Type 0
 IsAnswer mode input a = (out : Reads (List ℕ)) × OutputsOf mode (plan_of input) out × (a ≡ answer_for out)
 
--- what a function that prints an input gives: what may be printed, or the first fault; want of memory says nothing
+-- what a function that prints an input gives: what may be printed, or the first fault; out of memory says nothing
 abbrev pub MayPrint : Mode → List ℕ → Result (List ℕ) TextFault → Type 0
 MayPrint mode input (Ok text) = OutputsOf mode (plan_of input) (Ok text)
 MayPrint mode input (Err fault) = Fails fault (plan_of input)

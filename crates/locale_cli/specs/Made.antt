@@ -41,7 +41,7 @@ IsMadeRefused seed commands written written' = (fault : Place × Reason) × (pla
 abbrev pub IsMadeCut : ℕ → ℕ → Option (List ℕ) → Option (List ℕ) → Type 0
 IsMadeCut seed commands written written' = AddsPrefix written written' (text_for (made_text seed commands))
 
--- the answer was written, or nothing for want of memory
+-- the answer was written, or nothing when out of memory
 abbrev pub RanMade : ℕ → ℕ → SinkStep → Type 0 → Status → Type 0
 RanMade seed commands k Unwritten result =
     Wrote (answer_for (made_text seed commands)).status (answer_for (made_text seed commands)).text result k

@@ -43,11 +43,11 @@ AnsweredLarge s k result = CameExactly s.left s.left' (INPUT_LIMIT + 1) × (s.fa
 abbrev pub FailedToRead : SourceStep → Status → Type 0
 FailedToRead s result = (result ≡ ReadFault) × Rose s.faults s.faults' × CameAtMost s.left s.left' INPUT_LIMIT
 
--- memory was wanting, and the source did not fail
+-- out of memory, and the source did not fail
 abbrev pub LackedMemory : SourceStep → Status → Type 0
 LackedMemory s result = (result ≡ Memory) × (s.faults' ≡ s.faults)
 
--- the input was answered, whole or too large; or nothing was written, since the source failed or memory was wanting
+-- the input was answered, whole or too large; or nothing was written, since the source failed or memory ran out
 abbrev pub Ran : Mode → SourceStep → SinkStep → Type 0 → Status → Type 0
 Ran mode s k Unwritten result =
     (AnsweredWhole mode s k result ⊎ AnsweredLarge s k result)

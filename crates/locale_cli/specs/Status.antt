@@ -61,7 +61,7 @@ status_of (Err fault) = Refused
 abbrev pub due_status : List ℕ → Status
 due_status input = if nat_lt INPUT_LIMIT (length input) then TooLarge else status_of (plan_of input)
 
--- the status is the one that is due, unless the source or the sink failed or memory was wanting
+-- the status is the one that is due, unless the source or the sink failed or memory ran out
 abbrev pub IsDue : Status → Status → Type 0
 IsDue ReadFault due = Unit {0}
 IsDue WriteFault due = Unit {0}

@@ -37,7 +37,7 @@ pub enum Status {
     ReadFault,
     /// 5: the sink failed.
     WriteFault,
-    /// 6: memory was wanting.
+    /// 6: out of memory.
     Memory,
     /// 7: more bytes came than the limit allows.
     TooLarge,
@@ -136,7 +136,7 @@ fn alone(alloc: Global, input: &[u8], rows: u32, generations: u32) -> Result<Pie
     Ok(Pieces::of(alloc, text?))
 }
 
-/// The lines of a bundle's script, run with the threads of each round beside each other.
+/// The lines of a bundle's script, run with the threads of each round in parallel.
 fn beside<R: Threads + Wait + Sync, P: Pause + Sync>(
     rt: &R,
     alloc: Global,
@@ -196,7 +196,7 @@ fn serial_text(
     text
 }
 
-/// The lines of an accepted bundle's script, run with the threads of each round beside each other.
+/// The lines of an accepted bundle's script, run with the threads of each round in parallel.
 fn run_text<R: Threads + Wait + Sync, P: Pause + Sync>(
     rt: &R,
     alloc: Global,

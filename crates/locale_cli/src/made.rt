@@ -89,7 +89,7 @@ fn made_line<R: Threads + Wait + Sync, P: Pause + Sync>(
     )
 }
 
-/// What a bundle prints, but for the places: its threads run beside each other where they keep to
+/// What a bundle prints, but for the places: its threads run concurrently where they keep to
 /// themselves, so that no order of their calls shows.
 fn lines_of<R: Threads + Wait + Sync, P: Pause + Sync>(
     rt: &R,

@@ -50,7 +50,7 @@ pub fn top<R: Threads + Wait + Sync, S: Source, K: Sink, P: Pause + Sync>(
     // A fault comes just where its count rose.
     ensures read_fault { result ≡ Status.ReadFault → Rose (S.faults source.old) (S.faults source.new) }
     ensures read_sound { result ≢ Status.ReadFault → S.faults source.new ≡ S.faults source.old }
-    // Whatever the status, also where memory is wanting, at most one byte past the limit came.
+    // Whatever the status, also when out of memory, at most one byte past the limit came.
     ensures at_most { CameAtMost (S.left source.old) (S.left source.new) (INPUT_LIMIT + 1) }
     ensures read_short { result ≡ Status.ReadFault → CameAtMost (S.left source.old) (S.left source.new) INPUT_LIMIT }
     ensures write_fault { result ≡ Status.WriteFault → Rose (K.faults sink.old) (K.faults sink.new) }
@@ -59,7 +59,7 @@ pub fn top<R: Threads + Wait + Sync, S: Source, K: Sink, P: Pause + Sync>(
     ensures usage_cut { result ≡ Status.WriteFault → request_of words.now ≡ None → AddsPrefix (K.written sink.old) (K.written sink.new) usage_line }
     ensures unwritten { (result ≡ Status.ReadFault) ⊎ (result ≡ Status.Memory) → sink.new ≡ sink.old }
 
-    // In a mode the bytes of the source determine the status, unless it is a fault or memory is wanting.
+    // In a mode the bytes of the source determine the status, unless it is a fault or memory runs out.
     ensures due { (mode : Mode) → request_of words.now ≡ Some (Read mode) → IfSome (S.left source.old) (λ input. IsDue result (due_status input)) }
     ensures complete { (mode : Mode) → request_of words.now ≡ Some (Read mode) → StayedSound (S.faults source.old) (S.faults source.new) → StayedSound (K.faults sink.old) (K.faults sink.new)
         → IfSome (S.left source.old) (λ input. (result ≡ due_status input) ⊎ (result ≡ Status.Memory)) }

@@ -31,7 +31,7 @@ pub enum Mode {
         /// How many objects a row has in all its time.
         generations: u32,
     },
-    /// Run the script with the threads of each round beside each other.
+    /// Run the script with the threads of each round in parallel.
     Run {
         /// The rows of each thread.
         rows: u32,

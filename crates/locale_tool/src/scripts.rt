@@ -74,7 +74,7 @@ fn add_lines(played: &Played, is_strict: bool, gathered: &mut Gathered) -> Resul
     gathered.output.extend_from_slice(played.output.as_bytes())
 }
 
-/// Adds why a file is refused; that memory is wanting ends the work.
+/// Adds why a file is refused; being out of memory ends the work.
 fn add_problem(problem: Problem, gathered: &mut Gathered) -> Result<(), Problem> {
     match problem {
         Problem::Memory => Err(Problem::Memory),

@@ -47,7 +47,7 @@ pub record IsFirstUnprinted (names : List (List ℕ)) (text : List ℕ) (at : �
   pub before : (k : ℕ) → k < at → IsPrinted names (slice_index_or (whole_lines text) k [])
   pub unprinted : IsPrinted names (slice_index_or (whole_lines text) at []) → ⊥
 
--- the refusal of a text: at the first column of its first line that no line prints as; want of memory says nothing
+-- the refusal of a text: at the first column of its first line that no line prints as; out of memory says nothing
 abbrev pub FaultOf : List (List ℕ) → List ℕ → TextFault → Type 0
 FaultOf names text Memory = Unit {0}
 FaultOf names text (At place reason) = (reason ≡ BadLine Argument) × (place.column ≡ 1) × (at : ℕ) × (place.line ≡ suc at) × IsFirstUnprinted names text at

@@ -4,7 +4,7 @@ use Rattle.std.specs.List.{list_any}
 use Rattle.output_reader.specs.declared.unread.Unread.{Unread}
 use Rattle.output_reader.specs.declared.unread.Unread.TheVariants.{Memory}
 
--- just this value is answered, unless memory is wanting
+-- just this value is answered, unless it is out of memory
 abbrev pub Gives : {A : Type 0} → A → Result A Unread → Type 0
 Gives v (Ok w) = w ≡ v
 Gives v (Err e) = e ≡ Memory
@@ -13,7 +13,7 @@ Gives v (Err e) = e ≡ Memory
 abbrev pub AreDistinct : List (List ℕ) → Type 0
 AreDistinct names = (i j : ℕ) → i < length names → j < length names → slice_index_or names i [] ≡ slice_index_or names j [] → i ≡ j
 
--- a value of this text is answered, unless memory is wanting: this very one, where no two names are the same
+-- a value of this text is answered, unless it is out of memory: this very one, where no two names are the same
 abbrev pub GivesFor : {A : Type 0} → (A → List ℕ) → List (List ℕ) → A → Result A Unread → Type 0
 GivesFor text names v (Ok w) = (text w ≡ text v) × (AreDistinct names → w ≡ v)
 GivesFor text names v (Err e) = e ≡ Memory

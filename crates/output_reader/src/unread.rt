@@ -10,7 +10,7 @@ use std::alloc::{AllocError, AllocFailed};
 pub enum Unread {
     /// No value prints as these bytes.
     Unprinted,
-    /// Memory was wanting.
+    /// Out of memory.
     Memory,
 }
 

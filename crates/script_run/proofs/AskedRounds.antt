@@ -1,4 +1,4 @@
--- What lines have asked of the catalogs stands in their history when it grows, and when threads have asked beside each other.
+-- What lines have asked of the catalogs stands in their history when it grows, and when threads have asked concurrently.
 use Rattle.std.proofs.Common.{◌≡◌, ℕ, ◌+◌, ◌<◌, ◌≤◌, List, [], ◌∷◌, ◌++◌, length, Option, Some, None, sym, ap, subst, ◌∙◌, arith, length-append, append_assoc}
 use Rattle.std.specs.Prelude.{All}
 use Rattle.std.proofs.lemmas.List.Elements.{All-nil, All-cons, All-head, All-tail, All-append, All-weaker}

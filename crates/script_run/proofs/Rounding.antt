@@ -136,7 +136,7 @@ on_ok : {T E : Type 0} (P : Type 0) (r : Result T E) → IsOk r → OnOk r P →
 on_ok P (Ok x) is h = h
 on_ok P (Err e) is h = absurd (false≢true is)
 
--- what it leaves where memory was not wanting
+-- what it leaves where it was not out of memory
 abbrev WorksFor : Gates → Stock → List Turn → Worker → Worker → Type 0
 WorksFor gate stock turns old new = (plan : PlanData) (made : List Timed) → stock_of plan ≡ stock → IsWorker gate plan old.thread made
     → Works gate plan (turns_of old.thread.side.number turns) old.thread new.thread made old.lines.items new.lines.items

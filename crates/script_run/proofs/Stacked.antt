@@ -1,4 +1,4 @@
--- Lines that several threads have made beside each other are right behind all earlier lines, for one history of their calls.
+-- Lines that several threads have made concurrently are right behind all earlier lines, for one history of their calls.
 use Rattle.std.proofs.Common.{◌≡◌, ℕ, zero, suc, ◌+◌, ◌<◌, ◌≤◌, true, false, List, [], ◌∷◌, ◌++◌, length, refl, sym, ap, subst, ◌∙◌, arith, inl, inr}
 use Rattle.std.specs.Prelude.{◌≢◌, ◌==◌, nat_lt, nat_le, All}
 use Rattle.std.specs.List.{range_with_len}

@@ -1,4 +1,4 @@
--- Lines of threads that call beside each other are lines that a script may print.
+-- Lines of threads that call concurrently are lines that a script may print.
 use Rattle.std.proofs.Common.{◌≡◌, ℕ, ◌+◌, ◌<◌, ◌≤◌, Bool, true, false, cond, List, [], ◌∷◌, ◌++◌, length, map, reverse, refl, sym, ap, subst, ◌∙◌, arith, append-nil}
 use Rattle.std.specs.Prelude.{◌==◌, filter, count_by, All}
 use Rattle.std.proofs.lemmas.Bool.{eq-eqb}

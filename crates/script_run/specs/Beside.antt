@@ -1,4 +1,4 @@
--- Threads of a script that run beside each other, and at which point of it they are.
+-- Threads of a script that run concurrently, and at which point of it they are.
 use Rattle.std.specs.Prelude.{◌≡◌, ℕ, ◌+◌, ◌*◌, ◌^◌, ◌<◌, ◌≤◌, List, [], ◌∷◌, ◌++◌, ◌==◌, length, filter, reverse, All, None}
 use Rattle.category_store.specs.Catalog.{Catalog}
 use Rattle.category_store.specs.Library.{opening}

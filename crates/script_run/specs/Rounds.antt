@@ -78,7 +78,7 @@ pub record IsFirst (mines : List Thread) (all : List ReaderData) (i : ℕ) (w : 
 abbrev pub MayWork : Gates → Stock → List Turn → Worker → Type 0
 MayWork gate stock turns w = CanWork gate stock w.thread (turns_of w.thread.side.number turns)
 
--- what its work leaves, unless memory was wanting
+-- what its work leaves, unless it was out of memory
 pub record HasWorked (gate : Gates) (stock : Stock) (turns : List Turn) (old new : Worker) : Type 0 where
   pub number : OnOk new.outcome (new.thread.side.number ≡ old.thread.side.number)
   pub works : OnOk new.outcome ((plan : PlanData) (made : List Timed) → stock_of plan ≡ stock → IsWorker gate plan old.thread made

@@ -1,4 +1,4 @@
--- Lines of threads that call beside each other, judged by one history of the table and one of the catalogs, of which each thread has
+-- Lines of threads that call concurrently, judged by one history of the table and one of the catalogs, of which each thread has
 -- seen a part (our own).
 -- A history has its newest entry first, and so have the lists of lines here: what stands before stays when more is added.
 use Rattle.std.specs.Prelude.{◌≡◌, ℕ, zero, suc, ◌+◌, ◌<◌, ◌≤◌, nat_lt, nat_le, if◌then◌else◌, List, [], ◌∷◌, ◌++◌, ◌==◌, length, map, filter, flat_map, reverse, All, Option, Some, None, unwrap_or}

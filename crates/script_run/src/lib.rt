@@ -1,4 +1,4 @@
-//! The script of a bundle, run with the threads of each round beside each other.
+//! The script of a bundle, run with the threads of each round in parallel.
 #![tactic(auto)]
 
 mod rounds;

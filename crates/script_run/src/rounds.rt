@@ -1,4 +1,4 @@
-//! Runs a script with the threads of each round beside each other.
+//! Runs a script with the threads of each round in parallel.
 
 ghost use Rattle.std.specs.Prelude.{◌≡◌, ◌+◌, ◌*◌, ◌<◌, ◌≤◌, [], ◌++◌, length, map, flat_map, take, drop, All, IfOk, OnOk};
 ghost use Rattle.std.specs.List.{range_with_len};

@@ -23,7 +23,7 @@ use std::sync::Wait;
 use thread_current::{Locales, Shared};
 use turn_gate::Seat;
 
-/// A thread with the lines that it has made in the round, or the want of memory that ended it.
+/// A thread with the lines that it has made in the round, or that it was out of memory, which ended it.
 #[derive(Drop)]
 pub struct Worker {
     pub thread: Thread<Seated>,
@@ -78,7 +78,7 @@ impl Worker {
         }
     }
 
-    /// Makes the lines of its turns among these of a round, in order. It ends where memory is wanting.
+    /// Makes the lines of its turns among these of a round, in order. It ends when it is out of memory.
     pub fn work<R: Wait, P: Pause>(&mut self, common: &Common<'_, R, P>, turns: &[Turn<'_>])
         requires can { CanWork (gates common.now.shared.now common.now.catalogs.now) (stock common.now.library.now common.now.books.now) self.old.thread (turns_of self.old.thread.side.number (map turn_seen turns.now)) }
         ensures works { OnOk self.new.outcome (WorksOn (gates common.now.shared.now common.now.catalogs.now) (stock common.now.library.now common.now.books.now) (turns_of self.old.thread.side.number (map turn_seen turns.now)) self.old.thread self.new.thread self.old.lines.items self.new.lines.items) }
@@ -87,7 +87,7 @@ impl Worker {
         self.outcome = self.lines_of(common, turns);
     }
 
-    // The same, with the want of memory that ends it.
+    // The same, with being out of memory, which ends it.
     fn lines_of<R: Wait, P: Pause>(
         &mut self,
         common: &Common<'_, R, P>,

@@ -1,4 +1,4 @@
-//! Calls beside each other, each in a thread that the caller starts.
+//! Concurrent calls, each in a thread that the caller starts.
 
 ghost use Rattle.std.specs.Prelude.{◌≡◌, ℕ, ◌+◌, ◌^◌, ◌<◌, ◌≤◌, length, slice_index_or};
 ghost use denote.Param.Send.{IsSync, IsSend};

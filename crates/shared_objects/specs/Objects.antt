@@ -87,7 +87,7 @@ from_numbers base mask (Err category) = Err category
 abbrev pub new_object : Shared → ℕ → List ℕ → Result Shared Category
 new_object base mask name = from_numbers base mask (numbers base.library name mask)
 
--- a result is the wanted one, unless memory is wanting
+-- a result is the wanted one, unless it is out of memory
 abbrev pub Composes : Result Shared NewFault → Result Shared Category → Type 0
 Composes (Ok object) wanted = wanted ≡ Ok object
 Composes (Err (NoData category)) wanted = wanted ≡ Err category

@@ -13,8 +13,8 @@ pub enum NewFault {
     /// The category of the mask for which no locale with its name has data, the first one.
     #[error("no locale has data for a category")]
     NoData(Category),
-    /// Memory was wanting.
-    #[error("memory was wanting")]
+    /// Out of memory.
+    #[error("out of memory")]
     Memory,
 }
 

@@ -96,11 +96,11 @@ too_big : money us (codes "%n") (record { units = pos 12345; scale = 2 } ∷ [])
 unfolding separated separators last_digits flags_behind number_behind conversion piece pieces cell look_of text_with pieces_text missing
 too_big = refl
 
--- a fault is the refusal of its name, and want of memory is none
+-- a fault is the refusal of its name, and out of memory is none
 refusals : refusal_of (faults.BadFormat 6) ∷ refusal_of (faults.MissingAmount 3) ∷ refusal_of faults.TooBig ∷ refusal_of faults.Memory ∷ [] ≡ Some (BadFormat 6) ∷ Some (MissingAmount 3) ∷ Some TooBig ∷ None ∷ []
 refusals = refl
 
--- a text answers for itself alone, and want of memory for whatever there is
+-- a text answers for itself alone, and out of memory for whatever there is
 own_text : Answers (λ (t : List ℕ). t) (Ok (codes "$1")) (Ok (codes "$1"))
 own_text = refl
 

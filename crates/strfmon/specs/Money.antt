@@ -110,18 +110,18 @@ conversion_text v c a = in_field c.flags.left c.width (aligned_text v c a)
 abbrev pub money : MonetaryValues → List ℕ → List MoneyAmount → ℕ → Result (List ℕ) FormatRefusal
 money v format amounts max_len = at_most max_len (formatted conversion (conversion_text v) (λ at. MissingAmount at) format amounts)
 
--- why there is no text, unless memory was wanting
+-- why there is no text, unless it was out of memory
 abbrev pub refusal_of : MoneyFault → Option FormatRefusal
 refusal_of (faults.BadFormat at) = Some (BadFormat at)
 refusal_of (faults.MissingAmount at) = Some (MissingAmount at)
 refusal_of faults.TooBig = Some TooBig
 refusal_of faults.Memory = None
 
--- a fault is the refusal of the definition, or want of memory, which says nothing
+-- a fault is the refusal of the definition, or out of memory, which says nothing
 abbrev pub Refuses : MoneyFault → Result (List ℕ) FormatRefusal → Type 0
 Refuses e answer = IfSome (refusal_of e) (λ why. answer ≡ Err why)
 
--- a result, its text seen by view, is the answer, unless memory is wanting
+-- a result, its text seen by view, is the answer, unless it is out of memory
 abbrev pub Answers : {X : Type 0} → (X → List ℕ) → Result X MoneyFault → Result (List ℕ) FormatRefusal → Type 0
 Answers view (Ok x) answer = answer ≡ Ok (view x)
 Answers view (Err e) answer = Refuses e answer

@@ -71,7 +71,7 @@ faults : answer posix_values (day 2021 1 3 0 2) (codes "a%d%Q") 0 ∷ answer pos
 unfolding values_of expanded pieces conversion
 faults = refl
 
--- a fault is the refusal of its name, and want of memory is none
+-- a fault is the refusal of its name, and out of memory is none
 refusals : refusal_of (stops.BadFormat 3) ∷ refusal_of stops.TooBig ∷ refusal_of stops.Memory ∷ [] ≡ Some (BadFormat 3) ∷ Some TooBig ∷ None ∷ []
 refusals = refl
 

@@ -18,13 +18,13 @@ limited max (Err at) = Err (BadFormat at)
 abbrev pub answer : TimeValues → TmValues → List ℕ → ℕ → Result (List ℕ) FormatRefusal
 answer v t format max = limited max (time_text v t format)
 
--- why there is no text, unless memory was wanting
+-- why there is no text, unless it was out of memory
 abbrev pub refusal_of : TimeFault → Option FormatRefusal
 refusal_of (faults.BadFormat at) = Some (BadFormat at)
 refusal_of faults.TooBig = Some TooBig
 refusal_of faults.Memory = None
 
--- a result is that answer, or want of memory, which says nothing
+-- a result is that answer, or out of memory, which says nothing
 abbrev pub Answers : Result (List ℕ) TimeFault → Result (List ℕ) FormatRefusal → Type 0
 Answers (Ok text) wanted = wanted ≡ Ok text
 Answers (Err e) wanted = IfSome (refusal_of e) (λ why. wanted ≡ Err why)

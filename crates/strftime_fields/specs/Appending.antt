@@ -5,13 +5,13 @@ use Rattle.strftime_fields.specs.declared.fault.TimeFault.TheVariants as faults
 use Rattle.strftime_fields.specs.declared.output.Stop.{Stop}
 use Rattle.strftime_fields.specs.declared.output.Stop.TheVariants.{TooBig, Memory}
 
--- a text is added, or it would be too long, or memory is wanting
+-- a text is added, or it would be too long, or it is out of memory
 abbrev pub Appends : ℕ → List ℕ → List ℕ → List ℕ → Result (Unit {0}) Stop → Type 0
 Appends max old text new (Ok u) = (new ≡ old ++ text) × (length new ≤ max)
 Appends max old text new (Err TooBig) = max < length old + length text
 Appends max old text new (Err Memory) = Unit {0}
 
--- so many steps were counted, or where memory is wanting at most so many
+-- so many steps were counted, or when out of memory at most so many
 abbrev pub CountsTo : Result (Unit {0}) Stop → ℕ → ℕ → Type 0
 CountsTo (Ok u) wanted steps = steps ≡ wanted
 CountsTo (Err TooBig) wanted steps = steps ≡ wanted

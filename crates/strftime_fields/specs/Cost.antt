@@ -44,7 +44,7 @@ unless_wrong (Some at) n = 0
 abbrev pub cost : TimeValues → TmValues → List ℕ → ℕ → ℕ
 cost v t format max = conversions_of format + unless_wrong (bad_place (pieces format)) (reads max 5 v t 0 format)
 
--- so many steps were counted as an answer costs, or where memory is wanting at most so many
+-- so many steps were counted as an answer costs, or when out of memory at most so many
 abbrev pub Counts : {A : Type 0} → Result A TimeFault → ℕ → ℕ → Type 0
 Counts (Ok text) wanted steps = steps ≡ wanted
 Counts (Err Memory) wanted steps = steps ≤ wanted

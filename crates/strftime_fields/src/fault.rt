@@ -17,13 +17,13 @@ pub enum TimeFault {
     /// The text is longer than it may be.
     #[error("the text is too long")]
     TooBig,
-    /// Memory was wanting.
-    #[error("memory was wanting")]
+    /// Out of memory.
+    #[error("out of memory")]
     Memory,
 }
 
 impl TimeFault {
-    /// Why there is no text, unless memory was wanting.
+    /// Why there is no text, unless it was out of memory.
     pub fn refusal(self) -> Option<FormatRefusal>
         ensures { result ≡ refusal_of self }
     {

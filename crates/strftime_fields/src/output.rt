@@ -13,7 +13,7 @@ use time_cat::Name;
 pub enum Stop {
     /// The text is longer than it may be.
     TooBig,
-    /// Memory was wanting.
+    /// Out of memory.
     Memory,
 }
 

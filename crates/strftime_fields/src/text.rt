@@ -79,7 +79,7 @@ fn first_fault<L: Ledger>(format: &[u8], stop: Stop, steps: &mut Steps<L>) -> Ti
 ///
 /// `BadFormat` comes exactly where a `%` of the format begins no conversion, at the first one, and
 /// `TooBig` exactly where none does and the text is longer than `max`. The steps are those that the
-/// format costs, or where memory is wanting at most so many.
+/// format costs, or when out of memory at most so many.
 pub fn strftime_counted<L: Ledger>(
     alloc: Global,
     t: &Time,

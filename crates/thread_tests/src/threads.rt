@@ -1,4 +1,4 @@
-//! Tests of threads that run beside each other.
+//! Tests of threads that run concurrently.
 ghost use Rattle.std.specs.Prelude.{◌≡◌, ℕ, ◌+◌, ◌*◌, ◌<◌, ◌≤◌, length, IfOk, map};
 ghost use Rattle.std.specs.List.{range_with_len};
 ghost use Rattle.turn_gate.specs.Callers.{IsSeatOf};
@@ -261,7 +261,7 @@ fn work<R: Wait>(rt: &R, shared: &Shared<Number>, counts: &Counts, mut mine: Min
     end(rt, shared, mine)
 }
 
-// The work of five threads beside each other.
+// The work of five concurrent threads.
 #[tactic(auto, using(crate::proofs::Rounds::starts))]
 fn five_threads<R: Threads + Wait + Sync>(
     rt: &R,

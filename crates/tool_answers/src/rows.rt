@@ -254,7 +254,7 @@ pub const COMMANDS: [CommandRow; 13] = [
     CommandRow {
         command: ToolCommand::Run,
         name: "run",
-        about: "Runs the scripts of bundles, the threads of a round beside each other",
+        about: "Runs the scripts of bundles, the threads of a round in parallel",
         args: &[BUNDLES, EXPLAIN, STRICT],
     },
     CommandRow {

@@ -21,7 +21,7 @@ abbrev pub IsChecked : Bool → List ℕ → Checked → Type 0
 IsChecked asked path (Accepted summary) = IsSummary asked path summary
 IsChecked asked path (Refused messages) = Unit {0}
 
--- that a file is accepted with this summary, unless memory was wanting
+-- that a file is accepted with this summary, unless it was out of memory
 abbrev pub accepted : {E : Type 0} → Result (List ℕ) E → Result Checked Problem
 accepted (Ok summary) = Ok (Accepted summary)
 accepted (Err e) = Err Memory

@@ -42,7 +42,7 @@ enum Checked {
 }
 
 /// Checks a file: adds its summary to the output where it is asked for, or its faults to the messages.
-/// Whether it is accepted. It fails for want of memory alone.
+/// Whether it is accepted. It fails only when it is out of memory.
 #[tactic(auto, using(crate::proofs::CheckedLemmas::accepted_written, crate::proofs::CheckedLemmas::refused_written))]
 pub fn check_file<R: Files>(
     rt: &R,

@@ -4,7 +4,7 @@ use Rattle.lc_base.specs.declared.fault.TextFault.TheVariants as faults
 use Rattle.tool_messages.specs.declared.answer.Problem.{Problem}
 use Rattle.tool_messages.specs.declared.answer.Problem.TheVariants.{Refused, Usage, Memory}
 
--- a fault with a place is told as a refusal, unless memory is wanting, and want of memory as such
+-- a fault with a place is told as a refusal, unless it is out of memory, and being out of memory as such
 abbrev pub IsTold : TextFault → Problem → Type 0
 IsTold fault Memory = Unit {0}
 IsTold fault (Usage message) = ⊥

@@ -33,7 +33,7 @@ pub enum Problem {
     Refused(ByteText),
     /// A word of the command line is wrong.
     Usage(ByteText),
-    /// Memory was wanting.
+    /// Out of memory.
     Memory,
 }
 
@@ -53,7 +53,7 @@ impl Problem {
     pub fn message(&self) -> &[u8] {
         match self {
             Problem::Refused(text) | Problem::Usage(text) => text.as_bytes(),
-            Problem::Memory => b"locale_tool: memory is wanting\n",
+            Problem::Memory => b"locale_tool: out of memory\n",
         }
     }
 }

@@ -1,4 +1,4 @@
--- What a command of the tool answers: a value, or a problem of one of two kinds; of want of memory nothing is said (our own).
+-- What a command of the tool answers: a value, or a problem of one of two kinds; of being out of memory nothing is said (our own).
 use Rattle.std.specs.Prelude.{◌≡◌, ℕ, List, [], ◌∷◌, ◌++◌, Option, Some, None, Result, Ok, Err}
 use Rattle.tool_messages.specs.declared.answer.Problem.{Problem}
 use Rattle.tool_messages.specs.declared.answer.Problem.TheVariants.{Refused, Usage, Memory}
@@ -18,13 +18,13 @@ Tells Memory defined = Unit {0}
 Tells (Usage message) defined = defined ≡ Err WrongWord
 Tells (Refused message) defined = defined ≡ Err NoAnswer
 
--- a problem is of a kind, unless memory is wanting
+-- a problem is of a kind, unless it is out of memory
 abbrev pub IsOf : Problem → Cause → Type 0
 IsOf Memory cause = Unit {0}
 IsOf (Usage message) cause = cause ≡ WrongWord
 IsOf (Refused message) cause = cause ≡ NoAnswer
 
--- an answer, its value seen by view, is what the definition gives, unless memory is wanting
+-- an answer, its value seen by view, is what the definition gives, unless it is out of memory
 abbrev pub Answers : {X A : Type 0} → (X → A) → Result X Problem → Defined A → Type 0
 Answers view (Ok x) defined = defined ≡ Ok (view x)
 Answers view (Err problem) defined = Tells problem defined

@@ -30,7 +30,7 @@ pub fn problem_of(alloc: Global, format: &[u8], text: &[u8], refusal: FormatRefu
     }
 }
 
-/// The problem of a format that has no text; without a refusal memory was wanting.
+/// The problem of a format that has no text; without a refusal it was out of memory.
 #[tactic(auto, using(crate::proofs::AnswerLemmas::told))]
 pub fn text_problem(alloc: Global, format: &[u8], refusal: Option<FormatRefusal>) -> Problem
     ensures { (answer : Result (List ℕ) FormatRefusal) → IfSome refusal (λ why. answer ≡ Err why) → Tells result (line_of answer) }

@@ -13,7 +13,7 @@ use Rattle.tool_script.specs.declared.played.Played.{Played}
 use Rattle.tool_script.specs.declared.played.Playing.{Playing}
 use Rattle.tool_script.specs.Explained.{explained_text, is_refused}
 
--- lines that a plan may print: just those of one command after another, or, where threads run beside each other, those of any
+-- lines that a plan may print: just those of one command after another, or, where threads run concurrently, those of any
 -- order in which they may call
 abbrev pub MayPrint : Bool → PlanData → List OutLine → Type 0
 MayPrint false plan lines = lines ≡ serial_lines ROWS GENERATIONS plan
@@ -37,7 +37,7 @@ pub record IsPlayed (text : List ℕ) (how : Playing) (played : Played) : Type 0
   pub output : played.output ≡ shown how.explain plan text lines
   pub refusal : played.has_refusal ≡ has_refusal lines
 
--- what running the script of a text may give: how it was played, its first fault, or want of memory
+-- what running the script of a text may give: how it was played, its first fault, or out of memory
 abbrev pub MayPlay : List ℕ → Playing → Result Played TextFault → Type 0
 MayPlay text how (Ok played) = IsPlayed text how played
 MayPlay text how (Err fault) = Fails fault (plan_of text)

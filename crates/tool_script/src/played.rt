@@ -28,7 +28,7 @@ const GENERATIONS: u32 = 65535;
 /// How a script is run.
 #[derive(Clone, Copy)]
 pub struct Playing {
-    /// Whether the threads of a round run beside each other.
+    /// Whether the threads of a round run concurrently.
     pub is_run: bool,
     /// Whether each line stands with its command.
     pub explain: bool,
@@ -41,7 +41,7 @@ pub struct Played {
     pub has_refusal: bool,
 }
 
-/// Runs the script of a bundle that a file has. A bundle that is accepted fails for want of memory alone, as
+/// Runs the script of a bundle that a file has. A bundle that is accepted fails only when it is out of memory, as
 /// one does that is larger than a file may be.
 pub fn play<R: Threads + Wait + Sync>(
     rt: &R,
