@@ -4,6 +4,8 @@
 mod answer;
 mod concurrent;
 mod made;
+#[cfg(test)]
+mod pauses;
 mod pieces;
 mod request;
 mod top;
