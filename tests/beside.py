@@ -1,0 +1,106 @@
+#!/usr/bin/env python3
+"""Shows by what a built program prints that the threads of a round are under way at once: beside.py PROGRAM
+
+Runs each of two scripts until an output shows it, at most so often, and has that output judged by tests/replay.py.
+Prints a line for each: its name, 0 where an output showed it and is right, else 1, and how many runs there were. What
+is wrong stands behind it, on lines that begin with a blank.
+
+Between its calls a thread makes reads of some 1 ms each, so that it is under way for longer than threads take to
+begin, and than a processor stays with one of them. Nearly each run then shows it. Where that was measured, each of 800
+runs of either script did: 200 by four processors and 200 by one, among the other work of a load of 11 to 13, and as
+many ahead of that work (nice -n -20); and with reads that took a quarter of the time, 799 of 800 runs of both. So a
+right program hardly ever needs a second run, and one that never shows it in 200 or 50 runs is taken for wrong.
+"""
+import os
+import subprocess
+import sys
+import tempfile
+
+HERE = os.path.dirname(os.path.realpath(__file__))
+# A locale whose %c stands for 16 * 16 * 16 conversions.
+LOCALE = """.locale a UTF-8
+LC_TIME
+d_t_fmt "%s"
+t_fmt "%s"
+t_fmt_ampm "%s"
+END LC_TIME
+.end
+""" % ("%X" * 16, "%r" * 16, "%n" * 16)
+SLOW_READ = 'parse "%c" "7"'
+
+
+def script(threads):
+    """A bundle with one round of these threads, each a name and its commands."""
+    return LOCALE + "".join(".thread %s\n%s\n" % (name, "\n".join(commands)) for name, commands in threads)
+
+
+def contended():
+    """Sixteen threads with 70 commands, which but for the slow reads take the turn, and print their places."""
+    def commands(number):
+        other = "T%d" % ((number + 1) % 16)
+        calls = ["new x LC_TIME a", "use x", "post 0 x", "fetch y %s.0" % other, "setlocale LC_TIME a", "free x"]
+        return [*calls, SLOW_READ]
+    return script(("T%d" % number, commands(number) * 10) for number in range(16))
+
+
+def mutual():
+    """Two threads that again and again post a handle of their own and fetch what the other has posted."""
+    return script(
+        (name, ["new x LC_TIME a", "use x"] + ["post 0 x", "fetch y %s.0" % other, SLOW_READ] * 100)
+        for name, other in ("AB", "BA"))
+
+
+def gave_each_other(output):
+    """Whether each of two threads got a handle of the other in their one round. Where one of them makes its calls
+    before the other begins, it gets none, since the other has posted nothing yet."""
+    lines = [line.split(b" ", 5) for line in output.splitlines()]
+    got = {(line[1], line[5].split(b".")[0]) for line in lines if line[0] == b"1"}
+    return {(b"A", b"handle B"), (b"B", b"handle A")} <= got
+
+
+def printed(program, mode, bundle):
+    """What the program prints of a bundle."""
+    done = subprocess.run([program, mode], input=bundle.encode(), capture_output=True, timeout=60, check=False)
+    if done.returncode != 0:
+        sys.exit("%s ended with %d" % (mode, done.returncode))
+    return done.stdout
+
+
+def replayed(program, bundle, output):
+    """What the replay tells of an output: nothing where it may be printed."""
+    with tempfile.TemporaryDirectory() as folder:
+        files = [os.path.join(folder, name) for name in ("bundle", "output")]
+        for name, text in zip(files, (bundle.encode(), output)):
+            with open(name, "wb") as file:
+                file.write(text)
+        words = [sys.executable, os.path.join(HERE, "replay.py"), *files, "program=" + program]
+        done = subprocess.run(words, stdout=subprocess.PIPE, stderr=subprocess.STDOUT, check=False)
+    return done.stdout.decode("latin-1") if done.returncode != 0 else ""
+
+
+def check(program, name, most, bundle, shows, otherwise):
+    """Runs a script until an output shows what it is for, and tells of it."""
+    for count in range(1, most + 1):
+        output = printed(program, "run", bundle)
+        if shows(output):
+            wrong = replayed(program, bundle, output)
+            break
+    else:
+        wrong = otherwise
+    print(name, 1 if wrong else 0, count, flush=True)
+    for line in wrong.splitlines():
+        print("  " + line, flush=True)
+
+
+def main(path):
+    program = os.path.abspath(path)
+    bundle = contended()
+    alone = printed(program, "serial", bundle)
+    check(program, "run_differs_from_serial", 200, bundle, lambda output: output != alone,
+          "run printed what serial prints in each of 200 runs")
+    check(program, "handles_both_ways", 50, mutual(), gave_each_other,
+          "in none of 50 runs did each of two threads get a handle of the other in one round")
+
+
+if __name__ == "__main__":
+    main(*sys.argv[1:])
