@@ -30,7 +30,7 @@ counts_line c =
 abbrev pub counts_text : List ℕ → Reads (List ℕ)
 counts_text input = counts_of input >>= λ counts. Ok (counts_line counts)
 
--- lines that `run` may print: those of one history of the threads' calls, in which threads that share handles with nobody read
+-- lines that `run` may print: those of one history of the calls that they print, in which threads that share handles with nobody read
 -- what they would read without the others
 pub record MayBePrinted (rows generations : ℕ) (plan : PlanData) (lines : List OutLine) : Type 0 where
   pub prints : Prints (setting plan rows generations) plan lines
@@ -40,7 +40,7 @@ pub record MayBePrinted (rows generations : ℕ) (plan : PlanData) (lines : List
 abbrev pub serial_text : ℕ → ℕ → PlanData → List ℕ
 serial_text rows generations plan = printed (serial_lines rows generations plan) plan.bundle.threads
 
--- what an accepted bundle may print. `run` prints the lines of one history of its threads' calls: which one it is no clause says
+-- what an accepted bundle may print. `run` prints the lines of one history of the calls that they print: which one it is no clause says
 abbrev pub Outputs : Mode → PlanData → List ℕ → Type 0
 Outputs Check plan text = text ≡ counts_line (counts plan.bundle)
 Outputs (Serial rows generations) plan text = text ≡ serial_text rows generations plan
