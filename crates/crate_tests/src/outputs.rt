@@ -37,7 +37,7 @@ fn printed_again(alloc: Global, text: &[u8]) -> Result<ByteText, TextFault> {
 
 /// Texts by the rules of the output: that of no lines, that of a whole script, and lines with every other
 /// reply.
-const OUTPUTS: [&[u8]; 8] = [
+const OUTPUTS: [&[u8]; 9] = [
     b"",
     br#"1 A 1 0 - handle A.0.1
 1 A 2 1 - was GLOBAL
@@ -103,6 +103,14 @@ const OUTPUTS: [&[u8]; 8] = [
 1 A 27 8,9 - refused MissingNumber 10
 1 A 28 - - refused Mismatch 1023
 1 A 29 - - refused TooBig
+"#,
+    br#"1 A 1 c0 - opened A.0.1
+1 A 2 c1 - text "not found"
+1 A 3 c2 - closed
+1 A 4 c3 - refused Stale
+1 A 5 - g0 refused NoCatalog
+1 Bo 1 c4 g1 opened Bo.15.65535
+1 Bo 2 - - refused NoCatalog
 "#,
     b"4294967295 Bo 4294967295 18446744073709551615 g4294967295 handle Bo.4294967295.4294967295
 1 A 1 - - parsed -2147483648 255 255 255 255 255 255 65535 18446744073709551615
