@@ -1,7 +1,7 @@
 #!/usr/bin/env python3
 """Runs a built program of locales over one bundle, each time with one of its calls failing: an allocation,
 the start of a thread, a read of standard input, a write to standard output; and over fronts of the bundle.
-It also counts the threads that are started.
+It also counts the threads that are started, and what scripts of many calls allocate.
 
     each_call.py PROGRAM BUNDLE OUTPUT
 
@@ -22,6 +22,46 @@ HERE = os.path.dirname(os.path.realpath(__file__))
 KINDS = ["FAULTS_ALLOCATION", "FAULTS_THREAD", "FAULTS_READ", "FAULTS_WRITE"]
 DONE, REFUSED, READ_FAULT, WRITE_FAULT, MEMORY = 0, 3, 4, 5, 6
 LIMIT = 16777216
+FEW_COMMANDS, MOST_COMMANDS = 64, 20000
+BLOCKS = """.locale a UTF-8
+LC_NUMERIC
+END LC_NUMERIC
+.end
+.later k a UTF-8
+LC_NUMERIC
+END LC_NUMERIC
+.end
+.catalog m C
+1 Hi
+.end
+.thread A
+"""
+# Commands that are calls of the table or of the catalogs: a name, those that come before, and those that are repeated,
+# which are accepted, or refused; and a command that calls neither, and whose reply has as many texts of its own.
+MADE, FREED = ["new x LC_NUMERIC a"], ["new x LC_NUMERIC a", "free x"]
+CLOSED = ["catopen c m", "catclose c"]
+ACCEPTED = [
+    ("made_and_freed", [], FREED, "use ?"),
+    ("changed", MADE, ["new x LC_NUMERIC a x"], "use ?"),
+    ("copied_and_freed", [], ["dup x GLOBAL", "free x"], "use ?"),
+    ("selected", MADE, ["use x", "use GLOBAL"], "use ?"),
+    ("held_and_released", MADE, ["hold x", "release x"], "use ?"),
+    ("held_for_a_read", MADE, ["class_l x alpha 97"], "use ?"),
+    ("pins_counted", MADE, ["pins x"], "use ?"),
+    ("posted_and_fetched", MADE, ["post 0 x", "fetch y A.0"], "use ?"),
+    ("set", [], ["setlocale LC_NUMERIC a"], "info RADIXCHAR"),
+    ("installed", [], ["install k"], "use ?"),
+    ("opened_and_closed", [], CLOSED, "use ?"),
+    ("message_read", ["catopen c m"], ['catgets c 1 1 "x"'], "info RADIXCHAR"),
+]
+REFUSED_CALLS = [
+    ("no_row", [], MADE, "use ?"),
+    ("stale", FREED, [
+        "free x", "use x", "hold x", "release x", "post 0 x", "pins x", "dup y x", "new y LC_NUMERIC a x"], "use ?"),
+    ("nothing_posted", [], ["fetch y A.1"], "use ?"),
+    ("no_row_of_the_catalogs", [], ["catopen c m"], "use ?"),
+    ("closed", CLOSED, ["catclose c", 'catgets c 1 1 "x"'], "use ?"),
+]
 
 
 class Program:
@@ -172,6 +212,31 @@ def begun_beside(program):
         lambda: tried("make seed=0 commands=4", 3, 4)]
 
 
+def steps(program):
+    """A call of the table or of the catalogs takes no memory: from few commands to as many as a script may have,
+    what `serial` allocates behind the reading grows as it does for as many commands that call neither, but for
+    the longer output."""
+    def allocated(before, repeated, is_refused, count):
+        lines = (before + repeated * count)[:count]
+        script = (BLOCKS + "".join(line + "\n" for line in lines)).encode()
+        status, written, made = program.run("serial generations=2147483647", script)
+        refusals = written.count(b" refused ")
+        if status != DONE or (refusals <= count // 2 if is_refused else refusals > 0):
+            raise ValueError(f"{repeated}: status {status}, {refusals} of {count} refused")
+        return made[KINDS.index("FAULTS_ALLOCATION")] - program.reached("FAULTS_ALLOCATION", "check", script)
+    def grown(*commands):
+        return allocated(*commands, MOST_COMMANDS) - allocated(*commands, FEW_COMMANDS)
+    def tried(is_refused, name, before, repeated, like):
+        try:
+            more = grown(before, repeated, is_refused) - grown([], [like], False)
+        except ValueError as wrong:
+            return f"{name}: {wrong}"
+        return None if more <= 2 else f"{name}: {more} allocations more than of {like}"
+    return [
+        lambda is_refused=is_refused, call=call: tried(is_refused, *call)
+        for is_refused, calls in ((False, ACCEPTED), (True, REFUSED_CALLS)) for call in calls]
+
+
 def no_more_reads(program, size, other):
     """A longer input is read no further than one byte past the limit."""
     def tried():
@@ -200,6 +265,7 @@ def main():
             check(f"single_bytes_of_{mode}", [
                 row(program, mode, bundle, is_just(DONE, outputs), read_step=1, write_step=1)])
         check("threads_begun_beside", begun_beside(program))
+        check("steps_without_memory", steps(program))
         check("threads_that_do_not_start", threads(program, "run", bundle, wanted["run"]))
         check("failing_writes_of_a_refusal", writes(
             program, "check", b".end\n", [b"refused: 1:1 BadLine directive\n"]))
