@@ -1,6 +1,7 @@
 #!/usr/bin/env python3
 """Looks whether each link of the documents leads to a file, and to a heading of it: tests/links.py. Prints a
 line for each that does not, and ends with 1 where there is one."""
+import functools
 import glob
 import os
 import re
@@ -20,6 +21,7 @@ def text_lines(path):
                 yield number, line
 
 
+@functools.lru_cache(maxsize=None)
 def anchors(path):
     """What links may name of a document: its headings, as GitHub makes names of them."""
     names = set()
@@ -49,7 +51,8 @@ def faults(document):
 
 
 def main():
-    documents = [it for form in ("*.md", "bench/*.md", "docs/*.md") for it in glob.glob(form, root_dir=TOP)]
+    paths = [it for form in ("*.md", "bench/*.md", "docs/*.md") for it in glob.glob(f"{TOP}/{form}")]
+    documents = [os.path.relpath(it, TOP) for it in paths]
     found = [fault for document in sorted(documents) for fault in faults(document)]
     print("\n".join(found), end="\n" if found else "")
     return 1 if found else 0
