@@ -38,6 +38,9 @@
 #include <stddef.h>
 #include <stdint.h>
 
+/* The version of the library. */
+#define LO_VERSION "1.0"
+
 #ifdef __cplusplus
 extern "C" {
 #endif
