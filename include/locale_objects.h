@@ -3,33 +3,33 @@
  * others). docs/C.md says how to build a program with the library and what is proved of it.
  *
  * Handles. A program keeps an `lo_object` for each object. It begins as LO_NOTHING, is filled by a call
- * that takes it as `out`, and is emptied by lo_freelocale. Pass it by its address alone: a copy of a
- * full handle is no second one, and its fields are the library's. An object never changes, and the
+ * that takes it as `out`, and is emptied by lo_freelocale. Pass it only by its address: a copy of a full
+ * handle is not a second handle, and its fields belong to the library. An object never changes, and the
  * library that was read lives as long as one of its objects.
  *
- * Threads. Any thread may make any call, but one call at a time may use a handle, also for reading. Each
- * thread takes handles of its own by lo_duplocale, before or after it starts; these share what they read
- * without a lock. A handle may go to another thread where that is ordered by the start or the join of a
+ * Threads. Any thread may make any call, but only one call at a time may use a handle, even for reading.
+ * Each thread takes its own handles by lo_duplocale, before or after it starts; these share what they read
+ * without a lock. A handle may go to another thread if that is ordered by the start or the join of a
  * thread, by a lock or by an atomic. Calls write the handle while they run: handles of busy threads that
- * stand within 64 bytes of each other slow these down.
+ * are within 64 bytes of each other slow each other down.
  *
- * Who frees. An object that a call put into `out` is given back by lo_freelocale, once, in any order and on
- * any thread. Nothing else is to be freed: all other answers are numbers, or stand in the caller's memory.
- * With an object goes the block of memory, of at most 4096 bytes, that its handle keeps from one text of amounts
+ * Who frees. An object that a call put into `out` is freed by lo_freelocale, once, in any order and on any
+ * thread. Nothing else is to be freed: all other answers are numbers, or are in the caller's memory. With
+ * an object goes the block of memory, of at most 4096 bytes, that its handle keeps from one text of amounts
  * or of a time to the next.
  *
  * Texts are given by a pointer and a number of bytes, need no NUL, and may have any bytes. Buffers are
- * given with their size. A text that a call gives stands at the front of the buffer with a NUL behind
- * it, and `n` is its length without the NUL. It is never cut: where text and NUL do not fit, the answer
- * is LO_TOO_SMALL. Under any code but LO_OK a buffer for a text is as it was; that of lo_read is for the
+ * given with their size. A text that a call gives begins at the start of the buffer and is followed by a
+ * NUL, and `n` is its length without the NUL. It is never cut: if text and NUL do not fit, the answer is
+ * LO_TOO_SMALL. Under any code but LO_OK a buffer for a text is as it was; that of lo_read is for the
  * line of a fault.
  *
- * No pointer may be null, a text or a buffer of 0 bytes included. No call checks this, but LO_NONNULL below
+ * No pointer may be null, even for a text or a buffer of 0 bytes. No call checks this, but LO_NONNULL below
  * lets compilers warn of a null constant (-Wall), and the sanitizer of undefined behavior stop at any null.
- * Two that a call writes or takes as a handle may not overlap one another, nor its other arguments; each
- * points to as many bytes or elements as its size says; a `bool` is true or false; no size is over
- * PTRDIFF_MAX. Nothing checks these. No call may be made from a signal handler, or in the child of a fork of
- * a process with threads.
+ * Two pointers that a call writes through or takes as handles may not overlap one another, nor the other
+ * arguments; each points to as many bytes or elements as its size says; a `bool` is true or false; no size
+ * is over PTRDIFF_MAX. Nothing checks these. No call may be made from a signal handler, or in the child of
+ * a fork of a process with threads.
  */
 #ifndef LOCALE_OBJECTS_H
 #define LOCALE_OBJECTS_H
@@ -196,7 +196,7 @@ enum {
 
 /*
  * Reads charmaps and locale sources, in the form of a bundle (docs/BUNDLE.md), and gives the POSIX object
- * over the library that they make. Commands in the text are read as well, and passed over.
+ * over the library that they make. Commands in the text are read, too, and ignored.
  *
  * LO_BAD_TEXT: the text breaks a rule; `place` is where, and the buffer has the line `refused: L:C REASON`
  * that names it (docs/REFUSALS.md), a newline at its end. LO_TOO_SMALL: it does, and the line does not fit;
@@ -229,7 +229,7 @@ void lo_freelocale(lo_object *object) LO_NONNULL;
 
 /*
  * The text of amounts by a format (XSH strfmon_l), each of units / 10^scale in the currency of the object's
- * LC_MONETARY. Amounts that are left over are passed over.
+ * LC_MONETARY. Extra amounts are ignored.
  * LO_NO_OBJECT, LO_BAD_AMOUNT, LO_BAD_FORMAT, LO_MISSING, LO_TOO_SMALL, LO_NO_MEMORY.
  */
 lo_answer lo_strfmon_l(char *buffer, size_t size, lo_object *object, const char *format, size_t length,
@@ -247,14 +247,14 @@ lo_answer lo_nl_langinfo_l(char *buffer, size_t size, uint32_t item, lo_object *
 
 /*
  * How numbers and amounts are written (XSH localeconv). The buffer has the ten texts in the order of the
- * lengths, each with a NUL behind it; `n` counts all bytes but the last NUL. LO_NO_OBJECT, LO_NO_MEMORY;
+ * lengths, each followed by a NUL; `n` counts all bytes but the last NUL. LO_NO_OBJECT, LO_NO_MEMORY;
  * LO_TOO_SMALL, where the fields are written all the same.
  */
 lo_answer lo_localeconv_l(char *buffer, size_t size, lo_lconv *fields, lo_object *object) LO_NONNULL;
 
 /*
- * The text of whole numbers by a format with `d`, `i` and `u` (XSH fprintf). Numbers that are left over are
- * passed over. LO_NO_OBJECT, LO_BAD_FORMAT, LO_MISSING, LO_TOO_SMALL, LO_NO_MEMORY.
+ * The text of whole numbers by a format with `d`, `i` and `u` (XSH fprintf). Extra numbers are ignored.
+ * LO_NO_OBJECT, LO_BAD_FORMAT, LO_MISSING, LO_TOO_SMALL, LO_NO_MEMORY.
  */
 lo_answer lo_int_format_l(char *buffer, size_t size, lo_object *object, const char *format, size_t length,
                           const int64_t *numbers, size_t count) LO_NONNULL;
