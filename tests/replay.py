@@ -7,8 +7,9 @@ the closing lines; and each reply is the one that a table of locale objects give
 are made again one after another in the order of their places. A read tells what its object says: the radix
 character and the separator of thousands as the source has them, any other read the same for the same object
 and words. A version that a line prints is one that its thread could have read there. Calls on message catalogs
-have a history of their own, of which the same holds; a message is the one that a plain source has. Prints the
-first line that is wrong, and ends with 1.
+have a history of their own, of which the same holds; a message is the one that a plain source has. One order of
+all calls and all reads of the global locale agrees with both histories, the threads and the rounds. Prints the
+first line that is wrong, or lines that no one order has, and ends with 1.
 
 With a program, its `serial` must print the same replies, reads and versions included: for a script of the same
 calls in the order of their places, or, where there is none, as a bundle has too few rounds for that order, for one
@@ -16,6 +17,8 @@ that makes each object that was read anew.
 """
 import subprocess
 import sys
+
+from joint_order import circle
 
 CATEGORIES = ["LC_CTYPE", "LC_NUMERIC", "LC_MONETARY", "LC_TIME", "LC_MESSAGES"]
 CATALOG_CALLS = ("catopen", "catgets", "catclose")
@@ -592,6 +595,7 @@ class Check:
             self.sets.append(len(self.table.globals) - 1)
         self.versions()
         self.replay_catalogs()
+        self.one_order()
 
     def replay(self, queues):
         """All calls of the commands again, in the order of their places; between them the lines without one."""
@@ -621,6 +625,12 @@ class Check:
             judged(line, self.held_read if wish[0] == "read_of" else self.bare, who, wish)
             self.bind(who, words, line.reply)
             self.steps[who].append(Step(line, words, None, line.told))
+
+    def one_order(self):
+        """The two histories are parts of one order."""
+        found = circle(self.lines)
+        told = ", and ".join("(%s) comes after (%s)" % (line.text, before.text) for line, before in found)
+        want(not found, told + " -- wanted: one order of all calls")
 
     def versions(self):
         """The bounds of each version that a line tells without having made it."""
@@ -663,7 +673,6 @@ class Check:
         queues = [list(enumerate(steps)) for steps in self.steps]
         moments, last, following = [(-1, 0)] * count, (-1, 0, 0), 0
         while any(queues):
-            before = len(order)
             for who, queue in enumerate(queues):
                 while queue and queue[0][1].line.catalog in (None, following):
                     number, step = queue.pop(0)
@@ -684,7 +693,6 @@ class Check:
                         return None
                     moments[who] = (at, stage)
                     order.append((at, step.place is None, stage, rank, number, who, step))
-            want(len(order) > before, "the two histories agree with the order along the threads")
         return [(who, step) for *_, who, step in sorted(order, key=lambda it: it[:5])]
 
 
