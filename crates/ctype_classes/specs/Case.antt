@@ -1,8 +1,8 @@
 -- Case maps (XBD 7.3.1, toupper and tolower).
-use Rattle.std.specs.Prelude.{ℕ, ◌==◌, List, [], ◌∷◌, map, codes, Option, Some, None, unwrap_or, if◌then◌else◌}
-use Rattle.std.specs.BTreeMap.{insert_entry, is_at}
-use Rattle.std.specs.Map.{lookup}
+use Rattle.std.specs.Prelude.{ℕ, ◌==◌, List, [], ◌∷◌, map, codes, Option, Some, None, if◌then◌else◌}
+use Rattle.std.specs.BTreeMap.{insert_entry}
 use Rattle.std.specs.Ordering.{nat_cmp}
+pub use Rattle.value_pages.specs.Maps.{image}
 use Rattle.lc_base.specs.declared.category.Category.TheVariants as categories
 use Rattle.keywords.specs.declared.source.Entry.{Entry}
 use Rattle.keywords.specs.LookUp.{posix_pairs}
@@ -24,10 +24,6 @@ lower_pairs entries = elim (operands entries (codes "tolower")) [ None ↦ map r
 abbrev pub map_of : List (ℕ × ℕ) → List (ℕ × ℕ)
 map_of [] = []
 map_of (pair ∷ pairs) = insert_entry nat_cmp (map_of pairs) pair.0 pair.1
-
--- what a map gives for a value: the value itself where it has none
-abbrev pub image : List (ℕ × ℕ) → ℕ → ℕ
-image entries w = unwrap_or (lookup (is_at (nat_cmp w)) entries) w
 
 -- what the first pair with a first member gives
 abbrev pub first_image : List (ℕ × ℕ) → ℕ → Option ℕ

@@ -1,17 +1,14 @@
 //! Case maps.
 
 ghost use Rattle.std.specs.Prelude.{◌≡◌, ◌++◌, map, IfOk};
-ghost use Rattle.std.specs.Option.{option_copied};
-ghost use Rattle.ctype_classes.specs.Case.{reversed, upper_pairs, lower_pairs, map_of, image};
+ghost use Rattle.ctype_classes.specs.Case.{reversed, upper_pairs, lower_pairs, map_of};
 
 use crate::first_lines::KeywordList;
 use keywords::{pairs, posix_pairs};
 use lc_base::Category;
 use std::alloc::{AllocError, Global};
 use std::collections::BTreeMap;
-
-/// A case map: the values that it maps, with their images.
-pub type CaseMap = BTreeMap<u32, u32>;
+use value_pages::PagedMap;
 
 /// The pairs that map to upper case.
 pub fn upper_pairs(alloc: Global, list: &KeywordList<'_>) -> Result<Vec<(u32, u32)>, AllocError>
@@ -45,11 +42,11 @@ pub fn lower_pairs(
     }
 }
 
-/// The map of pairs. Of pairs with one first member the first counts, so the last are put first.
-pub fn map_of(alloc: Global, pairs: &[(u32, u32)]) -> Result<CaseMap, AllocError>
+/// The entries of pairs. Of pairs with one first member the first counts, so the last are put first.
+fn entries_of(alloc: Global, pairs: &[(u32, u32)]) -> Result<BTreeMap<u32, u32>, AllocError>
     ensures { IfOk result (λ m. m.entries ≡ map_of pairs.now) }
 {
-    let mut entries = CaseMap::new(alloc);
+    let mut entries = BTreeMap::new(alloc);
     let mut left = pairs.len();
     while left > 0 {
         left -= 1;
@@ -59,9 +56,11 @@ pub fn map_of(alloc: Global, pairs: &[(u32, u32)]) -> Result<CaseMap, AllocError
     Ok(entries)
 }
 
-/// What a map gives for a value: the value itself where it has none.
-pub fn image(map: &CaseMap, w: u32) -> u32
-    ensures { result ≡ image map.now.entries w }
+/// The map of pairs.
+pub fn map_of(alloc: Global, pairs: &[(u32, u32)]) -> Result<PagedMap, AllocError>
+    ensures { IfOk result (λ m. m ≡ map_of pairs.now) }
 {
-    map.get(&w).copied().unwrap_or(w)
+    let entries = entries_of(alloc, pairs)?;
+    let map = PagedMap::of(alloc, entries)?;
+    Ok(map)
 }

@@ -14,9 +14,13 @@ use class_ranges::Ranges;
 use keywords::{Values, ranges};
 use lc_base::ByName;
 use std::alloc::{AllocError, Global};
+use value_pages::PagedRanges;
 
 /// Classes with their members.
-pub type Classes = ByName<Ranges>;
+pub type Classes = ByName<PagedRanges>;
+
+/// So many classes of a locale have tables of pages.
+const PAGED_CLASSES: usize = 64;
 
 /// Whether a class has a value. A class that is not there has none.
 pub fn has_member(classes: &Classes, name: &[u8], w: u32) -> bool
@@ -52,8 +56,8 @@ fn add_parts(
 {
     let mut members = members;
     for part in parts {
-        if let Some(ranges) = classes.get(part) {
-            members.extend_from_slice(ranges.as_slice())?;
+        if let Some(paged) = classes.get(part) {
+            members.extend_from_slice(paged.ranges().as_slice())?;
         }
     }
     Ok(members)
@@ -73,6 +77,17 @@ fn all_members(
     add_parts(members, classes, row.parts)
 }
 
+/// Members with a table of their pages, where their class is one of the first.
+fn paged_members(alloc: Global, members: Ranges, place: usize) -> Result<PagedRanges, AllocError>
+    ensures { IfOk result (λ paged. paged ≡ members) }
+{
+    if place < PAGED_CLASSES {
+        PagedRanges::of(alloc, members)
+    } else {
+        Ok(PagedRanges::without_pages(alloc, members))
+    }
+}
+
 /// The classes with one more.
 pub fn with_class(
     alloc: Global,
@@ -86,6 +101,7 @@ pub fn with_class(
     let mut classes = classes;
     let members = all_members(alloc, list, &classes, row)?;
     let members = characters(alloc, charset, &members)?;
+    let members = paged_members(alloc, members, classes.len())?;
     classes.add(alloc, row.name, members)?;
     Ok(classes)
 }

@@ -10,7 +10,7 @@ ghost use Rattle.ctype_classes.specs.Members.{membership};
 ghost use Rattle.ctype_classes.specs.Excluded.{is_in, IsFirstExcluded, AreAllApart, Names};
 ghost use Rattle.ctype_classes.specs.Ctype.{ctype_with, ctype_values, posix_values};
 
-use crate::case::{CaseMap, image, lower_pairs, map_of, upper_pairs};
+use crate::case::{lower_pairs, map_of, upper_pairs};
 use crate::classes::{Classes, twelve_classes};
 use crate::exclusions::check_exclusions;
 use crate::first_lines::KeywordList;
@@ -20,13 +20,14 @@ use keywords::Entry;
 use lc_base::{ByteText, List, Place, TextFault};
 use std::alloc::{AllocError, Global};
 use std::marker::Model;
+use value_pages::PagedMap;
 
 /// The character classes and case maps of a locale.
 pub struct Ctype {
     codeset: ByteText,
     classes: Classes,
-    upper: CaseMap,
-    lower: CaseMap,
+    upper: PagedMap,
+    lower: PagedMap,
 }
 
 impl Drop for Ctype {
@@ -45,7 +46,7 @@ impl Model for Ctype {
 
     ghost Value = { CtypeValues };
 
-    ghost view = { λ c. record { codeset = c.codeset; classes = c.classes; upper = c.upper.entries; lower = c.lower.entries } };
+    ghost view = { λ c. record { codeset = c.codeset; classes = c.classes; upper = c.upper; lower = c.lower } };
 }
 
 impl Ctype {
@@ -152,14 +153,14 @@ impl Ctype {
     pub fn upper(&self, w: u32) -> u32
         ensures { result ≡ image self.now.upper w }
     {
-        image(&self.upper, w)
+        self.upper.image(w)
     }
 
     /// The lower case of a character: itself where no pair has it (XSH towlower).
     pub fn lower(&self, w: u32) -> u32
         ensures { result ≡ image self.now.lower w }
     {
-        image(&self.lower, w)
+        self.lower.image(w)
     }
 
     /// The name of the code set (XSH nl_langinfo, `CODESET`).

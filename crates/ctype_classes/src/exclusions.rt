@@ -10,8 +10,8 @@ ghost use Rattle.ctype_classes.specs.Exclusions.{class_name, common_member, kept
 ghost use Rattle.ctype_classes.specs.Excluded.{is_kept_in, in_both, IsExcluded, AreApart, IsFirstExcluded, AreAllApart, Names};
 
 use crate::classes::{Classes, has_member};
-use class_ranges::Ranges;
 use lc_base::{Class, Place, Reason, TextFault};
+use value_pages::PagedRanges;
 
 /// The pairs of classes that have no common member, in the order in which they are tested.
 const EXCLUSIONS: [(Class, Class); 21] = [
@@ -56,7 +56,7 @@ fn class_name(class: Class) -> &'static [u8]
 }
 
 /// The least value that two sets have in common. One that is not there is empty.
-fn common(first: Option<&Ranges>, second: Option<&Ranges>) -> Option<u32>
+fn common(first: Option<&PagedRanges>, second: Option<&PagedRanges>) -> Option<u32>
     ensures is { result ≡ first_common (unwrap_or (option_copied first.entry) []) (unwrap_or (option_copied second.entry) []) }
     ensures least { IsLeast (λ w. covers (unwrap_or (option_copied first.entry) []) w && covers (unwrap_or (option_copied second.entry) []) w) result }
 {
@@ -64,7 +64,7 @@ fn common(first: Option<&Ranges>, second: Option<&Ranges>) -> Option<u32>
         None => None,
         Some(first) => match second {
             None => None,
-            Some(second) => first.first_common(second),
+            Some(second) => first.ranges().first_common(second.ranges()),
         },
     }
 }

@@ -3,7 +3,7 @@ use Rattle.std.specs.BTreeMap.{insert_entry}
 use Rattle.std.specs.Ordering.{nat_cmp}
 use Rattle.std.proofs.Math.Seq.{drop-cons}
 use Rattle.ctype_classes.specs.Case.{map_of}
-use Rattle.ctype_classes.proofs.case.map_of.Goals as goal
+use Rattle.ctype_classes.proofs.case.entries_of.Goals as goal
 
 -- the map of pairs from one on has that pair before the others
 map_of_more : (pairs : List (ℕ × ℕ)) (i j : ℕ) → suc i ≡ j → j ≤ length pairs → map_of (drop i pairs) ≡ insert_entry nat_cmp (map_of (drop j pairs)) (get_or pairs i (0, 0)).0 (get_or pairs i (0, 0)).1

@@ -1,6 +1,6 @@
 use Rattle.std.proofs.Common.{◌≡◌, ◌≤◌, length, drop}
 use Rattle.ctype_classes.specs.Case.{map_of}
-use Rattle.ctype_classes.proofs.case.map_of.Given as goal
+use Rattle.ctype_classes.proofs.case.entries_of.Given as goal
 
 abbrev pub invariant-loop-left : goal.invariant-loop-left
 invariant-loop-left l = record {
