@@ -1,2 +1,4 @@
 pub mod PartLemmas
 pub mod SizeLemmas
+mod ToldExamples
+pub mod ToldLemmas

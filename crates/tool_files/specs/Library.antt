@@ -1,5 +1,5 @@
 -- What files give: their compiled locales (our own).
-use Rattle.std.specs.Prelude.{Bool, ◌&&◌, nat_lt, nat_le, List, [], length, None, Err, if◌then◌else◌}
+use Rattle.std.specs.Prelude.{Bool, ◌&&◌, nat_lt, nat_le, List, [], ◌∷◌, length, None, Ok, Err, if◌then◌else◌}
 use Rattle.std.specs.List.{list_all}
 use Rattle.lc_base.specs.declared.block.Block.{Block}
 use Rattle.lc_base.specs.declared.place.Place.{Place}
@@ -7,6 +7,8 @@ use Rattle.lc_base.specs.declared.reason.Reason.{Reason}
 use Rattle.lc_base.specs.declared.reason.Reason.TheVariants.{OverLimit}
 use Rattle.lc_base.specs.declared.reason.Limit.TheVariants.{Locales}
 use Rattle.lc_base.specs.Reading.{Reads}
+use Rattle.charset.specs.CodedSet.{CodedSet, utf8, posix}
+use Rattle.charmap_reader.specs.Charmap.{charmap}
 use Rattle.category_store.specs.Catalog.{Catalog}
 use Rattle.category_store.specs.Library.{catalog}
 
@@ -25,3 +27,10 @@ too_many = (record { line = 1; column = 1 }, OverLimit Locales)
 -- the library of the locales in these blocks, or its first fault
 abbrev pub library : List Block → List Block → Reads Catalog
 library charmaps locales = if are_taken charmaps locales then catalog charmaps locales [] None else Err too_many
+
+-- the charset of the first charmap, or its first fault; without a charmap UTF-8, and that of the POSIX locale where there is no
+-- locale
+abbrev pub charset_of : List Block → List Block → Reads CodedSet
+charset_of (block ∷ blocks) locales = if is_sized block then charmap block.name block.text block.first_line else Err too_many
+charset_of [] [] = Ok posix
+charset_of [] (locale ∷ locales) = Ok utf8

@@ -1,9 +1,9 @@
 //! What the files give.
 
-ghost use Rattle.std.specs.Prelude.{◌≡◌, ◌≤◌, length, All, IsTrue};
+ghost use Rattle.std.specs.Prelude.{◌≡◌, ◌≤◌, [], ◌∷◌, length, All, IsTrue};
 ghost use Rattle.lc_base.specs.Reading.{Gives};
 ghost use Rattle.lc_base.specs.Blocks.{IsSized};
-ghost use Rattle.tool_files.specs.Library.{are_taken, library};
+ghost use Rattle.tool_files.specs.Library.{are_taken, charset_of, library};
 
 use crate::sized::{are_sized, is_sized};
 use crate::sources::Sources;
@@ -36,7 +36,9 @@ fn are_taken(charmaps: &[Block], locales: &[Block]) -> bool
 
 /// The charset of the first charmap; without one UTF-8, and that of the POSIX locale where there is
 /// no source.
-pub fn charset_of(alloc: Global, sources: &Sources) -> Result<Charset, TextFault> {
+pub fn charset_of(alloc: Global, sources: &Sources) -> Result<Charset, TextFault>
+    ensures { Gives (λ c. c) result (charset_of sources.now.charmaps sources.now.locales) }
+{
     match sources.charmaps.as_slice() {
         [block, ..] => listed_charset(alloc, block),
         [] if sources.locales.is_empty() => Ok(Charset::portable(alloc)?),
@@ -44,7 +46,9 @@ pub fn charset_of(alloc: Global, sources: &Sources) -> Result<Charset, TextFault
     }
 }
 
-fn listed_charset(alloc: Global, block: &Block) -> Result<Charset, TextFault> {
+fn listed_charset(alloc: Global, block: &Block) -> Result<Charset, TextFault>
+    ensures { Gives (λ c. c) result (charset_of (block.now ∷ []) []) }
+{
     if !is_sized(block) {
         return Err(TOO_MANY);
     }

@@ -1,5 +1,9 @@
 //! Files as texts.
 
+ghost use Rattle.std.specs.Prelude.{◌≡◌, IfOk, IfErr};
+ghost use Rattle.tool_messages.specs.Status.{IsSpoken};
+ghost use Rattle.tool_files.specs.Told.{unreadable};
+
 use lc_base::{ByteText, ReadRefusal, Source, StdSource, read_all};
 use std::alloc::{AllocError, Global};
 use std::fs;
@@ -11,7 +15,9 @@ use tool_messages::{Problem, push_word};
 pub const FILE_LIMIT: usize = 16_777_216;
 
 /// The bytes of a file.
-pub fn file_text<R: Files>(rt: &R, alloc: Global, path: &str) -> Result<ByteText, Problem> {
+pub fn file_text<R: Files>(rt: &R, alloc: Global, path: &str) -> Result<ByteText, Problem>
+    ensures { IfErr result IsSpoken }
+{
     if is_folder(rt, path) {
         return Err(unreadable(alloc, path, b"it is a directory"));
     }
@@ -29,11 +35,9 @@ fn is_folder<R: Files>(rt: &R, path: &str) -> bool {
 }
 
 /// The bytes of an opened file.
-fn opened_text<S: Source + Drop>(
-    alloc: Global,
-    path: &str,
-    source: S,
-) -> Result<ByteText, Problem> {
+fn opened_text<S: Source + Drop>(alloc: Global, path: &str, source: S) -> Result<ByteText, Problem>
+    ensures { IfErr result IsSpoken }
+{
     let mut source = source;
     match read_all(alloc, &mut source, FILE_LIMIT) {
         Ok(text) => Ok(text),
@@ -57,14 +61,19 @@ fn cause_of(kind: ErrorKind) -> &'static [u8] {
 }
 
 /// The problem of a file that cannot be read.
-fn unreadable(alloc: Global, path: &str, cause: &[u8]) -> Problem {
+#[tactic(auto, using(crate::proofs::ToldLemmas::unreadable_spoken))]
+fn unreadable(alloc: Global, path: &str, cause: &[u8]) -> Problem
+    ensures { IsSpoken result }
+{
     match unreadable_message(alloc, path, cause) {
         Ok(message) => Problem::Refused(message),
         Err(_) => Problem::Memory,
     }
 }
 
-fn unreadable_message(alloc: Global, path: &str, cause: &[u8]) -> Result<ByteText, AllocError> {
+fn unreadable_message(alloc: Global, path: &str, cause: &[u8]) -> Result<ByteText, AllocError>
+    ensures { IfOk result (λ message. message ≡ unreadable path.now cause.now) }
+{
     let mut message = Vec::new(alloc);
     message.extend_from_slice(b"locale_tool: ")?;
     push_word(&mut message, path.as_bytes())?;

@@ -1,5 +1,8 @@
 //! The files that a command reads.
 
+ghost use Rattle.std.specs.Prelude.{IfErr};
+ghost use Rattle.tool_messages.specs.Status.{IsSpoken};
+
 use crate::compiled::charset_of;
 use crate::copies::{CopiedName, read_block};
 use crate::files::file_text;
@@ -65,7 +68,9 @@ pub fn load<R: Files>(
     alloc: Global,
     wanted: &Wanted<'_>,
     categories: &[Category],
-) -> Result<Loaded, Problem> {
+) -> Result<Loaded, Problem>
+    ensures { IfErr result IsSpoken }
+{
     let reading = Reading {
         categories: Some(categories),
         folders: wanted.folders,
@@ -88,7 +93,9 @@ pub fn load_with<R: Files>(
     wanted: &Wanted<'_>,
     locale: Option<(&str, ByteText)>,
     is_asked: bool,
-) -> Result<Loaded, Problem> {
+) -> Result<Loaded, Problem>
+    ensures { IfErr result IsSpoken }
+{
     let reading = Reading {
         categories: None,
         folders: wanted.folders,
@@ -103,7 +110,9 @@ fn load_parts<R: Files>(
     charmap: Option<&str>,
     locale: Option<(&str, ByteText)>,
     reading: &Reading<'_>,
-) -> Result<Loaded, Problem> {
+) -> Result<Loaded, Problem>
+    ensures { IfErr result IsSpoken }
+{
     let mut sources = Sources::new(alloc);
     match add_named_files(rt, alloc, charmap, locale, reading, &mut sources) {
         Ok(()) => in_charset(rt, alloc, reading, sources),
@@ -119,7 +128,9 @@ fn add_named_files<R: Files>(
     locale: Option<(&str, ByteText)>,
     reading: &Reading<'_>,
     sources: &mut Sources,
-) -> Result<(), Problem> {
+) -> Result<(), Problem>
+    ensures { IfErr result IsSpoken }
+{
     add_charmap(rt, alloc, charmap, sources)?;
     match locale {
         Some((path, text)) => Ok(add_text(alloc, path, text, reading, sources)?),
@@ -133,7 +144,9 @@ fn in_charset<R: Files>(
     alloc: Global,
     reading: &Reading<'_>,
     sources: Sources,
-) -> Result<Loaded, Problem> {
+) -> Result<Loaded, Problem>
+    ensures { IfErr result IsSpoken }
+{
     match charset_of(alloc, &sources) {
         Ok(charset) => with_copies(rt, alloc, reading, sources, charset),
         Err(fault) => Err(fault_problem(alloc, &sources, None, fault)),
@@ -147,7 +160,9 @@ fn with_copies<R: Files>(
     reading: &Reading<'_>,
     sources: Sources,
     charset: Charset,
-) -> Result<Loaded, Problem> {
+) -> Result<Loaded, Problem>
+    ensures { IfErr result IsSpoken }
+{
     let mut loaded = Loaded {
         sources,
         charset,
@@ -164,7 +179,9 @@ fn add_charmap<R: Files>(
     alloc: Global,
     path: Option<&str>,
     sources: &mut Sources,
-) -> Result<(), Problem> {
+) -> Result<(), Problem>
+    ensures { IfErr result IsSpoken }
+{
     match path {
         Some(path) => {
             let text = file_text(rt, alloc, path)?;
@@ -181,7 +198,9 @@ fn add_file<R: Files>(
     path: &str,
     reading: &Reading<'_>,
     sources: &mut Sources,
-) -> Result<(), Problem> {
+) -> Result<(), Problem>
+    ensures { IfErr result IsSpoken }
+{
     let text = file_text(rt, alloc, path)?;
     Ok(add_text(alloc, path, text, reading, sources)?)
 }
@@ -216,7 +235,9 @@ fn add_copies<R: Files>(
     alloc: Global,
     reading: &Reading<'_>,
     loaded: &mut Loaded,
-) -> Result<(), Problem> {
+) -> Result<(), Problem>
+    ensures { IfErr result IsSpoken }
+{
     if !reading.has_sections {
         return Ok(());
     }
@@ -250,7 +271,9 @@ fn add_named<R: Files>(
     reading: &Reading<'_>,
     names: &[CopiedName],
     sources: &mut Sources,
-) -> Result<(), Problem> {
+) -> Result<(), Problem>
+    ensures { IfErr result IsSpoken }
+{
     for copied in names {
         if !is_there(sources.locales.as_slice(), copied.name.as_bytes()) {
             add_found(rt, alloc, reading, copied, sources)?;
@@ -280,7 +303,9 @@ fn add_found<R: Files>(
     reading: &Reading<'_>,
     copied: &CopiedName,
     sources: &mut Sources,
-) -> Result<(), Problem> {
+) -> Result<(), Problem>
+    ensures { IfErr result IsSpoken }
+{
     for folder in reading.folders {
         let path = path_in(alloc, folder, copied.name.as_bytes())?;
         if is_file(rt, path.as_str()) {
@@ -298,7 +323,9 @@ fn add_next<R: Files>(
     copied: &CopiedName,
     reading: &Reading<'_>,
     sources: &mut Sources,
-) -> Result<(), Problem> {
+) -> Result<(), Problem>
+    ensures { IfErr result IsSpoken }
+{
     if sources.locales.len() >= FILES_MOST {
         let fault = TextFault::At(copied.place, Reason::OverLimit(Limit::Locales));
         return Err(fault_problem(alloc, sources, None, fault));

@@ -1,6 +1,11 @@
 //! Faults of files.
 
-ghost use Rattle.tool_files.specs.Told.{IsTold};
+ghost use Rattle.std.specs.Prelude.{◌≡◌, ℕ, false, List, ◌++◌, codes, IfOk};
+ghost use Rattle.script_out.specs.Output.{newline};
+ghost use Rattle.script_out.specs.Refusal.{reason_text};
+ghost use Rattle.tool_messages.specs.Message.{BeginsWith, fault_head};
+ghost use Rattle.tool_messages.specs.Status.{IsSpoken};
+ghost use Rattle.tool_files.specs.Told.{file_of, place_in, is_format, IsMessage, IsFileMessage, IsTold};
 
 use crate::copies::name_at;
 use crate::format::{byte_place, from_place};
@@ -12,14 +17,19 @@ use script_out::push_refusal;
 use std::alloc::{AllocError, Global};
 use tool_messages::{Problem, Spot, line_of, name_of, push_fault, push_hints, rule_of};
 
+/// What the line of a refusal begins with that has the place of no line.
+const PLACE: &[u8] = b"refused: 0:0 ";
+
 /// The problem of a fault in files, of which the charset is given where it was read.
+#[tactic(auto, using(crate::proofs::ToldLemmas::message_spoken))]
 pub fn fault_problem(
     alloc: Global,
     sources: &Sources,
     charset: Option<&Charset>,
     fault: TextFault,
 ) -> Problem
-    ensures { IsTold fault result }
+    ensures told { IsTold (IsFileMessage sources.now.paths.items) fault result }
+    ensures spoken { IsSpoken result }
 {
     match fault {
         TextFault::At(place, reason) => {
@@ -32,26 +42,42 @@ pub fn fault_problem(
     }
 }
 
-/// The message of a fault: the file with its line and column, the reason, the rule, and the line.
+/// The message of a fault: the file with its line and column, the reason, the rule, the line, and hints.
+#[tactic(auto, using(crate::proofs::ToldLemmas::file_message))]
 pub fn fault_message(
     alloc: Global,
     sources: &Sources,
     charset: Option<&Charset>,
     place: Place,
     reason: Reason,
-) -> Result<ByteText, AllocError> {
-    let mut message = Vec::new(alloc);
+) -> Result<ByteText, AllocError>
+    ensures { IfOk result (IsFileMessage sources.now.paths.items place reason) }
+{
     let file = file_of(&sources.paths, place.line);
     let text = text_of(sources, file);
     let spot = shown_place(text, charset, place_in(file, place), reason);
     let source = line_of(text, spot.line);
-    push_fault_of(alloc, &mut message, file.path, spot, source, reason)?;
-    push_hint_of_copy(&mut message, reason, copied_path(sources, text, spot))?;
+    let hints = file_hints(alloc, sources, text, spot, source, reason)?;
+    message_of(alloc, file.path, spot, source, reason, hints.as_slice())
+}
+
+/// The hints beside a fault in files.
+fn file_hints(
+    alloc: Global,
+    sources: &Sources,
+    text: &[u8],
+    spot: Place,
+    source: &[u8],
+    reason: Reason,
+) -> Result<Vec<u8>, AllocError> {
+    let mut hints = Vec::new(alloc);
+    push_hint_of(&mut hints, reason, source)?;
+    push_hint_of_copy(&mut hints, reason, copied_path(sources, text, spot))?;
     if sources.charmaps.is_empty() {
-        push_hint_of_bytes(&mut message, source)?;
+        push_hint_of_bytes(&mut hints, source)?;
     }
-    push_hints(&mut message, text, source)?;
-    Ok(ByteText::from_vec(message))
+    push_hints(&mut hints, text, source)?;
+    Ok(hints)
 }
 
 /// The file of the locale whose name stands at a place.
@@ -70,8 +96,10 @@ fn block_named<'a>(blocks: &'a [Block], name: &[u8]) -> Option<&'a Block> {
 }
 
 /// The problem of a fault in a text that a file has by itself.
+#[tactic(auto, using(crate::proofs::ToldLemmas::message_spoken))]
 pub fn text_problem(alloc: Global, path: &str, text: &[u8], fault: TextFault) -> Problem
-    ensures { IsTold fault result }
+    ensures told { IsTold (IsMessage path.now) fault result }
+    ensures spoken { IsSpoken result }
 {
     match fault {
         TextFault::At(place, reason) => match text_message(alloc, path, text, place, reason) {
@@ -82,20 +110,41 @@ pub fn text_problem(alloc: Global, path: &str, text: &[u8], fault: TextFault) ->
     }
 }
 
+#[tactic(auto, using(crate::proofs::ToldLemmas::one_message))]
 fn text_message(
     alloc: Global,
     path: &str,
     text: &[u8],
     place: Place,
     reason: Reason,
-) -> Result<ByteText, AllocError> {
-    let mut message = Vec::new(alloc);
+) -> Result<ByteText, AllocError>
+    ensures { IfOk result (IsMessage path.now place reason) }
+{
     let spot = shown_place(text, None, place, reason);
     let source = line_of(text, spot.line);
-    push_fault_of(alloc, &mut message, path.as_bytes(), spot, source, reason)?;
-    push_hint_of_bytes(&mut message, source)?;
-    push_hints(&mut message, text, source)?;
-    Ok(ByteText::from_vec(message))
+    let hints = text_hints(alloc, text, source, reason)?;
+    message_of(
+        alloc,
+        path.as_bytes(),
+        spot,
+        source,
+        reason,
+        hints.as_slice(),
+    )
+}
+
+/// The hints beside a fault in a text that a file has by itself.
+fn text_hints(
+    alloc: Global,
+    text: &[u8],
+    source: &[u8],
+    reason: Reason,
+) -> Result<Vec<u8>, AllocError> {
+    let mut hints = Vec::new(alloc);
+    push_hint_of(&mut hints, reason, source)?;
+    push_hint_of_bytes(&mut hints, source)?;
+    push_hints(&mut hints, text, source)?;
+    Ok(hints)
 }
 
 /// A path and the number of its first line.
@@ -106,7 +155,9 @@ struct Found<'a> {
 }
 
 /// The file that a line is in.
-fn file_of(paths: &[FilePath], line: u32) -> Found<'_> {
+fn file_of(paths: &[FilePath], line: u32) -> Found<'_>
+    ensures { (result.path.now, result.first_line) ≡ file_of paths.now line }
+{
     let mut found = Found {
         path: b"",
         first_line: 1,
@@ -143,7 +194,9 @@ fn text_in(blocks: &[Block], first_line: u32) -> Option<&[u8]> {
 }
 
 /// A place by the lines of its file.
-fn place_in(file: Found<'_>, place: Place) -> Place {
+fn place_in(file: Found<'_>, place: Place) -> Place
+    ensures { result ≡ place_in file.entry.first_line place }
+{
     Place {
         line: place.line.saturating_sub(file.first_line).saturating_add(1),
         column: place.column,
@@ -151,22 +204,28 @@ fn place_in(file: Found<'_>, place: Place) -> Place {
 }
 
 /// Where a fault is shown: that of a format at the byte that it tells of.
-fn shown_place(text: &[u8], charset: Option<&Charset>, place: Place, reason: Reason) -> Place {
+fn shown_place(text: &[u8], charset: Option<&Charset>, place: Place, reason: Reason) -> Place
+    ensures { is_format reason ≡ false → result ≡ place }
+{
     match reason {
         Reason::BadFormat(number) => byte_place(text, charset, place, number),
         _ => place,
     }
 }
 
-/// Adds the message of a fault in a line of a file, and what its keyword takes.
-fn push_fault_of(
+/// The message of a fault in a line of a file, with hints.
+#[tactic(auto, using(tool_messages::proofs::MessageLemmas::begins_shorter, tool_messages::proofs::MessageLemmas::begins_more))]
+fn message_of(
     alloc: Global,
-    message: &mut Vec<u8>,
     path: &[u8],
     place: Place,
     source: &[u8],
     reason: Reason,
-) -> Result<(), AllocError> {
+    hints: &[u8],
+) -> Result<ByteText, AllocError>
+    ensures { IfOk result (BeginsWith (fault_head path.now place.line place.column (reason_text reason))) }
+{
+    let mut message = Vec::new(alloc);
     let spot = Spot {
         file: path,
         line: place.line,
@@ -175,21 +234,24 @@ fn push_fault_of(
     };
     let words = reason_words(alloc, reason)?;
     let rule = rule_of(name_of(reason));
-    push_fault(message, &spot, words.as_bytes(), rule.as_bytes())?;
-    push_hint_of(message, reason, source)
+    push_fault(&mut message, &spot, words.as_bytes(), rule.as_bytes())?;
+    message.extend_from_slice(hints)?;
+    Ok(ByteText::from_vec(message))
 }
 
 /// A reason with what it names.
-fn reason_words(alloc: Global, reason: Reason) -> Result<ByteText, AllocError> {
+fn reason_words(alloc: Global, reason: Reason) -> Result<ByteText, AllocError>
+    ensures { IfOk result (λ words. words ≡ reason_text reason) }
+{
     let mut line = Vec::new(alloc);
     push_refusal(&mut line, Place { line: 0, column: 0 }, reason)?;
     ByteText::of(alloc, words_of(line.as_slice()))
 }
 
-/// What stands between the place of a refusal and its newline.
-fn words_of(line: &[u8]) -> &[u8] {
-    match line.strip_prefix(b"refused: 0:0 ") {
-        Some([words @ .., b'\n']) => words,
-        _ => line,
-    }
+/// What stands between the place of a refusal, which is that of no line, and its newline.
+fn words_of(line: &[u8]) -> &[u8]
+    ensures { (words : List ℕ) → line.now ≡ codes "refused: 0:0 " ++ words ++ newline → result.now ≡ words }
+{
+    let end = line.len().saturating_sub(1);
+    &line[PLACE.len().min(end)..end]
 }

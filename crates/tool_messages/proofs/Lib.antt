@@ -1,1 +1,3 @@
+mod MessageExamples
+pub mod MessageLemmas
 mod ShownExamples

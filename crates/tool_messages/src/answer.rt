@@ -1,7 +1,7 @@
 //! What a command answers.
 
 ghost use Rattle.std.specs.Prelude.{◌≡◌};
-ghost use Rattle.tool_messages.specs.Status.{problem_status};
+ghost use Rattle.tool_messages.specs.Status.{problem_status, problem_message};
 ghost use Rattle.tool_messages.specs.declared.answer.Problem.TheVariants.{Memory};
 
 use lc_base::ByteText;
@@ -50,7 +50,9 @@ impl Problem {
     }
 
     /// The message.
-    pub fn message(&self) -> &[u8] {
+    pub fn message(&self) -> &[u8]
+        ensures { result.now ≡ problem_message self.now }
+    {
         match self {
             Problem::Refused(text) | Problem::Usage(text) => text.as_bytes(),
             Problem::Memory => b"locale_tool: out of memory\n",

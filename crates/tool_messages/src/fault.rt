@@ -1,5 +1,8 @@
 //! How a fault is shown.
 
+ghost use Rattle.std.specs.Prelude.{◌≡◌, ◌++◌, OnOk};
+ghost use Rattle.tool_messages.specs.Message.{BeginsWith, fault_head, fault_line};
+
 use crate::shown::push_word;
 use crate::text::push_number;
 use std::alloc::AllocError;
@@ -22,27 +25,52 @@ pub struct Spot<'a> {
 }
 
 /// Adds `FILE:LINE:COLUMN: REASON: RULE`, the line and a mark under the place.
+#[tactic(auto, using(crate::proofs::MessageLemmas::begins_equal))]
 pub fn push_fault(
     out: &mut Vec<u8>,
     spot: &Spot<'_>,
     reason: &[u8],
     rule: &[u8],
-) -> Result<(), AllocError> {
+) -> Result<(), AllocError>
+    ensures { OnOk result (BeginsWith (out.old.items ++ fault_line spot.now.file.now spot.now.line spot.now.column reason.now rule.now) out.new.items) }
+{
+    push_line(out, spot, reason, rule)?;
+    push_marked(out, spot.source, spot.column as usize)
+}
+
+/// Adds `FILE:LINE:COLUMN: REASON: RULE`.
+fn push_line(
+    out: &mut Vec<u8>,
+    spot: &Spot<'_>,
+    reason: &[u8],
+    rule: &[u8],
+) -> Result<(), AllocError>
+    ensures { OnOk result (out.new.items ≡ out.old.items ++ fault_line spot.now.file.now spot.now.line spot.now.column reason.now rule.now) }
+{
+    push_head(out, spot, reason)?;
+    out.extend_from_slice(b": ")?;
+    out.extend_from_slice(rule)?;
+    out.extend_from_slice(b"\n")
+}
+
+/// Adds `FILE:LINE:COLUMN: REASON`.
+fn push_head(out: &mut Vec<u8>, spot: &Spot<'_>, reason: &[u8]) -> Result<(), AllocError>
+    ensures { OnOk result (out.new.items ≡ out.old.items ++ fault_head spot.now.file.now spot.now.line spot.now.column reason.now) }
+{
     push_word(out, spot.file)?;
     out.extend_from_slice(b":")?;
     push_number(out, u64::from(spot.line))?;
     out.extend_from_slice(b":")?;
     push_number(out, u64::from(spot.column))?;
     out.extend_from_slice(b": ")?;
-    out.extend_from_slice(reason)?;
-    out.extend_from_slice(b": ")?;
-    out.extend_from_slice(rule)?;
-    out.extend_from_slice(b"\n")?;
-    push_marked(out, spot.source, spot.column as usize)
+    out.extend_from_slice(reason)
 }
 
 /// Adds a line, cut where it is long, and a mark under a column.
-fn push_marked(out: &mut Vec<u8>, line: &[u8], column: usize) -> Result<(), AllocError> {
+#[tactic(auto, using(crate::proofs::MessageLemmas::begins_same, crate::proofs::MessageLemmas::begins_more, crate::proofs::MessageLemmas::begins_twice))]
+fn push_marked(out: &mut Vec<u8>, line: &[u8], column: usize) -> Result<(), AllocError>
+    ensures { OnOk result (BeginsWith out.old.items out.new.items) }
+{
     let at = column.saturating_sub(1).min(line.len());
     let start = at.saturating_sub(BYTES_BEFORE);
     let end = start.saturating_add(BYTES_SHOWN).min(line.len());
@@ -53,7 +81,10 @@ fn push_marked(out: &mut Vec<u8>, line: &[u8], column: usize) -> Result<(), Allo
 }
 
 /// Adds a part of a line, without control bytes but for tabs.
-fn push_shown(out: &mut Vec<u8>, part: &[u8]) -> Result<(), AllocError> {
+#[tactic(auto, using(crate::proofs::MessageLemmas::begins_same, crate::proofs::MessageLemmas::begins_more, crate::proofs::MessageLemmas::begins_twice))]
+fn push_shown(out: &mut Vec<u8>, part: &[u8]) -> Result<(), AllocError>
+    ensures { OnOk result (BeginsWith out.old.items out.new.items) }
+{
     for byte in part {
         let shown = if is_shown(*byte) { *byte } else { b'?' };
         out.push(shown)?;
@@ -67,7 +98,10 @@ fn is_shown(byte: u8) -> bool {
 
 /// Adds blanks that are as wide as a part of a line: a tab for a tab, and none for what goes on a
 /// character of several bytes.
-fn push_blank(out: &mut Vec<u8>, part: &[u8]) -> Result<(), AllocError> {
+#[tactic(auto, using(crate::proofs::MessageLemmas::begins_same, crate::proofs::MessageLemmas::begins_more, crate::proofs::MessageLemmas::begins_twice))]
+fn push_blank(out: &mut Vec<u8>, part: &[u8]) -> Result<(), AllocError>
+    ensures { OnOk result (BeginsWith out.old.items out.new.items) }
+{
     for byte in part {
         if *byte == b'\t' {
             out.push(b'\t')?;

@@ -1,0 +1,6 @@
+use Rattle.tool_messages.specs.Message.{BeginsWith}
+use Rattle.tool_messages.proofs.fault.push_shown.Given as goal
+
+-- what was there before
+abbrev pub invariant-loop-byte : goal.invariant-loop-byte
+invariant-loop-byte l = BeginsWith l.initial.out.items l.out.items
