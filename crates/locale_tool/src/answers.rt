@@ -8,7 +8,9 @@ use std::rt::{Env, Files};
 use std::sync::Wait;
 use std::thread::Threads;
 use std::time::Clock;
-use tool_answers::{ToolCommand, check_files, command_given, explain, read_locale, strs};
+use tool_answers::{
+    ToolCommand, check_files, command_given, explain, import_files, read_locale, strs,
+};
 use tool_messages::{Answer, Problem};
 
 /// What the command answers that words give.
@@ -21,6 +23,7 @@ pub fn answer_of<
             plain_answer(alloc, read_locale(rt, alloc, command, given))
         }
         ToolCommand::Check => check_files(rt, alloc, given, is_watched),
+        ToolCommand::Import => import_files(rt, alloc, given),
         ToolCommand::Explain => plain_answer(alloc, explain(alloc, strs(given, "REASON"))),
         ToolCommand::Run => play_files(rt, alloc, given, true),
         ToolCommand::Serial => play_files(rt, alloc, given, false),

@@ -42,7 +42,11 @@ fn command_of<'a>(alloc: Global, row: &CommandRow) -> Result<Command<'a>, AllocE
 fn reads_locale(command: ToolCommand) -> bool {
     match command {
         ToolCommand::Locale(_) => true,
-        ToolCommand::Check | ToolCommand::Explain | ToolCommand::Run | ToolCommand::Serial => false,
+        ToolCommand::Check
+        | ToolCommand::Import
+        | ToolCommand::Explain
+        | ToolCommand::Run
+        | ToolCommand::Serial => false,
     }
 }
 
@@ -70,6 +74,7 @@ fn arg_of<'a>(alloc: Global, row: &ArgRow) -> Result<Arg<'a>, AllocError> {
         Takes::SomeWordsUnless(other) => words_arg(arg, row).required_unless_present(other),
         Takes::File(None) => Ok(file_arg(arg, row)),
         Takes::File(Some(letter)) => Ok(file_arg(arg, row).short(letter)),
+        Takes::Folder(letter) => Ok(arg.long(row.name).short(letter).value_name("DIR")),
         Takes::Folders => Ok(
             arg.long(row.name)
                 .value_name("DIR")

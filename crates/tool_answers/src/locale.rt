@@ -9,7 +9,8 @@ use std::alloc::Global;
 use std::rt::{Env, Files};
 use std::time::Clock;
 use time_cat::Time;
-use tool_files::{Loaded, Wanted, fault_problem, library_of, load};
+use tool_files::{Loaded, Wanted, fault_problem, library_of, load, load_text};
+use tool_import::{source_path, standard_text};
 use tool_messages::Problem;
 use tool_reads::{
     LentCategories, class_lines, conv_lines, info_lines, item_categories, lower_lines, money_line,
@@ -36,26 +37,58 @@ fn loaded_for<R: Files>(
     command: LocaleCommand,
     given: &ArgMatches<'_>,
 ) -> Result<Loaded, Problem> {
-    let wanted = wanted_files(given);
     match command {
-        LocaleCommand::Money => load(rt, alloc, &wanted, &[Category::Monetary]),
-        LocaleCommand::Number => load(rt, alloc, &wanted, &[Category::Numeric]),
-        LocaleCommand::Time | LocaleCommand::Parse => load(rt, alloc, &wanted, &[Category::Time]),
-        LocaleCommand::Conv => load(rt, alloc, &wanted, &[Category::Numeric, Category::Monetary]),
+        LocaleCommand::Money => loaded(rt, alloc, given, &[Category::Monetary]),
+        LocaleCommand::Number => loaded(rt, alloc, given, &[Category::Numeric]),
+        LocaleCommand::Time | LocaleCommand::Parse => loaded(rt, alloc, given, &[Category::Time]),
+        LocaleCommand::Conv => {
+            loaded(rt, alloc, given, &[Category::Numeric, Category::Monetary])
+        }
         LocaleCommand::Class | LocaleCommand::Upper | LocaleCommand::Lower => {
-            load(rt, alloc, &wanted, &[Category::Ctype])
+            loaded(rt, alloc, given, &[Category::Ctype])
         }
         LocaleCommand::Info => {
             let categories = item_categories(alloc, strs(given, "ITEM"))?;
-            load(rt, alloc, &wanted, categories.as_slice())
+            loaded(rt, alloc, given, categories.as_slice())
         }
     }
 }
 
-/// The files that the words of a command name.
-fn wanted_files<'a>(given: &'a ArgMatches<'_>) -> Wanted<'a> {
+/// Reads the files of a command, and of its locale these categories.
+fn loaded<R: Files>(
+    rt: &R,
+    alloc: Global,
+    given: &ArgMatches<'_>,
+    categories: &[Category],
+) -> Result<Loaded, Problem> {
+    match given.get_str("locale") {
+        Some(locale) => loaded_locale(rt, alloc, given, locale, categories),
+        None => load(rt, alloc, &wanted_files(given, None), categories),
+    }
+}
+
+/// The same where the words name a locale: by its path, or by its name in a folder.
+fn loaded_locale<R: Files>(
+    rt: &R,
+    alloc: Global,
+    given: &ArgMatches<'_>,
+    locale: &str,
+    categories: &[Category],
+) -> Result<Loaded, Problem> {
+    let folders = strs(given, "path");
+    let path = source_path(rt, alloc, locale, folders)?;
+    let wanted = wanted_files(given, Some(path.as_str()));
+    if given.get_flag("gnu") {
+        let text = standard_text(rt, alloc, path.as_str(), folders)?;
+        return load_text(rt, alloc, &wanted, (path.as_str(), text), categories);
+    }
+    load(rt, alloc, &wanted, categories)
+}
+
+/// The files that the words of a command name, with the path of its locale.
+fn wanted_files<'a>(given: &'a ArgMatches<'_>, locale: Option<&'a str>) -> Wanted<'a> {
     Wanted {
-        locale: given.get_str("locale"),
+        locale,
         charmap: given.get_str("charmap"),
         folders: strs(given, "path"),
     }

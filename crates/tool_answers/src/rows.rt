@@ -6,6 +6,7 @@ pub enum ToolCommand {
     /// One that reads a locale.
     Locale(LocaleCommand),
     Check,
+    Import,
     Explain,
     Run,
     Serial,
@@ -58,6 +59,8 @@ pub enum Takes {
     SomeWordsUnless(&'static str),
     /// A file behind the argument's name, or behind a letter.
     File(Option<char>),
+    /// A folder behind the argument's name, or behind a letter.
+    Folder(char),
     /// A folder behind the argument's name, which may be given again.
     Folders,
     /// Nothing.
@@ -73,7 +76,13 @@ const CHARMAP: ArgRow = ArgRow {
 const PATH: ArgRow = ArgRow {
     name: "path",
     takes: Takes::Folders,
-    help: "Where the file of a locale is that a `copy` names; may be given again",
+    help: "Where the file of a locale is that -l or a `copy` names; may be given again",
+};
+
+const GNU: ArgRow = ArgRow {
+    name: "gnu",
+    takes: Takes::Flag,
+    help: "Takes a source of the system's own kind, which is imported on the way",
 };
 
 const CHARACTERS: ArgRow = ArgRow {
@@ -101,18 +110,19 @@ const STRICT: ArgRow = ArgRow {
 };
 
 /// The options that say which locale is read.
-pub const LOCALE_ARGS: [ArgRow; 3] = [
+pub const LOCALE_ARGS: [ArgRow; 4] = [
     ArgRow {
         name: "locale",
         takes: Takes::File(Some('l')),
-        help: "The source of the locale; without it the POSIX locale is read",
+        help: "The source of the locale, or the name of a system's; without it the POSIX locale is read",
     },
     CHARMAP,
     PATH,
+    GNU,
 ];
 
 /// The rows of the commands, in the order in which help has them.
-pub const COMMANDS: [CommandRow; 13] = [
+pub const COMMANDS: [CommandRow; 14] = [
     CommandRow {
         command: ToolCommand::Locale(LocaleCommand::Money),
         name: "money",
@@ -238,6 +248,29 @@ pub const COMMANDS: [CommandRow; 13] = [
                 name: "summary",
                 takes: Takes::Flag,
                 help: "Prints what each file has that is accepted",
+            },
+        ],
+    },
+    CommandRow {
+        command: ToolCommand::Import,
+        name: "import",
+        about: "Makes standard sources of a system's own ones",
+        args: &[
+            ArgRow {
+                name: "FILE",
+                takes: Takes::SomeWords,
+                help: "A source, or the name of a locale whose source the system has",
+            },
+            PATH,
+            ArgRow {
+                name: "output",
+                takes: Takes::Folder('o'),
+                help: "Where the standard sources go, each under its name; without it to standard output",
+            },
+            ArgRow {
+                name: "notes",
+                takes: Takes::Flag,
+                help: "Tells of each line that is left out or changed, and not of each kind once",
             },
         ],
     },

@@ -4,6 +4,7 @@
 mod compiled;
 mod copies;
 mod files;
+mod folders;
 mod format;
 mod hints;
 mod loading;
@@ -15,6 +16,7 @@ mod sources;
 pub use compiled::{charset_of, library_of, sized_library};
 pub use copies::{CopiedName, copied_names};
 pub use files::{FILE_LIMIT, file_text};
-pub use loading::{Loaded, Wanted, load, load_with};
+pub use folders::{is_file, path_in};
+pub use loading::{Loaded, Wanted, load, load_text, load_with};
 pub use shown::{fault_message, fault_problem, text_problem};
 pub use sources::Sources;

@@ -6,6 +6,7 @@ ghost use Rattle.tool_messages.specs.Status.{IsSpoken};
 use crate::compiled::charset_of;
 use crate::copies::{CopiedName, read_block};
 use crate::files::file_text;
+use crate::folders::{is_file, path_in};
 use crate::parts::with_categories;
 use crate::shown::fault_problem;
 use crate::sources::Sources;
@@ -14,7 +15,6 @@ use keywords::Section;
 use lc_base::{Block, ByteText, Category, Limit, List, Reason, TextFault};
 use locale_sources::is_posix;
 use std::alloc::{AllocError, Global};
-use std::fs;
 use std::rt::Files;
 use tool_messages::Problem;
 
@@ -71,17 +71,41 @@ pub fn load<R: Files>(
 ) -> Result<Loaded, Problem>
     ensures { IfErr result IsSpoken }
 {
-    let reading = Reading {
-        categories: Some(categories),
-        folders: wanted.folders,
-        has_sections: !wanted.folders.is_empty(),
-    };
     match wanted.locale {
         Some(path) => {
             let text = file_text(rt, alloc, path)?;
-            load_parts(rt, alloc, wanted.charmap, Some((path, text)), &reading)
+            load_text(rt, alloc, wanted, (path, text), categories)
         }
-        None => load_parts(rt, alloc, wanted.charmap, None, &reading),
+        None => load_parts(
+            rt,
+            alloc,
+            wanted.charmap,
+            None,
+            &parts_of(wanted, categories),
+        ),
+    }
+}
+
+/// The same where the path and the text of the locale are given.
+pub fn load_text<R: Files>(
+    rt: &R,
+    alloc: Global,
+    wanted: &Wanted<'_>,
+    locale: (&str, ByteText),
+    categories: &[Category],
+) -> Result<Loaded, Problem>
+    ensures { IfErr result IsSpoken }
+{
+    let reading = parts_of(wanted, categories);
+    load_parts(rt, alloc, wanted.charmap, Some(locale), &reading)
+}
+
+/// The reading of these categories.
+fn parts_of<'a>(wanted: &Wanted<'a>, categories: &'a [Category]) -> Reading<'a> {
+    Reading {
+        categories: Some(categories),
+        folders: wanted.folders,
+        has_sections: !wanted.folders.is_empty(),
     }
 }
 
@@ -331,21 +355,4 @@ fn add_next<R: Files>(
         return Err(fault_problem(alloc, sources, None, fault));
     }
     add_file(rt, alloc, path, reading, sources)
-}
-
-fn is_file<R: Files>(rt: &R, path: &str) -> bool {
-    match fs::metadata(rt, path) {
-        Ok(found) => found.is_file(),
-        Err(_) => false,
-    }
-}
-
-/// The path of a file in a folder; just the folder where the name is no text.
-fn path_in(alloc: Global, folder: &str, name: &[u8]) -> Result<String, AllocError> {
-    let mut path = String::from_str(alloc, folder)?;
-    if let Ok(name) = str::from_utf8(name) {
-        path.push_str("/")?;
-        path.push_str(name)?;
-    }
-    Ok(path)
 }

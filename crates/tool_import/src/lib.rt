@@ -1,0 +1,12 @@
+//! A system's own locale sources, found and imported for the tool's commands.
+#![tactic(auto)]
+
+mod found;
+mod gathered;
+mod importing;
+mod notes;
+mod system;
+
+pub use found::source_path;
+pub use importing::{Importing, import_file};
+pub use system::standard_text;

@@ -1,0 +1,84 @@
+//! What an import left out or changed, as it is told.
+
+use crate::gathered::{GnuFile, path_of};
+use gnu_source::Note;
+use std::alloc::{AllocError, Global};
+use tool_messages::{push_number, push_word};
+
+/// How many notes have a code, and the first of them.
+struct Tally<'a> {
+    first: &'a Note,
+    count: u64,
+}
+
+impl<'a> Drop for Tally<'a> {
+    fn drop(self) {
+        let Tally { first: _, count: _ } = self;
+    }
+}
+
+/// Adds a line for each note: `FILE:LINE:COLUMN: CODE: SENTENCE`.
+pub fn push_notes(out: &mut Vec<u8>, files: &[GnuFile], notes: &[Note]) -> Result<(), AllocError> {
+    for note in notes {
+        push_note(out, files, note)?;
+        out.extend_from_slice(b"\n")?;
+    }
+    Ok(())
+}
+
+/// Adds a line for each code: `FILE:LINE:COLUMN: CODE: SENTENCE (COUNT)`, with the place of its first note.
+pub fn push_summary(
+    alloc: Global,
+    out: &mut Vec<u8>,
+    files: &[GnuFile],
+    notes: &[Note],
+) -> Result<(), AllocError> {
+    for tally in tallies_of(alloc, notes)?.as_slice() {
+        push_note(out, files, tally.first)?;
+        if tally.count > 1 {
+            out.extend_from_slice(b" (")?;
+            push_number(out, tally.count)?;
+            out.extend_from_slice(b" times)")?;
+        }
+        out.extend_from_slice(b"\n")?;
+    }
+    Ok(())
+}
+
+/// The notes by their codes, in the order of the first of each.
+fn tallies_of<'a>(alloc: Global, notes: &'a [Note]) -> Result<Vec<Tally<'a>>, AllocError> {
+    let mut tallies = Vec::new(alloc);
+    for note in notes {
+        if !is_counted(tallies.as_mut_slice(), note) {
+            tallies.push(Tally {
+                first: note,
+                count: 1,
+            })?;
+        }
+    }
+    Ok(tallies)
+}
+
+/// Counts a note among those of its code, if there are some.
+fn is_counted(tallies: &mut [Tally<'_>], note: &Note) -> bool {
+    for tally in tallies {
+        if tally.first.code.code() == note.code.code() {
+            tally.count = tally.count.saturating_add(1);
+            return true;
+        }
+    }
+    false
+}
+
+/// Adds the place, the code and the sentence of a note.
+fn push_note(out: &mut Vec<u8>, files: &[GnuFile], note: &Note) -> Result<(), AllocError> {
+    push_word(out, path_of(files, note.at.file).as_bytes())?;
+    out.extend_from_slice(b":")?;
+    push_number(out, u64::from(note.at.line))?;
+    out.extend_from_slice(b":")?;
+    push_number(out, u64::from(note.at.column))?;
+    out.extend_from_slice(b": ")?;
+    out.extend_from_slice(note.code.code().as_bytes())?;
+    out.extend_from_slice(b": ")?;
+    out.extend_from_slice(note.code.sentence().as_bytes())
+}
