@@ -17,9 +17,7 @@ pub fn answer_of<
 >(rt: &R, alloc: Global, matches: &ArgMatches<'_>, is_watched: bool) -> Result<Answer, Problem> {
     let (command, given) = command_given(alloc, matches)?;
     match command {
-        ToolCommand::Locale(command) => {
-            plain_answer(alloc, read_locale(rt, alloc, command, given))
-        }
+        ToolCommand::Locale(command) => read_locale(rt, alloc, command, given),
         ToolCommand::Check => check_files(rt, alloc, given, is_watched),
         ToolCommand::Explain => plain_answer(alloc, explain(alloc, strs(given, "REASON"))),
         ToolCommand::Run => play_files(rt, alloc, given, true),

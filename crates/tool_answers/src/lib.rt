@@ -1,6 +1,7 @@
 //! What the commands of the tool answer that run no script.
 #![tactic(auto)]
 
+mod bundles;
 mod checking;
 mod clock;
 mod commands;
@@ -9,8 +10,10 @@ mod fields;
 mod gathered;
 mod given;
 mod locale;
+mod near;
 mod progress;
 mod rows;
+mod standard_input;
 mod when;
 
 pub use checking::check_files;
@@ -20,4 +23,5 @@ pub use gathered::Gathered;
 pub use given::{command_given, strs, word};
 pub use locale::read_locale;
 pub use rows::{LocaleCommand, ToolCommand};
+pub use standard_input::path_of;
 pub use when::tm_of;

@@ -67,7 +67,7 @@ pub enum Takes {
 const CHARMAP: ArgRow = ArgRow {
     name: "charmap",
     takes: Takes::File(None),
-    help: "The charmap in which sources are read; without it they are in UTF-8",
+    help: "The charmap in which sources are read, or - for standard input; without it they are in UTF-8",
 };
 
 const PATH: ArgRow = ArgRow {
@@ -85,7 +85,7 @@ const CHARACTERS: ArgRow = ArgRow {
 const BUNDLES: ArgRow = ArgRow {
     name: "BUNDLE",
     takes: Takes::SomeWords,
-    help: "A bundle with a script",
+    help: "A bundle with a script, or - for standard input",
 };
 
 const EXPLAIN: ArgRow = ArgRow {
@@ -105,7 +105,7 @@ pub const LOCALE_ARGS: [ArgRow; 3] = [
     ArgRow {
         name: "locale",
         takes: Takes::File(Some('l')),
-        help: "The source of the locale; without it the POSIX locale is read",
+        help: "The source of the locale, or - for standard input; without it the POSIX locale is read",
     },
     CHARMAP,
     PATH,
@@ -143,7 +143,7 @@ pub const COMMANDS: [CommandRow; 13] = [
             ArgRow {
                 name: "WHEN",
                 takes: Takes::MaybeWord,
-                help: "A time, as 2024-06-19T17:30:00-04:00[America/New_York] or `now`, which is the default",
+                help: "A time, as 2024-06-19T17:30:00-04:00[America/New_York] or `now`, which is the default, in the zone that TZ or the system names",
             },
         ],
     },
@@ -230,7 +230,7 @@ pub const COMMANDS: [CommandRow; 13] = [
             ArgRow {
                 name: "FILE",
                 takes: Takes::SomeWordsUnless("charmap"),
-                help: "A source or a charmap; without one the file of --charmap is checked",
+                help: "A source or a charmap, or - for standard input; without one the file of --charmap is checked",
             },
             CHARMAP,
             PATH,
@@ -248,7 +248,7 @@ pub const COMMANDS: [CommandRow; 13] = [
         args: &[ArgRow {
             name: "REASON",
             takes: Takes::Words,
-            help: "A reason or a refusal, as BadNumber or OverLimit list; without one, the names of all",
+            help: "A reason or a refusal, as BadNumber or OverLimit list, in any case of letters; without one, the names of all",
         }],
     },
     CommandRow {
