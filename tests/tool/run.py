@@ -1,7 +1,7 @@
 #!/usr/bin/env python3
 """run.py WORK [PROGRAM]: runs the tool on the cases of the file `cases`, in a folder WORK, and compares both
-streams and the status. With PROGRAM, a built one, it also runs what a try does not: standard output that is
-full or closed, words that are no text, and the count on a terminal. Without it the tool is built once, unproved.
+streams and the status. With PROGRAM, a built one, it also runs what a try does not: streams that are full or
+closed, words that are no text, time zones, and the count on a terminal. Without it the tool is built once, unproved.
 Prints what differs, and a line of counts; the status is 1 where one differs."""
 import os
 import pty
@@ -17,11 +17,12 @@ CRATE = f"{HERE}/../../crates/locale_tool"
 
 
 class Case:
-    """The words of a run, and what it has to write to each stream: lines, or parts that have to stand there."""
+    """The words and the standard input of a run, and what it has to write to each stream: lines, or parts that have
+    to stand there."""
 
     def __init__(self, name, status, words=(), messages=()):
         self.name, self.status = name, int(status)
-        self.words, self.output, self.messages = [*words], [], [*messages]
+        self.words, self.input, self.output, self.messages = [*words], [], [], [*messages]
         self.output_parts, self.message_parts = [], []
 
     def fault(self, status, output, told):
@@ -47,6 +48,8 @@ def cases_of(path):
             continue
         if line.startswith("@ "):
             cases.append(Case(*line[2:].split(" ")))
+        elif line.startswith("|"):
+            cases[-1].input.append(line[1:])
         elif line.startswith(">"):
             cases[-1].output.append(line[1:])
         elif line.startswith("<"):
@@ -73,7 +76,8 @@ def run_built(program, cases, work):
     """The names of the cases that differ, of the built program."""
     wrong = []
     for case in cases:
-        ended = subprocess.run([program, *case.words], cwd=work, capture_output=True, timeout=120)
+        words, given = [program, *case.words], lines(case.input)
+        ended = subprocess.run(words, cwd=work, input=given, capture_output=True, timeout=120)
         fault = case.fault(ended.returncode, ended.stdout, ended.stderr)
         if fault:
             wrong.append(case.name)
@@ -87,9 +91,9 @@ def run_unproved(cases, work):
     folder = f"{work}/tool_cases"
     os.makedirs(folder)
     for case in cases:
-        open(f"{folder}/{case.name}", "w").close()
-        with open(f"{folder}/{case.name}.args", "wb") as it:
-            it.write(lines(case.words))
+        for path, text in ((case.name, case.input), (f"{case.name}.args", case.words)):
+            with open(f"{folder}/{path}", "wb") as it:
+                it.write(lines(text))
     words = ["rt", "try", "--steps", "1", "--cases", folder]
     for name in sorted(os.listdir(f"{work}/files")):
         words += ["--data", f"files/{name}={work}/files/{name}"]
@@ -130,9 +134,24 @@ def status_of_closed_pipe(program, work, words):
     return ended.returncode, ended.stderr
 
 
-def status_of_no_text(program, work):
-    ended = subprocess.run([program, b"\xff"], cwd=work, capture_output=True)
+def status_of_closed_messages(program, work, words):
+    """The status where nobody reads what is told."""
+    reader, writer = os.pipe()
+    os.close(reader)
+    ended = subprocess.run([program, *words], cwd=work, stdout=subprocess.PIPE, stderr=writer)
+    os.close(writer)
+    return ended.returncode, ended.stdout
+
+
+def status_of_no_text(program, work, *words):
+    ended = subprocess.run([program, *words], cwd=work, capture_output=True)
     return ended.returncode, ended.stderr
+
+
+def came_in_zone(program, work, **variables):
+    """What comes of the time of the clock where variables name its zone."""
+    ended = subprocess.run([program, "time", "%Z"], cwd=work, env=variables, capture_output=True)
+    return ended.returncode, ended.stdout, ended.stderr
 
 
 def told_of_piped_source(program, work):
@@ -140,6 +159,11 @@ def told_of_piped_source(program, work):
     words, source = [program, "check", "/dev/stdin"], b"LC_TIME\nOn\nEND LC_TIME\n"
     ended = subprocess.run(words, cwd=work, input=source, capture_output=True)
     return ended.returncode, ended.stderr.splitlines()[1:]
+
+
+def unknown_zone(shown):
+    rule = "the system knows no such time zone, which the variable TZ names; the time is in UTC"
+    return f"locale_tool: warning: {shown}: {rule}\n".encode()
 
 
 def feed(path, text):
@@ -182,7 +206,25 @@ def run_streams(program, work):
         "help_on_full_device": (status_on_full_device(program, work, ["--help"]), unwritten),
         "closed_pipe": (status_of_closed_pipe(program, work, ["info"]), (141, b"")),
         "help_to_a_closed_pipe": (status_of_closed_pipe(program, work, ["--help"]), (141, b"")),
-        "no_text": (status_of_no_text(program, work), (2, b"locale_tool: a word is no UTF-8 text\n")),
+        "messages_to_a_closed_pipe": (status_of_closed_messages(program, work, ["check", "files/three_faults"]), (141, b"")),
+        "usage_to_a_closed_pipe": (status_of_closed_messages(program, work, ["mony"]), (141, b"")),
+        "no_messages_to_a_closed_pipe": (status_of_closed_messages(program, work, ["money", "%n", "1"]), (0, b"1.00\n")),
+        "no_text": (status_of_no_text(program, work, b"\xff"), (2, b"locale_tool: \\xff: the word is no UTF-8 text\n")),
+        "file_of_no_text": (
+            status_of_no_text(program, work, "check", b"caf\xe9\x1b[m", b"\xff"),
+            (2, b"locale_tool: caf\\xe9\\x1b[m: the word is no UTF-8 text\n"),
+        ),
+        "long_word_of_no_text": (
+            status_of_no_text(program, work, b"\xff" * 5000),
+            (2, b"locale_tool: a word is no UTF-8 text\n"),
+        ),
+        "no_zone": (came_in_zone(program, work, TZ=""), (0, b"UTC\n", b"")),
+        "zone_of_a_rule": (came_in_zone(program, work, TZ="XYZ4"), (0, b"XYZ\n", b"")),
+        "unknown_zone": (came_in_zone(program, work, TZ="Nowhere/Land"), (0, b"UTC\n", unknown_zone("Nowhere/Land"))),
+        "unknown_zone_of_a_colon": (came_in_zone(program, work, TZ=":None"), (0, b"UTC\n", unknown_zone(":None"))),
+        "unknown_zone_like_a_rule": (came_in_zone(program, work, TZ="AAA5BBB6"), (0, b"UTC\n", unknown_zone("AAA5BBB6"))),
+        "zone_that_moves_a_terminal": (came_in_zone(program, work, TZ="\x1b[m"), (0, b"UTC\n", unknown_zone("\\x1b[m"))),
+        "zone_of_no_text": (came_in_zone(program, work, TZ=b"\xff"), (0, b"UTC\n", unknown_zone("TZ"))),
         "piped_source": (told_of_piped_source(program, work), (1, [b"On", b"^"])),
         "no_terminal": (told_of_slow_files(program, work, False), (0, b"")),
     }

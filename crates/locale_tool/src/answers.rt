@@ -19,9 +19,7 @@ pub fn answer_of<
 >(rt: &R, alloc: Global, matches: &ArgMatches<'_>, is_watched: bool) -> Result<Answer, Problem> {
     let (command, given) = command_given(alloc, matches)?;
     match command {
-        ToolCommand::Locale(command) => {
-            plain_answer(alloc, read_locale(rt, alloc, command, given))
-        }
+        ToolCommand::Locale(command) => read_locale(rt, alloc, command, given),
         ToolCommand::Check => check_files(rt, alloc, given, is_watched),
         ToolCommand::Import => import_files(rt, alloc, given),
         ToolCommand::Explain => plain_answer(alloc, explain(alloc, strs(given, "REASON"))),

@@ -5,6 +5,7 @@ mod answers;
 mod outcome;
 mod scripts;
 mod writing;
+mod wrong_bytes;
 
 use crate::outcome::outcome_of;
 use crate::writing::{ended, told_of_words};

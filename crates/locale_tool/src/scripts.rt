@@ -5,7 +5,7 @@ use std::alloc::{AllocError, Global};
 use std::rt::Files;
 use std::sync::Wait;
 use std::thread::Threads;
-use tool_answers::{Gathered, strs};
+use tool_answers::{Gathered, path_of, strs};
 use tool_files::file_text;
 use tool_messages::{Answer, Problem};
 use tool_script::{Played, Playing, play};
@@ -45,7 +45,7 @@ fn add_played<R: Files + Threads + Wait + Sync>(
     gathered: &mut Gathered,
 ) -> Result<(), Problem> {
     for path in paths {
-        match play_file(rt, alloc, path, how) {
+        match play_file(rt, alloc, path_of(path), how) {
             Ok(played) => add_lines(&played, is_strict, gathered)?,
             Err(problem) => add_problem(problem, gathered)?,
         }

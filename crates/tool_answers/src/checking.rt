@@ -1,7 +1,9 @@
 //! Files that are checked one after another.
 
+use crate::bundles::{is_bundle_file, push_bundle};
 use crate::gathered::Gathered;
 use crate::progress::Progress;
+use crate::standard_input::{path_given, path_of};
 use crate::strs;
 use clap::ArgMatches;
 use std::alloc::Global;
@@ -18,7 +20,7 @@ pub fn check_files<R: Files + Clock + Eprint>(
     is_watched: bool,
 ) -> Result<Answer, Problem> {
     let how = Checking {
-        charmap: given.get_str("charmap"),
+        charmap: path_given(given, "charmap"),
         folders: strs(given, "path"),
         summary: given.get_flag("summary"),
     };
@@ -51,7 +53,7 @@ fn add_checked<R: Files + Clock + Eprint>(
 ) -> Result<(), Problem> {
     let mut done = 0usize;
     for path in paths {
-        add_file(rt, alloc, how, path, gathered)?;
+        add_file(rt, alloc, how, path_of(path), gathered)?;
         done = done.saturating_add(1);
         progress.show(rt, done, paths.len());
     }
@@ -65,9 +67,15 @@ fn add_file<R: Files>(
     path: &str,
     gathered: &mut Gathered,
 ) -> Result<(), Problem> {
+    let told = gathered.messages.len();
     let output = &mut gathered.output;
-    if !check_file(rt, alloc, how, path, output, &mut gathered.messages)? {
-        gathered.status = 1;
+    if check_file(rt, alloc, how, path, output, &mut gathered.messages)? {
+        return Ok(());
+    }
+    gathered.status = 1;
+    if is_bundle_file(rt, alloc, path)? {
+        gathered.messages.truncate(told);
+        push_bundle(&mut gathered.messages, path)?;
     }
     Ok(())
 }

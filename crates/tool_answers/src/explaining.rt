@@ -1,24 +1,22 @@
 //! The rules of reasons.
 
+use crate::near::{as_written, first_word, near_names};
 use lc_base::ByteText;
 use std::alloc::{AllocError, Global};
 use tool_messages::{Problem, explained};
 use tool_reads::usage_problem;
 
-/// The rows of the table of reasons that words name.
+/// The rows of the table of reasons that words name, whatever the case of their letters.
 pub fn explain(alloc: Global, words: &[&str]) -> Result<ByteText, Problem> {
     let name = joined(alloc, words)?;
-    let found = match explained(alloc, name.as_bytes())? {
+    let name = name.as_bytes();
+    let found = match explained(alloc, as_written(name))? {
         Some(text) => Some(text),
-        None => explained(alloc, first_word(name.as_bytes()))?,
+        None => explained(alloc, as_written(first_word(name)))?,
     };
     match found {
         Some(text) => Ok(text),
-        None => Err(usage_problem(
-            alloc,
-            name.as_bytes(),
-            b"there is no such reason; `locale_tool explain` prints the names of all",
-        )),
+        None => Err(unknown_reason(alloc, name)),
     }
 }
 
@@ -34,6 +32,24 @@ fn joined(alloc: Global, words: &[&str]) -> Result<ByteText, AllocError> {
     Ok(ByteText::from_vec(text))
 }
 
-fn first_word(text: &[u8]) -> &[u8] {
-    text.split(|byte| *byte == b' ').next().unwrap_or(text)
+/// The problem of a name that no row has, with the names that are near to it.
+fn unknown_reason(alloc: Global, name: &[u8]) -> Problem {
+    match wanted_instead(alloc, name) {
+        Ok(wanted) => usage_problem(alloc, name, wanted.as_slice()),
+        Err(_) => Problem::Memory,
+    }
+}
+
+/// What is told of a name that no row has.
+fn wanted_instead(alloc: Global, name: &[u8]) -> Result<Vec<u8>, AllocError> {
+    let near = near_names(alloc, name)?;
+    let mut wanted = Vec::new(alloc);
+    wanted.extend_from_slice(b"there is no such reason; ")?;
+    if !near.is_empty() {
+        wanted.extend_from_slice(b"near to it: ")?;
+        wanted.extend_from_slice(near.as_slice())?;
+        wanted.extend_from_slice(b"; ")?;
+    }
+    wanted.extend_from_slice(b"`locale_tool explain` prints the names of all")?;
+    Ok(wanted)
 }

@@ -1,6 +1,7 @@
 //! The command that words give, and its arguments.
 
 use crate::rows::{COMMANDS, CommandRow, ToolCommand};
+use crate::standard_input::is_read_once;
 use clap::ArgMatches;
 use std::alloc::Global;
 use tool_messages::Problem;
@@ -12,6 +13,9 @@ pub fn command_given<'a, 'b>(
     matches: &'a ArgMatches<'b>,
 ) -> Result<(ToolCommand, &'a ArgMatches<'b>), Problem> {
     if let Some((name, given)) = matches.subcommand() {
+        if !is_read_once(given) {
+            return Err(usage_problem(alloc, b"-", b"standard input can be read once"));
+        }
         if let Some(command) = command_named(&COMMANDS, name) {
             return Ok((command, given));
         }

@@ -1,6 +1,7 @@
 //! What the commands of the tool answer that run no script.
 #![tactic(auto)]
 
+mod bundles;
 mod checking;
 mod clock;
 mod commands;
@@ -10,8 +11,10 @@ mod gathered;
 mod given;
 mod importing;
 mod locale;
+mod near;
 mod progress;
 mod rows;
+mod standard_input;
 mod when;
 
 pub use checking::check_files;
@@ -22,4 +25,5 @@ pub use given::{command_given, strs, word};
 pub use importing::import_files;
 pub use locale::read_locale;
 pub use rows::{LocaleCommand, ToolCommand};
+pub use standard_input::path_of;
 pub use when::tm_of;

@@ -1,6 +1,7 @@
 //! What the commands print that read a locale.
 
 use crate::rows::LocaleCommand;
+use crate::standard_input::path_given;
 use crate::{strs, tm_of, word};
 use category_store::{Compiled, Share};
 use clap::ArgMatches;
@@ -11,21 +12,40 @@ use std::time::Clock;
 use time_cat::Time;
 use tool_files::{Loaded, Wanted, fault_problem, library_of, load, load_text};
 use tool_import::{source_path, standard_text};
-use tool_messages::Problem;
+use tool_messages::{Answer, Problem};
 use tool_reads::{
     LentCategories, class_lines, conv_lines, info_lines, item_categories, lower_lines, money_line,
     number_line, parsed_lines, time_line, upper_lines,
 };
 
-/// What a command prints that reads a locale.
+/// What a command answers that reads a locale.
 pub fn read_locale<R: Files + Env + Clock + AllocGlobal + Clone + Drop>(
     rt: &R,
     alloc: Global,
     command: LocaleCommand,
     given: &ArgMatches<'_>,
+) -> Result<Answer, Problem> {
+    let mut messages = Vec::new(alloc);
+    match printed(rt, alloc, command, given, &mut messages) {
+        Ok(output) => Ok(Answer {
+            status: 0,
+            output,
+            messages: ByteText::from_vec(messages),
+        }),
+        Err(problem) => Err(problem),
+    }
+}
+
+/// What a command prints that reads a locale.
+fn printed<R: Files + Env + Clock + AllocGlobal + Clone + Drop>(
+    rt: &R,
+    alloc: Global,
+    command: LocaleCommand,
+    given: &ArgMatches<'_>,
+    messages: &mut Vec<u8>,
 ) -> Result<ByteText, Problem> {
     match loaded_for(rt, alloc, command, given) {
-        Ok(loaded) => by_files(rt, alloc, command, given, &loaded),
+        Ok(loaded) => by_files(rt, alloc, command, given, &loaded, messages),
         Err(problem) => Err(problem),
     }
 }
@@ -61,7 +81,7 @@ fn loaded<R: Files>(
     given: &ArgMatches<'_>,
     categories: &[Category],
 ) -> Result<Loaded, Problem> {
-    match given.get_str("locale") {
+    match path_given(given, "locale") {
         Some(locale) => loaded_locale(rt, alloc, given, locale, categories),
         None => load(rt, alloc, &wanted_files(given, None), categories),
     }
@@ -89,7 +109,7 @@ fn loaded_locale<R: Files>(
 fn wanted_files<'a>(given: &'a ArgMatches<'_>, locale: Option<&'a str>) -> Wanted<'a> {
     Wanted {
         locale,
-        charmap: given.get_str("charmap"),
+        charmap: path_given(given, "charmap"),
         folders: strs(given, "path"),
     }
 }
@@ -101,13 +121,14 @@ fn by_files<R: Files + Env + Clock + AllocGlobal + Clone + Drop>(
     command: LocaleCommand,
     given: &ArgMatches<'_>,
     loaded: &Loaded,
+    messages: &mut Vec<u8>,
 ) -> Result<ByteText, Problem> {
     match library_of(alloc, &loaded.sources) {
         Ok(library) => {
             let locale = library.compiled(Share {
                 number: number_of(loaded),
             });
-            by_locale(rt, alloc, command, given, loaded, locale)
+            by_locale(rt, alloc, command, given, loaded, locale, messages)
         }
         Err(fault) => {
             let charset = Some(&loaded.charset);
@@ -133,6 +154,7 @@ fn by_locale<R: Files + Env + Clock + AllocGlobal + Clone + Drop>(
     given: &ArgMatches<'_>,
     loaded: &Loaded,
     locale: Compiled<'_>,
+    messages: &mut Vec<u8>,
 ) -> Result<ByteText, Problem> {
     let format = word(given, "FORMAT");
     let characters = strs(given, "CHARACTER");
@@ -145,7 +167,10 @@ fn by_locale<R: Files + Env + Clock + AllocGlobal + Clone + Drop>(
         LocaleCommand::Number => {
             number_line(alloc, locale.numeric(), format, strs(given, "NUMBER"))
         }
-        LocaleCommand::Time => timed(rt, alloc, locale.time(), format, given.get_str("WHEN")),
+        LocaleCommand::Time => {
+            let when = given.get_str("WHEN").unwrap_or("now");
+            timed(rt, alloc, locale.time(), format, when, messages)
+        }
         LocaleCommand::Parse => parsed_lines(alloc, locale.time(), format, word(given, "TEXT")),
         LocaleCommand::Info => items(alloc, strs(given, "ITEM"), locale),
         LocaleCommand::Conv => Ok(conv_lines(alloc, locale.numeric(), locale.monetary())?),
@@ -155,15 +180,16 @@ fn by_locale<R: Files + Env + Clock + AllocGlobal + Clone + Drop>(
     }
 }
 
-/// The text of a time, which is that of the clock where no word says it.
+/// The text of a time.
 fn timed<R: Files + Env + Clock + AllocGlobal + Clone + Drop>(
     rt: &R,
     alloc: Global,
     time: &Time,
     format: &str,
-    when: Option<&str>,
+    when: &str,
+    messages: &mut Vec<u8>,
 ) -> Result<ByteText, Problem> {
-    let tm = tm_of(rt, when.unwrap_or("now"))?;
+    let tm = tm_of(rt, when, messages)?;
     time_line(alloc, time, format, &tm)
 }
 

@@ -70,7 +70,7 @@ pub enum Takes {
 const CHARMAP: ArgRow = ArgRow {
     name: "charmap",
     takes: Takes::File(None),
-    help: "The charmap in which sources are read; without it they are in UTF-8",
+    help: "The charmap in which sources are read, or - for standard input; without it they are in UTF-8",
 };
 
 const PATH: ArgRow = ArgRow {
@@ -94,7 +94,7 @@ const CHARACTERS: ArgRow = ArgRow {
 const BUNDLES: ArgRow = ArgRow {
     name: "BUNDLE",
     takes: Takes::SomeWords,
-    help: "A bundle with a script",
+    help: "A bundle with a script, or - for standard input",
 };
 
 const EXPLAIN: ArgRow = ArgRow {
@@ -114,7 +114,7 @@ pub const LOCALE_ARGS: [ArgRow; 4] = [
     ArgRow {
         name: "locale",
         takes: Takes::File(Some('l')),
-        help: "The source of the locale, or the name of a system's; without it the POSIX locale is read",
+        help: "The source of the locale, the name of a system's, or - for standard input; without it the POSIX locale is read",
     },
     CHARMAP,
     PATH,
@@ -153,7 +153,7 @@ pub const COMMANDS: [CommandRow; 14] = [
             ArgRow {
                 name: "WHEN",
                 takes: Takes::MaybeWord,
-                help: "A time, as 2024-06-19T17:30:00-04:00[America/New_York] or `now`, which is the default",
+                help: "A time, as 2024-06-19T17:30:00-04:00[America/New_York] or `now`, which is the default, in the zone that TZ or the system names",
             },
         ],
     },
@@ -240,7 +240,7 @@ pub const COMMANDS: [CommandRow; 14] = [
             ArgRow {
                 name: "FILE",
                 takes: Takes::SomeWordsUnless("charmap"),
-                help: "A source or a charmap; without one the file of --charmap is checked",
+                help: "A source or a charmap, or - for standard input; without one the file of --charmap is checked",
             },
             CHARMAP,
             PATH,
@@ -281,7 +281,7 @@ pub const COMMANDS: [CommandRow; 14] = [
         args: &[ArgRow {
             name: "REASON",
             takes: Takes::Words,
-            help: "A reason or a refusal, as BadNumber or OverLimit list; without one, the names of all",
+            help: "A reason or a refusal, as BadNumber or OverLimit list, in any case of letters; without one, the names of all",
         }],
     },
     CommandRow {

@@ -22,13 +22,15 @@ const OTHER_OFFSET: &[u8] = b": the offset is not that of the zone at that time\
 /// What is wrong with a zone.
 const NO_ZONE: &[u8] = b": the system knows no such time zone\n";
 
-/// The fields of a time: of `now`, of a text as RFC 9557 has it, or of one without an offset.
+/// The fields of a time: of `now`, of a text as RFC 9557 has it, or of one without an offset. The messages
+/// are told where the zone of `now` is not known.
 pub fn tm_of<R: Files + Env + Clock + AllocGlobal + Clone + Drop>(
     rt: &R,
     when: &str,
+    messages: &mut Vec<u8>,
 ) -> Result<Tm, Problem> {
     if when.as_bytes() == NOW {
-        return now_tm(rt);
+        return now_tm(rt, messages);
     }
     let (written, suffixes) = parts_of(when.as_bytes());
     if begins_with_zone(suffixes) {
