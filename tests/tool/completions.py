@@ -64,7 +64,7 @@ def lacking():
         if not name.endswith("bash"):
             forms += [re.escape(it) for it in abouts]
         told += [f"{path} lacks {it}" for it in forms if not re.search(it, text)]
-    if not (len(commands) == 13 and len(options) >= 5):
+    if not (len(commands) == 14 and len(options) >= 5):
         told.append(f"the table of {TABLE} is not read")
     return told
 
