@@ -2,9 +2,8 @@
 
 use lc_base::is_blank;
 use std::alloc::{AllocError, Global};
-use std::fs;
 use std::rt::Files;
-use tool_files::file_text;
+use tool_files::{file_text, is_file};
 use tool_messages::{Problem, push_word};
 
 /// The words that begin the directives of a bundle.
@@ -20,20 +19,13 @@ const DIRECTIVES: [&[u8]; 7] = [
 
 /// Whether a file begins with a directive of a bundle. A pipe is not read again, and so is none.
 pub fn is_bundle_file<R: Files>(rt: &R, alloc: Global, path: &str) -> Result<bool, Problem> {
-    if !is_plain_file(rt, path) {
+    if !is_file(rt, path) {
         return Ok(false);
     }
     match file_text(rt, alloc, path) {
         Ok(text) => Ok(is_bundle(text.as_bytes())),
         Err(Problem::Memory) => Err(Problem::Memory),
         Err(_) => Ok(false),
-    }
-}
-
-fn is_plain_file<R: Files>(rt: &R, path: &str) -> bool {
-    match fs::metadata(rt, path) {
-        Ok(found) => found.is_file(),
-        Err(_) => false,
     }
 }
 

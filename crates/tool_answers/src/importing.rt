@@ -1,6 +1,7 @@
 //! Files that are imported one after another.
 
 use crate::gathered::Gathered;
+use crate::standard_input::path_of;
 use crate::strs;
 use clap::ArgMatches;
 use std::alloc::Global;
@@ -34,7 +35,8 @@ fn add_imported<R: Files>(
 ) -> Result<(), Problem> {
     for word in words {
         let output = &mut gathered.output;
-        if !import_file(rt, alloc, how, word, output, &mut gathered.messages)? {
+        let path = path_of(word);
+        if !import_file(rt, alloc, how, path, output, &mut gathered.messages)? {
             gathered.status = 1;
         }
     }
