@@ -6,15 +6,10 @@ use std::alloc::{AllocError, Global};
 use tool_messages::{push_number, push_word};
 
 /// How many notes have a code, and the first of them.
-struct Tally<'a> {
-    first: &'a Note,
+#[derive(Clone, Copy)]
+struct Tally {
+    first: Note,
     count: u64,
-}
-
-impl<'a> Drop for Tally<'a> {
-    fn drop(self) {
-        let Tally { first: _, count: _ } = self;
-    }
 }
 
 /// Adds a line for each note: `FILE:LINE:COLUMN: CODE: SENTENCE`.
@@ -34,7 +29,7 @@ pub fn push_summary(
     notes: &[Note],
 ) -> Result<(), AllocError> {
     for tally in tallies_of(alloc, notes)?.as_slice() {
-        push_note(out, files, tally.first)?;
+        push_note(out, files, &tally.first)?;
         if tally.count > 1 {
             out.extend_from_slice(b" (")?;
             push_number(out, tally.count)?;
@@ -46,12 +41,12 @@ pub fn push_summary(
 }
 
 /// The notes by their codes, in the order of the first of each.
-fn tallies_of<'a>(alloc: Global, notes: &'a [Note]) -> Result<Vec<Tally<'a>>, AllocError> {
+fn tallies_of(alloc: Global, notes: &[Note]) -> Result<Vec<Tally>, AllocError> {
     let mut tallies = Vec::new(alloc);
     for note in notes {
         if !is_counted(tallies.as_mut_slice(), note) {
             tallies.push(Tally {
-                first: note,
+                first: *note,
                 count: 1,
             })?;
         }
@@ -60,7 +55,7 @@ fn tallies_of<'a>(alloc: Global, notes: &'a [Note]) -> Result<Vec<Tally<'a>>, Al
 }
 
 /// Counts a note among those of its code, if there are some.
-fn is_counted(tallies: &mut [Tally<'_>], note: &Note) -> bool {
+fn is_counted(tallies: &mut [Tally], note: &Note) -> bool {
     for tally in tallies {
         if tally.first.code.code() == note.code.code() {
             tally.count = tally.count.saturating_add(1);
