@@ -72,8 +72,13 @@ impl PagedRanges {
         let count = page_count(&ranges);
         let mut numbers = Vec::with_capacity(alloc, count)?;
         let mut pages = Vec::new(alloc);
+        let mut stretch = stretch_from(&ranges, 0);
         for page in 0..count {
-            numbers.push(page_number(&mut pages, &ranges, page as u32 * 256)?)?;
+            let first = page as u32 * 256;
+            if first > stretch.last {
+                stretch = stretch_from(&ranges, first);
+            }
+            numbers.push(page_number(&mut pages, &ranges, first, stretch)?)?;
         }
         let rest = stretch_from(&ranges, count as u32 * 256);
         Ok(PagedRanges {
