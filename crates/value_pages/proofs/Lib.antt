@@ -1,3 +1,4 @@
+mod Examples
 pub mod Words
 pub mod Pages
 pub mod Blocks

@@ -1,5 +1,5 @@
 -- Numbered pages, as pages are added.
-use Rattle.std.proofs.Common.{◌≡◌, ℕ, ◌+◌, ◌*◌, ◌/◌, ◌%◌, ◌-◌, ◌^◌, ◌<◌, ◌≤◌, Bool, true, false, cond, List, [], ◌∷◌, ◌++◌, length, get_or, Option, Some, None, nat_eq, nat_lt, refl, sym, ap, ◌∙◌, arith, length-append, bit_and, slice_get}
+use Rattle.std.proofs.Common.{◌≡◌, ℕ, ◌+◌, ◌*◌, ◌/◌, ◌%◌, ◌-◌, ◌^◌, ◌<◌, ◌≤◌, Bool, true, false, cond, List, [], ◌∷◌, ◌++◌, length, get_or, Some, None, nat_eq, nat_lt, refl, sym, ap, ◌∙◌, arith, length-append, bit_and, slice_get}
 use Rattle.std.specs.Prelude.{slice_index, option_map}
 use Rattle.std.proofs.lemmas.Bool.Decides.{nat_tests}
 use Rattle.std.proofs.Math.ListN.{get_or-append}
@@ -19,7 +19,6 @@ get-append pages page other n is =
 pub kept : (pages : List Page) (page : Page) (n k : ℕ) (b : Bool) → page_says pages n k ≡ Some b → page_says (pages ++ page ∷ []) n k ≡ Some b
 kept pages page n k b =
     let Q : Bool → Type 0 = λ less. cond less (Some (nat_eq n 1)) (option_map (λ p. in_page p k) (slice_get pages (n - 2))) ≡ Some b → cond less (Some (nat_eq n 1)) (option_map (λ p. in_page p k) (slice_get (pages ++ page ∷ []) (n - 2))) ≡ Some b in
-    let P : Option Page → Type 0 = λ found. slice_get pages (n - 2) ≡ found → option_map (λ p. in_page p k) found ≡ Some b → option_map (λ p. in_page p k) (slice_get (pages ++ page ∷ []) (n - 2)) ≡ Some b in
     elim (nat_lt n 2) as Q [
       | true ↦ λ h. h
       | false ↦ (elim (slice_get pages (n - 2)) as (λ found. slice_get pages (n - 2) ≡ found → option_map (λ p. in_page p k) (slice_get pages (n - 2)) ≡ Some b → option_map (λ p. in_page p k) (slice_get (pages ++ page ∷ []) (n - 2)) ≡ Some b) [

@@ -1,5 +1,5 @@
 -- Maps of wide values, and tables of their blocks: what is given for a value by the block that it is in (our own).
-use Rattle.std.specs.Prelude.{◌≡◌, ℕ, ◌-◌, ◌/◌, ◌%◌, ◌<◌, ◌==◌, false, List, length, map, slice_get, slice_index, Option, Some, option_map, unwrap_or, if◌then◌else◌}
+use Rattle.std.specs.Prelude.{◌≡◌, ℕ, ◌-◌, ◌/◌, ◌%◌, ◌<◌, ◌≤◌, ◌==◌, Bool, false, List, length, map, slice_get, slice_index, Option, Some, option_map, unwrap_or, if◌then◌else◌}
 use Rattle.std.specs.BTreeMap.{is_at}
 use Rattle.std.specs.Map.{lookup}
 use Rattle.std.specs.Ordering.{nat_cmp}
@@ -26,3 +26,7 @@ block_gives blocks number k w =
 -- the blocks that are numbered give for each of their values what the map gives
 abbrev pub IsPagedMap : List ℕ → List (List ℕ) → List (ℕ × ℕ) → Type 0
 IsPagedMap numbers blocks entries = (w : ℕ) → w / 64 < length numbers → block_gives blocks (slice_index numbers (w / 64)) (w % 64) w ≡ Some (image entries w)
+
+-- unless this bool is true, a map gives itself for each value from one to another
+abbrev pub IsFixedUnless : Bool → List (ℕ × ℕ) → ℕ → ℕ → Type 0
+IsFixedUnless mapped entries first last = (w : ℕ) → first ≤ w → w ≤ last → mapped ≡ false → image entries w ≡ w

@@ -1,6 +1,10 @@
 -- Tables of pages: what is said of a value by the page that it is on (our own).
-use Rattle.std.specs.Prelude.{◌≡◌, ℕ, ◌-◌, ◌/◌, ◌%◌, ◌<◌, ◌==◌, nat_lt, Bool, List, length, slice_get, slice_index, Option, Some, option_map, if◌then◌else◌}
+use Rattle.std.specs.Prelude.{◌≡◌, ℕ, ◌-◌, ◌/◌, ◌%◌, ◌<◌, ◌≤◌, ◌==◌, nat_lt, Bool, List, length, slice_get, slice_index, Option, Some, option_map, if◌then◌else◌}
 use Rattle.std.specs.Int.{bit_at}
+
+-- a test gives the same answer of all values from one to another
+abbrev pub IsAlike : (ℕ → Bool) → ℕ → ℕ → Bool → Type 0
+IsAlike test first last answer = (w : ℕ) → first ≤ w → w ≤ last → test w ≡ answer
 
 -- whether a word has a bit
 abbrev pub has_bit : ℕ → ℕ → Bool

@@ -1,7 +1,8 @@
 //! Stretches of values that are alike: all in a set, or none.
 
-ghost use Rattle.std.specs.Prelude.{◌≡◌, ℕ, ◌≤◌};
+ghost use Rattle.std.specs.Prelude.{◌≤◌};
 ghost use Rattle.class_ranges.specs.Ranges.{covers};
+ghost use Rattle.value_pages.specs.Pages.{IsAlike};
 
 use class_ranges::Ranges;
 
@@ -15,7 +16,7 @@ pub struct Stretch {
 /// The values from `w` on that are all in the set, or all not. Takes the logarithm of the ranges.
 pub fn stretch_from(ranges: &Ranges, w: u32) -> Stretch
     ensures reaches { w ≤ result.last }
-    ensures alike { (v : ℕ) → w ≤ v → v ≤ result.last → covers ranges.now v ≡ result.is_in }
+    ensures alike { IsAlike (covers ranges.now) w result.last result.is_in }
 {
     match ranges.next(w) {
         None => Stretch {

@@ -2,9 +2,9 @@
 
 ghost use Rattle.std.specs.Prelude.{◌≡◌, ℕ, ◌+◌, ◌<◌, ◌≤◌, ◌^◌, Bool, length, IfOk, Some};
 ghost use Rattle.class_ranges.specs.Ranges.{covers};
-ghost use Rattle.value_pages.specs.Pages.{has_bit, in_page, page_says};
+ghost use Rattle.value_pages.specs.Pages.{IsAlike, has_bit, in_page, page_says};
 
-use crate::alike::stretch_from;
+use crate::alike::{Stretch, stretch_from};
 use class_ranges::Ranges;
 use std::alloc::AllocError;
 
@@ -43,15 +43,20 @@ fn page_from(ranges: &Ranges, first: u32) -> Page
 }
 
 /// The number of the page for 256 values from one on, which is added unless it is one of those that
-/// have all values or none.
-pub fn page_number(pages: &mut Vec<Page>, ranges: &Ranges, first: u32) -> Result<u16, AllocError>
+/// have all values or none. The values from the first one to the last of `stretch` are alike.
+pub fn page_number(
+    pages: &mut Vec<Page>,
+    ranges: &Ranges,
+    first: u32,
+    stretch: Stretch,
+) -> Result<u16, AllocError>
     requires first { first + 255 < 2 ^ 32 }
+    requires alike { IsAlike (covers ranges.now) first stretch.last stretch.is_in }
     requires room { length pages.old.items < 4352 }
     ensures says { IfOk result (λ n. (k : ℕ) → k < 256 → page_says pages.new.items n k ≡ Some (covers ranges.now (first + k))) }
     ensures kept { IfOk result (λ _. (n k : ℕ) (b : Bool) → page_says pages.old.items n k ≡ Some b → page_says pages.new.items n k ≡ Some b) }
     ensures grown { IfOk result (λ _. length pages.new.items ≤ length pages.old.items + 1) }
 {
-    let stretch = stretch_from(ranges, first);
     if stretch.last >= first + 255 {
         return Ok(if stretch.is_in { 1 } else { 0 });
     }

@@ -3,6 +3,7 @@
 ghost use Rattle.std.specs.Prelude.{◌≡◌, ◌≤◌, IfOk, IfSome};
 ghost use Rattle.class_ranges.specs.Ranges.{covers};
 
+use crate::alike::{Stretch, stretch_from};
 use crate::page::{Page, page_number, page_says};
 use class_ranges::Ranges;
 use std::alloc::{AllocError, Global};
@@ -14,11 +15,13 @@ const PAGE_LIMIT: usize = 4352;
 /// As many pages are kept for each range at most, so that memory grows with the ranges.
 const PAGES_PER_RANGE: usize = 16;
 
-/// A set of wide values, seen as its ranges, with a table of its pages.
+/// A set of wide values, seen as its ranges, with a table of its first pages, and what is said of
+/// the values after these.
 pub struct PagedRanges {
     ranges: Ranges,
     numbers: Vec<u16>,
     pages: Vec<Page>,
+    rest: Stretch,
 }
 
 impl Drop for PagedRanges {
@@ -27,20 +30,21 @@ impl Drop for PagedRanges {
             ranges: _,
             numbers: _,
             pages: _,
+            rest: _,
         } = self;
     }
 }
 
 impl Model for PagedRanges {
-    ghost use Rattle.std.specs.Prelude.{List};
+    ghost use Rattle.std.specs.Prelude.{List, length, ◌*◌};
     ghost use Rattle.class_ranges.specs.Ranges.{Range, covers};
-    ghost use Rattle.value_pages.specs.Pages.{IsPaged};
+    ghost use Rattle.value_pages.specs.Pages.{IsPaged, IsAlike};
 
     ghost Value = { List Range };
 
     ghost view = { λ p. p.ranges };
 
-    ghost invariant = { λ p. IsPaged p.numbers.items p.pages.items (covers p.ranges) };
+    ghost invariant = { λ p. IsPaged p.numbers.items p.pages.items (covers p.ranges) × IsAlike (covers p.ranges) (length p.numbers.items * 256) p.rest.last p.rest.is_in };
 }
 
 /// As many pages as a set is given.
@@ -65,15 +69,23 @@ impl PagedRanges {
     pub fn of(alloc: Global, ranges: Ranges) -> Result<PagedRanges, AllocError>
         ensures { IfOk result (λ p. p ≡ ranges) }
     {
-        let mut numbers = Vec::new(alloc);
+        let count = page_count(&ranges);
+        let mut numbers = Vec::with_capacity(alloc, count)?;
         let mut pages = Vec::new(alloc);
-        for page in 0..page_count(&ranges) {
-            numbers.push(page_number(&mut pages, &ranges, page as u32 * 256)?)?;
+        let mut stretch = stretch_from(&ranges, 0);
+        for page in 0..count {
+            let first = page as u32 * 256;
+            if first > stretch.last {
+                stretch = stretch_from(&ranges, first);
+            }
+            numbers.push(page_number(&mut pages, &ranges, first, stretch)?)?;
         }
+        let rest = stretch_from(&ranges, count as u32 * 256);
         Ok(PagedRanges {
             ranges,
             numbers,
-            pages,
+            pages: Vec::from_slice(alloc, &pages)?,
+            rest,
         })
     }
 
@@ -81,10 +93,12 @@ impl PagedRanges {
     pub fn without_pages(alloc: Global, ranges: Ranges) -> PagedRanges
         ensures { result ≡ ranges }
     {
+        let rest = stretch_from(&ranges, 0);
         PagedRanges {
             ranges,
             numbers: Vec::new(alloc),
             pages: Vec::new(alloc),
+            rest,
         }
     }
 
@@ -95,24 +109,27 @@ impl PagedRanges {
         &self.ranges
     }
 
-    /// Whether a value is in the set, where its page is in the table.
-    fn paged(&self, w: u32) -> Option<bool>
+    /// Whether a value is in the set, where its page is in the table or it is alike with the first
+    /// one after the table.
+    fn tabled(&self, w: u32) -> Option<bool>
         ensures { IfSome result (λ is_in. is_in ≡ covers self.now w) }
     {
         let page = (w / 256) as usize;
         if page < self.numbers.len() {
             page_says(&self.pages, self.numbers[page], w % 256)
+        } else if w <= self.rest.last {
+            Some(self.rest.is_in)
         } else {
             None
         }
     }
 
-    /// Whether a value is in the set. Takes a few steps for a value whose page is in the table, and
-    /// for another the logarithm of the ranges.
+    /// Whether a value is in the set. Takes a few steps in the table and after all ranges, and else
+    /// the logarithm of the ranges.
     pub fn contains(&self, w: u32) -> bool
         ensures { result ≡ covers self.now w }
     {
-        match self.paged(w) {
+        match self.tabled(w) {
             Some(is_in) => is_in,
             None => self.ranges.contains(w),
         }
