@@ -1,27 +1,74 @@
 -- What checking gives, case by case.
-use Rattle.std.proofs.Common.{◌≡◌, ℕ, ◌++◌, Bool, true, false, List, [], Result, Ok, Err, IfOk, codes, if◌then◌else◌}
+use Rattle.std.proofs.Common.{◌≡◌, ℕ, ◌<◌, ◌++◌, Bool, true, false, List, [], ◌∷◌, length, All, Result, Ok, Err, IfOk, codes, ap, subst, length-append, arith, if◌then◌else◌}
+use Rattle.lc_base.specs.declared.place.Place.{Place}
+use Rattle.lc_base.specs.declared.reason.Reason.{Reason}
+use Rattle.lc_base.specs.Reading.{Reads}
 use Rattle.charset.specs.CodedSet.{CodedSet, set_name}
-use Rattle.tool_messages.specs.declared.answer.Problem.{Problem}
+use Rattle.category_store.specs.Catalog.{Catalog}
+use Rattle.tool_messages.proofs.MessageLemmas.{head_says}
+use Rattle.tool_files.specs.declared.sources.FilePath.{FilePath}
+use Rattle.tool_files.specs.declared.sources.Sources.{Sources}
+use Rattle.tool_files.specs.Library.{charset_of, library}
+use Rattle.tool_files.specs.Told.{IsFileMessage, file_of}
 use Rattle.tool_check.specs.declared.checked.Checked.{Checked}
+use Rattle.tool_check.specs.declared.checked.Checked.TheVariants.{Accepted, Refused}
+use Rattle.tool_check.specs.declared.found.Fault.{Fault}
+use Rattle.tool_check.specs.Found.{AreAllTold, IsFaultOf}
 use Rattle.tool_check.specs.Summary.{row, charmap_summary}
-use Rattle.tool_check.specs.Checked.{IsSummary, IsChecked, IsWritten, accepted, refused}
+use Rattle.tool_check.specs.Checked.{IsSummary, AreMessages, AreMessagesFrom, IsFoundOf, IsFound, IsCharmapFoundOf, IsCharmapFound, IsChecked, IsWritten}
 
-pub charmap_summed : (asked : Bool) (path summary : List ℕ) (set : CodedSet) → summary ≡ (if asked then charmap_summary path set else []) → IsSummary asked path summary
+-- ---- messages of faults
+
+pub one_more_message : (files : List FilePath) (fault : Fault) (faults : List Fault) (message rest text : List ℕ) → IsFileMessage files fault.place fault.reason message
+    → AreMessages files faults rest → text ≡ message ++ rest → AreMessages files (fault ∷ faults) text
+one_more_message files fault faults message rest text is more e = record { message = message; rest = rest; parts = e; is = is; more = more }
+
+pub messages_from : {E : Type 0} (sources : Sources) (first : Fault) (faults : List Fault) (messages : Result (List ℕ) E) → AreAllTold first faults
+    → All (IsFaultOf sources.charmaps sources.locales first) faults → IfOk messages (AreMessages sources.paths.items faults) → IfOk messages (AreMessagesFrom sources first)
+messages_from sources first faults (Ok messages) told each are = record { faults = faults; told = told; each = each; are = are }
+messages_from sources first faults (Err e) told each are = tt
+
+message_says : (files : List FilePath) (place : Place) (reason : Reason) (message : List ℕ) → IsFileMessage files place reason message → 0 < length message
+message_says files place reason message is = head_says (file_of files place.line).0 is.spot.line is.spot.column _ message is.begins
+
+messages_say : (files : List FilePath) (before : List Fault) (first : Fault) (behind : List Fault) (messages : List ℕ) → AreMessages files (before ++ first ∷ behind) messages → 0 < length messages
+messages_say files [] first behind messages are =
+    omega (arith, ap length are.parts, length-append are.message are.rest, message_says files first.place first.reason are.message are.is)
+messages_say files (fault ∷ before) first behind messages are =
+    omega (arith, ap length are.parts, length-append are.message are.rest, message_says files fault.place fault.reason are.message are.is)
+
+messages_from_say : (sources : Sources) (first : Fault) (messages : List ℕ) → AreMessagesFrom sources first messages → 0 < length messages
+messages_from_say sources first messages from =
+    let files = sources.paths.items in
+    messages_say files from.told.before first from.told.behind messages (subst (λ (faults : List Fault). AreMessages files faults messages) from.told.first_is from.are)
+
+-- ---- what is found
+
+charmap_summed : (asked : Bool) (path summary : List ℕ) (set : CodedSet) → summary ≡ (if asked then charmap_summary path set else []) → IsSummary asked path summary
 charmap_summed false path summary set e = e
 charmap_summed true path summary set e = record { rest = row (codes "charset") (set_name set); parts = e }
 
-pub all_summed : (asked : Bool) (path : List ℕ) (set : CodedSet) {E : Type 0} (r : Result (List ℕ) E)
-    → IfOk r (λ summary. summary ≡ (if asked then charmap_summary path set else [])) → IfOk r (IsSummary asked path)
-all_summed asked path set (Ok summary) e = charmap_summed asked path summary set e
-all_summed asked path set (Err e) h = tt
+found_of_checked : (asked : Bool) (path : List ℕ) (sources : Sources) (reads : Reads Catalog) (found : Checked) → IsFoundOf asked path sources reads found → IsChecked asked path found
+found_of_checked asked path sources (Ok library) (Accepted summary) is = is
+found_of_checked asked path sources (Ok library) (Refused messages) is = absurd is
+found_of_checked asked path sources (Err fault) (Accepted summary) is = absurd is
+found_of_checked asked path sources (Err fault) (Refused messages) is = messages_from_say sources _ messages is
 
-pub accepted_checked : {E : Type 0} (asked : Bool) (path : List ℕ) (r : Result (List ℕ) E) (found : Result Checked Problem) → found ≡ accepted r → IfOk r (IsSummary asked path) → IfOk found (IsChecked asked path)
-accepted_checked asked path (Ok summary) found e h = rw e h
-accepted_checked asked path (Err problem) found e h = rw e tt
+pub found_checked : (asked : Bool) (path : List ℕ) (sources : Sources) (found : Checked) → IsFound asked path sources found → IsChecked asked path found
+found_checked asked path sources found is = found_of_checked asked path sources (library sources.charmaps sources.locales) found is
 
-pub refused_checked : (asked : Bool) (path : List ℕ) (r : Result (List ℕ) Problem) (found : Result Checked Problem) → found ≡ refused r → IfOk found (IsChecked asked path)
-refused_checked asked path (Ok messages) found e = rw e tt
-refused_checked asked path (Err problem) found e = rw e tt
+charmap_found_of_checked : (asked : Bool) (path : List ℕ) (files : List FilePath) (reads : Reads CodedSet) (found : Checked) → IsCharmapFoundOf asked path files reads found
+    → IsChecked asked path found
+charmap_found_of_checked asked path files (Ok set) (Accepted summary) is = charmap_summed asked path summary set is
+charmap_found_of_checked asked path files (Ok set) (Refused messages) is = absurd is
+charmap_found_of_checked asked path files (Err fault) (Accepted summary) is = absurd is
+charmap_found_of_checked asked path files (Err fault) (Refused messages) is = message_says files fault.0 fault.1 messages is
+
+pub all_charmap_found_checked : {E : Type 0} (asked : Bool) (path : List ℕ) (sources : Sources) (found : Result Checked E) → IfOk found (IsCharmapFound asked path sources)
+    → IfOk found (IsChecked asked path)
+all_charmap_found_checked asked path sources (Ok found) is =
+    charmap_found_of_checked asked path sources.paths.items (charset_of sources.charmaps sources.locales) found is
+all_charmap_found_checked asked path sources (Err e) is = tt
 
 -- ---- what is written
 
@@ -29,6 +76,6 @@ pub accepted_written : (asked : Bool) (path output output' messages messages' su
     → IsWritten true asked path output output' messages messages'
 accepted_written asked path output output' messages messages' summary is more same = record { summary = summary; is_summary = is; output_is = more; messages_same = same }
 
-pub refused_written : (asked : Bool) (path output output' messages messages' told : List ℕ) → output' ≡ output → messages' ≡ messages ++ told
+pub refused_written : (asked : Bool) (path output output' messages messages' told : List ℕ) → 0 < length told → output' ≡ output → messages' ≡ messages ++ told
     → IsWritten false asked path output output' messages messages'
-refused_written asked path output output' messages messages' told same more = record { output_same = same; messages_more = record { rest = told; parts = more } }
+refused_written asked path output output' messages messages' told says same more = record { output_same = same; told = told; not_silent = says; messages_more = more }

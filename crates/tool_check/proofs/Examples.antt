@@ -1,6 +1,6 @@
 -- The definitions of checks, tried on small examples.
 use Rattle.std.proofs.Common.{◌≡◌, ℕ, ◌==◌, ◌||◌, true, false, List, [], ◌∷◌, ◌++◌, Some, codes, refl}
-use Rattle.std.specs.Fmt.{decimal}
+use Rattle.std.specs.Fmt.{decimal, digits}
 use Rattle.lc_base.specs.declared.reason.Reason.TheVariants.{EmptyRadix}
 use Rattle.lc_base.specs.declared.category.Category.TheVariants.{Numeric, Time}
 use Rattle.tool_check.specs.declared.looks.Look.TheVariants.{Outside, Section}
@@ -8,6 +8,7 @@ use Rattle.tool_check.specs.Looks.{text_alone, is_sign_line}
 use Rattle.tool_check.specs.Texts.{is_charmap}
 use Rattle.tool_check.specs.declared.found.Fault.{Fault}
 use Rattle.tool_check.specs.Found.{with_fault, are_ordered}
+use Rattle.tool_check.specs.Checked.{AreMessages}
 use Rattle.tool_check.specs.Summary.{row, count_below, keyword_count}
 
 -- a text of lines that each end in a newline
@@ -75,6 +76,23 @@ ordered = refl
 
 not_ordered : are_ordered (at 3 1 ∷ at 4 1 ∷ at 2 5 ∷ []) ≡ false
 not_ordered = refl
+
+-- the messages of two faults of a file
+told : AreMessages (record { path = codes "de"; first_line = 2 } ∷ []) (at 3 1 ∷ at 4 7 ∷ []) (codes "de:2:1: EmptyRadix\nde:3:7: EmptyRadix\n")
+unfolding digits
+told = record {
+  message = codes "de:2:1: EmptyRadix\n";
+  rest = codes "de:3:7: EmptyRadix\n";
+  parts = refl;
+  is = record { spot = record { line = 2; column = 1 }; spot_is = λ _. refl; begins = record { rest = codes "\n"; parts = refl } };
+  more = record {
+    message = codes "de:3:7: EmptyRadix\n";
+    rest = [];
+    parts = refl;
+    is = record { spot = record { line = 3; column = 7 }; spot_is = λ _. refl; begins = record { rest = codes "\n"; parts = refl } };
+    more = refl;
+  };
+}
 
 one_keyword : keyword_count 1 ≡ decimal 1 ++ codes " keyword"
 one_keyword = refl

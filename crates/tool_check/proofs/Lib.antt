@@ -1,5 +1,6 @@
 pub mod LookLemmas
 pub mod CopiedLemmas
+pub mod FaultLemmas
 pub mod FoundLemmas
 pub mod SummaryLemmas
 pub mod CheckedLemmas

@@ -1,6 +1,9 @@
 -- The faults that are told of a source (our own).
-use Rattle.std.specs.Prelude.{◌≡◌, ℕ, ◌+◌, ◌≤◌, ◌==◌, nat_lt, Bool, true, ◌&&◌, List, [], ◌∷◌, ◌++◌, length, Option, Some, None, if◌then◌else◌}
+use Rattle.std.specs.Prelude.{◌≡◌, ◌⊎◌, ℕ, ◌+◌, ◌<◌, ◌≤◌, ◌==◌, nat_lt, Bool, true, ◌&&◌, List, [], ◌∷◌, ◌++◌, length, Option, Some, None, Err, if◌then◌else◌}
 use Rattle.std.specs.List.{list_any, list_all, insert, position_or_len}
+use Rattle.lc_base.specs.declared.block.Block.{Block}
+use Rattle.tool_files.specs.Library.{library}
+use Rattle.tool_check.specs.Looks.{AreAlone, look_at}
 use Rattle.tool_check.specs.declared.looks.TheConstants.{LOOK_COUNT}
 use Rattle.tool_check.specs.declared.found.Fault.{Fault}
 
@@ -33,3 +36,20 @@ pub record AreTold (first : Fault) (most : ℕ) (faults : List Fault) : Type 0 w
 -- the faults that are told: the first one that is found, and beside it at most one for each look
 abbrev pub AreAllTold : Fault → List Fault → Type 0
 AreAllTold first faults = AreTold first (LOOK_COUNT + 1) faults
+
+-- the first fault of what one look takes of these locales
+pub record IsFaultAlone (charmaps locales : List Block) (fault : Fault) : Type 0 where
+  pub number : ℕ
+  pub within : number < LOOK_COUNT
+  pub alone : List Block
+  pub alone_is : AreAlone (look_at number) locales alone
+  pub refused : library charmaps alone ≡ Err (fault.place, fault.reason)
+
+-- the first fault of a source, or that of a look
+abbrev pub IsFaultOf : List Block → List Block → Fault → Fault → Type 0
+IsFaultOf charmaps locales first fault = (fault ≡ first) ⊎ IsFaultAlone charmaps locales fault
+
+-- what a look finds, if it finds a fault
+abbrev pub IsFoundAlone : List Block → List Block → Option Fault → Type 0
+IsFoundAlone charmaps locales None = Unit {0}
+IsFoundAlone charmaps locales (Some fault) = IsFaultAlone charmaps locales fault

@@ -1,8 +1,11 @@
 //! Files that are checked.
 
-ghost use Rattle.std.specs.Prelude.{◌≡◌, [], IfOk, IfErr, if◌then◌else◌};
+ghost use Rattle.std.specs.Prelude.{◌≡◌, [], ◌++◌, IfOk, IfErr, if◌then◌else◌};
 ghost use Rattle.tool_messages.specs.declared.answer.Problem.TheVariants.{Memory};
-ghost use Rattle.tool_check.specs.Checked.{BeginsWith, IsSummary, IsChecked, IsWritten, accepted, refused};
+ghost use Rattle.tool_messages.specs.Message.{BeginsWith};
+ghost use Rattle.tool_messages.specs.Status.{IsSpoken};
+ghost use Rattle.tool_files.specs.Told.{IsFileMessage};
+ghost use Rattle.tool_check.specs.Checked.{accepted, refused, AreMessages, AreMessagesFrom, IsSummary, IsFound, IsCharmapFound, IsChecked, IsWritten};
 ghost use Rattle.tool_check.specs.Summary.{accepted_line, charmap_summary};
 
 use crate::declared::declared_classes;
@@ -17,8 +20,7 @@ use lc_base::{ByteText, List, TextFault};
 use std::alloc::{AllocError, Global};
 use std::rt::Files;
 use tool_files::{
-    Loaded, Sources, Wanted, charset_of, fault_message, fault_problem, file_text, library_of,
-    load_with,
+    Loaded, Sources, Wanted, charset_of, fault_message, file_text, library_of, load_with,
 };
 use tool_messages::Problem;
 
@@ -34,7 +36,7 @@ pub struct Checking<'a> {
 
 /// What a file is found to be.
 #[derive(Drop)]
-enum Checked {
+pub enum Checked {
     /// With its summary, which is empty where none is asked for.
     Accepted(ByteText),
     /// With the messages of its faults.
@@ -77,63 +79,66 @@ fn file_checked<R: Files>(
     how: &Checking<'_>,
     path: &str,
 ) -> Result<Checked, Problem>
-    ensures { IfOk result (IsChecked how.now.summary path.now) }
+    ensures found { IfOk result (IsChecked how.now.summary path.now) }
+    ensures spoken { IfErr result IsSpoken }
 {
     match file_text(rt, alloc, path) {
-        Ok(text) if is_charmap(text.as_bytes()) => charmap_checked(alloc, how.summary, path, text),
+        Ok(text) if is_charmap(text.as_bytes()) => {
+            Ok(charmap_text_checked(alloc, how.summary, path, text)?)
+        }
         Ok(text) => locale_checked(rt, alloc, how, path, text),
         Err(problem) => Err(problem),
     }
 }
 
-fn charmap_checked(
+/// What the text of a charmap is found to be.
+#[tactic(auto, using(crate::proofs::CheckedLemmas::all_charmap_found_checked))]
+fn charmap_text_checked(
     alloc: Global,
     is_asked: bool,
     path: &str,
     text: ByteText,
-) -> Result<Checked, Problem>
+) -> Result<Checked, AllocError>
     ensures { IfOk result (IsChecked is_asked path.now) }
 {
     let mut sources = Sources::new(alloc);
     match sources.add_charmap(alloc, path, text) {
-        Ok(()) => charmap_read(alloc, is_asked, path, &sources),
-        Err(_) => Err(Problem::Memory),
+        Ok(()) => charmap_checked(alloc, is_asked, path, &sources),
+        Err(_) => Err(AllocError),
     }
 }
 
-#[tactic(auto, using(crate::proofs::CheckedLemmas::accepted_checked, crate::proofs::CheckedLemmas::all_summed))]
-fn charmap_read(
+/// What a charmap that was read is found to be: accepted where it gives a charset, and else refused, with the
+/// message of its first fault.
+pub fn charmap_checked(
     alloc: Global,
     is_asked: bool,
     path: &str,
     sources: &Sources,
-) -> Result<Checked, Problem>
-    ensures { IfOk result (IsChecked is_asked path.now) }
+) -> Result<Checked, AllocError>
+    ensures { IfOk result (IsCharmapFound is_asked path.now sources.now) }
 {
     match charset_of(alloc, sources) {
         Ok(charset) => accepted(charmap_summary(alloc, is_asked, path, &charset)),
-        Err(fault) => Err(fault_problem(alloc, sources, None, fault)),
+        Err(TextFault::At(place, reason)) => {
+            refused(fault_message(alloc, sources, None, place, reason))
+        }
+        Err(TextFault::Memory) => Err(AllocError),
     }
 }
 
 /// That a file is accepted, with its summary.
-fn accepted(summary: Result<ByteText, AllocError>) -> Result<Checked, Problem>
+fn accepted(summary: Result<ByteText, AllocError>) -> Result<Checked, AllocError>
     ensures { result ≡ accepted summary }
 {
-    match summary {
-        Ok(summary) => Ok(Checked::Accepted(summary)),
-        Err(_) => Err(Problem::Memory),
-    }
+    Ok(Checked::Accepted(summary?))
 }
 
 /// That a file is refused, with the messages of its faults.
-fn refused(messages: Result<ByteText, Problem>) -> Result<Checked, Problem>
+fn refused(messages: Result<ByteText, AllocError>) -> Result<Checked, AllocError>
     ensures { result ≡ refused messages }
 {
-    match messages {
-        Ok(messages) => Ok(Checked::Refused(messages)),
-        Err(problem) => Err(problem),
-    }
+    Ok(Checked::Refused(messages?))
 }
 
 /// The summary of a charmap, if it is asked for.
@@ -152,6 +157,7 @@ fn charmap_summary(
     Ok(ByteText::from_vec(summary))
 }
 
+#[tactic(auto, using(crate::proofs::CheckedLemmas::found_checked))]
 fn locale_checked<R: Files>(
     rt: &R,
     alloc: Global,
@@ -159,7 +165,8 @@ fn locale_checked<R: Files>(
     path: &str,
     text: ByteText,
 ) -> Result<Checked, Problem>
-    ensures { IfOk result (IsChecked how.now.summary path.now) }
+    ensures found { IfOk result (IsChecked how.now.summary path.now) }
+    ensures spoken { IfErr result IsSpoken }
 {
     let wanted = Wanted {
         locale: Some(path),
@@ -167,26 +174,27 @@ fn locale_checked<R: Files>(
         folders: how.folders,
     };
     match load_with(rt, alloc, &wanted, Some((path, text)), how.summary) {
-        Ok(loaded) => sources_checked(alloc, how.summary, path, &loaded),
+        Ok(loaded) => Ok(sources_checked(alloc, how.summary, path, &loaded)?),
         Err(problem) => Err(problem),
     }
 }
 
-#[tactic(auto, using(crate::proofs::CheckedLemmas::accepted_checked, crate::proofs::CheckedLemmas::refused_checked))]
-fn sources_checked(
+/// What sources that were read are found to be: accepted where they give a library, and else refused, with the
+/// messages of their faults, among them that of the first one.
+pub fn sources_checked(
     alloc: Global,
     is_asked: bool,
     path: &str,
     loaded: &Loaded,
-) -> Result<Checked, Problem>
-    ensures { IfOk result (IsChecked is_asked path.now) }
+) -> Result<Checked, AllocError>
+    ensures { IfOk result (IsFound is_asked path.now loaded.now.sources) }
 {
     match library_of(alloc, &loaded.sources) {
         Ok(library) => accepted(locale_summary(alloc, is_asked, path, loaded, &library)),
         Err(TextFault::At(place, reason)) => {
             refused(fault_messages(alloc, loaded, Fault { place, reason }))
         }
-        Err(TextFault::Memory) => Err(Problem::Memory),
+        Err(TextFault::Memory) => Err(AllocError),
     }
 }
 
@@ -239,24 +247,42 @@ fn first_sections(read: &[Option<List<Section>>]) -> Result<&[Section], AllocErr
     }
 }
 
-/// The messages of the faults of a source.
-fn fault_messages(alloc: Global, loaded: &Loaded, first: Fault) -> Result<ByteText, Problem> {
+/// The messages of the faults of a source, with its first one.
+#[tactic(auto, using(crate::proofs::CheckedLemmas::messages_from))]
+fn fault_messages(alloc: Global, loaded: &Loaded, first: Fault) -> Result<ByteText, AllocError>
+    ensures { IfOk result (AreMessagesFrom loaded.now.sources first) }
+{
     let faults = faults_of(alloc, &loaded.sources, &loaded.charset, first)?;
-    Ok(messages_of(alloc, loaded, faults.as_slice())?)
+    messages_of(alloc, loaded, faults.as_slice())
 }
 
-/// The messages of faults.
-fn messages_of(alloc: Global, loaded: &Loaded, faults: &[Fault]) -> Result<ByteText, AllocError> {
-    let mut messages = Vec::new(alloc);
-    for fault in faults {
-        let message = fault_message(
-            alloc,
-            &loaded.sources,
-            Some(&loaded.charset),
-            fault.place,
-            fault.reason,
-        )?;
-        messages.extend_from_slice(message.as_bytes())?;
+/// The messages of faults, one after another.
+#[tactic(auto, using(crate::proofs::CheckedLemmas::one_more_message))]
+fn messages_of(alloc: Global, loaded: &Loaded, faults: &[Fault]) -> Result<ByteText, AllocError>
+    ensures { IfOk result (AreMessages loaded.now.sources.paths.items faults.now) }
+{
+    match faults {
+        [] => Ok(ByteText::from_vec(Vec::new(alloc))),
+        [first, later @ ..] => {
+            let message = message_of(alloc, loaded, *first)?;
+            let rest = messages_of(alloc, loaded, later)?;
+            joined(message, rest.as_bytes())
+        }
     }
-    Ok(ByteText::from_vec(messages))
+}
+
+fn message_of(alloc: Global, loaded: &Loaded, fault: Fault) -> Result<ByteText, AllocError>
+    ensures { IfOk result (IsFileMessage loaded.now.sources.paths.items fault.place fault.reason) }
+{
+    let charset = Some(&loaded.charset);
+    fault_message(alloc, &loaded.sources, charset, fault.place, fault.reason)
+}
+
+/// A text with another behind it.
+fn joined(text: ByteText, more: &[u8]) -> Result<ByteText, AllocError>
+    ensures { IfOk result (λ both. both ≡ text ++ more.now) }
+{
+    let mut both = text.into_vec();
+    both.extend_from_slice(more)?;
+    Ok(ByteText::from_vec(both))
 }

@@ -10,4 +10,4 @@ mod looks;
 mod summary;
 mod texts;
 
-pub use checked::{Checking, check_file};
+pub use checked::{Checked, Checking, charmap_checked, check_file, sources_checked};
