@@ -51,7 +51,7 @@ fn in_zone<R: Env + AllocGlobal>(
     }
 }
 
-/// The time in UTC, in place of a zone that is not known.
+/// The time in UTC in place of a zone that is not known, with a warning where `TZ` names that zone.
 fn in_utc<R: Env + AllocGlobal>(
     rt: &R,
     now: Timestamp,

@@ -55,8 +55,8 @@ pub fn near_names(alloc: Global, word: &[u8]) -> Result<Vec<u8>, AllocError> {
     Ok(names)
 }
 
-/// Adds the first word of a row's name if it is near, or else the name where the word stands in it: the name
-/// that is near last.
+/// Adds the name of a row that is near to a word in lower case: its first word, or the whole name where the word
+/// stands in it. The result is the name that was added last; rows with the same first word stand together.
 fn push_near<'a>(
     names: &mut Vec<u8>,
     last: &'a [u8],
@@ -78,7 +78,7 @@ fn push_near<'a>(
     Ok(name)
 }
 
-/// Whether a word in lower case is a part of a name, or has few letters that differ.
+/// Whether a word in lower case is a part of a name, or differs from it by few letters.
 fn is_near(alloc: Global, word: &[u8], name: &[u8]) -> Result<bool, AllocError> {
     let name = lower_case(alloc, name)?;
     let name = name.as_slice();
