@@ -1,0 +1,2 @@
+pub use Rattle.lc_base.specs.Reading
+pub mod Standard

@@ -1,0 +1,13 @@
+//! The text of a standard locale source (XBD 7.3), made of one that GNU systems have.
+#![tactic(auto)]
+
+mod category;
+mod exclusions;
+mod format;
+mod made;
+mod times;
+mod writer;
+
+pub use category::Named;
+pub use gnu_drafts::{Note, NoteCode, Origin, SourceFault};
+pub use made::{MadeText, made_text};
