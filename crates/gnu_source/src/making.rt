@@ -27,6 +27,16 @@ impl Drop for Imported {
     }
 }
 
+impl Imported {
+    /// The source alone.
+    pub fn into_text(self) -> ByteText
+        ensures { result ≡ self.text }
+    {
+        let Imported { text, notes: _ } = self;
+        text
+    }
+}
+
 /// Where the line of a place comes from.
 fn origin_of(origins: &[Origin], place: Place) -> Origin {
     let mut number: u32 = 1;

@@ -58,7 +58,7 @@ fn file_imported<R: Files>(
     } else {
         push_summary(alloc, messages, files.as_slice(), imported.notes.as_slice())?;
     }
-    Ok(ByteText::of(alloc, imported.text.as_bytes())?)
+    Ok(imported.into_text())
 }
 
 /// Adds a source to the output, or writes it into its file. Whether it could be written.

@@ -17,8 +17,7 @@ pub fn standard_text<R: Files>(
 ) -> Result<ByteText, Problem> {
     let files = gnu_files(rt, alloc, path, folders)?;
     let imported = imported_files(alloc, files.as_slice())?;
-    let Imported { text, notes: _ } = imported;
-    Ok(text)
+    Ok(imported.into_text())
 }
 
 /// What files give, of which the first is imported.
