@@ -1,5 +1,5 @@
 -- The threads of the tests: each call takes one entry of those that are left.
-use Rattle.std.proofs.Common.{◌≡◌, ℕ, ◌+◌, ◌≤◌, length, refl, ap, ◌∙◌, arith}
+use Rattle.std.proofs.Common.{ℕ, ◌+◌, ◌≤◌, length, refl, ap, ◌∙◌, arith}
 use Rattle.turn_gate.specs.Callers.{Gate}
 use Rattle.handle_table.specs.Entry.{Op, Reply, Setting}
 use Rattle.thread_current.specs.Thread.{Thread, Answered, SawMore, KeepsHolds, first_thread}

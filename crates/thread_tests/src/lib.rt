@@ -12,3 +12,5 @@ mod threads;
 mod turns;
 #[cfg(test)]
 mod waking;
+#[cfg(test)]
+mod watch;

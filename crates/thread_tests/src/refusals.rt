@@ -1,31 +1,19 @@
 //! Tests of two threads that one thread calls for: the cached global object, and each refusal.
 ghost use Rattle.std.specs.Prelude.{◌≡◌, ℕ, ◌+◌, ◌<◌, ◌≤◌, length, IfOk, map};
 ghost use Rattle.std.specs.List.{range_with_len};
-ghost use Rattle.handle_table.specs.Table.{IsOpening};
 ghost use Rattle.thread_current.specs.Thread.{IsThreadOf, first_thread};
 ghost use Rattle.thread_tests.specs.Rounds.{MayMake};
 
-use crate::threads::{Number, offered};
+use crate::threads::{Number, shelf};
+use crate::watch::{EACH_CALL_ENDS, Watch};
 use handle_table::Refusal;
 use lc_base::{Category, Handle, List, Mask, Named};
-use mask_compose::{Object, Offer};
+use mask_compose::Object;
 use std::alloc::{AllocError, Global};
 use std::process::Abort;
 use std::sync::Wait;
 use std::test::Fail;
 use thread_current::{Fault, Mine, Shared};
-
-// Three names: the POSIX locale, one with all categories, and one with numbers alone.
-fn three_names(alloc: Global) -> Result<List<Offer<Number>>, AllocError>
-    ensures opening { IfOk result IsOpening }
-    ensures three { IfOk result (λ offers. length offers ≡ 3) }
-{
-    let mut offers = Vec::with_capacity(alloc, 3)?;
-    offers.push_reserved(offered(0, Mask::all()));
-    offers.push_reserved(offered(1, Mask::all()));
-    offers.push_reserved(offered(2, Mask::one(Category::Numeric)));
-    Ok(List::of(offers))
-}
 
 type TwoThreads = (Shared<Number>, Mine<Number>, Mine<Number>);
 
@@ -150,14 +138,15 @@ fn check_rows<R: Wait + Abort>(
     }
 }
 
-// A table of three names, and its two threads.
+// A table of three names, the last with numbers alone, and its two threads.
 fn two_threads<R: Wait>(rt: &R, alloc: Global) -> Result<TwoThreads, AllocError>
     ensures first { IfOk result (λ r. MayMake r.0 120 r.1) }
     ensures second { IfOk result (λ r. MayMake r.0 120 r.2) }
     ensures shelf { IfOk result (λ r. length r.0.terms.setting.opening ≡ 3) }
     ensures threads { IfOk result (λ r. r.0.terms.setting.threads ≡ 2) }
 {
-    let (shared, threads) = Shared::new(rt, alloc, 2, 1, 4, 120, three_names(alloc)?)?;
+    let names = shelf(alloc, Mask::one(Category::Numeric))?;
+    let (shared, threads) = Shared::new(rt, alloc, 2, 1, 4, 120, names)?;
     let (first, second) = two_of(&shared, threads);
     Ok((shared, first, second))
 }
@@ -236,7 +225,9 @@ fn check_cached<R: Wait + Abort>(
 #[test]
 fn cached_pair(rt: HostRuntime) -> Result<(), Fail> {
     let (shared, mut a, mut b) = two_threads(&rt, rt.alloc())?;
+    let watch = Watch::start(rt, rt.alloc(), EACH_CALL_ENDS);
     check_cached(&rt, &shared, &mut a, &mut b);
+    watch.end(&rt);
     Ok(())
 }
 
@@ -308,7 +299,9 @@ const SECOND_ROWS: [RefusedCall; 9] = [
 #[test]
 fn refusals(rt: HostRuntime) -> Result<(), Fail> {
     let (shared, mut first, mut second) = two_threads(&rt, rt.alloc())?;
+    let watch = Watch::start(rt, rt.alloc(), EACH_CALL_ENDS);
     check_rows(&rt, &shared, &mut first, &FIRST_ROWS);
     check_rows(&rt, &shared, &mut second, &SECOND_ROWS);
+    watch.end(&rt);
     Ok(())
 }

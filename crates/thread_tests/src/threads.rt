@@ -8,6 +8,7 @@ ghost use Rattle.thread_current.specs.Thread.{IsThreadOf, first_thread};
 ghost use Rattle.thread_tests.specs.Back.{AreBack};
 ghost use Rattle.thread_tests.specs.Rounds.{MayMake};
 
+use crate::watch::{Calls, EACH_CALL_ENDS, Watch};
 use lc_base::{CATEGORIES, List, Mask, Named};
 use mask_compose::{Object, Offer, Part};
 use std::alloc::{AllocError, Global};
@@ -60,7 +61,7 @@ fn is_all_of(object: &Object<Number>, number: u32) -> bool {
 }
 
 // What a name stands for that has this number in these categories.
-pub(crate) fn offered(number: u32, available: Mask) -> Offer<Number>
+fn offered(number: u32, available: Mask) -> Offer<Number>
     ensures { result.available ≡ available }
 {
     Offer {
@@ -69,15 +70,15 @@ pub(crate) fn offered(number: u32, available: Mask) -> Offer<Number>
     }
 }
 
-// A shelf of three names, with the numbers 0, 1 and 2.
-fn shelf(alloc: Global) -> Result<List<Offer<Number>>, AllocError>
+// A shelf of three names, with the numbers 0, 1 and 2, the last with these categories.
+pub(crate) fn shelf(alloc: Global, last: Mask) -> Result<List<Offer<Number>>, AllocError>
     ensures opening { IfOk result IsOpening }
     ensures three { IfOk result (λ offers. length offers ≡ 3) }
 {
     let mut offers = Vec::with_capacity(alloc, 3)?;
     offers.push_reserved(offered(0, Mask::all()));
     offers.push_reserved(offered(1, Mask::all()));
-    offers.push_reserved(offered(2, Mask::all()));
+    offers.push_reserved(offered(2, last));
     Ok(List::of(offers))
 }
 
@@ -164,7 +165,12 @@ fn read<R: Wait>(
 }
 
 // Makes all objects, and reads the global locale between them. Whether all that went well.
-fn make_all<R: Wait>(rt: &R, shared: &Shared<Number>, mine: &mut Mine<Number>) -> bool
+fn make_all<R: Wait>(
+    rt: &R,
+    shared: &Shared<Number>,
+    mine: &mut Mine<Number>,
+    calls: &Calls,
+) -> bool
     requires may { MayMake shared.now ENTRIES mine.old }
     requires shelf { length shared.now.terms.setting.opening ≡ 3 }
     ensures may { MayMake shared.now 1 mine.new }
@@ -177,6 +183,7 @@ fn make_all<R: Wait>(rt: &R, shared: &Shared<Number>, mine: &mut Mine<Number>) -
         let (found, is_right) = read(rt, shared, mine, version);
         version = found;
         is_well = is_well && went && is_right;
+        calls.count();
     }
     is_well
 }
@@ -197,7 +204,7 @@ fn set<R: Wait>(rt: &R, shared: &Shared<Number>, mine: &mut Mine<Number>, versio
 }
 
 // Sets the global locale again and again. Whether each version came of it in turn.
-fn set_all<R: Wait>(rt: &R, shared: &Shared<Number>, mine: &mut Mine<Number>) -> bool
+fn set_all<R: Wait>(rt: &R, shared: &Shared<Number>, mine: &mut Mine<Number>, calls: &Calls) -> bool
     requires may { MayMake shared.now ENTRIES mine.old }
     requires shelf { length shared.now.terms.setting.opening ≡ 3 }
     ensures may { MayMake shared.now 1 mine.new }
@@ -207,6 +214,7 @@ fn set_all<R: Wait>(rt: &R, shared: &Shared<Number>, mine: &mut Mine<Number>) ->
     for i in 0..SETS {
         let went = set(rt, shared, mine, i + 1);
         is_well = is_well && went;
+        calls.count();
     }
     is_well
 }
@@ -217,6 +225,7 @@ fn set_or_make<R: Wait>(
     shared: &Shared<Number>,
     mine: &mut Mine<Number>,
     sets: bool,
+    calls: &Calls,
 ) -> bool
     requires may { MayMake shared.now ENTRIES mine.old }
     requires shelf { length shared.now.terms.setting.opening ≡ 3 }
@@ -224,9 +233,9 @@ fn set_or_make<R: Wait>(
     ensures same { mine.new.number ≡ mine.old.number }
 {
     if sets {
-        set_all(rt, shared, mine)
+        set_all(rt, shared, mine, calls)
     } else {
-        make_all(rt, shared, mine)
+        make_all(rt, shared, mine, calls)
     }
 }
 
@@ -249,13 +258,19 @@ struct Counts {
 }
 
 // The whole of a thread: the last one to come sets the global locale, and the others make objects.
-fn work<R: Wait>(rt: &R, shared: &Shared<Number>, counts: &Counts, mut mine: Mine<Number>) -> Ended
+fn work<R: Wait>(
+    rt: &R,
+    shared: &Shared<Number>,
+    counts: &Counts,
+    calls: &Calls,
+    mut mine: Mine<Number>,
+) -> Ended
     requires may { MayMake shared.now ENTRIES mine }
     requires shelf { length shared.now.terms.setting.opening ≡ 3 }
     ensures { IsSeatOf shared.now result × (result.number ≡ mine.number) }
 {
     let is_last = counts.came.fetch_add(1, Ordering::SeqCst) == 4;
-    if set_or_make(rt, shared, &mut mine, is_last) {
+    if set_or_make(rt, shared, &mut mine, is_last, calls) {
         counts.well.fetch_add(1, Ordering::SeqCst);
     }
     end(rt, shared, mine)
@@ -267,6 +282,7 @@ fn five_threads<R: Threads + Wait + Sync>(
     rt: &R,
     shared: &Shared<Number>,
     counts: &Counts,
+    calls: &Calls,
     threads: List<Mine<Number>>,
 ) -> Result<List<Ended>, AllocError>
     requires threads { threads ≡ map (first_thread shared.now) (range_with_len 0 5) }
@@ -280,7 +296,7 @@ fn five_threads<R: Threads + Wait + Sync>(
         &|mine: Mine<Number>| -> Ended
             requires { MayMake shared.now ENTRIES mine × (length shared.now.terms.setting.opening ≡ 3) }
             ensures { IsSeatOf shared.entry.now result × (result.number ≡ mine.number) }
-        { work(rt, shared, counts, mine) },
+        { work(rt, shared, counts, calls, mine) },
     )?;
     Ok(List::of(back))
 }
@@ -291,13 +307,16 @@ fn five_threads<R: Threads + Wait + Sync>(
 #[test]
 fn five_threads_at_one_table(rt: HostRuntime) -> Result<(), Fail> {
     let alloc = rt.alloc();
-    let (shared, threads) = Shared::new(&rt, alloc, 5, 1, MAKES, ENTRIES, shelf(alloc)?)?;
+    let names = shelf(alloc, Mask::all())?;
+    let (shared, threads) = Shared::new(&rt, alloc, 5, 1, MAKES, ENTRIES, names)?;
     let counts = Counts {
         came: AtomicU64::new(0),
         well: AtomicU64::new(0),
     };
-    let ended = five_threads(&rt, &shared, &counts, threads)?;
-    let table = shared.close(ended);
+    let watch = Watch::start(rt, alloc, EACH_CALL_ENDS);
+    let ended = five_threads(&rt, &shared, &counts, watch.calls(), threads);
+    watch.end(&rt);
+    let table = shared.close(ended?);
     assert_eq!(rt; counts.well.load(Ordering::SeqCst), 5);
     assert_eq!(rt; table.steps(), 4 * ENTRIES + SETS + 1);
     assert!(rt; table.global().version() == SETS && is_all_of(table.global().peek(), 1));

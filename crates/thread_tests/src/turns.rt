@@ -5,6 +5,7 @@ ghost use Rattle.std.specs.List.{range_with_len};
 ghost use Rattle.turn_gate.specs.Callers.{IsSeatOf, first_caller};
 ghost use Rattle.thread_tests.specs.Back.{AreBack};
 
+use crate::watch::{Calls, EACH_CALL_ENDS, Watch};
 use lc_base::List;
 use std::alloc::{AllocError, Global};
 use std::sync::Wait;
@@ -91,6 +92,7 @@ fn write_all<R: Wait>(
     mut seat: Caller,
     count: u32,
     marks: &[AtomicU64],
+    calls: &Calls,
 ) -> Caller
     requires seat { IsSeatOf turns.now seat }
     requires may { seat.number < turns.now.terms.setting }
@@ -100,6 +102,7 @@ fn write_all<R: Wait>(
     for number in 0..count {
         let (place, _former) = turns.turn(rt, &mut seat, number + 1);
         mark(marks, place);
+        calls.count();
     }
     seat
 }
@@ -157,69 +160,13 @@ fn close_two(
     Ok(turns.close(List::of(all)))
 }
 
-// Writes two numbers, and gives the places.
-fn write_two<R: Wait>(
-    rt: &R,
-    turns: &Turns<Register>,
-    seat: &mut Caller,
-    numbers: [u32; 2],
-) -> [u64; 2]
-    requires seat { IsSeatOf turns.now seat.old }
-    requires may { seat.old.number < turns.now.terms.setting }
-    requires quota { length seat.old.own + 2 ≤ turns.now.terms.quota }
-    ensures { IsSeatOf turns.now seat.new × (seat.new.number ≡ seat.old.number) }
-{
-    let [one, two] = numbers;
-    let (first, _) = turns.turn(rt, seat, one);
-    let (second, _) = turns.turn(rt, seat, two);
-    [first, second]
-}
-
-// What both look up after they met.
-fn versions_of_both(turns: &Turns<Register>, first: &mut Caller, second: &mut Caller) -> (u32, u32)
-    requires { IsSeatOf turns.now first.old × IsSeatOf turns.now second.old }
-    ensures first { IsSeatOf turns.now first.new × (first.new.number ≡ first.old.number) }
-    ensures second { IsSeatOf turns.now second.new × (second.new.number ≡ second.old.number) }
-{
-    turns.meet(first, second);
-    (turns.look(first), turns.look(second))
-}
-
-// The version and the number, by a turn.
-fn peek<R: Wait>(rt: &R, turns: &Turns<Register>, seat: &mut Caller) -> (u32, u32)
-    requires { IsSeatOf turns.now seat.old }
-    ensures { IsSeatOf turns.now seat.new × (seat.new.number ≡ seat.old.number) }
-{
-    turns.peek(rt, seat, &())
-}
-
-/// Two seats with a quota of 2 make two calls each; both then see the version after all four, and
-/// the register that comes back has made them.
-#[test]
-fn quotas(rt: HostRuntime) -> Result<(), Fail> {
-    let (turns, seats) = Turns::new(&rt, rt.alloc(), empty_register(2), 2, 2)?;
-    let (mut first, mut second) = two_of(&turns, seats);
-    let places = (
-        write_two(&rt, &turns, &mut first, [7, 7]),
-        write_two(&rt, &turns, &mut second, [8, 9]),
-    );
-    assert_eq!(rt; places, ([0, 1], [2, 3]));
-    assert_eq!(rt; versions_of_both(&turns, &mut first, &mut second), (3, 3));
-    assert_eq!(rt; peek(&rt, &turns, &mut first), (3, 9));
-    let register = close_two(rt.alloc(), turns, first, second)?;
-    assert_eq!(rt;
-        (register.calls, register.changes, register.number),
-        (4, 3, 9)
-    );
-    Ok(())
-}
-
-// The same by four threads.
+// Writes by four threads.
 fn write_by_four<R: Threads + Wait + Sync>(
     rt: &R,
     turns: &Turns<Register>,
     seats: List<Caller>,
     marks: &[AtomicU64],
+    calls: &Calls,
 ) -> Result<List<Caller>, AllocError>
     requires seats { seats ≡ map (first_caller turns.now) (range_with_len 0 4) }
     requires terms { (turns.now.terms.seats ≡ 4) × (turns.now.terms.setting ≡ 4) × (turns.now.terms.quota ≡ 10000) }
@@ -231,7 +178,7 @@ fn write_by_four<R: Threads + Wait + Sync>(
         &|seat: Caller| -> Caller
             requires { IsSeatOf turns.now seat × (seat.number < turns.now.terms.setting) × (length seat.own + 10000 ≤ turns.now.terms.quota) }
             ensures { IsSeatOf turns.entry.now result × (result.number ≡ seat.number) }
-        { write_all(rt, turns, seat, 10000, marks) },
+        { write_all(rt, turns, seat, 10000, marks, calls) },
     )?;
     Ok(List::of(back))
 }
@@ -256,8 +203,10 @@ fn are_marked_once(marks: &[AtomicU64]) -> bool {
 fn four_threads(rt: HostRuntime) -> Result<(), Fail> {
     let marks = unmarked(rt.alloc(), 40000)?;
     let (turns, seats) = Turns::new(&rt, rt.alloc(), empty_register(4), 4, 10000)?;
-    let seats = write_by_four(&rt, &turns, seats, marks.as_slice())?;
-    let register = turns.close(seats);
+    let watch = Watch::start(rt, rt.alloc(), EACH_CALL_ENDS);
+    let seats = write_by_four(&rt, &turns, seats, marks.as_slice(), watch.calls());
+    watch.end(&rt);
+    let register = turns.close(seats?);
     assert!(rt; are_marked_once(marks.as_slice()) && register.calls == 40000);
     Ok(())
 }
@@ -269,6 +218,7 @@ fn write_and_look<R: Threads + Wait + Sync>(
     first: Caller,
     second: Caller,
     count: u32,
+    calls: &Calls,
 ) -> (Caller, (Caller, bool))
     requires first { IsSeatOf turns.now first × (first.number < turns.now.terms.setting) × (length first.own + count ≤ turns.now.terms.quota) }
     requires second { IsSeatOf turns.now second }
@@ -280,7 +230,7 @@ fn write_and_look<R: Threads + Wait + Sync>(
         || -> Caller
             requires { IsSeatOf turns.now first × (first.number < turns.now.terms.setting) × (length first.own + count ≤ turns.now.terms.quota) }
             ensures { IsSeatOf turns.entry.now result × (result.number ≡ first.number) }
-        { write_all(rt, turns, first, count, &[]) },
+        { write_all(rt, turns, first, count, &[], calls) },
         || -> (Caller, bool)
             requires { IsSeatOf turns.now second }
             ensures { IsSeatOf turns.entry.now result.0 × (result.0.number ≡ second.number) }
@@ -289,16 +239,27 @@ fn write_and_look<R: Threads + Wait + Sync>(
 }
 
 /// A thread that only looks sees versions that never fall, while another writes. After they met,
-/// it sees the version after all that the other wrote.
+/// it sees the version after all that the other wrote, by a look and by a turn that enters nothing.
 #[test]
 fn looks_and_meets(rt: HostRuntime) -> Result<(), Fail> {
     let alloc = rt.alloc();
     let (turns, seats) = Turns::new(&rt, alloc, empty_register(2), 2, 2000)?;
     let (first, second) = two_of(&turns, seats);
-    let (mut first, (mut second, rises)) = write_and_look(&rt, &turns, first, second, 2000);
+    let watch = Watch::start(rt, alloc, EACH_CALL_ENDS);
+    let (mut first, (mut second, rises)) = write_and_look(
+        &rt,
+        &turns,
+        first,
+        second,
+        2000,
+        watch.calls(),
+    );
     turns.meet(&mut first, &mut second);
     let version = turns.look(&mut second);
+    let (later, number) = turns.peek(&rt, &mut second, &());
+    watch.end(&rt);
     let register = close_two(alloc, turns, first, second)?;
-    assert!(rt; rises && version == 2000 && register.calls == 2000);
+    assert!(rt; rises);
+    assert_eq!(rt; [version, later, number, register.calls], [2000; 4]);
     Ok(())
 }

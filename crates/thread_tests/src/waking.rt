@@ -5,6 +5,7 @@ ghost use Rattle.turn_gate.specs.Callers.{IsSeatOf, first_caller};
 ghost use Rattle.thread_tests.specs.Back.{AreBack};
 ghost use Rattle.thread_tests.specs.declared.waking.TheConstants.{CALLERS};
 
+use crate::watch::{Calls, Watch};
 use lc_base::List;
 use std::alloc::{AllocError, Global};
 use std::sync::atomic::{AtomicU64, Ordering};
@@ -12,15 +13,20 @@ use std::sync::{Arc, Wait};
 use std::test::Fail;
 use std::thread;
 use std::thread::{Threads, map_vec};
+use std::time::Duration;
 use turn_gate::{Machine, Seat, Turns};
 
 /// How many callers there are.
 const CALLERS: u32 = 4;
 
+/// How long the first call holds the turn after all have come, in milliseconds.
+const HOLD: u64 = 200;
+
 /// A counter of calls. The first call holds the turn until all callers have come and had time to
 /// fall asleep.
 #[derive(Drop)]
 struct Holder {
+    clock: HostRuntime,
     came: Arc<AtomicU64, Global>,
     calls: u32,
 }
@@ -55,7 +61,7 @@ impl Machine for Holder {
 
     fn step(&mut self, _who: u32, _op: ()) {
         if self.calls == 0 {
-            hold(&self.came);
+            hold(self.clock, &self.came);
         }
         self.calls += 1;
     }
@@ -67,30 +73,34 @@ impl Machine for Holder {
     }
 }
 
-// Waits until all callers have come, and then for as long as a caller needs to fall asleep many
-// times over.
-fn hold(came: &AtomicU64) {
+// Waits until all callers have come, and then for as long as they need to fall asleep.
+fn hold(clock: HostRuntime, came: &AtomicU64) {
     for _ in 0..u64::MAX {
         if came.load(Ordering::SeqCst) == u64::from(CALLERS) {
             break;
         }
         thread::yield_now();
     }
-    for _ in 0..100_000 {
-        thread::yield_now();
-    }
+    thread::sleep(&clock, Duration::from_millis(HOLD));
 }
 
 type Caller = Seat<Holder>;
 
 // One call of the caller.
-fn call<R: Wait>(rt: &R, turns: &Turns<Holder>, came: &AtomicU64, mut seat: Caller) -> Caller
+fn call<R: Wait>(
+    rt: &R,
+    turns: &Turns<Holder>,
+    came: &AtomicU64,
+    calls: &Calls,
+    mut seat: Caller,
+) -> Caller
     requires seat { IsSeatOf turns.now seat × (seat.number < CALLERS) }
     requires quota { length seat.own < turns.now.terms.quota }
     ensures { IsSeatOf turns.now result × (result.number ≡ seat.number) }
 {
     came.fetch_add(1, Ordering::SeqCst);
     turns.turn(rt, &mut seat, ());
+    calls.count();
     seat
 }
 
@@ -99,6 +109,7 @@ fn call_all<R: Threads + Wait + Sync>(
     rt: &R,
     turns: &Turns<Holder>,
     came: &AtomicU64,
+    calls: &Calls,
     seats: List<Caller>,
 ) -> Result<List<Caller>, AllocError>
     requires seats { seats ≡ map (first_caller turns.now) (range_with_len 0 4) }
@@ -111,23 +122,25 @@ fn call_all<R: Threads + Wait + Sync>(
         &|seat: Caller| -> Caller
             requires { IsSeatOf turns.now seat × (seat.number < CALLERS) × (length seat.own < turns.now.terms.quota) }
             ensures { IsSeatOf turns.entry.now result × (result.number ≡ seat.number) }
-        { call(rt, turns, came, seat) },
+        { call(rt, turns, came, calls, seat) },
     )?;
     Ok(List::of(back))
 }
 
-/// Callers that fell asleep while another had the turn are woken, one after the other. A gate that
-/// wakes nobody never ends here.
+/// Callers that fell asleep while another had the turn are woken, one after the other.
 #[test]
 fn sleepers_are_woken(rt: HostRuntime) -> Result<(), Fail> {
     let came = Arc::new(rt.alloc(), AtomicU64::new(0))?;
     let holder = Holder {
+        clock: rt,
         came: Arc::try_clone(&came)?,
         calls: 0,
     };
     let (turns, seats) = Turns::new(&rt, rt.alloc(), holder, CALLERS, 1)?;
-    let seats = call_all(&rt, &turns, &came, seats)?;
-    let holder = turns.close(seats);
+    let watch = Watch::start(rt, rt.alloc(), "a release wakes a caller that sleeps");
+    let seats = call_all(&rt, &turns, &came, watch.calls(), seats);
+    watch.end(&rt);
+    let holder = turns.close(seats?);
     assert_eq!(rt; holder.calls, CALLERS);
     Ok(())
 }

@@ -1,5 +1,4 @@
-use Rattle.std.proofs.Common.{ℕ, ◌+◌, arith}
-use Rattle.thread_tests.specs.Rounds.{MayMake}
+use Rattle.std.proofs.Common.{◌+◌, arith}
 use Rattle.thread_tests.proofs.Rounds.{makes_fewer}
 use Rattle.thread_tests.proofs.threads.round.Goals as goal
 
