@@ -83,7 +83,7 @@ def circle_among(waiting):
 
 def circle(lines):
     """Lines that no one order has, each with one that has to come before it; the next of the circle is a line of the
-    same thread as the latter, and not behind it. Empty where there is one order. The lines are those of two right histories."""
+    same thread as the latter, and not behind it. Empty where there is one order. The two histories are right."""
     order = Order(lines)
     rounds = (list(some) for _, some in groupby(lines, key=lambda line: line.round))
     return next((found for found in map(order.circle_in, rounds) if found), [])

@@ -7,7 +7,7 @@ use std::thread;
 use std::thread::{JoinHandle, Threads};
 use std::time::{Clock, Duration};
 
-/// What hangs where a turn is never got, or never given back.
+/// The condition that fails where a turn is never got, or never given back.
 pub(crate) const EACH_CALL_ENDS: &str = "each call at the turn ends";
 
 /// After how many looks without a new call the test is stopped: ten seconds.
