@@ -160,7 +160,67 @@ fn close_two(
     Ok(turns.close(List::of(all)))
 }
 
-// Writes by four threads.
+// Writes two numbers, and gives the places.
+fn write_two<R: Wait>(
+    rt: &R,
+    turns: &Turns<Register>,
+    seat: &mut Caller,
+    numbers: [u32; 2],
+) -> [u64; 2]
+    requires seat { IsSeatOf turns.now seat.old }
+    requires may { seat.old.number < turns.now.terms.setting }
+    requires quota { length seat.old.own + 2 ≤ turns.now.terms.quota }
+    ensures { IsSeatOf turns.now seat.new × (seat.new.number ≡ seat.old.number) }
+{
+    let [one, two] = numbers;
+    let (first, _) = turns.turn(rt, seat, one);
+    let (second, _) = turns.turn(rt, seat, two);
+    [first, second]
+}
+
+// What both look up after they met.
+fn versions_of_both(turns: &Turns<Register>, first: &mut Caller, second: &mut Caller) -> (u32, u32)
+    requires { IsSeatOf turns.now first.old × IsSeatOf turns.now second.old }
+    ensures first { IsSeatOf turns.now first.new × (first.new.number ≡ first.old.number) }
+    ensures second { IsSeatOf turns.now second.new × (second.new.number ≡ second.old.number) }
+{
+    turns.meet(first, second);
+    (turns.look(first), turns.look(second))
+}
+
+// The version and the number, by a turn.
+fn peek<R: Wait>(rt: &R, turns: &Turns<Register>, seat: &mut Caller) -> (u32, u32)
+    requires { IsSeatOf turns.now seat.old }
+    ensures { IsSeatOf turns.now seat.new × (seat.new.number ≡ seat.old.number) }
+{
+    turns.peek(rt, seat, &())
+}
+
+/// Two seats with a quota of 2 make two calls each; both then see the version after all four, and
+/// the register that comes back has made them.
+#[test]
+fn quotas(rt: HostRuntime) -> Result<(), Fail> {
+    let (turns, seats) = Turns::new(&rt, rt.alloc(), empty_register(2), 2, 2)?;
+    let (mut first, mut second) = two_of(&turns, seats);
+    let watch = Watch::start(rt, rt.alloc(), EACH_CALL_ENDS);
+    let places = (
+        write_two(&rt, &turns, &mut first, [7, 7]),
+        write_two(&rt, &turns, &mut second, [8, 9]),
+    );
+    let versions = versions_of_both(&turns, &mut first, &mut second);
+    let peeked = peek(&rt, &turns, &mut first);
+    watch.end(&rt);
+    assert_eq!(rt; places, ([0, 1], [2, 3]));
+    assert_eq!(rt; (versions, peeked), ((3, 3), (3, 9)));
+    let register = close_two(rt.alloc(), turns, first, second)?;
+    assert_eq!(rt;
+        (register.calls, register.changes, register.number),
+        (4, 3, 9)
+    );
+    Ok(())
+}
+
+// The same by four threads.
 fn write_by_four<R: Threads + Wait + Sync>(
     rt: &R,
     turns: &Turns<Register>,
@@ -256,7 +316,7 @@ fn looks_and_meets(rt: HostRuntime) -> Result<(), Fail> {
     );
     turns.meet(&mut first, &mut second);
     let version = turns.look(&mut second);
-    let (later, number) = turns.peek(&rt, &mut second, &());
+    let (later, number) = peek(&rt, &turns, &mut second);
     watch.end(&rt);
     let register = close_two(alloc, turns, first, second)?;
     assert!(rt; rises);
