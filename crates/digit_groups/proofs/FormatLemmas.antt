@@ -1,19 +1,15 @@
 -- Formats with their values, one piece after another.
-use Rattle.std.proofs.Common.{◌≡◌, ℕ, suc, zero, ◌+◌, ◌-◌, ◌<◌, ◌≤◌, List, [], ◌∷◌, ◌++◌, length, take, drop, get_or, Option, Some, None, Result, Ok, Err, Bool, true, false, ◌⊎◌, inl, inr, subst, arith, refl, ap, ◌∙◌, sym}
-use Rattle.std.specs.Prelude.{option_map, nat_lt}
+use Rattle.std.proofs.Common.{◌≡◌, ℕ, suc, zero, ◌+◌, ◌-◌, ◌<◌, ◌≤◌, List, [], ◌∷◌, ◌++◌, length, take, drop, get_or, Option, Some, None, Result, Ok, Err, Bool, true, arith, refl, ap, ◌∙◌, sym}
+use Rattle.std.specs.Prelude.{option_map}
 use Rattle.std.specs.List.{list_all}
-use Rattle.std.proofs.lemmas.Bool.Decides.{nat_tests}
 use Rattle.std.proofs.lemmas.Grind.{common_steps}
 use Rattle.std.proofs.Math.Seq.{drop-cons}
 use Rattle.std.proofs.lemmas.List.{take_rest, drop-drop, drop_all, length-append, append-nil, append_assoc}
 use Rattle.digit_groups.specs.declared.piece.Piece.{Piece}
 use Rattle.digit_groups.specs.declared.piece.Piece.TheVariants.{Literal, Convert}
-use Rattle.digit_groups.specs.declared.fault.FormatFault.{FormatFault}
-use Rattle.digit_groups.specs.declared.fault.FormatFault.TheVariants as faults
 use Rattle.lc_base.specs.declared.refusal.FormatRefusal.{FormatRefusal}
-use Rattle.lc_base.specs.declared.refusal.FormatRefusal.TheVariants.{BadFormat, TooBig}
-use Rattle.lc_base.specs.Limits.{within}
-use Rattle.digit_groups.specs.Formats.{piece, pieces, followed, good_pieces, values_behind, piece_text, pieces_text, missing, refusal, refusal_behind, at_most, formatted, unless_refused, refusal_of, Refuses}
+use Rattle.lc_base.specs.declared.refusal.FormatRefusal.TheVariants.{BadFormat}
+use Rattle.digit_groups.specs.Formats.{piece, pieces, followed, good_pieces, values_behind, piece_text, pieces_text, missing, refusal, refusal_behind}
 
 -- the bytes from a place on
 pub from_index : (bs : List ℕ) (at : ℕ) → at < length bs → drop at bs ≡ get_or bs at 0 ∷ take (length bs - (at + 1)) (drop (at + 1) bs)
@@ -45,7 +41,7 @@ module _ {C : Type 0} (read : List ℕ → Option (C × ℕ)) where
       ∙ ap (λ n. pieces read 0 n (drop used tail)) (omega arith)
       ∙ ap (λ t. pieces read 0 (at + (1 + used)) t) (ap (λ t. drop used t) (take_rest bs (at + 1)) ∙ drop-drop used (at + 1) bs ∙ ap (λ n. drop n bs) (omega arith))))
 
-  pieces_over : (bs : List ℕ) (at : ℕ) → length bs ≤ at → pieces read 0 at (drop at bs) ≡ Ok []
+  pub pieces_over : (bs : List ℕ) (at : ℕ) → length bs ≤ at → pieces read 0 at (drop at bs) ≡ Ok []
   unfolding pieces
   pieces_over bs at ge = ap (λ t. pieces read 0 at t) (drop_all at bs ge)
 
@@ -134,31 +130,6 @@ values_stay is_value (Literal b) values all = all
 values_stay is_value (Convert c) [] all = all
 values_stay is_value (Convert c) (v ∷ values) all = grind (arith, common_steps)
 
--- ---- answers
-
-within_fits : (max_len : ℕ) (text : List ℕ) → length text ≤ max_len → within max_len text ≡ Ok text
-within_fits max_len text fits = let no : nat_lt max_len (length text) ≡ false = grind (arith, nat_tests) in rw no refl
-
-within_long : (max_len : ℕ) (text : List ℕ) → max_len < length text → within max_len text ≡ Err TooBig
-within_long max_len text long = let yes : nat_lt max_len (length text) ≡ true = grind (arith, nat_tests) in rw yes refl
-
-pub refuses : (lacks : ℕ → FormatRefusal) (e : FormatFault) (max_len : ℕ) (text : List ℕ) → (e ≡ faults.TooBig) ⊎ (e ≡ faults.Memory) → (e ≡ faults.TooBig → max_len < length text) → Refuses lacks e (within max_len text)
-refuses lacks e max_len text (inl big) long = let P : FormatFault → Type 0 = λ z. Refuses lacks z (within max_len text) in subst P (sym big) (within_long max_len text (long big))
-refuses lacks e max_len text (inr memory) long = let P : FormatFault → Type 0 = λ z. Refuses lacks z (within max_len text) in subst P (sym memory) tt
-
--- what a call says of a refusal
-refused_so : (lacks : ℕ → FormatRefusal) (fault : FormatFault) (max_len : ℕ) (text : List ℕ) → Refuses lacks fault (at_most max_len (unless_refused (refusal_of lacks fault) text))
-refused_so lacks (faults.BadFormat at) max_len text = refl
-refused_so lacks (faults.MissingValue at) max_len text = refl
-refused_so lacks faults.TooBig max_len text = refl
-refused_so lacks faults.Memory max_len text = tt
-
-pub refused : (lacks : ℕ → FormatRefusal) (r : Option FormatRefusal) (fault : FormatFault) (max_len : ℕ) (text : List ℕ) → refusal_of lacks fault ≡ r → Refuses lacks fault (at_most max_len (unless_refused r text))
-refused lacks r fault max_len text e = subst (λ o. Refuses lacks fault (at_most max_len (unless_refused o text))) e (refused_so lacks fault max_len text)
-
-pub accepted : (lacks : ℕ → FormatRefusal) (r : Option FormatRefusal) (fault : FormatFault) (max_len : ℕ) (text : List ℕ) → None ≡ r → (r ≡ None → Refuses lacks fault (within max_len text)) → Refuses lacks fault (at_most max_len (unless_refused r text))
-accepted lacks r fault max_len text e otherwise = subst (λ o. Refuses lacks fault (at_most max_len (unless_refused o text))) e (otherwise (sym e))
-
 -- ---- a text that is written piece by piece
 
 -- what is known of a text at a place of its format, with so many values left: what stands there of both makes the rest of it
@@ -192,25 +163,19 @@ module _ {C V : Type 0} (read : List ℕ → Option (C × ℕ)) (text : C → V 
         ∙ ap (λ l. more ++ pieces_text text (good_pieces (pieces read 0 next (drop next format))) l) (sym is);
   }
 
-  -- the text is too long where a piece of it is
-  pub piece_too_long : (max_len : ℕ) → refusal lacks (pieces read 0 0 format) (length values) ≡ None → max_len - length out < length (piece_text text p left) →
-      max_len < length (pieces_text text (good_pieces (pieces read 0 0 format)) values)
-  piece_too_long max_len good long =
+  -- there is room for this piece where there is room for the whole text
+  pub piece_fits : (most : ℕ) → refusal lacks (pieces read 0 0 format) (length values) ≡ None → length (pieces_text text (good_pieces (pieces read 0 0 format)) values) ≤ most →
+      length out + length (piece_text text p left) ≤ most
+  piece_fits most good fits =
       let tail : List ℕ = pieces_text text (good_pieces (pieces read 0 next (drop next format))) (values_behind p left) in
-      omega (arith, ap length (from_piece good), length-append out (piece_text text p left ++ tail), length-append (piece_text text p left) tail, long)
+      omega (arith, ap length (from_piece good), length-append out (piece_text text p left ++ tail), length-append (piece_text text p left) tail)
 
 module _ {C V : Type 0} (read : List ℕ → Option (C × ℕ)) (text : C → V → List ℕ) (lacks : ℕ → FormatRefusal) (format : List ℕ) (values : List V) (at : ℕ) (left : List V) (out : List ℕ)
     (w : IsWritten read text lacks format values at left out) (over : length format ≤ at) where
   -- a format of which nothing is left is not refused
-  no_refusal : refusal lacks (pieces read 0 0 format) (length values) ≡ None
+  pub no_refusal : refusal lacks (pieces read 0 0 format) (length values) ≡ None
   no_refusal = w.same ∙ ap (λ r. refusal lacks r (length left)) (pieces_over read format at over) ∙ refusal_at_end C lacks (length left)
 
-  all_written : pieces_text text (good_pieces (pieces read 0 0 format)) values ≡ out
+  pub all_written : pieces_text text (good_pieces (pieces read 0 0 format)) values ≡ out
   unfolding pieces_text
   all_written = w.rest no_refusal ∙ ap (λ r. out ++ pieces_text text (good_pieces r) left) (pieces_over read format at over) ∙ append-nil out
-
-  pub answer_written : (max_len : ℕ) → length out ≤ max_len → at_most max_len (formatted read text lacks format values) ≡ Ok out
-  answer_written max_len fits =
-      ap (λ o. at_most max_len (unless_refused o (pieces_text text (good_pieces (pieces read 0 0 format)) values))) no_refusal
-      ∙ ap (λ t. within max_len t) all_written
-      ∙ within_fits max_len out fits

@@ -3,4 +3,5 @@ pub mod DigitLemmas
 pub mod FormatLemmas
 pub mod GroupLemmas
 pub mod NumberLemmas
+pub mod TextLemmas
 mod Examples

@@ -1,12 +1,17 @@
 -- Formats and their texts: bytes that are copied, and conversions of values (XSH fprintf and strfmon; the refusals are our own).
-use Rattle.std.specs.Prelude.{◌≡◌, ℕ, zero, suc, ◌+◌, ◌==◌, List, [], ◌∷◌, ◌++◌, length, Option, Some, None, option_map, IfSome, Result, Ok, Err, if◌then◌else◌}
+use Rattle.std.specs.Prelude.{◌≡◌, ℕ, zero, suc, ◌+◌, ◌<◌, ◌==◌, List, [], ◌∷◌, ◌++◌, length, Option, Some, None, option_map, IfSome, Result, Ok, Err, if◌then◌else◌}
 use Rattle.digit_groups.specs.declared.piece.Piece.{Piece}
 use Rattle.digit_groups.specs.declared.piece.Piece.TheVariants.{Literal, Convert}
 use Rattle.digit_groups.specs.declared.fault.FormatFault.{FormatFault}
-use Rattle.digit_groups.specs.declared.fault.FormatFault.TheVariants as faults
+use Rattle.digit_groups.specs.declared.fault.FormatFault.TheVariants.{Stopped, Memory}
+use Rattle.digit_groups.specs.declared.fault.FormatStop.{FormatStop}
+use Rattle.digit_groups.specs.declared.fault.FormatStop.TheVariants as stops
+use Rattle.text_buffer.specs.declared.unwritten.Unwritten.{Unwritten}
+use Rattle.text_buffer.specs.declared.unwritten.Unwritten.TheVariants.{Refused, TooSmall}
 use Rattle.lc_base.specs.declared.refusal.FormatRefusal.{FormatRefusal}
 use Rattle.lc_base.specs.declared.refusal.FormatRefusal.TheVariants.{BadFormat, TooBig}
 use Rattle.lc_base.specs.Limits.{within}
+use Rattle.text_buffer.specs.Written.{told_length}
 
 -- ---- pieces
 
@@ -91,13 +96,36 @@ abbrev pub at_most : ℕ → Result (List ℕ) FormatRefusal → Result (List �
 at_most max_len (Ok text) = within max_len text
 at_most max_len (Err why) = Err why
 
+-- what is told of a stop, where lacking values are refused so
+abbrev pub unwritten_of : (ℕ → FormatRefusal) → FormatStop → Unwritten
+unwritten_of lacks (stops.BadFormat at) = Refused (BadFormat at)
+unwritten_of lacks (stops.MissingValue at) = Refused (lacks at)
+unwritten_of lacks (stops.TooSmall needed) = TooSmall needed
+
+-- the same of a length or a stop
+abbrev pub result_of : (ℕ → FormatRefusal) → Result ℕ FormatStop → Result ℕ Unwritten
+result_of lacks (Ok n) = Ok n
+result_of lacks (Err stop) = Err (unwritten_of lacks stop)
+
 -- why there is no text, unless it was out of memory
 abbrev pub refusal_of : (ℕ → FormatRefusal) → FormatFault → Option FormatRefusal
-refusal_of lacks (faults.BadFormat at) = Some (BadFormat at)
-refusal_of lacks (faults.MissingValue at) = Some (lacks at)
-refusal_of lacks faults.TooBig = Some TooBig
-refusal_of lacks faults.Memory = None
+refusal_of lacks (Stopped (stops.BadFormat at)) = Some (BadFormat at)
+refusal_of lacks (Stopped (stops.MissingValue at)) = Some (lacks at)
+refusal_of lacks (Stopped (stops.TooSmall needed)) = Some TooBig
+refusal_of lacks Memory = None
 
 -- a fault is the refusal of the definition, or out of memory, which says nothing
 abbrev pub Refuses : (ℕ → FormatRefusal) → FormatFault → Result (List ℕ) FormatRefusal → Type 0
 Refuses lacks e answer = IfSome (refusal_of lacks e) (λ why. answer ≡ Err why)
+
+-- a text that is longer than so many bytes, and the length that is told of it
+abbrev pub IsLonger : ℕ → ℕ → Result (List ℕ) FormatRefusal → Type 0
+IsLonger room needed (Ok text) = (room < length text) × (needed ≡ told_length text)
+IsLonger room needed (Err why) = ⊥
+
+-- a fault says why a text is not among so many bytes, or it is out of memory, which says nothing
+abbrev pub Stops : (ℕ → FormatRefusal) → ℕ → FormatFault → Result (List ℕ) FormatRefusal → Type 0
+Stops lacks room (Stopped (stops.BadFormat at)) answer = answer ≡ Err (BadFormat at)
+Stops lacks room (Stopped (stops.MissingValue at)) answer = answer ≡ Err (lacks at)
+Stops lacks room (Stopped (stops.TooSmall needed)) answer = IsLonger room needed answer
+Stops lacks room Memory answer = Unit

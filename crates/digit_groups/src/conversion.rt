@@ -3,14 +3,14 @@
 ghost use Rattle.std.specs.Prelude.{◌≡◌, ◌≤◌, length, IfSome};
 ghost use Rattle.digit_groups.specs.Conversions.{number_after};
 
-use crate::fault::FormatFault;
 use crate::number::leading_number;
+use lc_base::FormatRefusal;
 
 /// A conversion of a value to text.
 pub trait FormatConversion: Copy {
-    ghost use Rattle.std.specs.Prelude.{◌≡◌, ◌≤◌, ◌<◌, ◌++◌, ◌⊎◌, ℕ, List, Option, Bool, Err, true, length, IfSome, IfErr, OnOk};
+    ghost use Rattle.std.specs.Prelude.{◌≡◌, ◌≤◌, ◌<◌, ℕ, List, Option, Bool, true, length, IfSome};
     ghost use Rattle.lc_base.specs.declared.refusal.FormatRefusal.{FormatRefusal};
-    ghost use Rattle.digit_groups.specs.declared.fault.FormatFault.TheVariants.{TooBig, Memory};
+    ghost use Rattle.text_buffer.specs.Written.{over};
 
     /// What says how values are written, as a category of a locale.
     type Category;
@@ -35,19 +35,22 @@ pub trait FormatConversion: Copy {
         ensures is { result ≡ conversion bytes.now }
         ensures within { IfSome result (λ r. r.1 ≤ length bytes.now) };
 
-    /// Appends the text of a value, if it has at most `room` bytes.
-    fn add(
-        &self,
-        out: &mut Vec<u8>,
-        category: &Self::Category,
-        value: Self::Value,
-        room: usize,
-    ) -> Result<(), FormatFault>
+    /// The refusal where no value is left for the `%` at a place.
+    fn lacking(at: usize) -> FormatRefusal
+        ensures { result ≡ lacks at };
+
+    /// How many bytes the text of a value has.
+    fn width(&self, category: &Self::Category, value: Self::Value) -> u128
         requires { is_value value ≡ true }
-        ensures ok { OnOk result (out.new.items ≡ out.old.items ++ text category.now self.now value) }
-        ensures fits { OnOk result (length (text category.now self.now value) ≤ room) }
-        ensures too_big { result ≡ Err TooBig → room < length (text category.now self.now value) }
-        ensures only { IfErr result (λ e. (e ≡ TooBig) ⊎ (e ≡ Memory)) };
+        ensures { result ≡ length (text category.now self.now value) };
+
+    /// Writes the text of a value to the front of a buffer, if it has room for all of it, and says how
+    /// many bytes the text has.
+    fn put(&self, target: &mut [u8], category: &Self::Category, value: Self::Value) -> u128
+        requires { is_value value ≡ true }
+        ensures width { result ≡ length (text category.now self.now value) }
+        ensures written { result ≤ length target.old → target.new ≡ over target.old 0 (text category.now self.now value) }
+        ensures kept { length target.old < result → target.new ≡ target.old };
 }
 
 /// The number behind a sign, if the sign is there, and how many bytes both take. `None` where the

@@ -1,50 +1,45 @@
-//! Formats with their values, one piece after another.
+//! Formats with their values, one piece after another: what is wrong with them.
 
-ghost use Rattle.std.specs.Prelude.{◌≡◌, ◌≢◌, ◌+◌, ◌<◌, ◌≤◌, ◌++◌, ◌⊎◌, length, drop, List, [], ◌∷◌, ℕ, Result, Ok, Err, None, option_and_then, OnOk, IfErr, IfSome, true};
-ghost use Rattle.std.specs.List.{list_all};
+ghost use Rattle.std.specs.Prelude.{◌≡◌, ◌≢◌, ◌+◌, ◌<◌, ◌≤◌, length, drop, List, [], ◌∷◌, ℕ, Result, Ok, Some, None, option_map, IfSome};
 ghost use Rattle.lc_base.specs.declared.refusal.FormatRefusal.{FormatRefusal};
-ghost use Rattle.lc_base.specs.Limits.{within};
-ghost use Rattle.digit_groups.specs.Formats.{pieces, followed, good_pieces, values_behind, piece_text, pieces_text, refusal, refusal_behind, formatted, at_most, unless_refused, refusal_of, Refuses};
+ghost use Rattle.digit_groups.specs.Formats.{pieces, followed, values_behind, refusal, refusal_behind, unwritten_of};
 ghost use Rattle.digit_groups.specs.declared.piece.Piece.{Piece};
-ghost use Rattle.digit_groups.specs.declared.fault.FormatFault.TheVariants.{TooBig, Memory};
+ghost use Rattle.digit_groups.specs.declared.piece.Piece.TheVariants.{Convert};
+ghost use Rattle.text_buffer.specs.declared.unwritten.Unwritten.TheVariants.{Refused};
 
 use crate::conversion::FormatConversion;
-use crate::fault::FormatFault;
+use crate::fault::FormatStop;
 use crate::piece::{Piece, piece_of};
 
-/// The fault of a format with so many values, which is that of its text where nothing is wrong: a
-/// conversion that is bad goes before a value that is missing.
+/// Why a format with so many values, of which something is wrong, has no text: a conversion that is
+/// bad goes before a value that is missing.
 #[cold]
 #[inline(never)]
-#[tactic(auto, using(crate::proofs::FormatLemmas::refused, crate::proofs::FormatLemmas::accepted))]
-pub fn first_fault<C: FormatConversion>(
-    format: &[u8],
-    values: usize,
-    fault: FormatFault,
-) -> FormatFault
-    ensures { (max : ℕ) (text : List ℕ) → (refusal C.lacks (pieces C.conversion 0 0 format.now) values ≡ None → Refuses C.lacks fault (within max text)) → Refuses C.lacks result (at_most max (unless_refused (refusal C.lacks (pieces C.conversion 0 0 format.now) values) text)) }
+pub fn first_stop<C: FormatConversion>(format: &[u8], values: usize) -> FormatStop
+    requires { refusal C.lacks (pieces C.conversion 0 0 format.now) values ≢ None }
+    ensures { Some (unwritten_of C.lacks result) ≡ option_map (λ why. Refused why) (refusal C.lacks (pieces C.conversion 0 0 format.now) values) }
 {
     match refusal::<C>(format, values) {
-        Some(first) => first,
-        None => fault,
+        Some(stop) => stop,
+        None => unreachable!(),
     }
 }
 
 /// The first refusal of a format with so many values.
-fn refusal<C: FormatConversion>(format: &[u8], values: usize) -> Option<FormatFault>
-    ensures { option_and_then (λ fault. refusal_of C.lacks fault) result ≡ refusal C.lacks (pieces C.conversion 0 0 format.now) values }
+fn refusal<C: FormatConversion>(format: &[u8], values: usize) -> Option<FormatStop>
+    ensures { option_map (λ stop. unwritten_of C.lacks stop) result ≡ option_map (λ why. Refused why) (refusal C.lacks (pieces C.conversion 0 0 format.now) values) }
 {
     let mut at = 0;
     let mut left = values;
     let mut lacking = None;
     while at < format.len() {
         let Some((piece, used)) = piece_of::<C>(format[at], &format[at + 1..]) else {
-            return Some(FormatFault::BadFormat { at });
+            return Some(FormatStop::BadFormat { at });
         };
         (left, lacking) = behind_piece(piece, at, left, lacking);
         at += 1 + used;
     }
-    Some(FormatFault::MissingValue { at: lacking? })
+    Some(FormatStop::MissingValue { at: lacking? })
 }
 
 /// The values that a piece leaves of so many, and the place of the first one that is missing.
@@ -66,41 +61,10 @@ fn behind_piece<C: Copy>(
     }
 }
 
-/// Appends the text of a format to nothing. A fault counts where no conversion is bad and no value is
-/// missing.
-#[inline(always)]
-pub fn add_pieces<C: FormatConversion>(
-    out: &mut Vec<u8>,
-    category: &C::Category,
-    format: &[u8],
-    values: &[C::Value],
-    max: usize,
-) -> Result<(), FormatFault>
-    requires good { list_all C.is_value values.now ≡ true }
-    requires nothing { out.old.items ≡ [] }
-    ensures text { OnOk result (at_most max (formatted C.conversion (C.text category.now) C.lacks format.now values.now) ≡ Ok out.new.items) }
-    ensures fault { IfErr result (λ e. refusal C.lacks (pieces C.conversion 0 0 format.now) (length values.now) ≡ None → Refuses C.lacks e (within max (pieces_text (C.text category.now) (good_pieces (pieces C.conversion 0 0 format.now)) values.now))) }
-{
-    let mut at = 0;
-    let mut left = values;
-    while at < format.len() {
-        let Some((piece, used, behind)) = piece_at::<C>(format, at, left) else {
-            return Err(FormatFault::BadFormat { at });
-        };
-        let room = max - out.len();
-        if let Err(fault) = add_piece(out, category, piece, left, room) {
-            return Err(fault);
-        }
-        left = behind;
-        at += 1 + used;
-    }
-    Ok(())
-}
-
 /// The piece at a place, how many bytes behind that place belong to it, and the values that it
 /// leaves; `None` where it is bad or its value is missing.
 #[inline(always)]
-fn piece_at<'a, C: FormatConversion>(
+pub fn piece_at<'a, C: FormatConversion>(
     format: &[u8],
     at: usize,
     values: &'a [C::Value],
@@ -131,38 +95,16 @@ fn values_behind<C: Copy, V>(piece: Piece<C>, values: &[V]) -> Option<&[V]>
     }
 }
 
-/// Appends the text of a piece, if it has at most `room` bytes.
+/// The conversion that a format is, where it is nothing else.
 #[inline(always)]
-fn add_piece<C: FormatConversion>(
-    out: &mut Vec<u8>,
-    category: &C::Category,
-    piece: Piece<C>,
-    values: &[C::Value],
-    room: usize,
-) -> Result<(), FormatFault>
-    requires { list_all C.is_value values.now ≡ true }
-    ensures ok { OnOk result (out.new.items ≡ out.old.items ++ piece_text (C.text category.now) piece values.now) }
-    ensures fits { OnOk result (length (piece_text (C.text category.now) piece values.now) ≤ room) }
-    ensures too_big { result ≡ Err TooBig → room < length (piece_text (C.text category.now) piece values.now) }
-    ensures only { IfErr result (λ e. (e ≡ TooBig) ⊎ (e ≡ Memory)) }
+pub fn only_conversion<C: FormatConversion>(format: &[u8]) -> Option<C>
+    ensures { IfSome result (λ c. pieces C.conversion 0 0 format.now ≡ Ok ((0, Convert c) ∷ [])) }
 {
-    match (piece, values) {
-        (Piece::Literal(byte), _) => add_byte(out, byte, room),
-        (Piece::Convert(c), [value, ..]) => c.add(out, category, *value, room),
-        (Piece::Convert(_), []) => Ok(()),
+    if format.is_empty() {
+        return None;
     }
-}
-
-/// Appends a byte, if there is room.
-fn add_byte(out: &mut Vec<u8>, byte: u8, room: usize) -> Result<(), FormatFault>
-    ensures ok { OnOk result (out.new.items ≡ out.old.items ++ byte ∷ []) }
-    ensures fits { OnOk result (1 ≤ room) }
-    ensures too_big { result ≡ Err TooBig → room < 1 }
-    ensures only { IfErr result (λ e. (e ≡ TooBig) ⊎ (e ≡ Memory)) }
-{
-    if room == 0 {
-        return Err(FormatFault::TooBig);
+    match piece_of::<C>(format[0], &format[1..]) {
+        Some((Piece::Convert(c), used)) if 1 + used == format.len() => Some(c),
+        _ => None,
     }
-    out.push(byte)?;
-    Ok(())
 }

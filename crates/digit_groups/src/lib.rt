@@ -2,7 +2,7 @@
 //! text, and the pieces of a format with their values (XBD 5).
 #![tactic(auto)]
 
-ghost use Rattle.std.specs.Prelude.{◌≡◌, true, drop, ◌+◌, ◌*◌, ◌^◌, ◌<◌, ◌≤◌, List, ℕ, ◌++◌, length, OnOk, OnErr, IfSome};
+ghost use Rattle.std.specs.Prelude.{◌≡◌, true, drop, ◌+◌, ◌*◌, ◌^◌, ◌<◌, ◌≤◌, List, ℕ, ◌++◌, length, replicate, OnOk, OnErr, IfSome};
 ghost use Rattle.std.specs.List.{list_all};
 ghost use Rattle.digit_groups.specs.Digits.{last_digits, without_last};
 ghost use Rattle.digit_groups.specs.Groups.{is_size, sizes_used, separated, separators, grouped, grouped_width, last_group, before_last};
@@ -11,17 +11,20 @@ mod conversion;
 mod digits;
 mod fault;
 mod format;
+mod list;
 mod number;
 mod piece;
+mod text;
 
 pub use conversion::{FormatConversion, number_after};
 pub use digits::digit_count;
-pub use fault::FormatFault;
-pub use format::{add_pieces, first_fault};
+pub use fault::{FormatFault, FormatStop};
 use lc_base::ByteText;
+pub use list::format_into;
 pub use number::leading_number;
 use std::alloc::{AllocError, Global};
 use std::mem::replace;
+pub use text::write_format;
 
 /// Appends digits with `sep` between their groups. The first size is that of the group next to the
 /// radix, the next one that of the group before it. The last one repeats; -1 ends the grouping, and
@@ -100,6 +103,22 @@ pub fn write_before(target: &mut [u8], end: usize, piece: &[u8]) -> usize
         at -= 1;
         left -= 1;
         target[at] = piece[left];
+    }
+    at
+}
+
+/// Writes the same byte so many times over the bytes before `end`, and says where they begin.
+#[inline(always)]
+pub fn write_repeated(target: &mut [u8], end: usize, byte: u8, count: usize) -> usize
+    requires room { count ≤ end }
+    requires within { end ≤ length target.old }
+    ensures begins { result + count ≡ end }
+    ensures written { drop result target.new ≡ replicate count byte ++ drop end target.old }
+{
+    let mut at = end;
+    for _ in 0..count {
+        at -= 1;
+        target[at] = byte;
     }
     at
 }

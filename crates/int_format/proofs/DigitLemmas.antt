@@ -1,11 +1,9 @@
 -- Decimal digits.
-use Rattle.std.proofs.Common.{◌≡◌, ℕ, suc, zero, ◌+◌, ◌*◌, ◌/◌, ◌%◌, ◌^◌, ◌<◌, ◌≤◌, List, [], ◌∷◌, ◌++◌, length, take, drop, lit≤, arith, ap, ◌∙◌, sym, subst}
+use Rattle.std.proofs.Common.{◌≡◌, ℕ, suc, zero, ◌+◌, ◌*◌, ◌/◌, ◌%◌, ◌^◌, ◌<◌, ◌≤◌, [], ◌∷◌, ◌++◌, lit≤, arith, ap, ◌∙◌, sym, subst}
 use Rattle.std.proofs.Math.Nat.{pow-suc, div-div-eq-div-mul}
-use Rattle.std.proofs.lemmas.List.{take-append-le, take_all}
 use Rattle.std.proofs.lemmas.Int.Digits.{length-digits_of_step, length-digits_of-le, number_digits_of, number_lt, all_below_base_digits_of}
 use Rattle.std.specs.Int.Digits.{digits_of}
 use Rattle.digit_groups.specs.Digits.{last_digits}
-use Rattle.digit_groups.proofs.DigitLemmas.{length-last_digits}
 use Rattle.int_format.specs.Digits.{digit_count}
 
 -- ---- how many digits there are
@@ -24,15 +22,6 @@ pub below_power : (n : ℕ) → n < 10 ^ digit_count n
 below_power n = subst (λ (m : ℕ). m < 10 ^ digit_count n) (number_digits_of 10 n (lit≤ tt)) (number_lt 10 (digits_of 10 n) (all_below_base_digits_of 10 n (lit≤ tt)))
 
 -- ---- the digits
-
--- digits that are written from the start on
-pub first_digits : (new rest : List ℕ) (at k n : ℕ) → at + k ≡ k → drop at new ≡ last_digits k n ++ rest → take k new ≡ last_digits k n
-first_digits new rest at k n begins written =
-    let none : at ≡ 0 = omega (arith, begins) in
-    let whole : new ≡ last_digits k n ++ rest = rw none at written in
-    let size : length (last_digits k n) ≡ k = length-last_digits k n in
-    let most : take k (last_digits k n ++ rest) ≡ last_digits k n = take-append-le k (last_digits k n) rest (omega (arith, size)) ∙ take_all k (last_digits k n) (omega (arith, size)) in
-    ap (λ t. take k t) whole ∙ most
 
 pub power_divides : (n k : ℕ) → n / 10 / 10 ^ k ≡ n / 10 ^ suc k
 power_divides n k =

@@ -5,7 +5,7 @@ ghost use Rattle.lc_base.specs.declared.refusal.FormatRefusal.TheVariants.{Missi
 ghost use Rattle.digit_groups.specs.Formats as formats;
 ghost use Rattle.int_format.specs.Ints.{refusal_of};
 
-use digit_groups::FormatFault;
+use digit_groups::{FormatFault, FormatStop};
 use lc_base::FormatRefusal;
 use thiserror::Error;
 
@@ -45,9 +45,9 @@ impl From<FormatFault> for IntFault {
 
     fn from(fault: FormatFault) -> IntFault {
         match fault {
-            FormatFault::BadFormat { at } => IntFault::BadFormat { at },
-            FormatFault::MissingValue { at } => IntFault::MissingNumber { at },
-            FormatFault::TooBig => IntFault::TooBig,
+            FormatFault::Stopped(FormatStop::BadFormat { at }) => IntFault::BadFormat { at },
+            FormatFault::Stopped(FormatStop::MissingValue { at }) => IntFault::MissingNumber { at },
+            FormatFault::Stopped(FormatStop::TooSmall { needed: _ }) => IntFault::TooBig,
             FormatFault::Memory => IntFault::Memory,
         }
     }

@@ -3,6 +3,7 @@
 
 ghost use Rattle.std.specs.Prelude.{◌≡◌, true};
 ghost use Rattle.std.specs.List.{list_all};
+ghost use Rattle.text_buffer.specs.Written.{Written};
 ghost use Rattle.int_format.specs.Ints.{is_number, ints, at_most, Answers};
 
 mod digits;
@@ -12,14 +13,19 @@ mod layout;
 mod read;
 mod write;
 
-use digit_groups::{FormatConversion, FormatFault, add_pieces, first_fault};
+use digit_groups::{FormatConversion, format_into, write_format};
 pub use fault::IntFault;
 use format::{Conversion, conversion_of};
-use lc_base::ByteText;
+use lc_base::{ByteText, FormatRefusal};
 use numeric_cat::Numeric;
 pub use read::{numbers_are_told_apart, read_grouped};
 use std::alloc::Global;
-use write::add_conversion;
+use text_buffer::Unwritten;
+use write::{put_number, width_of};
+
+/// How many bytes a text has at first room for beyond those of its format, and once more for each
+/// number.
+const SPARE: usize = 16;
 
 /// The text of a format with its numbers, at most `max` bytes. Each number is from -2^63 to
 /// 2^64 - 1; those that are left over are passed over.
@@ -38,10 +44,37 @@ pub fn int_format(
     ensures { Answers (λ text. text) result (at_most max (ints n.now format.now numbers.now)) }
 {
     let mut out = Vec::new(alloc);
-    match add_pieces::<Conversion>(&mut out, n, format, numbers, max) {
+    let room = first_room(format, numbers.len());
+    match format_into::<Conversion>(&mut out, n, format, numbers, room, max) {
         Ok(()) => Ok(ByteText::from_vec(out)),
-        Err(fault) => Err(IntFault::from(first_fault::<Conversion>(format, numbers.len(), fault))),
+        Err(fault) => Err(IntFault::from(fault)),
     }
+}
+
+/// Writes the text of a format with its numbers, however long, to the front of a buffer, and says how
+/// many bytes it has. No memory is asked for.
+///
+/// The refusals are those of [`int_format`], and go before `TooSmall`, which tells the length of the
+/// text. Behind the text, and everywhere where there is none, the buffer is as before.
+#[inline(always)]
+pub fn int_format_to(
+    buffer: &mut [u8],
+    n: &Numeric,
+    format: &[u8],
+    numbers: &[i128],
+) -> Result<usize, Unwritten>
+    requires { list_all is_number numbers.now ≡ true }
+    ensures { Written buffer.old buffer.new result (ints n.now format.now numbers.now) }
+{
+    write_format::<Conversion>(buffer, n, format, numbers)
+}
+
+/// How many bytes a text of a format with so many numbers has at first room for. A conversion has two
+/// bytes at least, so more numbers than half the format's bytes are left over.
+#[inline(always)]
+fn first_room(format: &[u8], numbers: usize) -> usize {
+    let written = numbers.min(format.len() / 2).saturating_add(1);
+    format.len().saturating_add(written.saturating_mul(SPARE))
 }
 
 impl FormatConversion for Conversion {
@@ -66,14 +99,17 @@ impl FormatConversion for Conversion {
         conversion_of(bytes)
     }
 
+    fn lacking(at: usize) -> FormatRefusal {
+        FormatRefusal::MissingNumber { at }
+    }
+
     #[inline(always)]
-    fn add(
-        &self,
-        out: &mut Vec<u8>,
-        category: &Numeric,
-        value: i128,
-        room: usize,
-    ) -> Result<(), FormatFault> {
-        add_conversion(out, category, self, value, room)
+    fn width(&self, category: &Numeric, value: i128) -> u128 {
+        width_of(category, self, value)
+    }
+
+    #[inline(always)]
+    fn put(&self, target: &mut [u8], category: &Numeric, value: i128) -> u128 {
+        put_number(target, category, self, value)
     }
 }

@@ -1,56 +1,28 @@
-//! The text of a number, written (XSH fprintf).
+//! The text of a number, written from its end on (XSH fprintf).
 
-ghost use Rattle.std.specs.Prelude.{◌≡◌, ◌<◌, ◌≤◌, ◌⊎◌, length, ◌++◌, replicate, Err, OnOk, IfErr, true};
+ghost use Rattle.std.specs.Prelude.{◌≡◌, ◌+◌, ◌<◌, ◌≤◌, length, ◌++◌, drop, true};
+ghost use Rattle.text_buffer.specs.Written.{over};
 ghost use Rattle.digit_groups.specs.Digits.{last_digits};
 ghost use Rattle.digit_groups.specs.Groups.{grouped};
 ghost use Rattle.int_format.specs.Ints.{is_number, sizes_of, padded, conversion_text};
-ghost use Rattle.digit_groups.specs.declared.fault.FormatFault.TheVariants.{TooBig, Memory};
 
 use crate::format::Conversion;
 use crate::layout::{Fill, Laid, laid_out, sizes_of};
-use digit_groups::{FormatFault, group_into, write_digits};
+use digit_groups::{write_before, write_grouped, write_repeated};
 use numeric_cat::Numeric;
-use std::alloc::AllocError;
 
-/// The most digits of a conversion.
-const DIGITS: usize = 255;
-
-/// Appends the same byte so many times.
+/// Writes the digits of a number that is laid out over the bytes before `end`, and says where they
+/// begin.
 #[inline(always)]
-fn add_repeated(out: &mut Vec<u8>, byte: u8, count: usize) -> Result<(), AllocError>
-    ensures { OnOk result (out.new.items ≡ out.old.items ++ replicate count byte) }
+fn write_number(target: &mut [u8], end: usize, n: &Numeric, c: &Conversion, laid: &Laid) -> usize
+    requires room { length (grouped (last_digits laid.now.digits laid.now.magnitude) (sizes_of n.now c.now) n.now.thousands_sep) ≤ end }
+    requires within { end ≤ length target.old }
+    ensures begins { result + length (grouped (last_digits laid.now.digits laid.now.magnitude) (sizes_of n.now c.now) n.now.thousands_sep) ≡ end }
+    ensures written { drop result target.new ≡ grouped (last_digits laid.now.digits laid.now.magnitude) (sizes_of n.now c.now) n.now.thousands_sep ++ drop end target.old }
 {
-    for _ in 0..count {
-        out.push(byte)?;
-    }
-    Ok(())
-}
-
-/// Appends the last digits of a number, in groups.
-#[inline(always)]
-fn add_digits(
-    out: &mut Vec<u8>,
-    magnitude: u64,
-    count: usize,
-    sizes: &[i32],
-    sep: &[u8],
-) -> Result<(), AllocError>
-    requires { count ≤ 255 }
-    ensures { OnOk result (out.new.items ≡ out.old.items ++ grouped (last_digits count magnitude) sizes.now sep.now) }
-{
-    let mut buffer = [0; DIGITS];
-    write_digits(&mut buffer, count, magnitude, count);
-    group_into(out, &buffer[..count], sizes, sep)
-}
-
-/// Appends the digits of a number that is laid out.
-#[inline(always)]
-fn add_number(out: &mut Vec<u8>, n: &Numeric, c: &Conversion, laid: &Laid) -> Result<(), AllocError>
-    requires { laid.now.digits ≤ 255 }
-    ensures { OnOk result (out.new.items ≡ out.old.items ++ grouped (last_digits laid.now.digits laid.now.magnitude) (sizes_of n.now c.now) n.now.thousands_sep) }
-{
-    add_digits(
-        out,
+    write_grouped(
+        target,
+        end,
         laid.magnitude,
         laid.digits,
         sizes_of(n, c),
@@ -58,50 +30,64 @@ fn add_number(out: &mut Vec<u8>, n: &Numeric, c: &Conversion, laid: &Laid) -> Re
     )
 }
 
-/// Appends the text of a number that is laid out.
+/// Writes the text of a number that is laid out over the bytes before `end`, and says where it begins.
 #[inline(always)]
-fn add_text(out: &mut Vec<u8>, n: &Numeric, c: &Conversion, laid: &Laid) -> Result<(), AllocError>
-    requires { laid.now.digits ≤ 255 }
-    ensures { OnOk result (out.new.items ≡ out.old.items ++ padded laid.now.fill laid.now.padding laid.now.sign.now (grouped (last_digits laid.now.digits laid.now.magnitude) (sizes_of n.now c.now) n.now.thousands_sep)) }
+fn write_text(target: &mut [u8], end: usize, n: &Numeric, c: &Conversion, laid: &Laid) -> usize
+    requires room { length (padded laid.now.fill laid.now.padding laid.now.sign.now (grouped (last_digits laid.now.digits laid.now.magnitude) (sizes_of n.now c.now) n.now.thousands_sep)) ≤ end }
+    requires within { end ≤ length target.old }
+    ensures begins { result + length (padded laid.now.fill laid.now.padding laid.now.sign.now (grouped (last_digits laid.now.digits laid.now.magnitude) (sizes_of n.now c.now) n.now.thousands_sep)) ≡ end }
+    ensures written { drop result target.new ≡ padded laid.now.fill laid.now.padding laid.now.sign.now (grouped (last_digits laid.now.digits laid.now.magnitude) (sizes_of n.now c.now) n.now.thousands_sep) ++ drop end target.old }
 {
     match laid.fill {
         Fill::Before => {
-            add_repeated(out, b' ', laid.padding)?;
-            out.extend_from_slice(laid.sign)?;
-            add_number(out, n, c, laid)
+            let digits = write_number(target, end, n, c, laid);
+            let sign = write_before(target, digits, laid.sign);
+            write_repeated(target, sign, b' ', laid.padding)
         }
         Fill::Between => {
-            out.extend_from_slice(laid.sign)?;
-            add_repeated(out, b'0', laid.padding)?;
-            add_number(out, n, c, laid)
+            let digits = write_number(target, end, n, c, laid);
+            let zeros = write_repeated(target, digits, b'0', laid.padding);
+            write_before(target, zeros, laid.sign)
         }
         Fill::Behind => {
-            out.extend_from_slice(laid.sign)?;
-            add_number(out, n, c, laid)?;
-            add_repeated(out, b' ', laid.padding)
+            let behind = write_repeated(target, end, b' ', laid.padding);
+            let digits = write_number(target, behind, n, c, laid);
+            write_before(target, digits, laid.sign)
         }
     }
 }
 
-/// Appends the text of a number, if it has at most `room` bytes.
+/// Writes the text of a number that is laid out over bytes that are just as many.
 #[inline(always)]
-pub fn add_conversion(
-    out: &mut Vec<u8>,
-    n: &Numeric,
-    c: &Conversion,
-    value: i128,
-    room: usize,
-) -> Result<(), FormatFault>
+fn fill_text(target: &mut [u8], n: &Numeric, c: &Conversion, laid: &Laid)
+    requires { length target.old ≡ length (padded laid.now.fill laid.now.padding laid.now.sign.now (grouped (last_digits laid.now.digits laid.now.magnitude) (sizes_of n.now c.now) n.now.thousands_sep)) }
+    ensures { target.new ≡ padded laid.now.fill laid.now.padding laid.now.sign.now (grouped (last_digits laid.now.digits laid.now.magnitude) (sizes_of n.now c.now) n.now.thousands_sep) }
+{
+    write_text(target, target.len(), n, c, laid);
+}
+
+/// Writes the text of a number to the front of a buffer, if it has room for all of it, and says how
+/// many bytes the text has.
+#[inline(always)]
+pub fn put_number(target: &mut [u8], n: &Numeric, c: &Conversion, value: i128) -> u128
     requires { is_number value ≡ true }
-    ensures ok { OnOk result (out.new.items ≡ out.old.items ++ conversion_text n.now c.now value) }
-    ensures fits { OnOk result (length (conversion_text n.now c.now value) ≤ room) }
-    ensures too_big { result ≡ Err TooBig → room < length (conversion_text n.now c.now value) }
-    ensures only { IfErr result (λ e. (e ≡ TooBig) ⊎ (e ≡ Memory)) }
+    ensures width { result ≡ length (conversion_text n.now c.now value) }
+    ensures written { result ≤ length target.old → target.new ≡ over target.old 0 (conversion_text n.now c.now value) }
+    ensures kept { length target.old < result → target.new ≡ target.old }
 {
     let laid = laid_out(n, c, value);
-    if laid.width > room as u128 {
-        return Err(FormatFault::TooBig);
+    if laid.width > target.len() as u128 {
+        return laid.width;
     }
-    add_text(out, n, c, &laid)?;
-    Ok(())
+    fill_text(&mut target[..laid.width as usize], n, c, &laid);
+    laid.width
+}
+
+/// How many bytes the text of a number has.
+#[inline(never)]
+pub fn width_of(n: &Numeric, c: &Conversion, value: i128) -> u128
+    requires { is_number value ≡ true }
+    ensures { result ≡ length (conversion_text n.now c.now value) }
+{
+    laid_out(n, c, value).width
 }

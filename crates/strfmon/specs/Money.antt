@@ -106,9 +106,13 @@ conversion_text v c a = in_field c.flags.left c.width (aligned_text v c a)
 
 -- ---- a format
 
--- the text of a format with its amounts, of at most so many bytes, or the refusal
+-- the text of a format with its amounts, or the refusal
+abbrev pub money_text : MonetaryValues → List ℕ → List MoneyAmount → Result (List ℕ) FormatRefusal
+money_text v format amounts = formatted conversion (conversion_text v) (λ at. MissingAmount at) format amounts
+
+-- the same of at most so many bytes
 abbrev pub money : MonetaryValues → List ℕ → List MoneyAmount → ℕ → Result (List ℕ) FormatRefusal
-money v format amounts max_len = at_most max_len (formatted conversion (conversion_text v) (λ at. MissingAmount at) format amounts)
+money v format amounts max_len = at_most max_len (money_text v format amounts)
 
 -- why there is no text, unless it was out of memory
 abbrev pub refusal_of : MoneyFault → Option FormatRefusal

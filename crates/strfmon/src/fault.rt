@@ -6,7 +6,7 @@ ghost use Rattle.digit_groups.specs.Formats as formats;
 ghost use Rattle.strfmon.specs.Money.{refusal_of};
 ghost use Rattle.strfmon.specs.declared.fault.MoneyFault.TheVariants.{Memory};
 
-use digit_groups::FormatFault;
+use digit_groups::{FormatFault, FormatStop};
 use lc_base::FormatRefusal;
 use std::alloc::AllocError;
 use thiserror::Error;
@@ -55,9 +55,11 @@ impl From<FormatFault> for MoneyFault {
 
     fn from(fault: FormatFault) -> MoneyFault {
         match fault {
-            FormatFault::BadFormat { at } => MoneyFault::BadFormat { at },
-            FormatFault::MissingValue { at } => MoneyFault::MissingAmount { at },
-            FormatFault::TooBig => MoneyFault::TooBig,
+            FormatFault::Stopped(FormatStop::BadFormat { at }) => MoneyFault::BadFormat { at },
+            FormatFault::Stopped(FormatStop::MissingValue { at }) => {
+                MoneyFault::MissingAmount { at }
+            }
+            FormatFault::Stopped(FormatStop::TooSmall { needed: _ }) => MoneyFault::TooBig,
             FormatFault::Memory => MoneyFault::Memory,
         }
     }

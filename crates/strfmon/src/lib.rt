@@ -1,13 +1,9 @@
 //! Amounts of money as text (XSH strfmon).
 #![tactic(auto)]
 
-ghost use Rattle.std.specs.Prelude.{◌≡◌, [], length, None, Ok, OnOk, OnErr, IfErr};
-ghost use Rattle.lc_base.specs.declared.refusal.FormatRefusal.TheVariants.{MissingAmount};
-ghost use Rattle.lc_base.specs.Limits.{within};
-ghost use Rattle.digit_groups.specs.Formats.{pieces, good_pieces, pieces_text, refusal};
-ghost use Rattle.digit_groups.specs.Formats as formats;
-ghost use Rattle.strfmon.specs.Formats.{conversion};
-ghost use Rattle.strfmon.specs.Money.{money, conversion_text, Answers};
+ghost use Rattle.std.specs.Prelude.{◌≡◌, [], OnErr};
+ghost use Rattle.text_buffer.specs.Written.{Written};
+ghost use Rattle.strfmon.specs.Money.{money, money_text, Answers};
 
 mod cells;
 mod decimal;
@@ -17,14 +13,15 @@ mod layout;
 mod look;
 mod write;
 
-use digit_groups::{FormatConversion, FormatFault, add_pieces, first_fault};
+use digit_groups::{FormatConversion, format_into, write_format};
 pub use fault::MoneyFault;
 use format::{Conversion, quick_conversion};
 pub use lc_base::Amount;
-use lc_base::ByteText;
+use lc_base::{ByteText, FormatRefusal};
 use monetary_cat::Monetary;
 use std::alloc::Global;
-use write::add_amount;
+use text_buffer::Unwritten;
+use write::{put_amount, width_of};
 
 /// How many bytes a text has at first room for beyond those of its format, and once more for each
 /// amount.
@@ -54,6 +51,7 @@ pub fn strfmon(
 
 /// Puts the same text in place of what a `Vec` holds, whose memory is used again. The `Vec` is empty
 /// where there is no text.
+#[tactic(auto, using(crate::proofs::MoneyLemmas::any_amount))]
 pub fn strfmon_into(
     out: &mut Vec<u8>,
     m: &Monetary,
@@ -64,13 +62,32 @@ pub fn strfmon_into(
     ensures answer { Answers (λ _. out.new.items) result (money m.now format.now amounts.now max) }
     ensures emptied { OnErr result (out.new.items ≡ []) }
 {
-    match put_pieces(out, m, format, amounts, max) {
+    let room = first_room(format, amounts.len(), max);
+    match format_into::<Conversion>(out, m, format, amounts, room, max) {
         Ok(()) => Ok(()),
         Err(fault) => {
             out.clear();
-            Err(MoneyFault::from(first_fault::<Conversion>(format, amounts.len(), fault)))
+            Err(MoneyFault::from(fault))
         }
     }
+}
+
+/// Writes the text of a format with its amounts, however long, to the front of a buffer, and says how
+/// many bytes it has. No memory is asked for.
+///
+/// The refusals are those of [`strfmon`], and go before `TooSmall`, which tells the length of the text.
+/// Behind the text, and everywhere where there is none, the buffer is as before.
+#[tactic(auto, using(crate::proofs::MoneyLemmas::any_amount))]
+#[inline(always)]
+pub fn strfmon_to(
+    buffer: &mut [u8],
+    m: &Monetary,
+    format: &[u8],
+    amounts: &[Amount],
+) -> Result<usize, Unwritten>
+    ensures { Written buffer.old buffer.new result (money_text m.now format.now amounts.now) }
+{
+    write_format::<Conversion>(buffer, m, format, amounts)
 }
 
 /// How many bytes a text of a format with so many amounts has at first room for. A conversion has two
@@ -82,28 +99,6 @@ fn first_room(format: &[u8], amounts: usize, max: usize) -> usize {
         .len()
         .saturating_add(written.saturating_mul(SPARE))
         .min(max)
-}
-
-/// Puts the text of a format in place of what a `Vec` holds. A fault counts where no conversion is bad
-/// and no amount is missing.
-#[tactic(auto, using(crate::proofs::MoneyLemmas::any_amount))]
-#[inline(always)]
-fn put_pieces(
-    out: &mut Vec<u8>,
-    m: &Monetary,
-    format: &[u8],
-    amounts: &[Amount],
-    max: usize,
-) -> Result<(), FormatFault>
-    ensures text { OnOk result (money m.now format.now amounts.now max ≡ Ok out.new.items) }
-    ensures fault { IfErr result (λ e. refusal (λ at. MissingAmount at) (pieces conversion 0 0 format.now) (length amounts.now) ≡ None → formats.Refuses (λ at. MissingAmount at) e (within max (pieces_text (conversion_text m.now) (good_pieces (pieces conversion 0 0 format.now)) amounts.now))) }
-{
-    out.clear();
-    let room = first_room(format, amounts.len(), max);
-    if out.capacity() < room {
-        out.reserve(room)?;
-    }
-    add_pieces::<Conversion>(out, m, format, amounts, max)
 }
 
 impl FormatConversion for Conversion {
@@ -129,14 +124,17 @@ impl FormatConversion for Conversion {
         quick_conversion(bytes)
     }
 
+    fn lacking(at: usize) -> FormatRefusal {
+        FormatRefusal::MissingAmount { at }
+    }
+
     #[inline(always)]
-    fn add(
-        &self,
-        out: &mut Vec<u8>,
-        category: &Monetary,
-        value: Amount,
-        room: usize,
-    ) -> Result<(), FormatFault> {
-        add_amount(out, category, self, value, room)
+    fn width(&self, category: &Monetary, value: Amount) -> u128 {
+        width_of(category, self, value)
+    }
+
+    #[inline(always)]
+    fn put(&self, target: &mut [u8], category: &Monetary, value: Amount) -> u128 {
+        put_amount(target, category, self, value)
     }
 }

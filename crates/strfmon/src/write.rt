@@ -1,17 +1,17 @@
 //! The text of an amount, written from its end on (XSH strfmon).
 
-ghost use Rattle.std.specs.Prelude.{◌≡◌, ◌+◌, ◌^◌, ◌<◌, ◌≤◌, ◌⊎◌, length, ◌++◌, drop, replicate, Err, OnOk, IfErr};
+ghost use Rattle.std.specs.Prelude.{◌≡◌, ◌+◌, ◌^◌, ◌<◌, ◌≤◌, length, ◌++◌, drop};
 ghost use Rattle.digit_groups.specs.Digits.{digit_count};
 ghost use Rattle.strfmon.specs.Money.{with_spaces, conversion_text};
 ghost use Rattle.strfmon.specs.Shown.{shown_fraction, shown_number, shown_parts};
 ghost use Rattle.strfmon.specs.Seen.{seen};
-ghost use Rattle.digit_groups.specs.declared.fault.FormatFault.TheVariants.{TooBig, Memory};
+ghost use Rattle.text_buffer.specs.Written.{over};
 
 use crate::decimal::Decimal;
 use crate::format::{Conversion, is_plain, plain_conversion};
 use crate::layout::{Laid, laid_out, radix_of, sizes_of};
 use crate::look::Look;
-use digit_groups::{FormatFault, write_before, write_digits, write_grouped};
+use digit_groups::{write_before, write_digits, write_grouped, write_repeated};
 use lc_base::Amount;
 use monetary_cat::{MonText, Monetary};
 
@@ -23,22 +23,6 @@ struct Spread {
     fill: usize,
     after: usize,
     field: usize,
-}
-
-/// Writes the same byte so many times over the bytes before `end`, and says where they begin.
-#[inline(always)]
-fn write_repeated(target: &mut [u8], end: usize, byte: u8, count: usize) -> usize
-    requires room { count ≤ end }
-    requires within { end ≤ length target.old }
-    ensures begins { result + count ≡ end }
-    ensures written { drop result target.new ≡ replicate count byte ++ drop end target.old }
-{
-    let mut at = end;
-    for _ in 0..count {
-        at -= 1;
-        target[at] = byte;
-    }
-    at
 }
 
 /// Writes the radix and the fraction, where there is one, over the bytes before `end`, and says where
@@ -177,75 +161,61 @@ fn spread_of(laid: &Laid) -> Spread
     }
 }
 
-/// Appends the text of an amount, if it has at most `room` bytes.
+/// Writes the text of an amount to the front of a buffer, if it has room for all of it, and says how
+/// many bytes the text has.
 #[inline(always)]
-fn add_conversion(
-    out: &mut Vec<u8>,
-    m: &Monetary,
-    c: &Conversion,
-    amount: Amount,
-    room: usize,
-) -> Result<(), FormatFault>
-    ensures ok { OnOk result (out.new.items ≡ out.old.items ++ conversion_text m.now c.now amount) }
-    ensures fits { OnOk result (length (conversion_text m.now c.now amount) ≤ room) }
-    ensures too_big { result ≡ Err TooBig → room < length (conversion_text m.now c.now amount) }
-    ensures only { IfErr result (λ e. (e ≡ TooBig) ⊎ (e ≡ Memory)) }
+fn put_conversion(target: &mut [u8], m: &Monetary, c: &Conversion, amount: Amount) -> u128
+    ensures width { result ≡ length (conversion_text m.now c.now amount) }
+    ensures written { result ≤ length target.old → target.new ≡ over target.old 0 (conversion_text m.now c.now amount) }
+    ensures kept { length target.old < result → target.new ≡ target.old }
 {
     let laid = laid_out(m, c, amount);
-    if laid.layout.width + laid.field > room as u128 {
-        return Err(FormatFault::TooBig);
+    let width = laid.layout.width + laid.field;
+    if width > target.len() as u128 {
+        return width;
     }
-    let start = out.len();
-    let end = start
-        .checked_add((laid.layout.width + laid.field) as usize)
-        .ok_or(FormatFault::Memory)?;
-    out.resize(end, 0)?;
     fill_field(
-        &mut out[start..],
+        &mut target[..width as usize],
         m,
         c,
         &laid.look,
         spread_of(&laid),
         laid.decimal,
     );
-    Ok(())
+    width
 }
 
 /// The same of a conversion that is more than a letter, in code of its own.
 #[inline(never)]
-fn add_other(
-    out: &mut Vec<u8>,
-    m: &Monetary,
-    c: &Conversion,
-    amount: Amount,
-    room: usize,
-) -> Result<(), FormatFault>
-    ensures ok { OnOk result (out.new.items ≡ out.old.items ++ conversion_text m.now c.now amount) }
-    ensures fits { OnOk result (length (conversion_text m.now c.now amount) ≤ room) }
-    ensures too_big { result ≡ Err TooBig → room < length (conversion_text m.now c.now amount) }
-    ensures only { IfErr result (λ e. (e ≡ TooBig) ⊎ (e ≡ Memory)) }
+fn put_other(target: &mut [u8], m: &Monetary, c: &Conversion, amount: Amount) -> u128
+    ensures width { result ≡ length (conversion_text m.now c.now amount) }
+    ensures written { result ≤ length target.old → target.new ≡ over target.old 0 (conversion_text m.now c.now amount) }
+    ensures kept { length target.old < result → target.new ≡ target.old }
 {
-    add_conversion(out, m, c, amount, room)
+    put_conversion(target, m, c, amount)
 }
 
-/// Appends the text of an amount, if it has at most `room` bytes. A letter with nothing before it is
-/// told apart, since no flags, widths and digits need to be looked at then.
+/// Writes the text of an amount to the front of a buffer, if it has room for all of it, and says how
+/// many bytes the text has. A letter with nothing before it is told apart, since no flags, widths and
+/// digits need to be looked at then.
 #[inline(always)]
-pub fn add_amount(
-    out: &mut Vec<u8>,
-    m: &Monetary,
-    c: &Conversion,
-    amount: Amount,
-    room: usize,
-) -> Result<(), FormatFault>
-    ensures ok { OnOk result (out.new.items ≡ out.old.items ++ conversion_text m.now c.now amount) }
-    ensures fits { OnOk result (length (conversion_text m.now c.now amount) ≤ room) }
-    ensures too_big { result ≡ Err TooBig → room < length (conversion_text m.now c.now amount) }
-    ensures only { IfErr result (λ e. (e ≡ TooBig) ⊎ (e ≡ Memory)) }
+pub fn put_amount(target: &mut [u8], m: &Monetary, c: &Conversion, amount: Amount) -> u128
+    ensures width { result ≡ length (conversion_text m.now c.now amount) }
+    ensures written { result ≤ length target.old → target.new ≡ over target.old 0 (conversion_text m.now c.now amount) }
+    ensures kept { length target.old < result → target.new ≡ target.old }
 {
     if is_plain(c) {
-        add_conversion(out, m, &plain_conversion(c.international), amount, room)
+        put_conversion(target, m, &plain_conversion(c.international), amount)
     } else {
-        add_other(out, m, c, amount, room)
+        put_other(target, m, c, amount)
     }
+}
+
+/// How many bytes the text of an amount has.
+#[inline(never)]
+pub fn width_of(m: &Monetary, c: &Conversion, amount: Amount) -> u128
+    ensures { result ≡ length (conversion_text m.now c.now amount) }
+{
+    let laid = laid_out(m, c, amount);
+    laid.layout.width + laid.field
 }

@@ -1,5 +1,5 @@
 use Rattle.std.proofs.Common.{◌≡◌, ◌+◌, ◌≤◌, ◌++◌, length, drop, replicate}
-use Rattle.strfmon.proofs.write.write_repeated.Given as goal
+use Rattle.digit_groups.proofs.write_repeated.Given as goal
 
 abbrev pub invariant-loop : goal.invariant-loop
 invariant-loop l = record {

@@ -1,6 +1,6 @@
 use Rattle.std.proofs.Common.{◌≡◌, suc, ◌+◌, ◌-◌, ◌<◌, ◌∷◌, ◌++◌, length, drop, replicate, arith, ap, ◌∙◌}
 use Rattle.std.proofs.lemmas.List.{drop-set, length-set}
-use Rattle.strfmon.proofs.write.write_repeated.Goals as goal
+use Rattle.digit_groups.proofs.write_repeated.Goals as goal
 
 pub loop-preserved : goal.loop-preserved
 loop-preserved c =

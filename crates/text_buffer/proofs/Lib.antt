@@ -1,0 +1,2 @@
+pub mod WrittenLemmas
+mod Examples
