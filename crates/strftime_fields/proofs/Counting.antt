@@ -11,14 +11,15 @@ use Rattle.time_cat.specs.Formats.{Piece, Literal, Converted, Wrong, pieces, res
 use Rattle.time_cat.specs.Times.{TmValues}
 use Rattle.time_cat.specs.TimeValues.{TimeValues, format_text}
 use Rattle.time_cat.specs.Shown.{expanded, converted, piece_text, format_for, conversions_of}
-use Rattle.strftime_fields.specs.declared.output.Stop.{Stop}
-use Rattle.strftime_fields.specs.declared.output.Stop.TheVariants as stops
+use Rattle.strftime_fields.specs.declared.stop.Stop.{Stop}
+use Rattle.strftime_fields.specs.declared.stop.Stop.TheVariants as stops
 use Rattle.strftime_fields.specs.declared.read.Short.{Short}
 use Rattle.strftime_fields.specs.declared.read.Short.TheVariants.{Byte, Plain}
 use Rattle.strftime_fields.specs.Appending.{Appends, CountsTo, fault_of}
 use Rattle.strftime_fields.specs.Cost.{read_for, piece_reads, pieces_read, reads, cost, Counts}
 use Rattle.strftime_fields.specs.declared.read.Seen.TheVariants.{Inner}
 use Rattle.strftime_fields.specs.Going.{reads_left}
+use Rattle.strftime_fields.specs.Kept.{Kind}
 use Rattle.strftime_fields.specs.Reading.{IsShort, IsFormatless, IsSeen, width, short_text}
 use Rattle.strftime_fields.proofs.Left.{plain_conversion, format_conversion, nothing_left}
 
@@ -101,9 +102,9 @@ pub cost_right : (v : TimeValues) (t : TmValues) (format : List ℕ) (max : ℕ)
 cost_right v t format max good = rw good refl
 
 -- where a piece can't be added, nothing is read behind it
-pub counts_stop : (max : ℕ) (out piece new : List ℕ) (e : Stop) (here rest total steps : ℕ) → Appends max out piece new (Err e) → CountsTo (Err e) here steps → here + rest ≡ total → (max < length out + length piece → rest ≡ 0) → CountsTo (Err e) total steps
-counts_stop max out piece new stops.TooBig here rest total steps long is whole none = omega (arith, is, whole, none long)
-counts_stop max out piece new stops.Memory here rest total steps lacking is whole none = omega (arith, is, whole)
+pub counts_stop : (kind : Kind) (max : ℕ) (out piece new : List ℕ) (e : Stop) (here rest total steps : ℕ) → Appends kind max out piece new (Err e) → CountsTo (Err e) here steps → here + rest ≡ total → (max < length out + length piece → rest ≡ 0) → CountsTo (Err e) total steps
+counts_stop kind max out piece new stops.TooBig here rest total steps long is whole none = omega (arith, is, whole, none long)
+counts_stop kind max out piece new stops.Memory here rest total steps lacking is whole none = omega (arith, is, whole)
 
 -- ---- pieces that are told at first sight
 

@@ -5,6 +5,7 @@ pub mod CalendarLemmas
 pub mod Counting
 pub mod Examples
 pub mod Going
+pub mod Keeping
 pub mod Left
 pub mod Numbers
 pub mod Offsets

@@ -33,3 +33,11 @@ Answers (Err e) wanted = IfSome (refusal_of e) (λ why. wanted ≡ Err why)
 abbrev pub with_text : {A : Type 0} → List ℕ → Result A TimeFault → Result (List ℕ) TimeFault
 with_text text (Ok a) = Ok text
 with_text text (Err e) = Err e
+
+-- the text of a time whatever its length, or why there is none
+abbrev pub unlimited : Result (List ℕ) ℕ → Result (List ℕ) FormatRefusal
+unlimited (Ok text) = Ok text
+unlimited (Err at) = Err (BadFormat at)
+
+abbrev pub whole_answer : TimeValues → TmValues → List ℕ → Result (List ℕ) FormatRefusal
+whole_answer v t format = unlimited (time_text v t format)

@@ -2,14 +2,15 @@
 use Rattle.std.specs.Prelude.{◌≡◌, ℕ, ◌+◌, ◌<◌, ◌≤◌, Bool, true, false, List, ◌++◌, length, Result, Ok, Err}
 use Rattle.strftime_fields.specs.declared.fault.TimeFault.{TimeFault}
 use Rattle.strftime_fields.specs.declared.fault.TimeFault.TheVariants as faults
-use Rattle.strftime_fields.specs.declared.output.Stop.{Stop}
-use Rattle.strftime_fields.specs.declared.output.Stop.TheVariants.{TooBig, Memory}
+use Rattle.strftime_fields.specs.declared.stop.Stop.{Stop}
+use Rattle.strftime_fields.specs.declared.stop.Stop.TheVariants.{TooBig, Memory}
+use Rattle.strftime_fields.specs.Kept.{Kind, kept, Fails}
 
 -- a text is added, or it would be too long, or it is out of memory
-abbrev pub Appends : ℕ → List ℕ → List ℕ → List ℕ → Result (Unit {0}) Stop → Type 0
-Appends max old text new (Ok u) = (new ≡ old ++ text) × (length new ≤ max)
-Appends max old text new (Err TooBig) = max < length old + length text
-Appends max old text new (Err Memory) = Unit {0}
+abbrev pub Appends : Kind → ℕ → List ℕ → List ℕ → List ℕ → Result (Unit {0}) Stop → Type 0
+Appends kind max old text new (Ok u) = (new ≡ old ++ kept kind text) × (length new ≤ max)
+Appends kind max old text new (Err TooBig) = max < length old + length text
+Appends kind max old text new (Err Memory) = Fails kind
 
 -- so many steps were counted, or when out of memory at most so many
 abbrev pub CountsTo : Result (Unit {0}) Stop → ℕ → ℕ → Type 0
@@ -23,9 +24,9 @@ fault_of TooBig = faults.TooBig
 fault_of Memory = faults.Memory
 
 -- a text is added, or nothing is
-abbrev pub Adds : List ℕ → List ℕ → List ℕ → Bool → Type 0
-Adds old text new true = new ≡ old ++ text
-Adds old text new false = new ≡ old
+abbrev pub Adds : Kind → List ℕ → List ℕ → List ℕ → Bool → Type 0
+Adds kind old text new true = new ≡ old ++ kept kind text
+Adds kind old text new false = new ≡ old
 
 -- whether a text was added, whatever more the result says of it
 abbrev pub added : {A : Type 0} → Result A Stop → Result (Unit {0}) Stop

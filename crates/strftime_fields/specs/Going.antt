@@ -6,9 +6,10 @@ use Rattle.time_cat.specs.Times.{TmValues}
 use Rattle.time_cat.specs.TimeValues.{TimeValues}
 use Rattle.time_cat.specs.Shown.{expanded, piece_text}
 use Rattle.strftime_fields.specs.declared.expand.Left.{Left}
-use Rattle.strftime_fields.specs.declared.output.Stop.{Stop}
+use Rattle.strftime_fields.specs.declared.stop.Stop.{Stop}
 use Rattle.strftime_fields.specs.Appending.{Appends, CountsTo, added}
 use Rattle.strftime_fields.specs.Cost.{pieces_read, reads}
+use Rattle.strftime_fields.specs.Kept.{Kind, kept}
 
 -- the format that is read, what is left of it, how many formats may lie within one another, and whether it is the caller's
 pub record Place : Type 0 where
@@ -54,9 +55,9 @@ bad_of p = bad_place (rest_of p.format (length p.format - length p.rest))
 abbrev pub size_of : Place → ℕ
 size_of p = 18446744073709551616 * p.levels + length p.rest
 
--- from a text, a count and a place to others: what is left then gives the same, costs the same and is wrong at the same place
-pub record Goes (max : ℕ) (v : TimeValues) (t : TmValues) (out : List ℕ) (n : ℕ) (p : Place) (out' : List ℕ) (n' : ℕ) (p' : Place) : Type 0 where
-  pub text : out' ++ text_of v t p' ≡ out ++ text_of v t p
+-- from a text that is kept, a count and a place to others: what is left then gives the same, costs the same and is wrong at the same place
+pub record Goes (kind : Kind) (max : ℕ) (v : TimeValues) (t : TmValues) (out : List ℕ) (n : ℕ) (p : Place) (out' : List ℕ) (n' : ℕ) (p' : Place) : Type 0 where
+  pub text : out' ++ kept kind (text_of v t p') ≡ out ++ kept kind (text_of v t p)
   pub steps : n' + reads_of max v t (length out') p' ≡ n + reads_of max v t (length out) p
   pub bad : (all : Option ℕ) → Bads p.whole (bad_of p) all → Bads p'.whole (bad_of p') all
   pub stands : Stands p'
@@ -64,7 +65,7 @@ pub record Goes (max : ℕ) (v : TimeValues) (t : TmValues) (out : List ℕ) (n 
   pub less : size_of p' ≤ size_of p
 
 -- what is left is added, up to the first `%` that begins no conversion, and it is said where that stands in the whole format
-pub record Ends (max : ℕ) (v : TimeValues) (t : TmValues) (out : List ℕ) (n : ℕ) (p : Place) (out' : List ℕ) (n' : ℕ) (r : Result (Option ℕ) Stop) : Type 0 where
-  pub text : Appends max out (text_of v t p) out' (added r)
+pub record Ends (kind : Kind) (max : ℕ) (v : TimeValues) (t : TmValues) (out : List ℕ) (n : ℕ) (p : Place) (out' : List ℕ) (n' : ℕ) (r : Result (Option ℕ) Stop) : Type 0 where
+  pub text : Appends kind max out (text_of v t p) out' (added r)
   pub steps : CountsTo (added r) (n + reads_of max v t (length out) p) n'
   pub bad : (found all : Option ℕ) → r ≡ Ok found → Bads p.whole (bad_of p) all → found ≡ all

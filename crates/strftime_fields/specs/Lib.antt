@@ -4,3 +4,5 @@ pub mod Calendar
 pub mod Cost
 pub mod Reading
 pub mod Going
+pub mod Kept
+pub mod Zones

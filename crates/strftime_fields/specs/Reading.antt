@@ -7,6 +7,7 @@ use Rattle.time_cat.specs.Conversions.{conversion}
 use Rattle.time_cat.specs.Times.{TmValues}
 use Rattle.time_cat.specs.TimeValues.{TimeValues}
 use Rattle.time_cat.specs.Shown.{plain_text, format_for}
+use Rattle.strftime_fields.specs.Kept.{Kind, kept}
 use Rattle.strftime_fields.specs.declared.read.Short.{Short}
 use Rattle.strftime_fields.specs.declared.read.Short.TheVariants.{Byte, Plain}
 use Rattle.strftime_fields.specs.declared.read.Seen.{Seen}
@@ -45,7 +46,7 @@ SeenFormatless v t (Inner key) = Unit {0}
 SeenFormatless v t Other = Unit {0}
 
 -- what it adds to a text
-abbrev pub AddsSeen : TimeValues → TmValues → List ℕ → List ℕ → Seen → Type 0
-AddsSeen v t old new (Added short) = new ≡ old ++ short_text v t short
-AddsSeen v t old new (Inner key) = new ≡ old
-AddsSeen v t old new Other = new ≡ old
+abbrev pub AddsSeen : Kind → TimeValues → TmValues → List ℕ → List ℕ → Seen → Type 0
+AddsSeen kind v t old new (Added short) = new ≡ old ++ kept kind (short_text v t short)
+AddsSeen kind v t old new (Inner key) = new ≡ old
+AddsSeen kind v t old new Other = new ≡ old

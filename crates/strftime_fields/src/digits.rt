@@ -1,11 +1,13 @@
 //! Numbers as they are written.
 
-ghost use Rattle.std.specs.Prelude.{◌≡◌, ◌≤◌, ◌<◌, ◌%◌, ◌+◌, length, vec_capacity, decimal};
+ghost use Rattle.std.specs.Prelude.{◌≡◌, ◌≤◌, ◌<◌, ◌%◌, ◌+◌, length, decimal};
 ghost use Rattle.std.specs.Fmt.{signed_decimal};
 ghost use Rattle.time_cat.specs.Shown.{last_digit, two, three, four, laid_out, spaced};
 ghost use Rattle.strftime_fields.specs.Appending.{Appends, Adds};
+ghost use Rattle.strftime_fields.specs.Kept.{Holds};
 
-use crate::output::{Stop, put, put_here};
+use crate::output::{Output, put, put_here};
+use crate::stop::Stop;
 use itoa::Buffer;
 use time_cat::Layout;
 
@@ -59,11 +61,12 @@ pub fn three(n: u32) -> [u8; 3]
 
 /// Adds the last two digits.
 #[inline(always)]
-pub fn put_two(out: &mut Vec<u8>, max: usize, n: u32) -> Result<(), Stop>
-    requires { length out.old.items ≤ max }
-    ensures { Appends max out.old.items (two n) out.new.items result }
+pub fn put_two<O: Output>(out: &mut O, lent: &mut [u8], max: usize, n: u32) -> Result<(), Stop>
+    requires short { length (O.text out.old lent.old) ≤ max }
+    requires holds { Holds O.kind max (length lent.old) }
+    ensures { Appends O.kind max (O.text out.old lent.old) (two n) (O.text out.new lent.new) result }
 {
-    put(out, max, &two(n))
+    put(out, lent, max, &two(n))
 }
 
 /// The last four digits.
@@ -79,53 +82,58 @@ fn four(n: u32) -> [u8; 4]
 
 /// Adds the last four digits.
 #[inline(always)]
-fn put_four(out: &mut Vec<u8>, max: usize, n: u32) -> Result<(), Stop>
-    requires { length out.old.items ≤ max }
-    ensures { Appends max out.old.items (four n) out.new.items result }
+fn put_four<O: Output>(out: &mut O, lent: &mut [u8], max: usize, n: u32) -> Result<(), Stop>
+    requires short { length (O.text out.old lent.old) ≤ max }
+    requires holds { Holds O.kind max (length lent.old) }
+    ensures { Appends O.kind max (O.text out.old lent.old) (four n) (O.text out.new lent.new) result }
 {
-    put(out, max, &four(n))
+    put(out, lent, max, &four(n))
 }
 
 /// Adds a number of any length.
 #[inline(never)]
-fn put_long(out: &mut Vec<u8>, max: usize, n: u32) -> Result<(), Stop>
-    requires { length out.old.items ≤ max }
-    ensures { Appends max out.old.items (decimal n) out.new.items result }
+fn put_long<O: Output>(out: &mut O, lent: &mut [u8], max: usize, n: u32) -> Result<(), Stop>
+    requires short { length (O.text out.old lent.old) ≤ max }
+    requires holds { Holds O.kind max (length lent.old) }
+    ensures { Appends O.kind max (O.text out.old lent.old) (decimal n) (O.text out.new lent.new) result }
 {
     let mut buffer = Buffer::new();
-    put(out, max, buffer.format(n).as_bytes())
+    put(out, lent, max, buffer.format(n).as_bytes())
 }
 
 /// Adds a number without padding.
 #[inline(always)]
 #[tactic(auto, using(crate::proofs::Numbers::four_digits))]
-pub fn put_bare(out: &mut Vec<u8>, max: usize, n: u32) -> Result<(), Stop>
-    requires { length out.old.items ≤ max }
-    ensures { Appends max out.old.items (decimal n) out.new.items result }
+pub fn put_bare<O: Output>(out: &mut O, lent: &mut [u8], max: usize, n: u32) -> Result<(), Stop>
+    requires short { length (O.text out.old lent.old) ≤ max }
+    requires holds { Holds O.kind max (length lent.old) }
+    ensures { Appends O.kind max (O.text out.old lent.old) (decimal n) (O.text out.new lent.new) result }
 {
     if 1000 <= n && n <= 9999 {
-        put_four(out, max, n)
+        put_four(out, lent, max, n)
     } else {
-        put_long(out, max, n)
+        put_long(out, lent, max, n)
     }
 }
 
 /// Adds a number without padding, perhaps behind a `-`.
-pub fn put_signed(out: &mut Vec<u8>, max: usize, n: i32) -> Result<(), Stop>
-    requires { length out.old.items ≤ max }
-    ensures { Appends max out.old.items (signed_decimal n) out.new.items result }
+pub fn put_signed<O: Output>(out: &mut O, lent: &mut [u8], max: usize, n: i32) -> Result<(), Stop>
+    requires short { length (O.text out.old lent.old) ≤ max }
+    requires holds { Holds O.kind max (length lent.old) }
+    ensures { Appends O.kind max (O.text out.old lent.old) (signed_decimal n) (O.text out.new lent.new) result }
 {
     let mut buffer = Buffer::new();
-    put(out, max, buffer.format(n).as_bytes())
+    put(out, lent, max, buffer.format(n).as_bytes())
 }
 
 /// Adds a number in three digits.
 #[inline(never)]
-fn put_three(out: &mut Vec<u8>, max: usize, n: u32) -> Result<(), Stop>
-    requires { length out.old.items ≤ max }
-    ensures { Appends max out.old.items (three n) out.new.items result }
+fn put_three<O: Output>(out: &mut O, lent: &mut [u8], max: usize, n: u32) -> Result<(), Stop>
+    requires short { length (O.text out.old lent.old) ≤ max }
+    requires holds { Holds O.kind max (length lent.old) }
+    ensures { Appends O.kind max (O.text out.old lent.old) (three n) (O.text out.new lent.new) result }
 {
-    put(out, max, &three(n))
+    put(out, lent, max, &three(n))
 }
 
 /// A number in two places.
@@ -142,24 +150,32 @@ pub fn spaced(n: u32) -> [u8; 2]
 
 /// Adds a number in two places.
 #[inline(never)]
-fn put_spaced(out: &mut Vec<u8>, max: usize, n: u32) -> Result<(), Stop>
-    requires { length out.old.items ≤ max }
-    ensures { Appends max out.old.items (spaced n) out.new.items result }
+fn put_spaced<O: Output>(out: &mut O, lent: &mut [u8], max: usize, n: u32) -> Result<(), Stop>
+    requires short { length (O.text out.old lent.old) ≤ max }
+    requires holds { Holds O.kind max (length lent.old) }
+    ensures { Appends O.kind max (O.text out.old lent.old) (spaced n) (O.text out.new lent.new) result }
 {
-    put(out, max, &spaced(n))
+    put(out, lent, max, &spaced(n))
 }
 
 /// Adds a number as it is written.
 #[inline(always)]
-pub fn put_number(out: &mut Vec<u8>, max: usize, layout: Layout, n: u32) -> Result<(), Stop>
-    requires { length out.old.items ≤ max }
-    ensures { Appends max out.old.items (laid_out layout n) out.new.items result }
+pub fn put_number<O: Output>(
+    out: &mut O,
+    lent: &mut [u8],
+    max: usize,
+    layout: Layout,
+    n: u32,
+) -> Result<(), Stop>
+    requires short { length (O.text out.old lent.old) ≤ max }
+    requires holds { Holds O.kind max (length lent.old) }
+    ensures { Appends O.kind max (O.text out.old lent.old) (laid_out layout n) (O.text out.new lent.new) result }
 {
     match layout {
-        Layout::Bare => put_bare(out, max, n),
-        Layout::Two => put_two(out, max, n),
-        Layout::Three => put_three(out, max, n),
-        Layout::Spaced => put_spaced(out, max, n),
+        Layout::Bare => put_bare(out, lent, max, n),
+        Layout::Two => put_two(out, lent, max, n),
+        Layout::Three => put_three(out, lent, max, n),
+        Layout::Spaced => put_spaced(out, lent, max, n),
     }
 }
 
@@ -167,16 +183,16 @@ pub fn put_number(out: &mut Vec<u8>, max: usize, layout: Layout, n: u32) -> Resu
 /// for it.
 #[tactic(auto, using(crate::proofs::Numbers::one_digit, crate::proofs::Numbers::four_digits))]
 #[inline(always)]
-pub fn put_bare_here(out: &mut Vec<u8>, n: u32) -> bool
-    requires room { length out.old.items + 16 ≤ vec_capacity out.old }
-    ensures text { Adds out.old.items (decimal n) out.new.items result }
-    ensures short { length out.new.items ≤ length out.old.items + 16 }
-    ensures room { vec_capacity out.new ≡ vec_capacity out.old }
+pub fn put_bare_here<O: Output>(out: &mut O, lent: &mut [u8], n: u32) -> bool
+    requires room { length (O.text out.old lent.old) + 16 ≤ O.room out.old (length lent.old) }
+    ensures text { Adds O.kind (O.text out.old lent.old) (decimal n) (O.text out.new lent.new) result }
+    ensures short { length (O.text out.new lent.new) ≤ length (O.text out.old lent.old) + 16 }
+    ensures room { O.room out.new (length lent.new) ≡ O.room out.old (length lent.old) }
 {
     if 1000 <= n && n <= 9999 {
-        put_here(out, &four(n))
+        put_here(out, lent, &four(n))
     } else if n < 10 {
-        put_here(out, &[last_digit(n)])
+        put_here(out, lent, &[last_digit(n)])
     } else {
         false
     }

@@ -1,20 +1,22 @@
 //! Formats within formats.
 
-ghost use Rattle.std.specs.Prelude.{◌≡◌, ◌+◌, ◌<◌, ◌≤◌, length, vec_capacity, IfOk, ℕ};
+ghost use Rattle.std.specs.Prelude.{◌≡◌, ◌+◌, ◌<◌, ◌≤◌, length, IfOk, ℕ};
 ghost use Rattle.time_cat.specs.Conversions.{conversion};
 ghost use Rattle.time_cat.specs.Formats.{pieces, bad_place, step};
 ghost use Rattle.time_cat.specs.Shown.{expanded, converted};
 ghost use Rattle.strftime_fields.specs.Appending.{Appends, CountsTo, added};
 ghost use Rattle.strftime_fields.specs.Cost.{read_for, reads};
 ghost use Rattle.strftime_fields.specs.Going.{Stands, Goes, Ends, place_of};
+ghost use Rattle.strftime_fields.specs.Kept.{Holds};
 ghost use Rattle.strftime_fields.specs.Reading.{IsSeen, SeenFormatless, AddsSeen};
 
-use crate::output::{Stop, put_byte, put_here, put_name_here};
+use crate::fields::TimeFields;
+use crate::output::{Output, put_byte, put_here, put_name_here};
 use crate::plain::{format_for, full_time, name, put_number_here, put_plain, short_time};
 use crate::read::{Seen, Short, short_of};
-use std::mem::replace;
+use crate::stop::Stop;
 use std::sync::ledger::Ledger;
-use time_cat::{NAME_FRONT, Shows, Step, Steps, Time, Tm, conversion_of, step_at};
+use time_cat::{NAME_FRONT, Shows, Step, Steps, Time, conversion_of, step_at};
 
 /// How many bytes a piece that is told at first sight adds at most, with a byte behind it.
 const MOST: usize = NAME_FRONT + 1;
@@ -36,19 +38,21 @@ struct Left<'a> {
 /// no conversion, and says where that stands.
 #[cycle(expand)]
 #[inline(always)]
-pub fn put_format<L: Ledger>(
+pub fn put_format<L: Ledger, O: Output>(
     levels: u8,
     t: &Time,
-    tm: &Tm,
+    tm: &TimeFields,
     max: usize,
     format: &[u8],
     steps: &mut Steps<L>,
-    out: &mut Vec<u8>,
+    out: &mut O,
+    lent: &mut [u8],
 ) -> Result<Option<usize>, Stop>
-    requires { length out.old.items ≤ max }
-    ensures text { Appends max out.old.items (expanded levels t.now tm.now format.now) out.new.items (added result) }
+    requires short { length (O.text out.old lent.old) ≤ max }
+    requires holds { Holds O.kind max (length lent.old) }
+    ensures text { Appends O.kind max (O.text out.old lent.old) (expanded levels t.now tm.now format.now) (O.text out.new lent.new) (added result) }
     ensures bad { IfOk result (λ bad. 0 < levels → bad ≡ bad_place (pieces format.now)) }
-    ensures steps { CountsTo (added result) (steps.old + reads max levels t.now tm.now (length out.old.items) format.now) steps.new }
+    ensures steps { CountsTo (added result) (steps.old + reads max levels t.now tm.now (length (O.text out.old lent.old)) format.now) steps.new }
 {
     if levels == 0 {
         return Ok(None);
@@ -59,45 +63,46 @@ pub fn put_format<L: Ledger>(
         levels,
         whole: true,
     };
-    put_quick(t, tm, max, &mut left, steps, out);
+    put_quick(t, tm, max, &mut left, steps, out, lent);
     if left.rest.is_empty() {
         return Ok(None);
     }
-    put_left(t, tm, max, &mut left, steps, out)
+    put_left(t, tm, max, &mut left, steps, out, lent)
 }
 
 /// Adds what the next pieces give that are told at first sight and for which there is room, also those of
 /// a format of the locale that ends this one. All that it needs stays in registers, as nothing that it
 /// calls is a call in the program.
 #[inline(never)]
-fn put_quick<'a, L: Ledger>(
+fn put_quick<'a, L: Ledger, O: Output>(
     t: &'a Time,
-    tm: &Tm,
+    tm: &TimeFields,
     max: usize,
     left: &mut Left<'a>,
     steps: &mut Steps<L>,
-    out: &mut Vec<u8>,
+    out: &mut O,
+    lent: &mut [u8],
 )
     requires stands { Stands (place_of left.old) }
-    requires short { length out.old.items ≤ max }
-    ensures goes { Goes max t.now tm.now out.old.items steps.old (place_of left.old) out.new.items steps.new (place_of left.new) }
-    ensures short { length out.new.items ≤ max }
+    requires short { length (O.text out.old lent.old) ≤ max }
+    ensures goes { Goes O.kind max t.now tm.now (O.text out.old lent.old) steps.old (place_of left.old) (O.text out.new lent.new) steps.new (place_of left.new) }
+    ensures short { length (O.text out.new lent.new) ≤ max }
 {
-    let limit = out.capacity().min(max);
+    let limit = out.room_for(lent).min(max);
     if limit < MOST {
         return;
     }
     let stop = limit - MOST;
     let mut rest = left.rest;
-    let mut text = held(out);
-    'reading: while text.len() <= stop {
-        match put_piece(&mut text, t, tm, rest) {
+    let mut text = out.held();
+    'reading: while text.text_len(lent) <= stop {
+        match put_piece(&mut text, lent, t, tm, rest) {
             Seen::Added(Short::Byte(_)) => rest = &rest[1..],
             Seen::Added(Short::Plain { .. }) => {
                 steps.tick();
                 match rest {
                     [_, _, byte, ..] if *byte != b'%' => {
-                        text.push_reserved(*byte);
+                        text.put_within(lent, &[*byte]);
                         rest = &rest[3..];
                     }
                     _ => rest = &rest[2..],
@@ -122,17 +127,19 @@ fn put_quick<'a, L: Ledger>(
 /// that stands in the caller's.
 #[cycle(expand)]
 #[inline(never)]
-fn put_left<'a, L: Ledger>(
+fn put_left<'a, L: Ledger, O: Output>(
     t: &'a Time,
-    tm: &Tm,
+    tm: &TimeFields,
     max: usize,
     left: &mut Left<'a>,
     steps: &mut Steps<L>,
-    out: &mut Vec<u8>,
+    out: &mut O,
+    lent: &mut [u8],
 ) -> Result<Option<usize>, Stop>
     requires stands { Stands (place_of left.old) }
-    requires short { length out.old.items ≤ max }
-    ensures { Ends max t.now tm.now out.old.items steps.old (place_of left.old) out.new.items steps.new result }
+    requires short { length (O.text out.old lent.old) ≤ max }
+    requires holds { Holds O.kind max (length lent.old) }
+    ensures { Ends O.kind max t.now tm.now (O.text out.old lent.old) steps.old (place_of left.old) (O.text out.new lent.new) steps.new result }
 {
     'reading: loop {
         let at = left.format.len() - left.rest.len();
@@ -141,7 +148,7 @@ fn put_left<'a, L: Ledger>(
             Step::Bad if left.whole => return Ok(Some(at)),
             Step::Bad => return Ok(None),
             Step::Byte(byte) => {
-                put_byte(out, max, byte)?;
+                put_byte(out, lent, max, byte)?;
                 left.rest = &left.format[at + 1..];
             }
             Step::Conv {
@@ -150,47 +157,53 @@ fn put_left<'a, L: Ledger>(
                 next,
                 ..
             } => {
-                put_other(left.levels - 1, t, tm, max, modifier, letter, steps, out)?;
+                put_other(
+                    left.levels - 1,
+                    t,
+                    tm,
+                    max,
+                    modifier,
+                    letter,
+                    steps,
+                    out,
+                    lent,
+                )?;
                 left.rest = &left.format[next..];
             }
         }
-        put_quick(t, tm, max, left, steps, out);
+        put_quick(t, tm, max, left, steps, out, lent);
     }
-}
-
-/// What a `Vec` holds, which no longer holds it: a loop over a `Vec` of its own keeps that in
-/// registers.
-#[inline(always)]
-fn held(out: &mut Vec<u8>) -> Vec<u8>
-    ensures { result ≡ out.old }
-{
-    let empty = Vec::new(*out.allocator());
-    replace(out, empty)
 }
 
 /// Adds what the piece gives that bytes begin with, if it is a byte, or a short name, a number read off a
 /// field, a time of day or a sign without a modifier. There is room for it.
 #[inline(always)]
-fn put_piece(out: &mut Vec<u8>, t: &Time, tm: &Tm, rest: &[u8]) -> Seen
-    requires room { length out.old.items + 16 ≤ vec_capacity out.old }
+fn put_piece<O: Output>(
+    out: &mut O,
+    lent: &mut [u8],
+    t: &Time,
+    tm: &TimeFields,
+    rest: &[u8],
+) -> Seen
+    requires room { length (O.text out.old lent.old) + 16 ≤ O.room out.old (length lent.old) }
     ensures piece { (at : ℕ) → IsSeen at (step at rest.now) result }
     ensures formatless { SeenFormatless t.now tm.now result }
-    ensures text { AddsSeen t.now tm.now out.old.items out.new.items result }
-    ensures short { length out.new.items ≤ length out.old.items + 16 }
-    ensures room { vec_capacity out.new ≡ vec_capacity out.old }
+    ensures text { AddsSeen O.kind t.now tm.now (O.text out.old lent.old) (O.text out.new lent.new) result }
+    ensures short { length (O.text out.new lent.new) ≤ length (O.text out.old lent.old) + 16 }
+    ensures room { O.room out.new (length lent.new) ≡ O.room out.old (length lent.old) }
 {
     let Some(short) = short_of(rest) else {
         return Seen::Other;
     };
     let added = match short {
-        Short::Byte(byte) => put_here(out, &[byte]),
+        Short::Byte(byte) => put_here(out, lent, &[byte]),
         Short::Plain { found, .. } => match found.shows {
-            Shows::Name(list) => put_name_here(out, name(t, tm, list)),
-            Shows::Number(quantity, layout) => put_number_here(out, tm, quantity, layout),
+            Shows::Name(list) => put_name_here(out, lent, name(t, tm, list)),
+            Shows::Number(quantity, layout) => put_number_here(out, lent, tm, quantity, layout),
             Shows::Format(key) => return Seen::Inner(key),
-            Shows::ShortTime => put_here(out, &short_time(tm)),
-            Shows::FullTime => put_here(out, &full_time(tm)),
-            Shows::Sign(byte) => put_here(out, &[byte]),
+            Shows::ShortTime => put_here(out, lent, &short_time(tm)),
+            Shows::FullTime => put_here(out, lent, &full_time(tm)),
+            Shows::Sign(byte) => put_here(out, lent, &[byte]),
             _ => return Seen::Other,
         },
     };
@@ -204,25 +217,27 @@ fn put_piece(out: &mut Vec<u8>, t: &Time, tm: &Tm, rest: &[u8]) -> Seen
 /// Adds what any conversion gives, with so many formats within one another, in code of its own.
 #[cycle(expand)]
 #[inline(never)]
-fn put_other<L: Ledger>(
+fn put_other<L: Ledger, O: Output>(
     levels: u8,
     t: &Time,
-    tm: &Tm,
+    tm: &TimeFields,
     max: usize,
     modifier: u8,
     letter: u8,
     steps: &mut Steps<L>,
-    out: &mut Vec<u8>,
+    out: &mut O,
+    lent: &mut [u8],
 ) -> Result<(), Stop>
-    requires { length out.old.items ≤ max }
-    ensures text { Appends max out.old.items (converted t.now tm.now (expanded levels t.now tm.now) (conversion modifier letter)) out.new.items result }
-    ensures steps { CountsTo result (steps.old + read_for t.now tm.now (reads max levels t.now tm.now (length out.old.items)) (conversion modifier letter)) steps.new }
+    requires short { length (O.text out.old lent.old) ≤ max }
+    requires holds { Holds O.kind max (length lent.old) }
+    ensures text { Appends O.kind max (O.text out.old lent.old) (converted t.now tm.now (expanded levels t.now tm.now) (conversion modifier letter)) (O.text out.new lent.new) result }
+    ensures steps { CountsTo result (steps.old + read_for t.now tm.now (reads max levels t.now tm.now (length (O.text out.old lent.old))) (conversion modifier letter)) steps.new }
 {
     match conversion_of(modifier, letter) {
         None => Ok(()),
         Some(found) => match format_for(t, tm, found.shows) {
-            None => put_plain(out, max, t, tm, found.shows),
-            Some(format) => put_inner(levels, t, tm, max, format, steps, out),
+            None => put_plain(out, lent, max, t, tm, found.shows),
+            Some(format) => put_inner(levels, t, tm, max, format, steps, out, lent),
         },
     }
 }
@@ -230,19 +245,21 @@ fn put_other<L: Ledger>(
 /// Adds what a format of the locale gives, each `%` of which begins a conversion.
 #[cycle(expand)]
 #[inline(always)]
-fn put_inner<L: Ledger>(
+fn put_inner<L: Ledger, O: Output>(
     levels: u8,
     t: &Time,
-    tm: &Tm,
+    tm: &TimeFields,
     max: usize,
     format: &[u8],
     steps: &mut Steps<L>,
-    out: &mut Vec<u8>,
+    out: &mut O,
+    lent: &mut [u8],
 ) -> Result<(), Stop>
-    requires { length out.old.items ≤ max }
-    ensures text { Appends max out.old.items (expanded levels t.now tm.now format.now) out.new.items result }
-    ensures steps { CountsTo result (steps.old + reads max levels t.now tm.now (length out.old.items) format.now) steps.new }
+    requires short { length (O.text out.old lent.old) ≤ max }
+    requires holds { Holds O.kind max (length lent.old) }
+    ensures text { Appends O.kind max (O.text out.old lent.old) (expanded levels t.now tm.now format.now) (O.text out.new lent.new) result }
+    ensures steps { CountsTo result (steps.old + reads max levels t.now tm.now (length (O.text out.old lent.old)) format.now) steps.new }
 {
-    put_format(levels, t, tm, max, format, steps, out)?;
+    put_format(levels, t, tm, max, format, steps, out, lent)?;
     Ok(())
 }

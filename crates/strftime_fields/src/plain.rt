@@ -1,6 +1,6 @@
 //! What conversions give, and the formats for which they stand.
 
-ghost use Rattle.std.specs.Prelude.{◌≡◌, ◌∷◌, ◌≤◌, ◌+◌, ◌%◌, length, vec_capacity, count_by, Some, IfSome, option_map};
+ghost use Rattle.std.specs.Prelude.{◌≡◌, ◌∷◌, ◌≤◌, ◌+◌, ◌%◌, length, count_by, Some, IfSome, option_map};
 ghost use Rattle.std.specs.Option.{option_copied};
 ghost use Rattle.time_cat.specs.Faults.{IsFormat};
 ghost use Rattle.time_cat.specs.Formats.{pieces, is_conversion};
@@ -8,17 +8,20 @@ ghost use Rattle.time_cat.specs.declared.conversion.Shows.TheVariants.{EraName, 
 ghost use Rattle.time_cat.specs.Hits.{hit};
 ghost use Rattle.time_cat.specs.Shown.{quantity as value_of, alternative, name_text, slashed_date, dashed_date, short_time, full_time, hours_and_minutes, offset_text, era_of, or_plain, format_for, plain_text, or_text, laid_out};
 ghost use Rattle.strftime_fields.specs.Appending.{Appends, Adds};
+ghost use Rattle.strftime_fields.specs.Kept.{Holds};
 
 use crate::digits::{
     last_digit, pair, put_bare, put_bare_here, put_number, put_signed, spaced, three, two,
 };
-use crate::output::{Stop, put, put_byte, put_here};
+use crate::fields::TimeFields;
+use crate::output::{Output, put, put_byte, put_here};
+use crate::stop::Stop;
 use crate::weeks::{behind_monday, iso_week, monday_week, sunday_week};
-use time_cat::{EraHit, Layout, Name, NameList, Quantity, Shows, Time, Tm};
+use time_cat::{EraHit, Layout, Name, NameList, Quantity, Shows, Time};
 
 /// A number of a time.
 #[inline(always)]
-pub fn number(quantity: Quantity, tm: &Tm) -> u32
+pub fn number(quantity: Quantity, tm: &TimeFields) -> u32
     ensures { result ≡ value_of quantity tm.now }
 {
     match quantity {
@@ -58,7 +61,7 @@ fn half_day_hour(hour: u32) -> u32
 
 /// A number of a time that is read off a field and has at most two digits.
 #[inline(always)]
-fn few(quantity: Quantity, tm: &Tm) -> Option<u8>
+fn few(quantity: Quantity, tm: &TimeFields) -> Option<u8>
     ensures { IfSome result (λ n. n ≡ value_of quantity tm.now) }
 {
     match quantity {
@@ -75,30 +78,36 @@ fn few(quantity: Quantity, tm: &Tm) -> Option<u8>
 
 /// Adds a number that is read off a field, and says whether it did. There is room for it.
 #[inline(always)]
-pub fn put_number_here(out: &mut Vec<u8>, tm: &Tm, quantity: Quantity, layout: Layout) -> bool
-    requires room { length out.old.items + 16 ≤ vec_capacity out.old }
-    ensures text { Adds out.old.items (laid_out layout (value_of quantity tm.now)) out.new.items result }
-    ensures short { length out.new.items ≤ length out.old.items + 16 }
-    ensures room { vec_capacity out.new ≡ vec_capacity out.old }
+pub fn put_number_here<O: Output>(
+    out: &mut O,
+    lent: &mut [u8],
+    tm: &TimeFields,
+    quantity: Quantity,
+    layout: Layout,
+) -> bool
+    requires room { length (O.text out.old lent.old) + 16 ≤ O.room out.old (length lent.old) }
+    ensures text { Adds O.kind (O.text out.old lent.old) (laid_out layout (value_of quantity tm.now)) (O.text out.new lent.new) result }
+    ensures short { length (O.text out.new lent.new) ≤ length (O.text out.old lent.old) + 16 }
+    ensures room { O.room out.new (length lent.new) ≡ O.room out.old (length lent.old) }
 {
     match (layout, quantity) {
         (Layout::Two, _) => match few(quantity, tm) {
             None => false,
-            Some(n) => put_here(out, &pair(n)),
+            Some(n) => put_here(out, lent, &pair(n)),
         },
         (Layout::Spaced, _) => match few(quantity, tm) {
             None => false,
-            Some(n) => put_here(out, &spaced(u32::from(n))),
+            Some(n) => put_here(out, lent, &spaced(u32::from(n))),
         },
-        (Layout::Bare, Quantity::Year) => put_bare_here(out, tm.year()),
-        (Layout::Three, Quantity::YearDay) => put_here(out, &three(tm.yday() + 1)),
+        (Layout::Bare, Quantity::Year) => put_bare_here(out, lent, tm.year()),
+        (Layout::Three, Quantity::YearDay) => put_here(out, lent, &three(tm.yday() + 1)),
         _ => false,
     }
 }
 
 /// A name of the locale.
 #[inline(always)]
-pub fn name<'a>(t: &'a Time, tm: &Tm, list: NameList) -> &'a Name
+pub fn name<'a>(t: &'a Time, tm: &TimeFields, list: NameList) -> &'a Name
     ensures { result.now ≡ name_text t.now tm.now list }
 {
     match list {
@@ -112,7 +121,7 @@ pub fn name<'a>(t: &'a Time, tm: &Tm, list: NameList) -> &'a Name
 }
 
 /// Month, day and year of the century.
-fn slashed_date(tm: &Tm) -> [u8; 8]
+fn slashed_date(tm: &TimeFields) -> [u8; 8]
     ensures { result ≡ slashed_date tm.now }
 {
     let (year, month, day) = (tm.year(), tm.mon(), tm.mday());
@@ -129,7 +138,7 @@ fn slashed_date(tm: &Tm) -> [u8; 8]
 }
 
 /// Year, month and day.
-fn dashed_date(tm: &Tm) -> [u8; 10]
+fn dashed_date(tm: &TimeFields) -> [u8; 10]
     ensures { result ≡ dashed_date tm.now }
 {
     let (year, month, day) = (tm.year(), tm.mon(), tm.mday());
@@ -149,7 +158,7 @@ fn dashed_date(tm: &Tm) -> [u8; 10]
 
 /// Hour and minute.
 #[inline(always)]
-pub fn short_time(tm: &Tm) -> [u8; 5]
+pub fn short_time(tm: &TimeFields) -> [u8; 5]
     ensures { result ≡ short_time tm.now }
 {
     let (hour, minute) = (tm.hour(), tm.min());
@@ -164,7 +173,7 @@ pub fn short_time(tm: &Tm) -> [u8; 5]
 
 /// Hour, minute and second.
 #[inline(always)]
-pub fn full_time(tm: &Tm) -> [u8; 8]
+pub fn full_time(tm: &TimeFields) -> [u8; 8]
     ensures { result ≡ full_time tm.now }
 {
     let (hour, minute, second) = (tm.hour(), tm.min(), tm.sec());
@@ -208,54 +217,85 @@ fn offset_bytes(minutes: i32) -> [u8; 5]
 
 /// Adds month, day and year of the century.
 #[inline(never)]
-fn put_slashed_date(out: &mut Vec<u8>, max: usize, tm: &Tm) -> Result<(), Stop>
-    requires { length out.old.items ≤ max }
-    ensures { Appends max out.old.items (slashed_date tm.now) out.new.items result }
+fn put_slashed_date<O: Output>(
+    out: &mut O,
+    lent: &mut [u8],
+    max: usize,
+    tm: &TimeFields,
+) -> Result<(), Stop>
+    requires short { length (O.text out.old lent.old) ≤ max }
+    requires holds { Holds O.kind max (length lent.old) }
+    ensures { Appends O.kind max (O.text out.old lent.old) (slashed_date tm.now) (O.text out.new lent.new) result }
 {
-    put(out, max, &slashed_date(tm))
+    put(out, lent, max, &slashed_date(tm))
 }
 
 /// Adds year, month and day.
 #[inline(never)]
-fn put_dashed_date(out: &mut Vec<u8>, max: usize, tm: &Tm) -> Result<(), Stop>
-    requires { length out.old.items ≤ max }
-    ensures { Appends max out.old.items (dashed_date tm.now) out.new.items result }
+fn put_dashed_date<O: Output>(
+    out: &mut O,
+    lent: &mut [u8],
+    max: usize,
+    tm: &TimeFields,
+) -> Result<(), Stop>
+    requires short { length (O.text out.old lent.old) ≤ max }
+    requires holds { Holds O.kind max (length lent.old) }
+    ensures { Appends O.kind max (O.text out.old lent.old) (dashed_date tm.now) (O.text out.new lent.new) result }
 {
-    put(out, max, &dashed_date(tm))
+    put(out, lent, max, &dashed_date(tm))
 }
 
 /// Adds hour and minute.
 #[inline(never)]
-fn put_short_time(out: &mut Vec<u8>, max: usize, tm: &Tm) -> Result<(), Stop>
-    requires { length out.old.items ≤ max }
-    ensures { Appends max out.old.items (short_time tm.now) out.new.items result }
+fn put_short_time<O: Output>(
+    out: &mut O,
+    lent: &mut [u8],
+    max: usize,
+    tm: &TimeFields,
+) -> Result<(), Stop>
+    requires short { length (O.text out.old lent.old) ≤ max }
+    requires holds { Holds O.kind max (length lent.old) }
+    ensures { Appends O.kind max (O.text out.old lent.old) (short_time tm.now) (O.text out.new lent.new) result }
 {
-    put(out, max, &short_time(tm))
+    put(out, lent, max, &short_time(tm))
 }
 
 /// Adds hour, minute and second.
 #[inline(never)]
-fn put_full_time(out: &mut Vec<u8>, max: usize, tm: &Tm) -> Result<(), Stop>
-    requires { length out.old.items ≤ max }
-    ensures { Appends max out.old.items (full_time tm.now) out.new.items result }
+fn put_full_time<O: Output>(
+    out: &mut O,
+    lent: &mut [u8],
+    max: usize,
+    tm: &TimeFields,
+) -> Result<(), Stop>
+    requires short { length (O.text out.old lent.old) ≤ max }
+    requires holds { Holds O.kind max (length lent.old) }
+    ensures { Appends O.kind max (O.text out.old lent.old) (full_time tm.now) (O.text out.new lent.new) result }
 {
-    put(out, max, &full_time(tm))
+    put(out, lent, max, &full_time(tm))
 }
 
 /// Adds an offset, or nothing.
+#[tactic(auto, using(crate::proofs::Keeping::kept_nothing))]
 #[inline(never)]
-fn put_offset(out: &mut Vec<u8>, max: usize, offset: Option<i32>) -> Result<(), Stop>
-    requires { length out.old.items ≤ max }
-    ensures { Appends max out.old.items (offset_text offset) out.new.items result }
+fn put_offset<O: Output>(
+    out: &mut O,
+    lent: &mut [u8],
+    max: usize,
+    offset: Option<i32>,
+) -> Result<(), Stop>
+    requires short { length (O.text out.old lent.old) ≤ max }
+    requires holds { Holds O.kind max (length lent.old) }
+    ensures { Appends O.kind max (O.text out.old lent.old) (offset_text offset) (O.text out.new lent.new) result }
 {
     match offset {
         None => Ok(()),
-        Some(minutes) => put(out, max, &offset_bytes(minutes)),
+        Some(minutes) => put(out, lent, max, &offset_bytes(minutes)),
     }
 }
 
 /// The era of the date.
-fn era_of<'a>(t: &'a Time, tm: &Tm) -> Option<EraHit<'a>>
+fn era_of<'a>(t: &'a Time, tm: &TimeFields) -> Option<EraHit<'a>>
     ensures is { option_map hit result ≡ era_of t.now tm.now }
     ensures format { IfSome result (λ found. IsFormat 1 found.format.now) }
 {
@@ -275,7 +315,7 @@ fn or_plain<'a>(format: &'a [u8], plain: &'a [u8]) -> &'a [u8]
 
 /// The format for which a conversion stands, if it stands for one. It has at most 16 conversions.
 #[inline(always)]
-pub fn format_for<'a>(t: &'a Time, tm: &Tm, shows: Shows) -> Option<&'a [u8]>
+pub fn format_for<'a>(t: &'a Time, tm: &TimeFields, shows: Shows) -> Option<&'a [u8]>
     ensures is { option_copied result ≡ format_for t.now tm.now shows }
     ensures few { IfSome result (λ format. count_by is_conversion (pieces format.now) ≤ 16) }
 {
@@ -303,68 +343,93 @@ pub fn format_for<'a>(t: &'a Time, tm: &Tm, shows: Shows) -> Option<&'a [u8]>
 
 /// Adds the era's name, or else the century.
 #[inline(never)]
-fn put_era_name(out: &mut Vec<u8>, max: usize, t: &Time, tm: &Tm) -> Result<(), Stop>
-    requires { length out.old.items ≤ max }
-    ensures { Appends max out.old.items (plain_text t.now tm.now EraName) out.new.items result }
+fn put_era_name<O: Output>(
+    out: &mut O,
+    lent: &mut [u8],
+    max: usize,
+    t: &Time,
+    tm: &TimeFields,
+) -> Result<(), Stop>
+    requires short { length (O.text out.old lent.old) ≤ max }
+    requires holds { Holds O.kind max (length lent.old) }
+    ensures { Appends O.kind max (O.text out.old lent.old) (plain_text t.now tm.now EraName) (O.text out.new lent.new) result }
 {
     match era_of(t, tm) {
-        None => put(out, max, &two(tm.year() / 100)),
-        Some(hit) => put(out, max, hit.name),
+        None => put(out, lent, max, &two(tm.year() / 100)),
+        Some(hit) => put(out, lent, max, hit.name),
     }
 }
 
 /// Adds the year in the era, or else the year of the century.
 #[inline(never)]
-fn put_era_year(out: &mut Vec<u8>, max: usize, t: &Time, tm: &Tm) -> Result<(), Stop>
-    requires { length out.old.items ≤ max }
-    ensures { Appends max out.old.items (plain_text t.now tm.now EraYear) out.new.items result }
+fn put_era_year<O: Output>(
+    out: &mut O,
+    lent: &mut [u8],
+    max: usize,
+    t: &Time,
+    tm: &TimeFields,
+) -> Result<(), Stop>
+    requires short { length (O.text out.old lent.old) ≤ max }
+    requires holds { Holds O.kind max (length lent.old) }
+    ensures { Appends O.kind max (O.text out.old lent.old) (plain_text t.now tm.now EraYear) (O.text out.new lent.new) result }
 {
     match era_of(t, tm) {
-        None => put(out, max, &two(tm.year())),
-        Some(hit) => put_signed(out, max, hit.year),
+        None => put(out, lent, max, &two(tm.year())),
+        Some(hit) => put_signed(out, lent, max, hit.year),
     }
 }
 
 /// Adds an alternative digit, or else the number.
 #[inline(never)]
-fn put_alternative(
-    out: &mut Vec<u8>,
+fn put_alternative<O: Output>(
+    out: &mut O,
+    lent: &mut [u8],
     max: usize,
     t: &Time,
     layout: Layout,
     n: u32,
 ) -> Result<(), Stop>
-    requires { length out.old.items ≤ max }
-    ensures { Appends max out.old.items (or_text (alternative t.now.alt_digits n) (laid_out layout n)) out.new.items result }
+    requires short { length (O.text out.old lent.old) ≤ max }
+    requires holds { Holds O.kind max (length lent.old) }
+    ensures { Appends O.kind max (O.text out.old lent.old) (or_text (alternative t.now.alt_digits n) (laid_out layout n)) (O.text out.new lent.new) result }
 {
     match t.alt_digit(n) {
-        None => put_number(out, max, layout, n),
-        Some(digit) => put(out, max, digit),
+        None => put_number(out, lent, max, layout, n),
+        Some(digit) => put(out, lent, max, digit),
     }
 }
 
 /// Adds what a conversion gives that stands for no format.
+#[tactic(auto, using(crate::proofs::Keeping::kept_nothing))]
 #[inline(always)]
-pub fn put_plain(out: &mut Vec<u8>, max: usize, t: &Time, tm: &Tm, shows: Shows) -> Result<(), Stop>
-    requires { length out.old.items ≤ max }
-    ensures { Appends max out.old.items (plain_text t.now tm.now shows) out.new.items result }
+pub fn put_plain<O: Output>(
+    out: &mut O,
+    lent: &mut [u8],
+    max: usize,
+    t: &Time,
+    tm: &TimeFields,
+    shows: Shows,
+) -> Result<(), Stop>
+    requires short { length (O.text out.old lent.old) ≤ max }
+    requires holds { Holds O.kind max (length lent.old) }
+    ensures { Appends O.kind max (O.text out.old lent.old) (plain_text t.now tm.now shows) (O.text out.new lent.new) result }
 {
     match shows {
-        Shows::Name(list) => put(out, max, name(t, tm, list).as_bytes()),
-        Shows::Number(quantity, layout) => put_number(out, max, layout, number(quantity, tm)),
+        Shows::Name(list) => put(out, lent, max, name(t, tm, list).as_bytes()),
+        Shows::Number(quantity, layout) => put_number(out, lent, max, layout, number(quantity, tm)),
         Shows::Alternative(quantity, layout) => {
-            put_alternative(out, max, t, layout, number(quantity, tm))
+            put_alternative(out, lent, max, t, layout, number(quantity, tm))
         }
         Shows::Format(_) | Shows::EraFormat(_, _) => Ok(()),
-        Shows::EraName => put_era_name(out, max, t, tm),
-        Shows::EraYear => put_era_year(out, max, t, tm),
-        Shows::EraFull => put_bare(out, max, tm.year()),
-        Shows::SlashedDate => put_slashed_date(out, max, tm),
-        Shows::DashedDate => put_dashed_date(out, max, tm),
-        Shows::ShortTime => put_short_time(out, max, tm),
-        Shows::FullTime => put_full_time(out, max, tm),
-        Shows::Offset => put_offset(out, max, tm.offset()),
-        Shows::Zone => put(out, max, tm.zone()),
-        Shows::Sign(byte) => put_byte(out, max, byte),
+        Shows::EraName => put_era_name(out, lent, max, t, tm),
+        Shows::EraYear => put_era_year(out, lent, max, t, tm),
+        Shows::EraFull => put_bare(out, lent, max, tm.year()),
+        Shows::SlashedDate => put_slashed_date(out, lent, max, tm),
+        Shows::DashedDate => put_dashed_date(out, lent, max, tm),
+        Shows::ShortTime => put_short_time(out, lent, max, tm),
+        Shows::FullTime => put_full_time(out, lent, max, tm),
+        Shows::Offset => put_offset(out, lent, max, tm.offset()),
+        Shows::Zone => put(out, lent, max, tm.zone()),
+        Shows::Sign(byte) => put_byte(out, lent, max, byte),
     }
 }

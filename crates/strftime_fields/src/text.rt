@@ -10,8 +10,9 @@ ghost use Rattle.strftime_fields.specs.declared.fault.TimeFault.TheVariants.{Bad
 
 use crate::expand::put_format;
 use crate::fault::TimeFault;
-use crate::output::Stop;
+use crate::fields::TimeFields;
 use crate::read::{Short, short_at};
+use crate::stop::Stop;
 use lc_base::ByteText;
 use std::alloc::Global;
 use std::marker::Brand;
@@ -19,7 +20,7 @@ use std::sync::ledger::{Blank, Ledger};
 use time_cat::{Step, Steps, Time, Tm, step_at};
 
 /// How many formats lie within one another: the caller's, and those of the ranks 4 to 1.
-const LEVELS: u8 = 5;
+pub const LEVELS: u8 = 5;
 
 /// How many bytes a text has at first room for beyond one and a half times those of its format.
 const SPARE: usize = 64;
@@ -36,7 +37,7 @@ fn first_room(format: &[u8], max: usize) -> usize {
 
 /// Where a `%` stands that begins no conversion.
 #[tactic(auto, using(crate::proofs::Left::pieces_at_start, crate::proofs::Left::nothing_left))]
-fn bad_byte<L: Ledger>(format: &[u8], steps: &mut Steps<L>) -> Option<usize>
+pub fn bad_byte<L: Ledger>(format: &[u8], steps: &mut Steps<L>) -> Option<usize>
     ensures is { result ≡ bad_place (pieces format.now) }
     ensures steps { steps.new ≡ steps.old + conversions_of format.now }
 {
@@ -97,7 +98,16 @@ pub fn strftime_counted<L: Ledger>(
         return Err(TimeFault::BadFormat { at });
     }
     let mut out = Vec::with_capacity(alloc, first_room(format, max))?;
-    put_format(LEVELS, t, tm, max, format, steps, &mut out)?;
+    put_format(
+        LEVELS,
+        t,
+        &TimeFields::of(tm),
+        max,
+        format,
+        steps,
+        &mut out,
+        &mut [],
+    )?;
     Ok(ByteText::from_vec(out))
 }
 
@@ -122,7 +132,16 @@ fn put_from<L: Ledger>(
     if out.capacity() < SPARE {
         out.reserve(first_room(format, max))?;
     }
-    match put_format(LEVELS, t, tm, max, format, &mut steps, out) {
+    match put_format(
+        LEVELS,
+        t,
+        &TimeFields::of(tm),
+        max,
+        format,
+        &mut steps,
+        out,
+        &mut [],
+    ) {
         Ok(None) => Ok(()),
         Ok(Some(at)) => Err(TimeFault::BadFormat { at }),
         Err(stop) => Err(first_fault(format, stop, &mut steps)),

@@ -5,8 +5,8 @@ use Rattle.strftime_fields.proofs.expand.+expand.Given as goal
 -- what was added so far goes on to what is left
 abbrev pub invariant-put_left-reading : goal.invariant-put_left-reading
 invariant-put_left-reading g l = record {
-  goes : Goes l.max l.t l.tm l.fn.out.items l.fn.steps (place_of l.fn.left) l.out.items l.steps (place_of l.left);
-  short : length l.out.items ≤ l.max;
+  goes : Goes g.O.Output.kind l.max l.t l.tm (g.O.Output.text l.fn.out l.fn.lent) l.fn.steps (place_of l.fn.left) (g.O.Output.text l.out l.lent) l.steps (place_of l.left);
+  short : length (g.O.Output.text l.out l.lent) ≤ l.max;
 }
 
 -- a format is shorter than 2 to the 64th
