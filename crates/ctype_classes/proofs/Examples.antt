@@ -11,7 +11,8 @@ use Rattle.keywords.specs.declared.source.Entry.{Entry}
 use Rattle.keywords.specs.declared.row.Rule.TheVariants.{NotEmpty, Between}
 use Rattle.ctype_classes.specs.Characters.{characters}
 use Rattle.lc_base.specs.Named.{place_of}
-use Rattle.ctype_classes.specs.Classes.{Classes, members_of, numbered_answer}
+use Rattle.value_pages.specs.Pages.{has_bit}
+use Rattle.ctype_classes.specs.Classes.{Classes, members_of, numbered_answer, has_numbered}
 use Rattle.ctype_classes.specs.Lines.{rule_of_line}
 use Rattle.ctype_classes.specs.Lists.{is_reserved, is_taken, after_operands, classes_of}
 use Rattle.ctype_classes.specs.Exclusions.{all_kept_apart}
@@ -134,6 +135,13 @@ no_place = refl
 by_number : numbered_answer two_classes 1 101 ∷ numbered_answer two_classes 1 100 ∷ numbered_answer two_classes 0 101 ∷ numbered_answer two_classes 2 101 ∷ []
     ≡ Some true ∷ Some false ∷ Some false ∷ None ∷ []
 by_number = refl
+
+no_such_number : has_numbered two_classes 2 101 ≡ false
+no_such_number = refl
+
+-- the bit of the class 1 is the second
+bits : map (λ n. has_bit 2 n) (0 ∷ 1 ∷ 2 ∷ []) ≡ map (λ n. has_numbered two_classes n 101) (0 ∷ 1 ∷ 2 ∷ [])
+bits = refl
 
 -- ---- refusals
 

@@ -5,3 +5,4 @@ pub mod CharacterLemmas
 pub mod CaseLemmas
 pub mod MemberLemmas
 pub mod ExclusionLemmas
+mod ClassBits

@@ -1,5 +1,5 @@
 -- The classes of a locale, each with its members (XBD 7.3.1).
-use Rattle.std.specs.Prelude.{ℕ, Bool, List, [], ◌∷◌, ◌++◌, slice_get, Option, Some, None, unwrap_or, option_map}
+use Rattle.std.specs.Prelude.{◌≡◌, ℕ, ◌<◌, Bool, false, List, [], ◌∷◌, ◌++◌, length, slice_get, slice_index, Option, Some, None, unwrap_or, option_map}
 use Rattle.lc_base.specs.declared.place.Place.{Place}
 use Rattle.class_ranges.specs.Ranges.{Range, covers}
 use Rattle.lc_base.specs.Tables.{first_named}
@@ -9,6 +9,7 @@ use Rattle.keywords.specs.declared.source.Value.{Value}
 use Rattle.keywords.specs.declared.source.Entry.{Entry}
 use Rattle.keywords.specs.Keywords.{operands, ranges}
 use Rattle.lc_base.specs.Named.{with_named}
+use Rattle.value_pages.specs.Pages.{has_bit}
 use Rattle.ctype_classes.specs.Characters.{characters}
 use Rattle.ctype_classes.specs.Table.{ClassRow, class_table}
 
@@ -54,3 +55,15 @@ class_answer classes name w = option_map (λ members. covers members w) (first_n
 -- whether a value is in the class with a number, its place from 0; none where no class has the number
 abbrev pub numbered_answer : Classes → ℕ → ℕ → Option Bool
 numbered_answer classes number w = option_map (λ entry. covers entry.1 w) (slice_get classes number)
+
+-- the same, where no class with the number has no value
+abbrev pub has_numbered : Classes → ℕ → ℕ → Bool
+has_numbered classes number w = unwrap_or (numbered_answer classes number w) false
+
+-- a word whose bits say of the first 64 classes whether they have a value, each at the number of its class
+abbrev pub AreClassBits : Classes → ℕ → ℕ → Type 0
+AreClassBits classes w bits = (number : ℕ) → number < 64 → has_bit bits number ≡ has_numbered classes number w
+
+-- such words of the first values
+abbrev pub AreLowBits : Classes → List ℕ → Type 0
+AreLowBits classes words = (w : ℕ) → w < length words → AreClassBits classes w (slice_index words w)

@@ -5,12 +5,13 @@ ghost use Rattle.lc_base.specs.Reading.{Gives};
 ghost use Rattle.charset.specs.CodedSet.{set_name};
 ghost use Rattle.ctype_classes.specs.Case.{image, first_image, upper_pairs, lower_pairs};
 ghost use Rattle.lc_base.specs.Named.{place_of};
-ghost use Rattle.ctype_classes.specs.Classes.{class_answer, numbered_answer};
+ghost use Rattle.ctype_classes.specs.Classes.{class_answer, numbered_answer, AreClassBits};
 ghost use Rattle.ctype_classes.specs.Members.{membership};
 ghost use Rattle.ctype_classes.specs.Excluded.{is_in, IsFirstExcluded, AreAllApart, Names};
 ghost use Rattle.ctype_classes.specs.Ctype.{ctype_with, ctype_values, posix_values};
 
 use crate::case::{lower_pairs, map_of, upper_pairs};
+use crate::class_bits::{class_bits, low_answer, low_bits};
 use crate::classes::{Classes, twelve_classes};
 use crate::exclusions::check_exclusions;
 use crate::first_lines::KeywordList;
@@ -28,6 +29,7 @@ pub struct Ctype {
     classes: Classes,
     upper: PagedMap,
     lower: PagedMap,
+    low: Vec<u64>,
 }
 
 impl Drop for Ctype {
@@ -37,6 +39,7 @@ impl Drop for Ctype {
             classes: _,
             upper: _,
             lower: _,
+            low: _,
         } = self;
     }
 }
@@ -47,6 +50,10 @@ impl Model for Ctype {
     ghost Value = { CtypeValues };
 
     ghost view = { λ c. record { codeset = c.codeset; classes = c.classes; upper = c.upper; lower = c.lower } };
+
+    ghost use Rattle.ctype_classes.specs.Classes.{AreLowBits};
+
+    ghost invariant = { λ c. AreLowBits c.classes c.low.items };
 }
 
 impl Ctype {
@@ -61,11 +68,13 @@ impl Ctype {
     {
         let upper = upper_pairs(alloc, list)?;
         let lower = lower_pairs(alloc, list, &upper)?;
+        let low = low_bits(alloc, &classes)?;
         Ok(Ctype {
             codeset: ByteText::of(alloc, charset.name())?,
             classes,
             upper: map_of(alloc, &upper)?,
             lower: map_of(alloc, &lower)?,
+            low,
         })
     }
 
@@ -145,8 +154,26 @@ impl Ctype {
     pub fn is_in(&self, number: usize, w: u32) -> Option<bool>
         ensures { result ≡ numbered_answer self.now.classes number w }
     {
-        let members = self.classes.at(number)?;
-        Some(members.contains(w))
+        match low_answer(&self.classes, &self.low, number, w) {
+            Some(is) => Some(is),
+            None => {
+                let members = self.classes.at(number)?;
+                Some(members.contains(w))
+            }
+        }
+    }
+
+    /// The classes that have a character with this wide value, of the first 64 of the locale: a bit
+    /// each, which is 0 where no class has its number. The bit of a class is that of its number, the
+    /// lowest first. A class with a number from 64 on, which a locale may declare, has no bit: ask
+    /// `is_in`.
+    pub fn classes_of(&self, w: u32) -> u64
+        ensures { AreClassBits self.now.classes w result }
+    {
+        match self.low.get(w as usize) {
+            Some(bits) => *bits,
+            None => class_bits(&self.classes, w),
+        }
     }
 
     /// The upper case of a character: itself where no pair has it (XSH towupper).

@@ -3,6 +3,7 @@
 
 mod case;
 mod characters;
+mod class_bits;
 mod classes;
 mod ctype;
 mod exclusions;

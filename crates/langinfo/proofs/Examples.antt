@@ -1,6 +1,6 @@
 -- The items and localeconv's fields of a few locales.
-use Rattle.std.proofs.Common.{◌≡◌, ℕ, List, [], ◌∷◌, map, refl, ap}
-use Rattle.std.specs.Prelude.{ℤ, codes, pos, negsuc}
+use Rattle.std.proofs.Common.{◌≡◌, ℕ, List, [], ◌∷◌, refl, ap}
+use Rattle.std.specs.Prelude.{codes, pos, negsuc}
 use Rattle.std.specs.Borrow.{Bor}
 use Rattle.lc_base.specs.declared.place.Place.{Place}
 use Rattle.lc_base.specs.declared.item.Item.{Item}
@@ -16,7 +16,7 @@ use Rattle.monetary_cat.specs.Monetary.{text, number, sign_numbers}
 use Rattle.time_cat.specs.Values.{values_of}
 use Rattle.messages_cat.specs.Messages as messages
 use Rattle.langinfo.specs.Items.{info}
-use Rattle.langinfo.specs.Conv.{encoded, groups, conv, chars_of}
+use Rattle.langinfo.specs.Conv.{conv, chars_of, bare_texts, bare_numbers}
 use Rattle.langinfo.specs.Lent.{owned_text}
 use Rattle.langinfo.specs.declared.field.ConvText.TheVariants.{Bytes, Sizes}
 use Rattle.langinfo.specs.declared.field.LentText.TheVariants as lent_texts
@@ -178,25 +178,6 @@ currency_nowhere : asked utf8 (with (codes "p_cs_precedes") (Number (pos 0)) ∷
 unfolding text number sign_numbers values_of
 currency_nowhere = refl
 
--- groups up to a 0; a -1 ends them as 127, and is nothing where it is the first
-groups_repeat : groups (pos 3 ∷ pos 2 ∷ []) ≡ 3 ∷ 2 ∷ []
-groups_repeat = refl
-
-groups_end : groups (pos 3 ∷ negsuc 0 ∷ pos 2 ∷ []) ≡ 3 ∷ 127 ∷ []
-groups_end = refl
-
-groups_zero : groups (pos 3 ∷ pos 0 ∷ pos 2 ∷ []) ≡ 3 ∷ []
-groups_zero = refl
-
-groups_first_zero : groups (pos 0 ∷ pos 3 ∷ []) ≡ []
-groups_first_zero = refl
-
-groups_none : groups (negsuc 0 ∷ pos 3 ∷ []) ≡ []
-groups_none = refl
-
-groups_empty : groups [] ≡ []
-groups_empty = refl
-
 -- the fields of the POSIX locale
 conv_posix : conv numeric.posix_values monetary.posix_values ≡ record {
   texts =
@@ -296,10 +277,17 @@ chars_of_sizes = refl
 
 -- ---- what categories lend
 
--- sizes of groups become chars
-sizes_lent : (sizes : Bor (List ℤ)) → sizes.now ≡ pos 3 ∷ pos 300 ∷ negsuc 0 ∷ [] → owned_text (lent_texts.Sizes sizes) ≡ Sizes (3 ∷ 127 ∷ 127 ∷ [])
-sizes_lent sizes is = ap (λ (s : List ℤ). Sizes (map encoded s)) is
+-- sizes of groups stay as they are
+sizes_lent : (sizes : Bor (List ℕ)) → sizes.now ≡ 3 ∷ 127 ∷ [] → owned_text (lent_texts.Sizes sizes) ≡ Sizes (3 ∷ 127 ∷ [])
+sizes_lent sizes is = ap (λ (s : List ℕ). Sizes s) is
 
 -- a text stays as it is
 text_lent : (text : Bor (List ℕ)) → text.now ≡ codes "+" → owned_text (lent_texts.Bytes text) ≡ Bytes (codes "+")
 text_lent text is = ap (λ (t : List ℕ). Bytes t) is
+
+-- fields without their names
+texts_alone : bare_texts ((codes "decimal_point", Bytes (codes ",")) ∷ (codes "grouping", Sizes (3 ∷ 127 ∷ [])) ∷ []) ≡ codes "," ∷ (3 ∷ 127 ∷ []) ∷ []
+texts_alone = refl
+
+numbers_alone : bare_numbers ((codes "frac_digits", 2) ∷ (codes "p_cs_precedes", 1) ∷ []) ≡ 2 ∷ 1 ∷ []
+numbers_alone = refl

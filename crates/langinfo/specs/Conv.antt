@@ -1,5 +1,6 @@
 -- The fields of localeconv's structure (XSH localeconv, XBD <locale.h>).
-use Rattle.std.specs.Prelude.{ℕ, ℤ, pos, negsuc, ◌==◌, min, List, [], ◌∷◌, codes, if◌then◌else◌}
+use Rattle.std.specs.Prelude.{ℕ, List, [], ◌∷◌, map, codes}
+use Rattle.lconv_chars.specs.Chars.{encoded, groups}
 use Rattle.numeric_cat.specs.NumericValues.{NumericValues}
 use Rattle.monetary_cat.specs.declared.keys.MonText.TheVariants.{IntCurrSymbol, CurrencySymbol, MonDecimalPoint, MonThousandsSep, PositiveSign, NegativeSign}
 use Rattle.monetary_cat.specs.declared.keys.MonNumber.TheVariants.{IntFracDigits, FracDigits, PCsPrecedes, PSepBySpace, NCsPrecedes, NSepBySpace, PSignPosn, NSignPosn, IntPCsPrecedes, IntNCsPrecedes, IntPSepBySpace, IntNSepBySpace, IntPSignPosn, IntNSignPosn}
@@ -7,28 +8,6 @@ use Rattle.monetary_cat.specs.Monetary.{MonetaryValues, text_of, number_of}
 use Rattle.langinfo.specs.declared.field.ConvText.{ConvText}
 use Rattle.langinfo.specs.declared.field.ConvText.TheVariants.{Bytes, Sizes}
 use Rattle.langinfo.specs.declared.conv.Lconv.{Lconv}
-
--- what stands for a value that the locale does not tell: CHAR_MAX (XBD <limits.h>; that it is 127 is our own)
-abbrev pub unknown : ℕ
-unknown = 127
-
--- a number as a char: -1 is CHAR_MAX, which none is above
-abbrev pub encoded : ℤ → ℕ
-encoded (pos n) = min n unknown
-encoded (negsuc n) = unknown
-
--- the sizes of groups as chars, up to a 0 and no further than CHAR_MAX, which ends the grouping
-abbrev pub sizes_of : List ℤ → List ℕ
-sizes_of [] = []
-sizes_of (size ∷ sizes) =
-    if encoded size == 0 then [] else
-    if encoded size == unknown then unknown ∷ [] else
-    encoded size ∷ sizes_of sizes
-
--- the same, where a first CHAR_MAX leaves none
-abbrev pub groups : List ℤ → List ℕ
-groups [] = []
-groups (size ∷ sizes) = if encoded size == unknown then [] else sizes_of (size ∷ sizes)
 
 -- the bytes of a text as C has it
 abbrev pub chars_of : ConvText → List ℕ
@@ -66,6 +45,14 @@ number_fields monetary =
     (codes "int_n_sep_by_space", encoded (number_of monetary IntNSepBySpace)) ∷
     (codes "int_p_sign_posn", encoded (number_of monetary IntPSignPosn)) ∷
     (codes "int_n_sign_posn", encoded (number_of monetary IntNSignPosn)) ∷ []
+
+-- the texts without their names, as C has them
+abbrev pub bare_texts : List (List ℕ × ConvText) → List (List ℕ)
+bare_texts fields = map (λ (f : List ℕ × ConvText). chars_of f.1) fields
+
+-- the numbers without their names
+abbrev pub bare_numbers : List (List ℕ × ℕ) → List ℕ
+bare_numbers fields = map (λ (f : List ℕ × ℕ). f.1) fields
 
 -- what localeconv gives
 abbrev pub conv : NumericValues → MonetaryValues → Lconv

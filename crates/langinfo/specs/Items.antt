@@ -1,5 +1,5 @@
 -- The items of nl_langinfo, and what they give (XSH nl_langinfo, XBD <langinfo.h>).
-use Rattle.std.specs.Prelude.{ℕ, ◌<◌, ◌==◌, ℤ, pos, negsuc, List, [], ◌∷◌, if◌then◌else◌}
+use Rattle.std.specs.Prelude.{ℕ, ◌<◌, List}
 use Rattle.lc_base.specs.declared.item.Item.{Item}
 use Rattle.lc_base.specs.declared.item.Item.TheVariants as items
 use Rattle.ctype_classes.specs.CtypeValues.{CtypeValues}
@@ -7,6 +7,7 @@ use Rattle.numeric_cat.specs.NumericValues.{NumericValues}
 use Rattle.monetary_cat.specs.declared.keys.MonText.TheVariants as texts
 use Rattle.monetary_cat.specs.declared.keys.MonNumber.TheVariants as numbers
 use Rattle.monetary_cat.specs.Monetary.{MonetaryValues, text_of, number_of}
+pub use Rattle.monetary_cat.specs.Currency.{currency}
 use Rattle.time_cat.specs.declared.conversion.TimeText.TheVariants.{DateTime, Date, Clock, HalfDayClock, EraDateTime, EraDate, EraClock}
 use Rattle.time_cat.specs.TimeValues.{TimeValues, format_text, text_at, joined}
 use Rattle.messages_cat.specs.MessagesValues.{MessagesValues}
@@ -87,16 +88,6 @@ IsWithin keywords.ThousandsSep = Unit {0}
 IsWithin keywords.Yesexpr = Unit {0}
 IsWithin keywords.Noexpr = Unit {0}
 IsWithin keywords.CurrencySymbol = Unit {0}
-
--- the sign before the currency symbol: + where it follows the number, else - (that -1 has - is our own)
-abbrev pub sign : ℤ → ℕ
-sign (pos n) = if n == 0 then 43 else 45
-sign (negsuc n) = 45
-
--- the currency symbol behind its sign; nothing where there is no symbol (our own)
-abbrev pub currency : ℤ → List ℕ → List ℕ
-currency precedes [] = []
-currency precedes (b ∷ bs) = sign precedes ∷ b ∷ bs
 
 -- the text of a keyword
 abbrev pub keyword_text : CtypeValues → NumericValues → MonetaryValues → TimeValues → MessagesValues → Keyword → List ℕ

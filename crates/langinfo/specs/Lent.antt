@@ -1,7 +1,6 @@
 -- The fields of localeconv, as categories lend them.
 use Rattle.std.specs.Prelude.{ℕ, List, map}
 use Rattle.std.specs.Borrow.{Bor}
-use Rattle.langinfo.specs.Conv.{encoded}
 use Rattle.langinfo.specs.declared.field.ConvText.{ConvText}
 use Rattle.langinfo.specs.declared.field.ConvText.TheVariants as texts
 use Rattle.langinfo.specs.declared.field.LentText.{LentText}
@@ -9,10 +8,10 @@ use Rattle.langinfo.specs.declared.field.LentText.TheVariants as lent_texts
 use Rattle.langinfo.specs.declared.conv.Lconv.{Lconv}
 use Rattle.langinfo.specs.declared.conv.LentConv.{LentConv}
 
--- a text that is lent; sizes of groups become chars
+-- a text that is lent
 abbrev pub owned_text : LentText → ConvText
 owned_text (lent_texts.Bytes bytes) = texts.Bytes bytes.now
-owned_text (lent_texts.Sizes sizes) = texts.Sizes (map encoded sizes.now)
+owned_text (lent_texts.Sizes sizes) = texts.Sizes sizes.now
 
 -- texts that are lent, each with its name
 abbrev pub owned_texts : List (Bor (List ℕ) × LentText) → List (List ℕ × ConvText)

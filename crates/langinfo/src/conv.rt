@@ -2,12 +2,14 @@
 
 ghost use Rattle.std.specs.Prelude.{◌≡◌, map, IfOk};
 ghost use Rattle.monetary_cat.specs.Monetary.{number_of};
-ghost use Rattle.langinfo.specs.Conv.{conv, encoded, groups, number_fields, sizes_of, text_fields};
+ghost use Rattle.lconv_chars.specs.Chars.{encoded};
+ghost use Rattle.langinfo.specs.Conv.{bare_numbers, bare_texts, conv, number_fields, text_fields};
 ghost use Rattle.langinfo.specs.Lent.{lconv_of, owned_numbers, owned_text, owned_texts};
 
 use crate::field::LentText::{Bytes, Sizes};
 use crate::field::{ConvText, FieldName, LentText};
 use lc_base::{ByteText, List};
+use lconv_chars::encoded;
 use monetary_cat::MonNumber::{
     FracDigits, IntFracDigits, IntNCsPrecedes, IntNSepBySpace, IntNSignPosn, IntPCsPrecedes,
     IntPSepBySpace, IntPSignPosn, NCsPrecedes, NSepBySpace, NSignPosn, PCsPrecedes, PSepBySpace,
@@ -53,8 +55,13 @@ pub struct LentConv<'a> {
     pub numbers: [(&'a [u8], u8); CONV_NUMBERS],
 }
 
-/// What stands for a value that the locale does not tell: `CHAR_MAX`.
-const UNKNOWN: u8 = 127;
+/// The fields of localeconv without their names, in the order of the standard's page, the texts lent
+/// by the categories as C has them.
+#[derive(Clone, Copy)]
+pub struct LentFields<'a> {
+    pub texts: [&'a [u8]; CONV_TEXTS],
+    pub numbers: [u8; CONV_NUMBERS],
+}
 
 /// How numbers and amounts are written in the locale that has these categories (XSH localeconv).
 pub fn localeconv(
@@ -106,7 +113,7 @@ fn owned_text(alloc: Global, lent: &LentText<'_>) -> Result<ConvText, AllocError
 {
     match lent {
         Bytes(bytes) => Ok(ConvText::Bytes(ByteText::of(alloc, bytes)?)),
-        Sizes(sizes) => Ok(ConvText::Sizes(chars(alloc, sizes)?)),
+        Sizes(sizes) => Ok(ConvText::Sizes(ByteText::of(alloc, sizes)?)),
     }
 }
 
@@ -119,6 +126,40 @@ pub fn lent_conv<'a>(numeric: &'a Numeric, monetary: &'a Monetary) -> LentConv<'
     LentConv { texts, numbers }
 }
 
+/// The fields of localeconv in the locale that has these categories, which lend them, without their
+/// names. Takes no memory.
+pub fn lent_fields<'a>(numeric: &'a Numeric, monetary: &'a Monetary) -> LentFields<'a>
+    ensures texts { map (λ t. t.now) result.texts ≡ bare_texts (conv numeric.now monetary.now).texts }
+    ensures numbers { result.numbers ≡ bare_numbers (conv numeric.now monetary.now).numbers }
+{
+    LentFields {
+        texts: bare_texts(&text_fields(numeric, monetary)),
+        numbers: bare_numbers(&number_fields(monetary)),
+    }
+}
+
+/// Texts without their names.
+fn bare_texts<'a>(fields: &[(&'static [u8], LentText<'a>); CONV_TEXTS]) -> [&'a [u8]; CONV_TEXTS]
+    ensures { map (λ t. t.now) result ≡ bare_texts (owned_texts fields.now) }
+{
+    let mut texts: [&'a [u8]; CONV_TEXTS] = [&[]; CONV_TEXTS];
+    for (i, (_, text)) in fields.iter().enumerate() {
+        texts[i] = text.as_bytes();
+    }
+    texts
+}
+
+/// Numbers without their names.
+fn bare_numbers(fields: &[(&'static [u8], u8); CONV_NUMBERS]) -> [u8; CONV_NUMBERS]
+    ensures { result ≡ bare_numbers (owned_numbers fields.now) }
+{
+    let mut numbers = [0; CONV_NUMBERS];
+    for (i, (_, number)) in fields.iter().enumerate() {
+        numbers[i] = *number;
+    }
+    numbers
+}
+
 /// The fields that are texts, each with its name in C and the value of its keyword.
 fn text_fields<'n, 'a>(
     numeric: &'a Numeric,
@@ -129,12 +170,12 @@ fn text_fields<'n, 'a>(
     [
         (b"decimal_point", Bytes(numeric.decimal_point())),
         (b"thousands_sep", Bytes(numeric.thousands_sep())),
-        (b"grouping", Sizes(groups(numeric.grouping()))),
+        (b"grouping", Sizes(numeric.group_chars())),
         (b"int_curr_symbol", Bytes(monetary.text(IntCurrSymbol))),
         (b"currency_symbol", Bytes(monetary.text(CurrencySymbol))),
         (b"mon_decimal_point", Bytes(monetary.text(MonDecimalPoint))),
         (b"mon_thousands_sep", Bytes(monetary.text(MonThousandsSep))),
-        (b"mon_grouping", Sizes(groups(monetary.grouping()))),
+        (b"mon_grouping", Sizes(monetary.group_chars())),
         (b"positive_sign", Bytes(monetary.text(PositiveSign))),
         (b"negative_sign", Bytes(monetary.text(NegativeSign))),
     ]
@@ -167,51 +208,4 @@ fn number(monetary: &Monetary, key: MonNumber) -> u8
     ensures { result ≡ encoded (number_of monetary.now key) }
 {
     encoded(monetary.number(key))
-}
-
-/// A number of a locale as a char.
-pub fn encoded(n: i32) -> u8
-    ensures { result ≡ encoded n }
-{
-    match u8::try_from(n) {
-        Ok(small) => small.min(UNKNOWN),
-        Err(_) => UNKNOWN,
-    }
-}
-
-/// The sizes of groups that count; none where nothing is grouped.
-fn groups(sizes: &[i32]) -> &[i32]
-    ensures { map encoded result.now ≡ groups sizes.now }
-{
-    match sizes {
-        [first, ..] if encoded(*first) != UNKNOWN => sizes_of(sizes),
-        _ => &[],
-    }
-}
-
-/// The sizes of groups up to a 0 and no further than 127.
-fn sizes_of(sizes: &[i32]) -> &[i32]
-    ensures { map encoded result.now ≡ sizes_of sizes.now }
-{
-    for (i, size) in sizes.iter().enumerate() {
-        let size = encoded(*size);
-        if size == 0 {
-            return &sizes[..i];
-        }
-        if size == UNKNOWN {
-            return &sizes[..i + 1];
-        }
-    }
-    sizes
-}
-
-/// Sizes of groups as chars.
-fn chars(alloc: Global, sizes: &[i32]) -> Result<ByteText, AllocError>
-    ensures { IfOk result (λ t. t ≡ map encoded sizes.now) }
-{
-    let mut chars = Vec::with_capacity(alloc, sizes.len())?;
-    for size in sizes {
-        chars.push(encoded(*size))?;
-    }
-    Ok(ByteText::from_vec(chars))
 }

@@ -2,6 +2,7 @@
 
 ghost use Rattle.std.specs.Prelude.{◌≡◌};
 ghost use Rattle.langinfo.specs.Conv.{chars_of};
+ghost use Rattle.langinfo.specs.Lent.{owned_text};
 
 use lc_base::ByteText;
 use std::marker::Model;
@@ -64,6 +65,17 @@ impl ConvText {
 pub enum LentText<'a> {
     /// A text of the locale.
     Bytes(&'a [u8]),
-    /// The sizes of groups that count, of which `encoded` makes chars.
-    Sizes(&'a [i32]),
+    /// The sizes of groups, each a byte.
+    Sizes(&'a [u8]),
+}
+
+impl<'a> LentText<'a> {
+    /// The bytes that C has.
+    pub fn as_bytes(&self) -> &'a [u8]
+        ensures { result.now ≡ chars_of (owned_text self.now) }
+    {
+        match self {
+            LentText::Bytes(bytes) | LentText::Sizes(bytes) => bytes,
+        }
+    }
 }

@@ -8,6 +8,8 @@ mod items;
 mod keyword;
 
 pub use categories::{Categories, LentCategories};
-pub use conv::{CONV_NUMBERS, CONV_TEXTS, Lconv, LentConv, encoded, lent_conv, localeconv};
+pub use conv::{
+    CONV_NUMBERS, CONV_TEXTS, Lconv, LentConv, LentFields, lent_conv, lent_fields, localeconv,
+};
 pub use field::{ConvText, FieldName, LentText};
-pub use items::{item_text, nl_langinfo};
+pub use items::{lent_item, nl_langinfo};

@@ -8,6 +8,7 @@ use Rattle.keywords.specs.declared.source.Value.TheVariants.{Text, Number}
 use Rattle.keywords.specs.declared.source.Entry.{Entry}
 use Rattle.monetary_cat.specs.declared.keys.MonText.TheVariants.{IntCurrSymbol, NegativeSign}
 use Rattle.monetary_cat.specs.declared.keys.MonNumber.TheVariants.{FracDigits, IntNSignPosn}
+use Rattle.monetary_cat.specs.Currency.{currency}
 use Rattle.monetary_cat.specs.Monetary.{text_of, number_of, monetary_values, posix_values, values_of, text, number, sign_numbers}
 
 abbrev at : ℕ → ℕ → Place
@@ -95,3 +96,16 @@ wrong_size = refl
 first_line : monetary_values (line 2 (codes "p_sign_posn") (Number (pos 5)) ∷ line 3 (codes "int_curr_symbol") (Text (codes "USD")) ∷ []) ≡ Err (at 2 30, BadNumber)
 unfolding text number sign_numbers
 first_line = refl
+
+-- the currency symbol behind its sign: before the number, behind it, at an unknown place, and none
+before_number : currency (pos 1) (codes "$") ≡ codes "-$"
+before_number = refl
+
+behind_number : currency (pos 0) (codes "$") ≡ codes "+$"
+behind_number = refl
+
+anywhere : currency (negsuc 0) (codes "kr") ≡ codes "-kr"
+anywhere = refl
+
+nowhere : currency (pos 0) [] ≡ []
+nowhere = refl

@@ -3,15 +3,22 @@
 
 ghost use Rattle.std.specs.Prelude.{◌≡◌, IfOk};
 ghost use Rattle.lc_base.specs.Reading.{Gives};
-ghost use Rattle.monetary_cat.specs.Monetary.{monetary_values, posix_values, values_of};
+ghost use Rattle.lconv_chars.specs.Chars.{groups};
+ghost use Rattle.monetary_cat.specs.Currency.{currency};
+ghost use Rattle.monetary_cat.specs.Monetary.{monetary_values, number_of, posix_values, text_of, values_of};
+ghost use Rattle.monetary_cat.specs.declared.keys.MonNumber.TheVariants as numbers;
+ghost use Rattle.monetary_cat.specs.declared.keys.MonText.TheVariants as texts;
 
 use keywords::{Entry, check, numbers_value};
-use lc_base::{Category, List, TextFault};
+use lc_base::{ByteText, Category, List, TextFault};
+use lconv_chars::group_chars;
 use std::alloc::{AllocError, Global};
 use std::marker::Model;
 
+mod currency;
 mod keys;
 
+use currency::currency;
 pub use keys::{MonNumber, MonText};
 use keys::{FormNumbers, MoneyTexts, international_of, local_of, texts_of};
 
@@ -21,6 +28,8 @@ pub struct Monetary {
     mon_grouping: List<i32>,
     local: FormNumbers,
     international: FormNumbers,
+    currency_item: ByteText,
+    group_chars: ByteText,
 }
 
 impl Drop for Monetary {
@@ -30,6 +39,8 @@ impl Drop for Monetary {
             mon_grouping: _,
             local: _,
             international: _,
+            currency_item: _,
+            group_chars: _,
         } = self;
     }
 }
@@ -45,6 +56,10 @@ impl Model for Monetary {
       local = m.local;
       international = m.international;
     } };
+
+    ghost use Rattle.monetary_cat.specs.Kept.{IsKept};
+
+    ghost invariant = { IsKept };
 }
 
 impl Monetary {
@@ -73,16 +88,42 @@ impl Monetary {
     {
         self.mon_grouping.as_slice()
     }
+
+    /// The sizes of groups that count, each a char (XSH localeconv).
+    pub fn group_chars(&self) -> &[u8]
+        ensures { result.now ≡ groups self.now.mon_grouping }
+    {
+        self.group_chars.as_bytes()
+    }
+
+    /// The currency symbol behind a sign that says where it stands: `+` where it follows the number,
+    /// else `-`. Empty where there is no symbol (XSH nl_langinfo, `CRNCYSTR`).
+    pub fn currency_item(&self) -> &[u8]
+        ensures { result.now ≡ currency (number_of self.now numbers.PCsPrecedes) (text_of self.now texts.CurrencySymbol) }
+    {
+        self.currency_item.as_bytes()
+    }
 }
 
 /// The values that a keyword list gives, good or not.
 fn values_of(alloc: Global, entries: &[Entry]) -> Result<Monetary, AllocError>
     ensures { IfOk result (λ m. m ≡ values_of entries.now) }
 {
+    let texts = texts_of(alloc, entries)?;
+    let local = local_of(entries);
+    let currency_item = currency(
+        alloc,
+        local.plus.cs_precedes,
+        texts.currency_symbol.as_bytes(),
+    )?;
+    let mon_grouping = numbers_value(alloc, Category::Monetary, entries, b"mon_grouping")?;
+    let group_chars = group_chars(alloc, mon_grouping.as_slice())?;
     Ok(Monetary {
-        texts: texts_of(alloc, entries)?,
-        mon_grouping: numbers_value(alloc, Category::Monetary, entries, b"mon_grouping")?,
-        local: local_of(entries),
+        texts,
+        mon_grouping,
+        local,
         international: international_of(entries),
+        currency_item,
+        group_chars,
     })
 }

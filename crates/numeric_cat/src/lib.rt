@@ -3,10 +3,12 @@
 
 ghost use Rattle.std.specs.Prelude.{◌≡◌, IfOk};
 ghost use Rattle.lc_base.specs.Reading.{Gives};
+ghost use Rattle.lconv_chars.specs.Chars.{groups};
 ghost use Rattle.numeric_cat.specs.Numeric.{values_of, numeric_values, posix_values};
 
 use keywords::{Entry, check, numbers_value, text_value};
 use lc_base::{ByteText, Category, List, TextFault};
+use lconv_chars::group_chars;
 use std::alloc::{AllocError, Global};
 use std::marker::Model;
 
@@ -15,6 +17,7 @@ pub struct Numeric {
     decimal_point: ByteText,
     thousands_sep: ByteText,
     grouping: List<i32>,
+    group_chars: ByteText,
 }
 
 impl Drop for Numeric {
@@ -23,11 +26,14 @@ impl Drop for Numeric {
             decimal_point: _,
             thousands_sep: _,
             grouping: _,
+            group_chars: _,
         } = self;
     }
 }
 
 impl Model for Numeric {
+    ghost use Rattle.std.specs.Prelude.{◌≡◌};
+    ghost use Rattle.lconv_chars.specs.Chars.{groups};
     ghost use Rattle.numeric_cat.specs.NumericValues.{NumericValues};
 
     ghost Value = { NumericValues };
@@ -37,6 +43,8 @@ impl Model for Numeric {
       thousands_sep = n.thousands_sep;
       grouping = n.grouping;
     } };
+
+    ghost invariant = { λ n. n.group_chars ≡ groups n.grouping };
 }
 
 impl Numeric {
@@ -78,15 +86,25 @@ impl Numeric {
     {
         self.grouping.as_slice()
     }
+
+    /// The sizes of groups that count, each a char (XSH localeconv).
+    pub fn group_chars(&self) -> &[u8]
+        ensures { result.now ≡ groups self.now.grouping }
+    {
+        self.group_chars.as_bytes()
+    }
 }
 
 /// The values that a keyword list gives, good or not.
 fn values_of(alloc: Global, entries: &[Entry]) -> Result<Numeric, AllocError>
     ensures { IfOk result (λ n. n ≡ values_of entries.now) }
 {
+    let grouping = numbers_value(alloc, Category::Numeric, entries, b"grouping")?;
+    let group_chars = group_chars(alloc, grouping.as_slice())?;
     Ok(Numeric {
         decimal_point: text_value(alloc, Category::Numeric, entries, b"decimal_point")?,
         thousands_sep: text_value(alloc, Category::Numeric, entries, b"thousands_sep")?,
-        grouping: numbers_value(alloc, Category::Numeric, entries, b"grouping")?,
+        grouping,
+        group_chars,
     })
 }

@@ -1,10 +1,9 @@
 //! What reads of an object reply.
 
-ghost use Rattle.std.specs.Prelude.{◌≡◌, ◌++◌, ◌∷◌, [], ℕ, List, Result, Err, map, true, IfSome, IfOk, OnOk};
+ghost use Rattle.std.specs.Prelude.{◌≡◌, ◌++◌, ◌∷◌, [], ℕ, List, Result, Err, true, IfSome, IfOk, OnOk};
 ghost use Rattle.std.specs.List.{list_all};
 ghost use Rattle.lc_base.specs.declared.refusal.FormatRefusal.{FormatRefusal};
 ghost use Rattle.int_format.specs.Ints.{at_most, ints, is_number};
-ghost use Rattle.langinfo.specs.Conv.{encoded};
 ghost use Rattle.langinfo.specs.Lent.{lconv_of, owned_numbers, owned_text, owned_texts};
 ghost use Rattle.strfmon.specs.Money.{money};
 ghost use Rattle.strftime_fields.specs.Answers.{answer};
@@ -14,7 +13,7 @@ ghost use Rattle.script_lines.specs.Reads.{ctype_in, numeric_in, monetary_in, ti
 use category_store::{Library, Share};
 use ctype_classes::Ctype;
 use int_format::int_format;
-use langinfo::{CONV_NUMBERS, LentConv, LentText, encoded, lent_conv, nl_langinfo};
+use langinfo::{CONV_NUMBERS, LentConv, LentText, lent_conv, nl_langinfo};
 use lc_base::{Amount, ByteText, Category, FormatRefusal, Item, List};
 use mask_compose::Object;
 use messages_cat::Messages;
@@ -181,8 +180,8 @@ fn conv_numbers(mut block: Vec<u8>, fields: &[(&[u8], u8)]) -> Result<List<u8>, 
 }
 
 /// Adds the text of the sizes of groups, which is written in a block.
-fn push_sizes(texts: &mut Texts, block: &mut Vec<u8>, sizes: &[i32]) -> Result<(), AllocError>
-    ensures { OnOk result (texts.new ≡ texts.old ++ sizes_text (map encoded sizes.now) ∷ []) }
+fn push_sizes(texts: &mut Texts, block: &mut Vec<u8>, sizes: &[u8]) -> Result<(), AllocError>
+    ensures { OnOk result (texts.new ≡ texts.old ++ sizes_text sizes.now ∷ []) }
 {
     block.clear();
     push_sizes_text(block, sizes)?;
@@ -190,25 +189,25 @@ fn push_sizes(texts: &mut Texts, block: &mut Vec<u8>, sizes: &[i32]) -> Result<(
 }
 
 /// Adds the sizes of groups, with `;` between them.
-fn push_sizes_text(out: &mut Vec<u8>, sizes: &[i32]) -> Result<(), AllocError>
-    ensures { OnOk result (out.new.items ≡ out.old.items ++ sizes_text (map encoded sizes.now)) }
+fn push_sizes_text(out: &mut Vec<u8>, sizes: &[u8]) -> Result<(), AllocError>
+    ensures { OnOk result (out.new.items ≡ out.old.items ++ sizes_text sizes.now) }
 {
     match sizes {
         [] => Ok(()),
         [first, rest @ ..] => {
-            push_number(out, u64::from(encoded(*first)))?;
+            push_number(out, u64::from(*first))?;
             push_more_sizes(out, rest)
         }
     }
 }
 
 /// Adds sizes of groups, each behind a `;`.
-fn push_more_sizes(out: &mut Vec<u8>, sizes: &[i32]) -> Result<(), AllocError>
-    ensures { OnOk result (out.new.items ≡ out.old.items ++ more_sizes (map encoded sizes.now)) }
+fn push_more_sizes(out: &mut Vec<u8>, sizes: &[u8]) -> Result<(), AllocError>
+    ensures { OnOk result (out.new.items ≡ out.old.items ++ more_sizes sizes.now) }
 {
     for size in sizes {
         out.push(b';')?;
-        push_number(out, u64::from(encoded(*size)))?;
+        push_number(out, u64::from(*size))?;
     }
     Ok(())
 }

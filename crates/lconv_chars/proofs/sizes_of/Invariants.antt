@@ -1,6 +1,6 @@
 use Rattle.std.proofs.Common.{◌≡◌, ◌++◌, map, take, drop}
-use Rattle.langinfo.specs.Conv.{encoded, sizes_of}
-use Rattle.langinfo.proofs.conv.sizes_of.Given as goal
+use Rattle.lconv_chars.specs.Chars.{encoded, sizes_of}
+use Rattle.lconv_chars.proofs.sizes_of.Given as goal
 
 -- those before, and what counts of those to come
 abbrev pub invariant-loop-i : goal.invariant-loop-i

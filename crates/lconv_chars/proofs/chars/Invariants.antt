@@ -1,6 +1,6 @@
 use Rattle.std.proofs.Common.{◌≡◌, map, take}
-use Rattle.langinfo.specs.Conv.{encoded}
-use Rattle.langinfo.proofs.conv.chars.Given as goal
+use Rattle.lconv_chars.specs.Chars.{encoded}
+use Rattle.lconv_chars.proofs.chars.Given as goal
 
 -- the sizes so far
 abbrev pub invariant-loop-size : goal.invariant-loop-size
