@@ -1,8 +1,9 @@
 //! Declared classes.
 
 use crate::draft::{Content, Draft, DraftLine};
+use crate::faults::SourceFault;
 use crate::notes::{NoteCode, Notes, Origin};
-use crate::operands::{Reading, characters};
+use crate::operands::{Reading, characters, left_out};
 use gnu_lines::{Placed, Token};
 use keywords::takes_of;
 use lc_base::Category;
@@ -49,7 +50,7 @@ fn declared(
     if standard.as_slice() != name {
         notes.add(at, NoteCode::ClassName)?;
     }
-    draft.declare(reading.alloc, at, standard.as_slice())?;
+    draft.declare(at, standard.as_slice())?;
     Ok(Some(standard))
 }
 
@@ -61,9 +62,13 @@ pub fn declare_all(
     notes: &mut Notes,
 ) -> Result<(), AllocError> {
     for placed in tokens {
-        if let Some(name) = name_in(&placed.token) {
-            let at = Origin::at(reading.file, placed.place);
-            let _name = declared(reading, at, name, draft, notes)?;
+        let at = Origin::at(reading.file, placed.place);
+        match (name_in(&placed.token), &placed.token) {
+            (Some(name), _) => {
+                let _name = declared(reading, at, name, draft, notes)?;
+            }
+            (None, Token::Sign(b';')) => {}
+            (None, token) => notes.add(at, left_out(token))?,
         }
     }
     Ok(())
@@ -76,17 +81,17 @@ pub fn add_class(
     tokens: &[Placed],
     draft: &mut Draft,
     notes: &mut Notes,
-) -> Result<(), AllocError> {
+) -> Result<(), SourceFault> {
     let [first, members @ ..] = tokens else {
-        return notes.add(at, NoteCode::Operand);
+        return Ok(notes.add(at, NoteCode::Operand)?);
     };
     let Some(name) = name_in(&first.token) else {
-        return notes.add(at, NoteCode::Operand);
+        return Ok(notes.add(at, NoteCode::Operand)?);
     };
     let Some(keyword) = declared(reading, at, name, draft, notes)? else {
         return Ok(());
     };
-    let content = Content::Characters(characters(reading, members, notes)?);
+    let content = Content::Characters(characters(reading, members, &mut draft.room, notes)?);
     let _is_taken = draft.add(DraftLine {
         keyword,
         at,

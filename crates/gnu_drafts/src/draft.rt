@@ -1,10 +1,14 @@
 //! The lines of a category before they are written.
 
 use crate::notes::Origin;
+use lc_base::ByName;
 use std::alloc::{AllocError, Global};
 
 /// The keyword that declares classes.
 pub const CLASSES: &[u8] = b"charclass";
+
+/// The most characters that the ranges with a step of a category have.
+const STEPPED_MOST: u32 = 65536;
 
 /// A text with where it comes from.
 #[derive(Drop)]
@@ -37,11 +41,27 @@ pub struct DraftLine {
 /// The lines of a category, each keyword once.
 pub struct Draft {
     pub lines: Vec<DraftLine>,
+    /// How many characters ranges with a step may have still.
+    pub room: u32,
+    alloc: Global,
+    /// The number of the line of each keyword.
+    numbers: ByName<usize>,
+    /// The declared classes.
+    declared: ByName<()>,
+    /// The last file that copies the category of another one.
+    copying: Option<usize>,
 }
 
 impl Drop for Draft {
     fn drop(self) {
-        let Draft { lines: _ } = self;
+        let Draft {
+            lines: _,
+            room: _,
+            alloc: _,
+            numbers: _,
+            declared: _,
+            copying: _,
+        } = self;
     }
 }
 
@@ -50,32 +70,40 @@ impl Draft {
     pub fn new(alloc: Global) -> Draft {
         Draft {
             lines: Vec::new(alloc),
+            room: STEPPED_MOST,
+            alloc,
+            numbers: ByName::new(alloc),
+            declared: ByName::new(alloc),
+            copying: None,
         }
     }
 
     /// Whether there is a line of this keyword.
     pub fn has(&self, keyword: &[u8]) -> bool {
-        self.lines
-            .iter()
-            .any(|line| line.keyword.as_slice() == keyword)
+        self.numbers.get(keyword).is_some()
     }
 
     /// Whether a class of this name is declared.
     pub fn declares(&self, name: &[u8]) -> bool {
-        self.lines.iter().any(|line| {
-            line.keyword.as_slice() == CLASSES && has_word(&line.content, name)
-        })
+        self.declared.get(name).is_some()
     }
 
-    /// Declares a class. Gives back nothing where it is declared already.
-    pub fn declare(&mut self, alloc: Global, at: Origin, name: &[u8]) -> Result<(), AllocError> {
+    /// Takes a line by which a file copies the category of another one. Whether it is the first one of the file,
+    /// which alone counts.
+    pub fn copies(&mut self, file: usize) -> bool {
+        self.copying.replace(file) != Some(file)
+    }
+
+    /// Declares a class, unless it is declared already.
+    pub fn declare(&mut self, at: Origin, name: &[u8]) -> Result<(), AllocError> {
         if self.declares(name) {
             return Ok(());
         }
-        let mut words = Vec::new(alloc);
-        words.push(Vec::from_slice(alloc, name)?)?;
+        self.declared.add(self.alloc, name, ())?;
+        let mut words = Vec::new(self.alloc);
+        words.push(Vec::from_slice(self.alloc, name)?)?;
         let _is_taken = self.add(DraftLine {
-            keyword: Vec::from_slice(alloc, CLASSES)?,
+            keyword: Vec::from_slice(self.alloc, CLASSES)?,
             at,
             content: Content::Words(words),
         })?;
@@ -85,22 +113,20 @@ impl Draft {
     /// Adds a line. Where its keyword is there, a class gets the characters of both, a case map the pairs, and the
     /// declared classes are those of both; of other keywords the first line stays. Tells whether the line was taken.
     pub fn add(&mut self, line: DraftLine) -> Result<bool, AllocError> {
-        for other in &mut self.lines {
-            if other.keyword.as_slice() == line.keyword.as_slice() {
+        let number = self.numbers.get(line.keyword.as_slice()).copied();
+        match number.and_then(|number| self.lines.get_mut(number)) {
+            Some(other) => {
                 let is_joined = line.keyword.as_slice() == CLASSES;
-                return joined(&mut other.content, line.content, is_joined);
+                joined(&mut other.content, line.content, is_joined)
+            }
+            None => {
+                let number = self.lines.len();
+                self.numbers
+                    .add(self.alloc, line.keyword.as_slice(), number)?;
+                self.lines.push(line)?;
+                Ok(true)
             }
         }
-        self.lines.push(line)?;
-        Ok(true)
-    }
-}
-
-/// Whether a word is among those of a line.
-fn has_word(content: &Content, name: &[u8]) -> bool {
-    match content {
-        Content::Words(words) => words.iter().any(|word| word.as_slice() == name),
-        Content::Characters(_) | Content::Pairs(_) | Content::Texts(_) => false,
     }
 }
 

@@ -76,24 +76,26 @@ fn add_keyword(
     tokens: &[Placed],
     draft: &mut Draft,
     notes: &mut Notes,
-) -> Result<(), AllocError> {
+) -> Result<(), SourceFault> {
     match operands_of(category, draft, keyword) {
-        Some(Operands::Copied) => Ok(()),
+        Some(Operands::Copied) if draft.copies(at.file) => Ok(()),
+        Some(Operands::Copied) => Ok(notes.add(at, NoteCode::KeywordAgain)?),
         Some(Operands::Characters) => {
-            let content = Content::Characters(characters(reading, tokens, notes)?);
-            add_content(reading, at, keyword, content, draft, notes)
+            let ranges = characters(reading, tokens, &mut draft.room, notes)?;
+            let content = Content::Characters(ranges);
+            Ok(add_content(reading, at, keyword, content, draft, notes)?)
         }
         Some(Operands::One(Element::Word) | Operands::Several(Element::Word)) => {
-            declare_all(reading, tokens, draft, notes)
+            Ok(declare_all(reading, tokens, draft, notes)?)
         }
         Some(Operands::One(kind) | Operands::Several(kind)) => {
             let content = content_of(reading, kind, tokens, notes)?;
-            add_content(reading, at, keyword, content, draft, notes)
+            Ok(add_content(reading, at, keyword, content, draft, notes)?)
         }
         None if keyword == CLASS && category.bit() == Category::Ctype.bit() => {
             add_class(reading, at, tokens, draft, notes)
         }
-        Some(Operands::PassedOver) | None => notes.add(at, unknown_keyword(keyword)),
+        Some(Operands::PassedOver) | None => Ok(notes.add(at, unknown_keyword(keyword))?),
     }
 }
 
@@ -120,5 +122,5 @@ pub fn add_line(
         return Ok(notes.add(at, NoteCode::Keyword)?);
     };
     let keyword = keyword.as_slice();
-    Ok(add_keyword(reading, line.category, at, keyword, operands, draft, notes)?)
+    add_keyword(reading, line.category, at, keyword, operands, draft, notes)
 }

@@ -6,7 +6,7 @@ use crate::mark::from_word;
 use crate::scanner::tokens;
 use crate::token::{Placed, Token};
 use charset::Charset;
-use lc_base::{ByteText, Category, List, Place, TextFault};
+use lc_base::{ByName, ByteText, Category, List, Place, TextFault};
 use std::alloc::{AllocError, Global};
 
 /// The keyword that copies another locale's category.
@@ -36,21 +36,11 @@ fn may_copy(line: &GnuLine) -> bool {
     from_word(line.bytes.as_slice()).starts_with(COPY)
 }
 
-/// Whether a name is among these.
-fn is_among(names: &[ByteText], name: &[u8]) -> bool {
-    for other in names {
-        if other.as_bytes() == name {
-            return true;
-        }
-    }
-    false
-}
-
 /// Adds the name that a line copies.
 fn add_name(
     alloc: Global,
     charset: &Charset,
-    names: &mut Vec<ByteText>,
+    names: &mut ByName<()>,
     line: &GnuLine,
 ) -> Result<(), TextFault> {
     if !may_copy(line) {
@@ -58,15 +48,13 @@ fn add_name(
     }
     let scanned = tokens(alloc, charset, line)?;
     match copied_name(scanned.tokens.as_slice()) {
-        Some((_, name)) if !is_among(names.as_slice(), name) => {
-            Ok(names.push(ByteText::of(alloc, name)?)?)
-        }
-        _ => Ok(()),
+        Some((_, name)) => Ok(names.add(alloc, name, ())?),
+        None => Ok(()),
     }
 }
 
 /// Adds the names that a text copies, up to its first fault.
-fn add_names(alloc: Global, names: &mut Vec<ByteText>, text: &[u8]) -> Result<(), TextFault> {
+fn add_names(alloc: Global, names: &mut ByName<()>, text: &[u8]) -> Result<(), TextFault> {
     let charset = Charset::utf8(alloc)?;
     let file = read_file(alloc, text)?;
     for line in &file.lines {
@@ -75,12 +63,23 @@ fn add_names(alloc: Global, names: &mut Vec<ByteText>, text: &[u8]) -> Result<()
     Ok(())
 }
 
+/// The names as a list.
+fn listed(alloc: Global, names: &ByName<()>) -> Result<List<ByteText>, AllocError> {
+    let mut list = Vec::new(alloc);
+    for place in 0..names.len() {
+        if let Some(name) = names.name_at(place) {
+            list.push(ByteText::of(alloc, name)?)?;
+        }
+    }
+    Ok(List::of(list))
+}
+
 /// The names of the locales of which a text copies one of the five categories, each once. Of a text that is
 /// refused there are those that stand before the fault, or none.
 pub fn copied_names(alloc: Global, text: &[u8]) -> Result<List<ByteText>, AllocError> {
-    let mut names = Vec::new(alloc);
+    let mut names = ByName::new(alloc);
     match add_names(alloc, &mut names, text) {
-        Ok(()) | Err(TextFault::At(..)) => Ok(List::of(names)),
+        Ok(()) | Err(TextFault::At(..)) => listed(alloc, &names),
         Err(TextFault::Memory) => Err(AllocError),
     }
 }

@@ -65,6 +65,24 @@ fn step_in(dots: &[u8]) -> u32 {
     step.max(1)
 }
 
+/// The number that hexadecimal digits write.
+fn hex_number(digits: &[u8]) -> Option<u32> {
+    let mut number: u32 = 0;
+    for digit in digits {
+        let value = char::from(*digit).to_digit(16)?;
+        number = number.checked_mul(16)?.checked_add(value)?;
+    }
+    Some(number)
+}
+
+/// The value of a name with four or eight hexadecimal digits, as nearly each name is.
+fn numbered(name: &[u8]) -> Option<u32> {
+    match name {
+        [b'U', digits @ ..] if digits.len() == 4 || digits.len() == 8 => hex_number(digits),
+        _ => None,
+    }
+}
+
 /// Whether a byte goes on a range's dots.
 fn is_in_dots(byte: u8) -> bool {
     byte.is_ascii_digit() || byte == b'.' || byte == b'(' || byte == b')'
@@ -218,11 +236,20 @@ impl<'a> Scanner<'a> {
         Ok(())
     }
 
+    /// The value of the name, whose bytes are then none.
+    fn taken_name(&mut self) -> Option<u32> {
+        let value = match numbered(self.name.as_slice()) {
+            Some(value) if self.charset.has(value) => Some(value),
+            _ => self.charset.value_of(self.name.as_slice()),
+        };
+        self.name.clear();
+        value
+    }
+
     /// Ends a name in a text.
     fn end_name_in_text(&mut self) -> Result<(), AllocError> {
         self.state = State::Text;
-        let value = self.charset.value_of(self.name.as_slice());
-        self.name.clear();
+        let value = self.taken_name();
         match value.and_then(|value| self.charset.encode(value)) {
             Some(code) => Ok(self.bytes.extend_from_slice(code.as_bytes())?),
             None => Ok(self.scanned.unknown.push(self.at)?),
@@ -231,9 +258,7 @@ impl<'a> Scanner<'a> {
 
     /// Ends a name that is a token.
     fn end_name(&mut self) -> Result<(), AllocError> {
-        let value = self.charset.value_of(self.name.as_slice());
-        self.name.clear();
-        match value {
+        match self.taken_name() {
             Some(value) => self.push(Token::Character(value)),
             None => self.push(Token::UnknownName),
         }
@@ -272,7 +297,7 @@ impl<'a> Scanner<'a> {
     }
 }
 
-/// The tokens of a logical line, its keyword first.
+/// The tokens of a logical line, its keyword first. The charset is UTF-8.
 ///
 /// Refused with `OpenString` or `OpenName` where a text or a name does not end.
 pub fn tokens(alloc: Global, charset: &Charset, line: &GnuLine) -> Result<Scanned, TextFault> {

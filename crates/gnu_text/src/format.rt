@@ -48,7 +48,16 @@ enum Shown {
 /// The format of `%r` in the POSIX locale.
 const HALF_DAY_CLOCK: &[u8] = b"%I:%M:%S %p";
 
-/// The parts of a format. A `%` at its end is a conversion without a letter, of byte 0.
+/// A flag in place of more than one.
+const SEVERAL: u8 = b'+';
+
+/// The flag of a conversion that has one more.
+fn with_flag(flag: u8, more: u8) -> u8 {
+    if flag == 0 { more } else { SEVERAL }
+}
+
+/// The parts of a format. A `%` at its end is a conversion without a letter, of byte 0. The flag `+` stands for
+/// several flags.
 pub fn parts(alloc: Global, format: &[u8]) -> Result<Vec<Part>, AllocError> {
     let mut parts = Vec::new(alloc);
     let mut begun: Option<(u8, u8)> = None;
@@ -59,8 +68,8 @@ pub fn parts(alloc: Global, format: &[u8]) -> Result<Vec<Part>, AllocError> {
                 parts.push(Part::Byte(byte))?;
                 None
             }
-            (Some((_, modifier)), b'-' | b'_' | b'0'..=b'9' | b'^' | b'#' | b'+') => {
-                Some((*byte, modifier))
+            (Some((flag, modifier)), b'-' | b'_' | b'0'..=b'9' | b'^' | b'#' | b'+') => {
+                Some((with_flag(flag, *byte), modifier))
             }
             (Some((flag, 0)), b'E' | b'O') => Some((flag, *byte)),
             (Some((flag, modifier)), letter) => {
@@ -86,10 +95,15 @@ fn is_number(letter: u8) -> bool {
 /// The digits that a part of a format wants.
 pub fn wanted_digits(part: Part) -> Digits {
     match part {
-        Part::Conversion(b'-', _, letter) if is_number(letter) => Digits::Bare,
+        Part::Conversion(b'-', 0 | b'O', letter) if is_number(letter) => Digits::Bare,
         Part::Conversion(0 | b'_', 0, b'k' | b'l') => Digits::Spaced,
         Part::Conversion(..) | Part::Byte(_) => Digits::Absent,
     }
+}
+
+/// Whether what stands for a conversion does what its flag asks for.
+fn keeps_flag(flag: u8, letter: u8) -> bool {
+    flag == 0 || (matches!(flag, b'-' | b'_' | b'0') && is_number(letter))
 }
 
 /// The letter of the standard's conversion of a number.
@@ -114,39 +128,32 @@ fn posix_format(letter: u8) -> &'static [u8] {
 }
 
 impl Style {
-    /// What stands for a conversion, and what it has otherwise.
-    fn shown(self, flag: u8, modifier: u8, letter: u8) -> (Shown, Option<NoteCode>) {
-        match modifier {
-            0 => self.plain(flag, letter),
-            b'O' if self.digits != Digits::Own => self.without_digits(flag, letter),
-            _ => self.modified(flag, modifier, letter),
+    /// What stands for a conversion, and what it has otherwise: by its letter, its flag and its modifier.
+    fn shown(self, flag: u8, modifier: u8, letter: u8) -> (Shown, [Option<NoteCode>; 3]) {
+        if self.has_modified(modifier, letter) {
+            let of_flag = note_if(flag != 0, NoteCode::Flag);
+            return (Shown::Conversion(modifier, letter), [None, of_flag, None]);
         }
-    }
-
-    /// What stands for a conversion with the modifier `O` where the locale has no alternative digits of its own.
-    fn without_digits(self, flag: u8, letter: u8) -> (Shown, Option<NoteCode>) {
         let (shown, note) = self.plain(flag, letter);
-        match letter {
-            b'B' | b'b' | b'h' => (shown, Some(NoteCode::Modifier)),
-            _ => (shown, note),
+        let of_flag = note_if(!keeps_flag(flag, letter), NoteCode::Flag);
+        let of_modifier = note_if(!self.is_plain(modifier, letter), NoteCode::Modifier);
+        (shown, [note, of_flag, of_modifier])
+    }
+
+    /// Whether a format may have the conversion of a letter with this modifier.
+    fn has_modified(self, modifier: u8, letter: u8) -> bool {
+        let has_digits = modifier != b'O' || self.digits == Digits::Own;
+        match conversion_of(modifier, letter) {
+            Some(conversion) => modifier != 0 && has_digits && conversion.rank < self.rank,
+            None => false,
         }
     }
 
-    /// What stands for a conversion with a modifier.
-    fn modified(self, flag: u8, modifier: u8, letter: u8) -> (Shown, Option<NoteCode>) {
-        match conversion_of(modifier, letter) {
-            Some(conversion) if conversion.rank < self.rank && flag == 0 => {
-                (Shown::Conversion(modifier, letter), None)
-            }
-            Some(conversion) if conversion.rank < self.rank => (
-                Shown::Conversion(modifier, letter),
-                Some(NoteCode::Flag),
-            ),
-            _ => {
-                let (shown, _) = self.plain(flag, letter);
-                (shown, Some(NoteCode::Modifier))
-            }
-        }
+    /// Whether a conversion is the same without its modifier: it has none, or alternative digits are asked for
+    /// where there are none.
+    fn is_plain(self, modifier: u8, letter: u8) -> bool {
+        let lacks_digits = modifier == b'O' && self.digits != Digits::Own;
+        modifier == 0 || (lacks_digits && conversion_of(modifier, letter).is_some())
     }
 
     /// What stands for a conversion without a modifier.
@@ -154,12 +161,13 @@ impl Style {
         match (flag, letter) {
             (_, b'P') => (Shown::Conversion(0, b'p'), Some(NoteCode::LowerCase)),
             (b'-', _) if is_number(letter) => self.number(Digits::Bare, letter),
-            (b'_', b'd') => (Shown::Conversion(0, b'e'), None),
+            (b'_', b'd' | b'e') => (Shown::Conversion(0, b'e'), None),
+            (b'0', _) if is_number(letter) => (Shown::Conversion(0, standard_letter(letter)), None),
             (_, b'k' | b'l') => self.number(Digits::Spaced, letter),
             (b'_', b'm' | b'H' | b'I' | b'M' | b'S' | b'y') => {
                 self.number(Digits::Spaced, letter)
             }
-            _ => self.standard(flag, letter),
+            _ => self.standard(letter),
         }
     }
 
@@ -177,17 +185,17 @@ impl Style {
     }
 
     /// What stands for a conversion that the standard may have.
-    fn standard(self, flag: u8, letter: u8) -> (Shown, Option<NoteCode>) {
+    fn standard(self, letter: u8) -> (Shown, Option<NoteCode>) {
         match conversion_of(0, letter) {
             None => (Shown::Format(b""), Some(NoteCode::Conversion)),
             Some(conversion) if conversion.rank >= self.rank => (
                 Shown::Format(posix_format(letter)),
                 Some(NoteCode::NestedFormat),
             ),
-            Some(_) if letter == b'r' && !self.has_half_days => {
-                (Shown::Format(HALF_DAY_CLOCK), None)
-            }
-            Some(_) if flag != 0 => (Shown::Conversion(0, letter), Some(NoteCode::Flag)),
+            Some(_) if letter == b'r' && !self.has_half_days => (
+                Shown::Format(HALF_DAY_CLOCK),
+                Some(NoteCode::NestedFormat),
+            ),
             Some(_) => (Shown::Conversion(0, letter), None),
         }
     }
@@ -202,21 +210,26 @@ fn push_shown(text: &mut Vec<u8>, shown: Shown) -> Result<(), AllocError> {
     }
 }
 
+/// A note where there is something to note.
+fn note_if(is_noted: bool, code: NoteCode) -> Option<NoteCode> {
+    if is_noted { Some(code) } else { None }
+}
+
 /// Adds what stands for a part of a format. Tells what it has otherwise.
 pub fn push_part(
     text: &mut Vec<u8>,
     style: Style,
     part: Part,
-) -> Result<Option<NoteCode>, AllocError> {
+) -> Result<[Option<NoteCode>; 3], AllocError> {
     match part {
         Part::Byte(byte) => {
             text.push(byte)?;
-            Ok(None)
+            Ok([None, None, None])
         }
         Part::Conversion(flag, modifier, letter) => {
-            let (shown, note) = style.shown(flag, modifier, letter);
+            let (shown, notes) = style.shown(flag, modifier, letter);
             push_shown(text, shown)?;
-            Ok(note)
+            Ok(notes)
         }
     }
 }

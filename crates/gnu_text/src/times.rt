@@ -1,7 +1,7 @@
 //! The formats of `LC_TIME`, and the alternative digits that they ask for.
 
 use crate::format::{Digits, Style, parts, push_part, wanted_digits};
-use gnu_drafts::{Content, Draft, DraftLine, DraftText, Notes, Origin};
+use gnu_drafts::{Content, Draft, DraftLine, DraftText, NoteCode, Notes, Origin};
 use keywords::{Rule, rule_of};
 use lc_base::Category;
 use std::alloc::{AllocError, Global};
@@ -78,6 +78,20 @@ fn has_half_days(draft: &Draft) -> bool {
     })
 }
 
+/// Adds the notes of a part of a format.
+fn add_notes(
+    at: Origin,
+    codes: [Option<NoteCode>; 3],
+    notes: &mut Notes,
+) -> Result<(), AllocError> {
+    for code in codes {
+        if let Some(code) = code {
+            notes.add(at, code)?;
+        }
+    }
+    Ok(())
+}
+
 /// A format of the standard in place of one.
 fn standard_format(
     alloc: Global,
@@ -87,9 +101,7 @@ fn standard_format(
 ) -> Result<Vec<u8>, AllocError> {
     let mut format = Vec::new(alloc);
     for part in parts(alloc, text.bytes.as_slice())? {
-        if let Some(code) = push_part(&mut format, style, part)? {
-            notes.add(text.at, code)?;
-        }
+        add_notes(text.at, push_part(&mut format, style, part)?, notes)?;
     }
     Ok(format)
 }
