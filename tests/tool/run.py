@@ -273,7 +273,7 @@ def main(work, program=None):
             it.write(lines(["LC_TIME", copies, "END LC_TIME"]))
     cases.append(Case("large_file", 1, ["money", "-l", "files/large", "%n", "1"], ["locale_tool: files/large: it has more than 16777216 bytes"]))
     too_long = [
-        "files/chain_63:2:6: OverLimit locales: a bundle has at most 64 locales",
+        "files/chain_63:2:6: OverLimit locales: this is more than the limit allows; a bundle has at most 64 locales",
         'copy "chain_64"',
         "     ^",
         "hint: copies are followed up to 64 files",

@@ -9,7 +9,7 @@ use clap::ArgMatches;
 use std::alloc::Global;
 use std::rt::Files;
 use std::time::Clock;
-use tool_check::{Checking, check_file};
+use tool_check::{Checking, Told, check_file};
 use tool_messages::{Answer, Problem};
 
 /// Checks files: the status is 1 where one is refused.
@@ -51,9 +51,10 @@ fn add_checked<R: Files + Clock + Eprint>(
     progress: &mut Progress,
     gathered: &mut Gathered,
 ) -> Result<(), Problem> {
+    let mut told = Told::new(alloc);
     let mut done = 0usize;
     for path in paths {
-        add_file(rt, alloc, how, path_of(path), gathered)?;
+        add_file(rt, alloc, how, path_of(path), &mut told, gathered)?;
         done = done.saturating_add(1);
         progress.show(rt, done, paths.len());
     }
@@ -65,16 +66,17 @@ fn add_file<R: Files>(
     alloc: Global,
     how: &Checking<'_>,
     path: &str,
+    told: &mut Told,
     gathered: &mut Gathered,
 ) -> Result<(), Problem> {
-    let told = gathered.messages.len();
+    let before = gathered.messages.len();
     let output = &mut gathered.output;
-    if check_file(rt, alloc, how, path, output, &mut gathered.messages)? {
+    if check_file(rt, alloc, how, path, told, output, &mut gathered.messages)? {
         return Ok(());
     }
     gathered.status = 1;
     if is_bundle_file(rt, alloc, path)? {
-        gathered.messages.truncate(told);
+        gathered.messages.truncate(before);
         push_bundle(&mut gathered.messages, path)?;
     }
     Ok(())

@@ -1,5 +1,5 @@
 -- What checking gives, case by case.
-use Rattle.std.proofs.Common.{◌≡◌, ℕ, ◌<◌, ◌++◌, Bool, true, false, List, [], ◌∷◌, length, All, Result, Ok, Err, IfOk, codes, ap, subst, length-append, arith, if◌then◌else◌}
+use Rattle.std.proofs.Common.{◌≡◌, ◌≢◌, ℕ, ◌<◌, ◌++◌, Bool, true, false, List, [], ◌∷◌, length, All, Result, Ok, Err, IfOk, codes, refl, ap, subst, length-append, arith, if◌then◌else◌}
 use Rattle.lc_base.specs.declared.place.Place.{Place}
 use Rattle.lc_base.specs.declared.reason.Reason.{Reason}
 use Rattle.lc_base.specs.Reading.{Reads}
@@ -15,7 +15,10 @@ use Rattle.tool_check.specs.declared.checked.Checked.TheVariants.{Accepted, Refu
 use Rattle.tool_check.specs.declared.found.Fault.{Fault}
 use Rattle.tool_check.specs.Found.{AreAllTold, IsFaultOf}
 use Rattle.tool_check.specs.Summary.{row, charmap_summary}
-use Rattle.tool_check.specs.Checked.{IsSummary, AreMessages, AreMessagesFrom, IsFoundOf, IsFound, IsCharmapFoundOf, IsCharmapFound, IsChecked, IsWritten}
+use Rattle.tool_findings.specs.declared.found.Finding.{Finding}
+use Rattle.tool_check.specs.Odd.{AreFindingMessages, source_findings, IsAdded}
+use Rattle.tool_check.proofs.OddLemmas.{findings_say}
+use Rattle.tool_check.specs.Checked.{accepted, refused, IsSummary, AreMessages, AreMessagesFrom, AreAllMessages, IsAcceptedOf, IsRefusedOf, IsFoundOf, IsFound, IsCharmapFoundOf, IsCharmapFound, IsChecked, IsWritten}
 
 -- ---- messages of faults
 
@@ -48,14 +51,48 @@ charmap_summed : (asked : Bool) (path summary : List ℕ) (set : CodedSet) → s
 charmap_summed false path summary set e = e
 charmap_summed true path summary set e = record { rest = row (codes "charset") (set_name set); parts = e }
 
-found_of_checked : (asked : Bool) (path : List ℕ) (sources : Sources) (reads : Reads Catalog) (found : Checked) → IsFoundOf asked path sources reads found → IsChecked asked path found
-found_of_checked asked path sources (Ok library) (Accepted summary) is = is
-found_of_checked asked path sources (Ok library) (Refused messages) is = absurd is
-found_of_checked asked path sources (Err fault) (Accepted summary) is = absurd is
-found_of_checked asked path sources (Err fault) (Refused messages) is = messages_from_say sources _ messages is
+-- nothing is found beside a library
+pub nothing_odd : {E : Type 0} (asked : Bool) (path : List ℕ) (findings : List Finding) (summary : Result (List ℕ) E) → findings ≡ [] → IfOk summary (IsSummary asked path)
+    → IfOk (accepted summary) (IsAcceptedOf asked path findings)
+nothing_odd asked path [] (Ok summary) e is = is
+nothing_odd asked path [] (Err fault) e is = tt
+nothing_odd asked path (finding ∷ findings) summary e is = absurd cc
+
+-- something is found beside a library
+pub all_odd : {E : Type 0} (asked : Bool) (path : List ℕ) (findings : List Finding) (messages : Result (List ℕ) E) → findings ≢ [] → IfOk messages (AreFindingMessages path findings)
+    → IfOk (refused messages) (IsAcceptedOf asked path findings)
+all_odd asked path [] messages some are = absurd (some refl)
+all_odd asked path (finding ∷ findings) (Ok messages) some are = are
+all_odd asked path (finding ∷ findings) (Err fault) some are = tt
+
+-- the messages of findings, and behind them those of faults
+pub all_told : (path : List ℕ) (findings : List Finding) (sources : Sources) (first : Fault) (found faults text : List ℕ) → AreFindingMessages path findings found
+    → AreMessagesFrom sources first faults → text ≡ found ++ faults → AreAllMessages path findings sources first text
+all_told path findings sources first found faults text are from e = record { message = found; rest = faults; parts = e; is = are; more = from }
+
+all_say : (path : List ℕ) (findings : List Finding) (sources : Sources) (first : Fault) (messages : List ℕ) → AreAllMessages path findings sources first messages → 0 < length messages
+all_say path findings sources first messages are =
+    omega (arith, ap length are.parts, length-append are.message are.rest, messages_from_say sources first are.rest are.more)
+
+accepted_checked : (asked : Bool) (path : List ℕ) (findings : List Finding) (found : Checked) → IsAcceptedOf asked path findings found → IsChecked asked path found
+accepted_checked asked path [] (Accepted summary) is = is
+accepted_checked asked path [] (Refused messages) is = absurd is
+accepted_checked asked path (finding ∷ findings) (Accepted summary) is = absurd is
+accepted_checked asked path (finding ∷ findings) (Refused messages) is = findings_say path finding findings messages is
+
+refused_checked : (asked : Bool) (path : List ℕ) (sources : Sources) (findings : List Finding) (first : Fault) (found : Checked) → IsRefusedOf path sources findings first found
+    → IsChecked asked path found
+refused_checked asked path sources findings first (Accepted summary) is = absurd is
+refused_checked asked path sources findings first (Refused messages) is = all_say path findings sources first messages is
+
+found_of_checked : (asked : Bool) (path : List ℕ) (sources : Sources) (findings : List Finding) (reads : Reads Catalog) (found : Checked)
+    → IsFoundOf asked path sources findings reads found → IsChecked asked path found
+found_of_checked asked path sources findings (Ok library) found is = accepted_checked asked path findings found is
+found_of_checked asked path sources findings (Err fault) found is = refused_checked asked path sources findings _ found is
 
 pub found_checked : (asked : Bool) (path : List ℕ) (sources : Sources) (found : Checked) → IsFound asked path sources found → IsChecked asked path found
-found_checked asked path sources found is = found_of_checked asked path sources (library sources.charmaps sources.locales) found is
+found_checked asked path sources found is =
+    found_of_checked asked path sources (source_findings sources.locales) (library sources.charmaps sources.locales) found is
 
 charmap_found_of_checked : (asked : Bool) (path : List ℕ) (files : List FilePath) (reads : Reads CodedSet) (found : Checked) → IsCharmapFoundOf asked path files reads found
     → IsChecked asked path found
@@ -79,3 +116,6 @@ accepted_written asked path output output' messages messages' summary is more sa
 pub refused_written : (asked : Bool) (path output output' messages messages' told : List ℕ) → 0 < length told → output' ≡ output → messages' ≡ messages ++ told
     → IsWritten false asked path output output' messages messages'
 refused_written asked path output output' messages messages' told says same more = record { output_same = same; told = told; not_silent = says; messages_more = more }
+
+pub added_written : (asked : Bool) (path output output' messages messages' : List ℕ) → IsAdded messages messages' → output' ≡ output → IsWritten false asked path output output' messages messages'
+added_written asked path output output' messages messages' added same = record { output_same = same; told = added.told; not_silent = added.not_silent; messages_more = added.more }

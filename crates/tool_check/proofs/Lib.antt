@@ -5,3 +5,4 @@ pub mod FoundLemmas
 pub mod SummaryLemmas
 pub mod CheckedLemmas
 mod Examples
+pub mod OddLemmas

@@ -11,7 +11,9 @@ use Rattle.tool_files.specs.Told.{IsFileMessage}
 use Rattle.tool_check.specs.declared.checked.Checked.{Checked}
 use Rattle.tool_check.specs.declared.checked.Checked.TheVariants.{Accepted, Refused}
 use Rattle.tool_check.specs.declared.found.Fault.{Fault}
+use Rattle.tool_findings.specs.declared.found.Finding.{Finding}
 use Rattle.tool_check.specs.Found.{AreAllTold, IsFaultOf}
+use Rattle.tool_check.specs.Odd.{BeginsWithMessage, AreFindingMessages, source_findings}
 use Rattle.tool_check.specs.Summary.{accepted_line, charmap_summary}
 
 -- ---- what is found of files that were read
@@ -20,14 +22,6 @@ use Rattle.tool_check.specs.Summary.{accepted_line, charmap_summary}
 abbrev pub IsSummary : Bool → List ℕ → List ℕ → Type 0
 IsSummary false path summary = summary ≡ []
 IsSummary true path summary = BeginsWith (accepted_line path) summary
-
--- a text is such a message, and behind it stands more
-pub record BeginsWithMessage (is_message behind : List ℕ → Type 0) (text : List ℕ) : Type 0 where
-  pub message : List ℕ
-  pub rest : List ℕ
-  pub parts : text ≡ message ++ rest
-  pub is : is_message message
-  pub more : behind rest
 
 -- a text is the messages of these faults, one after another
 abbrev pub AreMessages : List FilePath → List Fault → List ℕ → Type 0
@@ -41,16 +35,30 @@ pub record AreMessagesFrom (sources : Sources) (first : Fault) (messages : List 
   pub each : All (IsFaultOf sources.charmaps sources.locales first) faults
   pub are : AreMessages sources.paths.items faults messages
 
--- sources that give this are accepted, with their summary, or refused, with the messages of their faults
-abbrev pub IsFoundOf : Bool → List ℕ → Sources → Reads Catalog → Checked → Type 0
-IsFoundOf asked path sources (Ok library) (Accepted summary) = IsSummary asked path summary
-IsFoundOf asked path sources (Ok library) (Refused messages) = ⊥
-IsFoundOf asked path sources (Err fault) (Accepted summary) = ⊥
-IsFoundOf asked path sources (Err fault) (Refused messages) = AreMessagesFrom sources (record { place = fault.0; reason = fault.1 }) messages
+-- the messages of findings, and behind them those of sources
+abbrev pub AreAllMessages : List ℕ → List Finding → Sources → Fault → List ℕ → Type 0
+AreAllMessages path findings sources first = BeginsWithMessage (AreFindingMessages path findings) (AreMessagesFrom sources first)
 
--- sources are accepted where they give a library, and else refused
+-- sources that give a library are accepted, with their summary, where these findings are none, and else refused, with their messages
+abbrev pub IsAcceptedOf : Bool → List ℕ → List Finding → Checked → Type 0
+IsAcceptedOf asked path [] (Accepted summary) = IsSummary asked path summary
+IsAcceptedOf asked path [] (Refused messages) = ⊥
+IsAcceptedOf asked path (finding ∷ findings) (Accepted summary) = ⊥
+IsAcceptedOf asked path (finding ∷ findings) (Refused messages) = AreFindingMessages path (finding ∷ findings) messages
+
+-- sources that give no library are refused, with the messages of findings and of their faults
+abbrev pub IsRefusedOf : List ℕ → Sources → List Finding → Fault → Checked → Type 0
+IsRefusedOf path sources findings first (Accepted summary) = ⊥
+IsRefusedOf path sources findings first (Refused messages) = AreAllMessages path findings sources first messages
+
+-- what is found of sources that give this, and of which the first has these findings
+abbrev pub IsFoundOf : Bool → List ℕ → Sources → List Finding → Reads Catalog → Checked → Type 0
+IsFoundOf asked path sources findings (Ok library) = IsAcceptedOf asked path findings
+IsFoundOf asked path sources findings (Err fault) = IsRefusedOf path sources findings (record { place = fault.0; reason = fault.1 })
+
+-- sources are accepted where they give a library, and the first one has nothing that its reader passes over
 abbrev pub IsFound : Bool → List ℕ → Sources → Checked → Type 0
-IsFound asked path sources found = IsFoundOf asked path sources (library sources.charmaps sources.locales) found
+IsFound asked path sources = IsFoundOf asked path sources (source_findings sources.locales) (library sources.charmaps sources.locales)
 
 -- a charmap that gives this is accepted, with its summary, or refused, with the message of its first fault
 abbrev pub IsCharmapFoundOf : Bool → List ℕ → List FilePath → Reads CodedSet → Checked → Type 0

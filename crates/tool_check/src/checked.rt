@@ -5,14 +5,17 @@ ghost use Rattle.tool_messages.specs.declared.answer.Problem.TheVariants.{Memory
 ghost use Rattle.tool_messages.specs.Message.{BeginsWith};
 ghost use Rattle.tool_messages.specs.Status.{IsSpoken};
 ghost use Rattle.tool_files.specs.Told.{IsFileMessage};
-ghost use Rattle.tool_check.specs.Checked.{accepted, refused, AreMessages, AreMessagesFrom, IsSummary, IsFound, IsCharmapFound, IsChecked, IsWritten};
+ghost use Rattle.tool_check.specs.Checked.{accepted, refused, AreMessages, AreMessagesFrom, AreAllMessages, IsAcceptedOf, IsSummary, IsFound, IsCharmapFound, IsChecked, IsWritten};
+ghost use Rattle.tool_check.specs.Odd.{AreFindingMessages};
 ghost use Rattle.tool_check.specs.Summary.{accepted_line, charmap_summary};
 
 use crate::declared::declared_classes;
 use crate::faults::faults_of;
 use crate::found::Fault;
+use crate::odd::{finding_messages, joined, source_findings};
 use crate::summary::{push_charmap, push_locale};
 use crate::texts::is_charmap;
+use crate::told::{Told, push_untold};
 use category_store::{Library, Share};
 use charset::Charset;
 use keywords::Section;
@@ -22,6 +25,7 @@ use std::rt::Files;
 use tool_files::{
     Loaded, Sources, Wanted, charset_of, fault_message, file_text, library_of, load_with,
 };
+use tool_findings::Finding;
 use tool_messages::Problem;
 
 /// What is checked.
@@ -39,18 +43,20 @@ pub struct Checking<'a> {
 pub enum Checked {
     /// With its summary, which is empty where none is asked for.
     Accepted(ByteText),
-    /// With the messages of its faults.
+    /// With the messages of its findings and its faults.
     Refused(ByteText),
 }
 
-/// Checks a file: adds its summary to the output where it is asked for, or its faults to the messages.
+/// Checks a file: adds its summary to the output where it is asked for, or to the messages those of its findings
+/// and its faults that are not told yet, and where all are, a line that says so.
 /// Whether it is accepted. It fails only when it is out of memory.
-#[tactic(auto, using(crate::proofs::CheckedLemmas::accepted_written, crate::proofs::CheckedLemmas::refused_written))]
+#[tactic(auto, using(crate::proofs::CheckedLemmas::accepted_written, crate::proofs::CheckedLemmas::refused_written, crate::proofs::CheckedLemmas::added_written))]
 pub fn check_file<R: Files>(
     rt: &R,
     alloc: Global,
     how: &Checking<'_>,
     path: &str,
+    told: &mut Told,
     output: &mut Vec<u8>,
     messages: &mut Vec<u8>,
 ) -> Result<bool, Problem>
@@ -63,7 +69,7 @@ pub fn check_file<R: Files>(
             Ok(true)
         }
         Ok(Checked::Refused(faults)) => {
-            messages.extend_from_slice(faults.as_bytes())?;
+            push_untold(messages, told, path, faults.as_bytes())?;
             Ok(false)
         }
         Err(problem) => {
@@ -179,8 +185,9 @@ fn locale_checked<R: Files>(
     }
 }
 
-/// What sources that were read are found to be: accepted where they give a library, and else refused, with the
-/// messages of their faults, among them that of the first one.
+/// What sources that were read are found to be: accepted where they give a library, and the first one has nothing
+/// that its reader passes over. Else refused, with the messages of what is found of that one, and of the faults of
+/// all, among them that of the first one.
 pub fn sources_checked(
     alloc: Global,
     is_asked: bool,
@@ -189,13 +196,53 @@ pub fn sources_checked(
 ) -> Result<Checked, AllocError>
     ensures { IfOk result (IsFound is_asked path.now loaded.now.sources) }
 {
+    let findings = source_findings(alloc, loaded.sources.locales.as_slice())?;
     match library_of(alloc, &loaded.sources) {
-        Ok(library) => accepted(locale_summary(alloc, is_asked, path, loaded, &library)),
+        Ok(library) => {
+            library_checked(alloc, is_asked, path, loaded, &library, findings.as_slice())
+        }
         Err(TextFault::At(place, reason)) => {
-            refused(fault_messages(alloc, loaded, Fault { place, reason }))
+            let fault = Fault { place, reason };
+            refused(all_messages(alloc, path, loaded, findings.as_slice(), fault))
         }
         Err(TextFault::Memory) => Err(AllocError),
     }
+}
+
+/// What sources are found to be that give a library.
+#[tactic(auto, using(crate::proofs::CheckedLemmas::nothing_odd, crate::proofs::CheckedLemmas::all_odd))]
+fn library_checked(
+    alloc: Global,
+    is_asked: bool,
+    path: &str,
+    loaded: &Loaded,
+    library: &Library,
+    findings: &[Finding],
+) -> Result<Checked, AllocError>
+    ensures { IfOk result (IsAcceptedOf is_asked path.now findings.now) }
+{
+    if findings.is_empty() {
+        return accepted(locale_summary(alloc, is_asked, path, loaded, library));
+    }
+    let locales = loaded.sources.locales.as_slice();
+    refused(finding_messages(alloc, path, locales, findings))
+}
+
+/// The messages of findings, and behind them those of faults.
+#[tactic(auto, using(crate::proofs::CheckedLemmas::all_told))]
+fn all_messages(
+    alloc: Global,
+    path: &str,
+    loaded: &Loaded,
+    findings: &[Finding],
+    first: Fault,
+) -> Result<ByteText, AllocError>
+    ensures { IfOk result (AreAllMessages path.now findings.now loaded.now.sources first) }
+{
+    let locales = loaded.sources.locales.as_slice();
+    let found = finding_messages(alloc, path, locales, findings)?;
+    let faults = fault_messages(alloc, loaded, first)?;
+    joined(found, faults.as_bytes())
 }
 
 /// The summary of a locale, if it is asked for.
@@ -276,13 +323,4 @@ fn message_of(alloc: Global, loaded: &Loaded, fault: Fault) -> Result<ByteText, 
 {
     let charset = Some(&loaded.charset);
     fault_message(alloc, &loaded.sources, charset, fault.place, fault.reason)
-}
-
-/// A text with another behind it.
-fn joined(text: ByteText, more: &[u8]) -> Result<ByteText, AllocError>
-    ensures { IfOk result (λ both. both ≡ text ++ more.now) }
-{
-    let mut both = text.into_vec();
-    both.extend_from_slice(more)?;
-    Ok(ByteText::from_vec(both))
 }

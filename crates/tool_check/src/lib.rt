@@ -7,7 +7,10 @@ mod declared;
 mod faults;
 mod found;
 mod looks;
+mod odd;
 mod summary;
 mod texts;
+mod told;
 
 pub use checked::{Checked, Checking, charmap_checked, check_file, sources_checked};
+pub use told::Told;

@@ -1,18 +1,19 @@
 //! What is read of a source, with the locales that it copies.
 
 use crate::compiled::sections_in;
-use crate::format::word_at;
 use charset::Charset;
 use keywords::{Body, Section};
-use lc_base::{Block, ByteText, Category, List, Place, TextFault, next_line};
+use lc_base::{Block, ByteText, CATEGORIES, Category, List, Place, TextFault, next_line};
 use std::alloc::{AllocError, Global};
+use tool_words::word_at;
 
 /// The keyword that copies the category of another locale.
 const COPY: &[u8] = b"copy";
 
-/// The name of a locale that a section copies, with the place where it stands.
+/// The name of a locale that the section of a category copies, with the place where it stands.
 #[derive(Drop)]
 pub struct CopiedName {
+    pub category: Category,
     pub place: Place,
     pub name: ByteText,
 }
@@ -59,17 +60,22 @@ pub fn copied_names(
 fn names_in(alloc: Global, sections: &[Section]) -> Result<Vec<CopiedName>, AllocError> {
     let mut names = Vec::new(alloc);
     for section in sections {
-        push_name(alloc, &mut names, &section.body)?;
+        push_name(alloc, &mut names, section)?;
     }
     Ok(names)
 }
 
 /// Adds the name of the locale that a section copies, if it copies.
-fn push_name(alloc: Global, names: &mut Vec<CopiedName>, body: &Body) -> Result<(), AllocError> {
-    match body {
+fn push_name(
+    alloc: Global,
+    names: &mut Vec<CopiedName>,
+    section: &Section,
+) -> Result<(), AllocError> {
+    match &section.body {
         Body::Copy(place, name) => {
             let name = ByteText::of(alloc, name.as_bytes())?;
             names.push(CopiedName {
+                category: section.category,
                 place: *place,
                 name,
             })?;
@@ -84,15 +90,13 @@ fn names_in_lines(alloc: Global, block: &Block) -> Result<Vec<CopiedName>, Alloc
     let mut names = Vec::new(alloc);
     let mut rest = block.text.as_bytes();
     let mut number = block.first_line;
-    let mut is_inside = false;
+    let mut inside = None;
     // a text has at most as many lines as bytes
     for _ in 0..block.text.as_bytes().len() {
         match next_line(rest) {
             Some((line, following)) => {
-                is_inside = is_inside_behind(is_inside, word_at(line, 0));
-                if is_inside {
-                    push_name_in(alloc, &mut names, line, number)?;
-                }
+                inside = section_behind(inside, word_at(line, 0));
+                push_name_in(alloc, &mut names, line, number, inside)?;
                 number = number.saturating_add(1);
                 rest = following;
             }
@@ -102,42 +106,53 @@ fn names_in_lines(alloc: Global, block: &Block) -> Result<Vec<CopiedName>, Alloc
     Ok(names)
 }
 
-/// Whether what follows a line with this first word is in a section of one of the five categories.
-fn is_inside_behind(is_inside: bool, word: &[u8]) -> bool {
+/// The category of the section in which the line behind one with this first word stands, if it is one of the five.
+fn section_behind(inside: Option<Category>, word: &[u8]) -> Option<Category> {
     if word.starts_with(b"LC_") {
-        return is_category(word);
+        return category_named(word);
     }
-    is_inside && word != b"END".as_slice()
+    if word == b"END".as_slice() {
+        return None;
+    }
+    inside
 }
 
-/// Whether a word is the name of a category.
-fn is_category(word: &[u8]) -> bool {
-    word == Category::Ctype.name()
-        || word == Category::Numeric.name()
-        || word == Category::Monetary.name()
-        || word == Category::Time.name()
-        || word == Category::Messages.name()
+/// The category with a name.
+fn category_named(name: &[u8]) -> Option<Category> {
+    for category in CATEGORIES.iter() {
+        if category.name() == name {
+            return Some(*category);
+        }
+    }
+    None
 }
 
-/// Adds the name on a line with this number, if the line begins with `copy`.
+/// Adds the name on a line with this number, if the line begins with `copy` and stands in a section.
 fn push_name_in(
     alloc: Global,
     names: &mut Vec<CopiedName>,
     line: &[u8],
     number: u32,
+    inside: Option<Category>,
 ) -> Result<(), AllocError> {
-    if word_at(line, 0) != COPY {
-        return Ok(());
+    match inside {
+        Some(category) if word_at(line, 0) == COPY => {
+            let operand = behind_keyword(line);
+            let before = line.len().saturating_sub(operand.len()).min(65_535) as u32;
+            let place = Place {
+                line: number,
+                column: before.saturating_add(1),
+            };
+            let name = ByteText::of(alloc, name_at(operand))?;
+            names.push(CopiedName {
+                category,
+                place,
+                name,
+            })?;
+            Ok(())
+        }
+        _ => Ok(()),
     }
-    let operand = behind_keyword(line);
-    let before = line.len().saturating_sub(operand.len()).min(65_535) as u32;
-    let place = Place {
-        line: number,
-        column: before.saturating_add(1),
-    };
-    let name = ByteText::of(alloc, name_at(operand))?;
-    names.push(CopiedName { place, name })?;
-    Ok(())
 }
 
 /// What stands behind the keyword of a line that begins with `copy`.

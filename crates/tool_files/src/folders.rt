@@ -12,12 +12,27 @@ pub fn is_file<R: Files>(rt: &R, path: &str) -> bool {
     }
 }
 
-/// The path of a file in a folder; just the folder where the name is no text.
+/// The path of a file in a folder, which is its name in the folder `.`; just the folder where the name is no text.
 pub fn path_in(alloc: Global, folder: &str, name: &[u8]) -> Result<String, AllocError> {
-    let mut path = String::from_str(alloc, folder)?;
-    if let Ok(name) = str::from_utf8(name) {
-        path.push_str("/")?;
-        path.push_str(name)?;
+    let mut path = String::new(alloc);
+    match str::from_utf8(name) {
+        Ok(name) => {
+            push_folder(&mut path, folder)?;
+            path.push_str(name)?;
+        }
+        Err(_) => path.push_str(folder)?,
     }
     Ok(path)
+}
+
+/// Adds what stands in front of the name of a file in a folder.
+fn push_folder(path: &mut String, folder: &str) -> Result<(), AllocError> {
+    if folder.as_bytes() == b".".as_slice() {
+        return Ok(());
+    }
+    path.push_str(folder)?;
+    match folder.as_bytes() {
+        [.., b'/'] => Ok(()),
+        _ => path.push_str("/"),
+    }
 }

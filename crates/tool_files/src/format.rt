@@ -1,7 +1,8 @@
 //! Where a byte of a text in quotes is spelled.
 
 use charset::Charset;
-use lc_base::{Place, is_blank, next_line};
+use lc_base::{Place, next_line};
+use tool_words::word_at;
 
 /// The escape character of a source that gives none.
 const ESCAPE: u8 = b'\\';
@@ -218,18 +219,4 @@ fn behind_line(head: Head, line: &[u8]) -> Head {
         },
         _ => head,
     }
-}
-
-/// The word of a line with a number, from 0; empty where there is none.
-pub fn word_at(line: &[u8], number: u32) -> &[u8] {
-    let mut left = number;
-    for word in line.split(|byte| is_blank(*byte) || *byte == b'\r') {
-        if !word.is_empty() {
-            if left == 0 {
-                return word;
-            }
-            left -= 1;
-        }
-    }
-    b""
 }

@@ -1,6 +1,7 @@
 //! Locale sources and charmaps that stand in files, and the locales that they give.
 #![tactic(auto)]
 
+mod chains;
 mod compiled;
 mod copies;
 mod files;

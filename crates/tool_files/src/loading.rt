@@ -3,23 +3,19 @@
 ghost use Rattle.std.specs.Prelude.{IfErr};
 ghost use Rattle.tool_messages.specs.Status.{IsSpoken};
 
+use crate::chains::{follow_all, keep_parts};
 use crate::compiled::charset_of;
-use crate::copies::{CopiedName, read_block};
+use crate::copies::{CopiedName, copied_names, read_block};
 use crate::files::file_text;
-use crate::folders::{is_file, path_in};
 use crate::parts::with_categories;
 use crate::shown::fault_problem;
 use crate::sources::Sources;
 use charset::Charset;
 use keywords::Section;
-use lc_base::{Block, ByteText, Category, Limit, List, Reason, TextFault};
-use locale_sources::is_posix;
+use lc_base::{Block, ByteText, Category, List};
 use std::alloc::{AllocError, Global};
 use std::rt::Files;
 use tool_messages::Problem;
-
-/// The most files of locales.
-const FILES_MOST: usize = 64;
 
 /// The files that the words of a command name.
 #[derive(Clone, Copy)]
@@ -52,12 +48,12 @@ impl Drop for Loaded {
 
 /// What is read of the files of locales.
 #[derive(Clone, Copy)]
-struct Reading<'a> {
+pub struct Reading<'a> {
     /// The categories of the sections; `None` for the whole files.
     categories: Option<&'a [Category]>,
     /// Where the files of copied locales are looked for.
-    folders: &'a [&'a str],
-    /// Whether sections are read: they are asked for, or the files of the locales that they copy are.
+    pub folders: &'a [&'a str],
+    /// Whether sections are asked for.
     has_sections: bool,
 }
 
@@ -105,7 +101,7 @@ fn parts_of<'a>(wanted: &Wanted<'a>, categories: &'a [Category]) -> Reading<'a> 
     Reading {
         categories: Some(categories),
         folders: wanted.folders,
-        has_sections: !wanted.folders.is_empty(),
+        has_sections: false,
     }
 }
 
@@ -123,7 +119,7 @@ pub fn load_with<R: Files>(
     let reading = Reading {
         categories: None,
         folders: wanted.folders,
-        has_sections: is_asked || !wanted.folders.is_empty(),
+        has_sections: is_asked,
     };
     load_parts(rt, alloc, wanted.charmap, locale, &reading)
 }
@@ -155,6 +151,10 @@ fn add_named_files<R: Files>(
 ) -> Result<(), Problem>
     ensures { IfErr result IsSpoken }
 {
+    for folder in reading.folders {
+        let folder = ByteText::of(alloc, folder.as_bytes())?;
+        sources.folders.push(folder)?;
+    }
     add_charmap(rt, alloc, charmap, sources)?;
     match locale {
         Some((path, text)) => Ok(add_text(alloc, path, text, reading, sources)?),
@@ -177,7 +177,7 @@ fn in_charset<R: Files>(
     }
 }
 
-/// Adds the files of the locales that sources copy.
+/// Adds the files of the locales that sources copy, and reads the sections where they are asked for.
 fn with_copies<R: Files>(
     rt: &R,
     alloc: Global,
@@ -193,7 +193,10 @@ fn with_copies<R: Files>(
         sections: Vec::new(alloc),
     };
     match add_copies(rt, alloc, reading, &mut loaded) {
-        Ok(()) => Ok(loaded),
+        Ok(()) => {
+            read_sections(alloc, reading, &mut loaded)?;
+            Ok(loaded)
+        }
         Err(problem) => Err(problem),
     }
 }
@@ -215,20 +218,6 @@ fn add_charmap<R: Files>(
     }
 }
 
-/// Adds the file of a locale.
-fn add_file<R: Files>(
-    rt: &R,
-    alloc: Global,
-    path: &str,
-    reading: &Reading<'_>,
-    sources: &mut Sources,
-) -> Result<(), Problem>
-    ensures { IfErr result IsSpoken }
-{
-    let text = file_text(rt, alloc, path)?;
-    Ok(add_text(alloc, path, text, reading, sources)?)
-}
-
 /// Adds what is read of the text of the file of a locale.
 fn add_text(
     alloc: Global,
@@ -246,14 +235,15 @@ fn add_text(
 }
 
 /// The name of the charset in which sources are read.
-fn charset_name(alloc: Global, charmaps: &[Block]) -> Result<ByteText, AllocError> {
+pub fn charset_name(alloc: Global, charmaps: &[Block]) -> Result<ByteText, AllocError> {
     match charmaps {
         [] => ByteText::of(alloc, b"UTF-8"),
         [block, ..] => ByteText::of(alloc, block.name.as_bytes()),
     }
 }
 
-/// Reads the sections of each source, and adds the files of the locales that they copy.
+/// Adds the files of the locales that the first source copies, directly or not, each with the sections that are
+/// copied of it.
 fn add_copies<R: Files>(
     rt: &R,
     alloc: Global,
@@ -262,97 +252,37 @@ fn add_copies<R: Files>(
 ) -> Result<(), Problem>
     ensures { IfErr result IsSpoken }
 {
+    if reading.folders.is_empty() {
+        return Ok(());
+    }
+    let names = first_names(alloc, loaded)?;
+    let mut parts = Vec::new(alloc);
+    match follow_all(rt, alloc, reading, names.as_slice(), loaded, &mut parts) {
+        Ok(()) => Ok(keep_parts(alloc, &mut loaded.sources, parts.as_slice())?),
+        Err(problem) => Err(problem),
+    }
+}
+
+/// The names of the locales that the first source copies, if there is one.
+fn first_names(alloc: Global, loaded: &Loaded) -> Result<Vec<CopiedName>, AllocError> {
+    match loaded.sources.locales.as_slice() {
+        [first, ..] => copied_names(alloc, first, &loaded.charset),
+        [] => Ok(Vec::new(alloc)),
+    }
+}
+
+/// Reads the sections of each source, where they are asked for.
+fn read_sections(
+    alloc: Global,
+    reading: &Reading<'_>,
+    loaded: &mut Loaded,
+) -> Result<(), AllocError> {
     if !reading.has_sections {
         return Ok(());
     }
-    for number in 0..FILES_MOST {
-        let names = read_at(alloc, loaded, number)?;
-        add_named(rt, alloc, reading, names.as_slice(), &mut loaded.sources)?;
+    for block in loaded.sources.locales.as_slice() {
+        let read = read_block(alloc, block, &loaded.charset)?;
+        loaded.sections.push(read.sections)?;
     }
     Ok(())
-}
-
-/// Reads the sections of the source with a number, if there is one: the names of the locales that they copy.
-fn read_at(
-    alloc: Global,
-    loaded: &mut Loaded,
-    number: usize,
-) -> Result<Vec<CopiedName>, AllocError> {
-    match loaded.sources.locales.as_slice().get(number) {
-        Some(block) => {
-            let read = read_block(alloc, block, &loaded.charset)?;
-            loaded.sections.push(read.sections)?;
-            Ok(read.copied)
-        }
-        None => Ok(Vec::new(alloc)),
-    }
-}
-
-/// Adds the files of locales that are not there yet.
-fn add_named<R: Files>(
-    rt: &R,
-    alloc: Global,
-    reading: &Reading<'_>,
-    names: &[CopiedName],
-    sources: &mut Sources,
-) -> Result<(), Problem>
-    ensures { IfErr result IsSpoken }
-{
-    for copied in names {
-        if !is_there(sources.locales.as_slice(), copied.name.as_bytes()) {
-            add_found(rt, alloc, reading, copied, sources)?;
-        }
-    }
-    Ok(())
-}
-
-/// Whether a name needs no file.
-fn is_there(locales: &[Block], name: &[u8]) -> bool {
-    is_posix(name) || has_name(locales, name)
-}
-
-fn has_name(locales: &[Block], name: &[u8]) -> bool {
-    for block in locales {
-        if block.name.as_bytes() == name {
-            return true;
-        }
-    }
-    false
-}
-
-/// Adds the file of a locale from the first folder that has it.
-fn add_found<R: Files>(
-    rt: &R,
-    alloc: Global,
-    reading: &Reading<'_>,
-    copied: &CopiedName,
-    sources: &mut Sources,
-) -> Result<(), Problem>
-    ensures { IfErr result IsSpoken }
-{
-    for folder in reading.folders {
-        let path = path_in(alloc, folder, copied.name.as_bytes())?;
-        if is_file(rt, path.as_str()) {
-            return add_next(rt, alloc, path.as_str(), copied, reading, sources);
-        }
-    }
-    Ok(())
-}
-
-/// Adds the file of a locale that is copied, unless it is one too many.
-fn add_next<R: Files>(
-    rt: &R,
-    alloc: Global,
-    path: &str,
-    copied: &CopiedName,
-    reading: &Reading<'_>,
-    sources: &mut Sources,
-) -> Result<(), Problem>
-    ensures { IfErr result IsSpoken }
-{
-    if sources.locales.len() >= FILES_MOST {
-        let fault = TextFault::At(copied.place, Reason::OverLimit(Limit::Locales));
-        return Err(fault_problem(alloc, sources, None, fault));
-    }
-    add_file(rt, alloc, path, reading, sources)
 }

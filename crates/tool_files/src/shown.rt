@@ -9,13 +9,14 @@ ghost use Rattle.tool_files.specs.Told.{file_of, place_in, is_format, IsMessage,
 
 use crate::copies::name_at;
 use crate::format::{byte_place, from_place};
-use crate::hints::{push_hint_of, push_hint_of_bytes, push_hint_of_copy};
+use crate::hints::{push_hint_of_bytes, push_hint_of_limit};
 use crate::sources::{FilePath, Sources};
 use charset::Charset;
 use lc_base::{Block, ByteText, Place, Reason, TextFault};
 use script_out::push_refusal;
 use std::alloc::{AllocError, Global};
-use tool_messages::{Problem, Spot, line_of, name_of, push_fault, push_hints, rule_of};
+use tool_messages::{Problem, Spot, line_of, push_fault, push_hints};
+use tool_words::{Shown, push_gnu_hint, push_told};
 
 /// What the line of a refusal begins with that has the place of no line.
 const PLACE: &[u8] = b"refused: 0:0 ";
@@ -57,26 +58,28 @@ pub fn fault_message(
     let text = text_of(sources, file);
     let spot = shown_place(text, charset, place_in(file, place), reason);
     let source = line_of(text, spot.line);
-    let hints = file_hints(alloc, sources, text, spot, source, reason)?;
-    message_of(alloc, file.path, spot, source, reason, hints.as_slice())
+    let shown = Shown {
+        text,
+        line: spot.line,
+        source,
+        column: spot.column,
+        reason,
+        copied: copied_path(sources, text, spot),
+        folders: sources.folders.as_slice(),
+    };
+    let hints = file_hints(alloc, sources, &shown)?;
+    message_of(alloc, file.path, spot, &shown, hints.as_slice())
 }
 
 /// The hints beside a fault in files.
-fn file_hints(
-    alloc: Global,
-    sources: &Sources,
-    text: &[u8],
-    spot: Place,
-    source: &[u8],
-    reason: Reason,
-) -> Result<Vec<u8>, AllocError> {
+fn file_hints(alloc: Global, sources: &Sources, shown: &Shown<'_>) -> Result<Vec<u8>, AllocError> {
     let mut hints = Vec::new(alloc);
-    push_hint_of(&mut hints, reason, source)?;
-    push_hint_of_copy(&mut hints, reason, copied_path(sources, text, spot))?;
+    push_gnu_hint(&mut hints, shown.reason, shown.source, shown.column)?;
+    push_hint_of_limit(&mut hints, shown.reason)?;
     if sources.charmaps.is_empty() {
-        push_hint_of_bytes(&mut hints, source)?;
+        push_hint_of_bytes(&mut hints, shown.source)?;
     }
-    push_hints(&mut hints, text, source)?;
+    push_hints(&mut hints, shown.text, shown.source)?;
     Ok(hints)
 }
 
@@ -122,26 +125,22 @@ fn text_message(
 {
     let spot = shown_place(text, None, place, reason);
     let source = line_of(text, spot.line);
-    let hints = text_hints(alloc, text, source, reason)?;
-    message_of(
-        alloc,
-        path.as_bytes(),
-        spot,
+    let shown = Shown {
+        text,
+        line: spot.line,
         source,
+        column: spot.column,
         reason,
-        hints.as_slice(),
-    )
+        copied: None,
+        folders: &[],
+    };
+    let hints = text_hints(alloc, text, source)?;
+    message_of(alloc, path.as_bytes(), spot, &shown, hints.as_slice())
 }
 
 /// The hints beside a fault in a text that a file has by itself.
-fn text_hints(
-    alloc: Global,
-    text: &[u8],
-    source: &[u8],
-    reason: Reason,
-) -> Result<Vec<u8>, AllocError> {
+fn text_hints(alloc: Global, text: &[u8], source: &[u8]) -> Result<Vec<u8>, AllocError> {
     let mut hints = Vec::new(alloc);
-    push_hint_of(&mut hints, reason, source)?;
     push_hint_of_bytes(&mut hints, source)?;
     push_hints(&mut hints, text, source)?;
     Ok(hints)
@@ -219,22 +218,22 @@ fn message_of(
     alloc: Global,
     path: &[u8],
     place: Place,
-    source: &[u8],
-    reason: Reason,
+    shown: &Shown<'_>,
     hints: &[u8],
 ) -> Result<ByteText, AllocError>
-    ensures { IfOk result (BeginsWith (fault_head path.now place.line place.column (reason_text reason))) }
+    ensures { IfOk result (BeginsWith (fault_head path.now place.line place.column (reason_text shown.now.reason))) }
 {
     let mut message = Vec::new(alloc);
     let spot = Spot {
         file: path,
         line: place.line,
         column: place.column,
-        source,
+        source: shown.source,
     };
-    let words = reason_words(alloc, reason)?;
-    let rule = rule_of(name_of(reason));
-    push_fault(&mut message, &spot, words.as_bytes(), rule.as_bytes())?;
+    let words = reason_words(alloc, shown.reason)?;
+    let mut told = Vec::new(alloc);
+    push_told(&mut told, shown)?;
+    push_fault(&mut message, &spot, words.as_bytes(), told.as_slice())?;
     message.extend_from_slice(hints)?;
     Ok(ByteText::from_vec(message))
 }

@@ -18,6 +18,8 @@ pub struct Sources {
     pub paths: Vec<FilePath>,
     /// The number of the first line of the next file.
     pub next_line: u32,
+    /// Where the files of copied locales are looked for.
+    pub folders: Vec<ByteText>,
 }
 
 impl Drop for Sources {
@@ -27,6 +29,7 @@ impl Drop for Sources {
             locales: _,
             paths: _,
             next_line: _,
+            folders: _,
         } = self;
     }
 }
@@ -39,6 +42,7 @@ impl Sources {
             locales: List::of(Vec::new(alloc)),
             paths: Vec::new(alloc),
             next_line: 1,
+            folders: Vec::new(alloc),
         }
     }
 

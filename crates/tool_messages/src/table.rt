@@ -391,7 +391,7 @@ fn seventh_rows(number: u32) -> Option<ReasonRow> {
         },
         52 => ReasonRow {
             name: "BadFormat",
-            rule: "a `%` of a format begins a conversion",
+            rule: "a `%` of a format begins a conversion: of a time one of aAbBcCdDeFgGhHIjmMnprRStTuUVwWxXyYzZ%, or E and one of cCxXyY, or O and one of deHImMSuUVwWy; of an amount i, n or %; of a number d, i, u or %",
             breaks: "t_fmt \"a%Q\"",
             keeps: "t_fmt \"a%%Q\"",
         },

@@ -12,6 +12,16 @@ pub struct Wanted {
     rule: Rule,
 }
 
+impl Wanted {
+    /// Whether a keyword takes one operand.
+    pub fn is_one(&self) -> bool {
+        match self.takes {
+            Operands::Copied | Operands::One(_) => true,
+            Operands::Characters | Operands::Several(_) | Operands::PassedOver => false,
+        }
+    }
+}
+
 /// What a keyword takes; `None` where no category has it, or where its operands are not read.
 pub fn wanted_of(keyword: &[u8]) -> Option<Wanted> {
     for category in CATEGORIES.iter() {
