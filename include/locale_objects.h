@@ -2,34 +2,28 @@
  * POSIX locale objects by proved formatters (POSIX.1-2017, XSH newlocale, strfmon_l, strftime_l and
  * others). docs/C.md says how to build a program with the library and what is proved of it.
  *
- * Handles. A program keeps an `lo_object` for each object. It begins as LO_NOTHING, is filled by a call
- * that takes it as `out`, and is emptied by lo_freelocale. Pass it only by its address: a copy of a full
- * handle is not a second handle, and its fields belong to the library. An object never changes, and the
- * library that was read lives as long as one of its objects.
+ * Libraries. lobj_read compiles a text into a library, which is then never written: a program keeps its
+ * pointer, and frees it by lobj_library_free. Each other call takes a `const lobj_library *`, and writes nothing
+ * but its answer and what the caller gave it to write. So any number of threads may make any calls on one
+ * library at once, without a lock, and so may the child of a fork. The thread that frees it must know that no
+ * call on it runs: by the join of the others, by a lock, or by an atomic.
  *
- * Threads. Any thread may make any call, but only one call at a time may use a handle, even for reading.
- * Each thread takes its own handles by lo_duplocale, before or after it starts; these share what they read
- * without a lock. A handle may go to another thread if that is ordered by the start or the join of a
- * thread, by a lock or by an atomic. Calls write the handle while they run: handles of busy threads that
- * are within 64 bytes of each other slow each other down.
- *
- * Who frees. An object that a call put into `out` is freed by lo_freelocale, once, in any order and on any
- * thread. Nothing else is to be freed: all other answers are numbers, or are in the caller's memory. With
- * an object goes the block of memory, of at most 4096 bytes, that its handle keeps from one text of amounts
- * or of a time to the next.
+ * Locales. A `lobj_locale` is a plain value, to be copied and compared by its fields: nothing is to be freed.
+ * It has the mark of the library that made it. A call that is given what is no locale of its library answers
+ * LOBJ_NO_LOCALE. The mark is that of the text that was read: two libraries of one text take each other's
+ * locales, which mean the same in both.
  *
  * Texts are given by a pointer and a number of bytes, need no NUL, and may have any bytes. Buffers are
  * given with their size. A text that a call gives begins at the start of the buffer and is followed by a
  * NUL, and `n` is its length without the NUL. It is never cut: if text and NUL do not fit, the answer is
- * LO_TOO_SMALL. Under any code but LO_OK a buffer for a text is as it was; that of lo_read is for the
+ * LOBJ_TOO_SMALL. Under any code but LOBJ_OK a buffer for a text is as it was; that of lobj_read is for the
  * line of a fault.
  *
- * No pointer may be null, even for a text or a buffer of 0 bytes. No call checks this, but LO_NONNULL below
- * lets compilers warn of a null constant (-Wall), and the sanitizer of undefined behavior stop at any null.
- * Two pointers that a call writes through or takes as handles may not overlap one another, nor the other
- * arguments; each points to as many bytes or elements as its size says; a `bool` is true or false; no size
- * is over PTRDIFF_MAX. Nothing checks these. No call may be made from a signal handler, or in the child of
- * a fork of a process with threads.
+ * No pointer may be null, even for a text or a buffer of 0 bytes, but the one that is given to
+ * lobj_library_free. No call checks this, but LOBJ_NONNULL below lets compilers warn of a null constant
+ * (-Wall), and the sanitizer of undefined behavior stop at any null. What a call writes through two pointers
+ * may not overlap, nor the other arguments; each points to as many bytes or elements as its size says; a
+ * `bool` is true or false; no size is over PTRDIFF_MAX. Nothing checks these.
  */
 #ifndef LOCALE_OBJECTS_H
 #define LOCALE_OBJECTS_H
@@ -37,9 +31,11 @@
 #include <stdbool.h>
 #include <stddef.h>
 #include <stdint.h>
+#include <stdio.h>
+#include <time.h>
 
 /* The version of the library. */
-#define LO_VERSION "1.0"
+#define LOBJ_VERSION "1.0"
 
 #ifdef __cplusplus
 extern "C" {
@@ -47,84 +43,89 @@ extern "C" {
 
 /* Says of a call that none of its pointers is null. */
 #if defined __GNUC__
-#define LO_NONNULL __attribute__((nonnull))
+#define LOBJ_NONNULL __attribute__((nonnull))
 #else
-#define LO_NONNULL
+#define LOBJ_NONNULL
 #endif
 
-/* A handle of an object, or of nothing. */
-typedef struct lo_object {
-    bool full;
-    void *at;
-} lo_object;
+/* A library of compiled locales. */
+typedef struct lobj_library lobj_library;
 
-/* A handle of nothing. */
-#define LO_NOTHING { false, NULL }
-
-/* What a call answers, in `code` of an `lo_answer`; `n` is 0 where nothing is said of it. */
+/* What a call answers, in `code` of a `lobj_answer`; `n` is 0 where nothing is said of it. */
 enum {
-    LO_OK = 0,
-    /* The handle is of nothing. */
-    LO_NO_OBJECT = 1,
-    /* The handle `out` has an object already. */
-    LO_TAKEN = 2,
-    /* Out of memory. */
-    LO_NO_MEMORY = 3,
+    LOBJ_OK = 0,
+    /* Out of memory: of lobj_read alone. */
+    LOBJ_NO_MEMORY = 1,
     /* The text has 2^31 bytes or more. */
-    LO_TOO_LONG = 4,
+    LOBJ_TOO_LONG = 2,
     /* The text breaks a rule; `n` is the length of the line in the buffer. */
-    LO_BAD_TEXT = 5,
+    LOBJ_BAD_TEXT = 3,
+    /* The locale is not one of the library. */
+    LOBJ_NO_LOCALE = 4,
     /* The mask has a bit that no category has. */
-    LO_BAD_MASK = 6,
+    LOBJ_BAD_MASK = 5,
     /* No locale with the name has a category of the mask; `n` is the mask of that category. */
-    LO_NO_DATA = 7,
-    /* The text and its NUL do not fit into the buffer. */
-    LO_TOO_SMALL = 8,
+    LOBJ_NO_DATA = 6,
+    /* The text and its NUL do not fit into the buffer; `n` is the size that they need, or SIZE_MAX if that is larger. */
+    LOBJ_TOO_SMALL = 7,
     /* The `%` at byte `n` of the format, from 0, begins no conversion. */
-    LO_BAD_FORMAT = 9,
+    LOBJ_BAD_FORMAT = 8,
     /* No argument is left for the `%` at byte `n` of the format. */
-    LO_MISSING = 10,
+    LOBJ_MISSING = 9,
     /* The scale of an amount is over 18. */
-    LO_BAD_AMOUNT = 11,
+    LOBJ_BAD_AMOUNT = 10,
     /* A field of a time is out of its range: the `n`-th, from 1, with the offset as the ninth. */
-    LO_TM_RANGE = 12,
-    /* There is no item with the number. */
-    LO_NO_ITEM = 13,
+    LOBJ_TM_RANGE = 11,
+    /* There is no item, or no text of localeconv, with the number. */
+    LOBJ_NO_ITEM = 12,
     /* The locale has no class with the name or the number. */
-    LO_NO_CLASS = 14,
+    LOBJ_NO_CLASS = 13,
     /* The text does not meet the format at byte `n` of the text. */
-    LO_MISMATCH = 15
+    LOBJ_MISMATCH = 14
 };
 
-typedef struct lo_answer {
+typedef struct lobj_answer {
     uint32_t code;
     size_t n;
-} lo_answer;
+} lobj_answer;
 
 /* The masks of the categories (XSH newlocale). There is no LC_COLLATE. */
 enum {
-    LO_CTYPE_MASK = 1,
-    LO_NUMERIC_MASK = 2,
-    LO_MONETARY_MASK = 4,
-    LO_TIME_MASK = 8,
-    LO_MESSAGES_MASK = 16,
-    LO_ALL_MASK = 31
+    LOBJ_CTYPE_MASK = 1,
+    LOBJ_NUMERIC_MASK = 2,
+    LOBJ_MONETARY_MASK = 4,
+    LOBJ_TIME_MASK = 8,
+    LOBJ_MESSAGES_MASK = 16,
+    LOBJ_ALL_MASK = 31
 };
 
+/*
+ * A locale: the mark of its library, and the numbers of what has its categories. Two locales are the same if
+ * all fields are.
+ */
+typedef struct lobj_locale {
+    uint64_t mark;
+    uint32_t ctype;
+    uint32_t numeric;
+    uint32_t monetary;
+    uint32_t time;
+    uint32_t messages;
+} lobj_locale;
+
 /* A line and a column of a text, each from 1. */
-typedef struct lo_place {
+typedef struct lobj_place {
     uint32_t line;
     uint32_t column;
-} lo_place;
+} lobj_place;
 
 /* An amount of units / 10^scale; scale is at most 18. */
-typedef struct lo_amount {
+typedef struct lobj_amount {
     int64_t units;
     uint8_t scale;
-} lo_amount;
+} lobj_amount;
 
 /* A broken-down time. Day of the week and of the year are as given, whatever the date is. */
-typedef struct lo_tm {
+typedef struct lobj_tm {
     int32_t year;    /* 1 to 9999 */
     int32_t mon;     /* 1 to 12 */
     int32_t mday;    /* 1 to 31 */
@@ -135,35 +136,24 @@ typedef struct lo_tm {
     int32_t yday;    /* 0 to 365 */
     bool has_offset; /* whether the offset is known */
     int32_t offset;  /* minutes east of UTC, -1439 to 1439 */
-} lo_tm;
+} lobj_tm;
 
 /* The fields of a time that a text has; -1 where it does not tell one. */
-typedef struct lo_parsed {
+typedef struct lobj_parsed {
     int32_t year; /* 0 to 9999 */
-    int32_t mon;  /* and the others as in lo_tm */
+    int32_t mon;  /* and the others as in lobj_tm */
     int32_t mday;
     int32_t hour;
     int32_t min;
     int32_t sec;
     int32_t wday;
     int32_t yday;
-} lo_parsed;
+} lobj_parsed;
 
 /*
- * How numbers and amounts are written (XSH localeconv): the lengths of ten texts and fourteen numbers. 127
- * says that the locale does not tell a number. The bytes of a grouping are the sizes of groups.
+ * The numbers of localeconv (XSH localeconv). 127 says that the locale does not tell a number.
  */
-typedef struct lo_lconv {
-    size_t decimal_point;
-    size_t thousands_sep;
-    size_t grouping;
-    size_t int_curr_symbol;
-    size_t currency_symbol;
-    size_t mon_decimal_point;
-    size_t mon_thousands_sep;
-    size_t mon_grouping;
-    size_t positive_sign;
-    size_t negative_sign;
+typedef struct lobj_lconv {
     uint8_t int_frac_digits;
     uint8_t frac_digits;
     uint8_t p_cs_precedes;
@@ -178,116 +168,237 @@ typedef struct lo_lconv {
     uint8_t int_n_sep_by_space;
     uint8_t int_p_sign_posn;
     uint8_t int_n_sign_posn;
-} lo_lconv;
+} lobj_lconv;
 
 /* The items of nl_langinfo, in the order of XBD <langinfo.h>. */
 enum {
-    LO_CODESET,
-    LO_D_T_FMT, LO_D_FMT, LO_T_FMT, LO_T_FMT_AMPM, LO_AM_STR, LO_PM_STR,
-    LO_DAY_1, LO_DAY_2, LO_DAY_3, LO_DAY_4, LO_DAY_5, LO_DAY_6, LO_DAY_7,
-    LO_ABDAY_1, LO_ABDAY_2, LO_ABDAY_3, LO_ABDAY_4, LO_ABDAY_5, LO_ABDAY_6, LO_ABDAY_7,
-    LO_MON_1, LO_MON_2, LO_MON_3, LO_MON_4, LO_MON_5, LO_MON_6,
-    LO_MON_7, LO_MON_8, LO_MON_9, LO_MON_10, LO_MON_11, LO_MON_12,
-    LO_ABMON_1, LO_ABMON_2, LO_ABMON_3, LO_ABMON_4, LO_ABMON_5, LO_ABMON_6,
-    LO_ABMON_7, LO_ABMON_8, LO_ABMON_9, LO_ABMON_10, LO_ABMON_11, LO_ABMON_12,
-    LO_ERA, LO_ERA_D_FMT, LO_ERA_D_T_FMT, LO_ERA_T_FMT, LO_ALT_DIGITS,
-    LO_RADIXCHAR, LO_THOUSEP, LO_YESEXPR, LO_NOEXPR, LO_CRNCYSTR
+    LOBJ_CODESET,
+    LOBJ_D_T_FMT, LOBJ_D_FMT, LOBJ_T_FMT, LOBJ_T_FMT_AMPM, LOBJ_AM_STR, LOBJ_PM_STR,
+    LOBJ_DAY_1, LOBJ_DAY_2, LOBJ_DAY_3, LOBJ_DAY_4, LOBJ_DAY_5, LOBJ_DAY_6, LOBJ_DAY_7,
+    LOBJ_ABDAY_1, LOBJ_ABDAY_2, LOBJ_ABDAY_3, LOBJ_ABDAY_4, LOBJ_ABDAY_5, LOBJ_ABDAY_6, LOBJ_ABDAY_7,
+    LOBJ_MON_1, LOBJ_MON_2, LOBJ_MON_3, LOBJ_MON_4, LOBJ_MON_5, LOBJ_MON_6,
+    LOBJ_MON_7, LOBJ_MON_8, LOBJ_MON_9, LOBJ_MON_10, LOBJ_MON_11, LOBJ_MON_12,
+    LOBJ_ABMON_1, LOBJ_ABMON_2, LOBJ_ABMON_3, LOBJ_ABMON_4, LOBJ_ABMON_5, LOBJ_ABMON_6,
+    LOBJ_ABMON_7, LOBJ_ABMON_8, LOBJ_ABMON_9, LOBJ_ABMON_10, LOBJ_ABMON_11, LOBJ_ABMON_12,
+    LOBJ_ERA, LOBJ_ERA_D_FMT, LOBJ_ERA_D_T_FMT, LOBJ_ERA_T_FMT, LOBJ_ALT_DIGITS,
+    LOBJ_RADIXCHAR, LOBJ_THOUSEP, LOBJ_YESEXPR, LOBJ_NOEXPR, LOBJ_CRNCYSTR
+};
+
+/* The texts of localeconv. The bytes of a grouping are the sizes of groups. */
+enum {
+    LOBJ_DECIMAL_POINT,
+    LOBJ_THOUSANDS_SEP,
+    LOBJ_GROUPING,
+    LOBJ_INT_CURR_SYMBOL,
+    LOBJ_CURRENCY_SYMBOL,
+    LOBJ_MON_DECIMAL_POINT,
+    LOBJ_MON_THOUSANDS_SEP,
+    LOBJ_MON_GROUPING,
+    LOBJ_POSITIVE_SIGN,
+    LOBJ_NEGATIVE_SIGN
 };
 
 /*
- * Reads charmaps and locale sources, in the form of a bundle (docs/BUNDLE.md), and gives the POSIX object
- * over the library that they make. Commands in the text are read, too, and ignored.
+ * Reads charmaps and locale sources, in the form of a bundle (docs/BUNDLE.md), and gives the library that
+ * they make. Commands in the text are read, too, and ignored. What `*out` was before is not looked at.
  *
- * LO_BAD_TEXT: the text breaks a rule; `place` is where, and the buffer has the line `refused: L:C REASON`
- * that names it (docs/REFUSALS.md), a newline at its end. LO_TOO_SMALL: it does, and the line does not fit;
- * `place` is where. LO_TAKEN, LO_TOO_LONG, LO_NO_MEMORY. Under LO_OK the buffer is as it was, and
- * `out` is the caller's to give back. Once the call has returned, nothing refers to the text.
+ * LOBJ_BAD_TEXT: the text breaks a rule; `place` is where, and the buffer has the line `refused: L:C REASON`
+ * that names it (docs/REFUSALS.md), a newline at its end. LOBJ_TOO_SMALL: it does, and the line does not fit;
+ * `place` is where. LOBJ_TOO_LONG, LOBJ_NO_MEMORY. Only LOBJ_OK writes `*out`, which is then the caller's to free,
+ * and only a refusal writes `place` and the buffer. Once the call has returned, nothing refers to the text.
  */
-lo_answer lo_read(const char *text, size_t length, lo_object *out, lo_place *place, char *buffer, size_t size) LO_NONNULL;
+lobj_answer lobj_read(const char *text, size_t length, lobj_library **out, lobj_place *place, char *buffer,
+                      size_t size) LOBJ_NONNULL;
+
+/* Frees a library that is no null pointer. Its locales are then those of no library. */
+void lobj_library_end(lobj_library *library) LOBJ_NONNULL;
+
+/* Frees a library, or nothing. */
+static inline void lobj_library_free(lobj_library *library) {
+    if (library != NULL) lobj_library_end(library);
+}
+
+/* Gives the POSIX locale, which each library has. */
+void lobj_posix_locale(const lobj_library *library, lobj_locale *out) LOBJ_NONNULL;
 
 /*
- * Gives the object that has the locale of the name in the categories of the mask, and what the base has in
- * the others (XSH newlocale); the base stays as it is. The name may be empty, for the native locale of the
- * text, or have a part for each category. The base says which library is asked, and may be given back before
- * or after `out`, which is the caller's to give back.
- *
- * LO_TAKEN, LO_NO_OBJECT (of the base), LO_BAD_MASK, LO_NO_DATA, LO_NO_MEMORY.
+ * Gives the locale that has the named one in the categories of the mask, and what the base has in the others
+ * (XSH newlocale). The name may be empty, for the native locale of the text, or have a part for each category.
+ * LOBJ_NO_LOCALE (the base), LOBJ_BAD_MASK, LOBJ_NO_DATA: `out` is as it was.
  */
-lo_answer lo_newlocale(uint32_t mask, const char *name, size_t length, lo_object *base, lo_object *out) LO_NONNULL;
+lobj_answer lobj_newlocale(const lobj_library *library, uint32_t mask, const char *name, size_t length,
+                           lobj_locale base, lobj_locale *out) LOBJ_NONNULL;
 
 /*
- * Gives the same object once more (XSH duplocale), as for another thread. Each of the two is the caller's to
- * give back. LO_TAKEN, LO_NO_OBJECT, LO_NO_MEMORY.
+ * The text of amounts by a format (XSH strfmon_l), each of units / 10^scale in the currency of the locale's
+ * LC_MONETARY. Extra amounts are ignored, and so are those beyond the 64th, but that a scale over 18 of any of
+ * them is LOBJ_BAD_AMOUNT.
+ * LOBJ_NO_LOCALE, LOBJ_BAD_AMOUNT, LOBJ_BAD_FORMAT, LOBJ_MISSING, LOBJ_TOO_SMALL.
  */
-lo_answer lo_duplocale(lo_object *object, lo_object *out) LO_NONNULL;
-
-/*
- * Gives an object back, and with the last one its library (XSH freelocale): the handle is then of nothing. A
- * handle of nothing stays so. Any thread may give an object back, also one that another thread made.
- */
-void lo_freelocale(lo_object *object) LO_NONNULL;
-
-/*
- * The text of amounts by a format (XSH strfmon_l), each of units / 10^scale in the currency of the object's
- * LC_MONETARY. Extra amounts are ignored.
- * LO_NO_OBJECT, LO_BAD_AMOUNT, LO_BAD_FORMAT, LO_MISSING, LO_TOO_SMALL, LO_NO_MEMORY.
- */
-lo_answer lo_strfmon_l(char *buffer, size_t size, lo_object *object, const char *format, size_t length,
-                       const lo_amount *amounts, size_t count) LO_NONNULL;
+lobj_answer lobj_strfmon(char *buffer, size_t size, const lobj_library *library, lobj_locale locale,
+                         const char *format, size_t length, const lobj_amount *amounts, size_t count) LOBJ_NONNULL;
 
 /*
  * The text of a time by a format, with the name of its time zone (XSH strftime_l).
- * LO_NO_OBJECT, LO_TM_RANGE, LO_BAD_FORMAT, LO_TOO_SMALL, LO_NO_MEMORY.
+ * LOBJ_NO_LOCALE, LOBJ_TM_RANGE, LOBJ_BAD_FORMAT, LOBJ_TOO_SMALL.
  */
-lo_answer lo_strftime_l(char *buffer, size_t size, const char *format, size_t length, const lo_tm *tm,
-                        const char *zone, size_t zone_length, lo_object *object) LO_NONNULL;
-
-/* The text of an item (XSH nl_langinfo_l). LO_NO_OBJECT, LO_NO_ITEM, LO_TOO_SMALL, LO_NO_MEMORY. */
-lo_answer lo_nl_langinfo_l(char *buffer, size_t size, uint32_t item, lo_object *object) LO_NONNULL;
+lobj_answer lobj_strftime(char *buffer, size_t size, const lobj_library *library, lobj_locale locale,
+                          const char *format, size_t length, const lobj_tm *tm, const char *zone,
+                          size_t zone_length) LOBJ_NONNULL;
 
 /*
- * How numbers and amounts are written (XSH localeconv). The buffer has the ten texts in the order of the
- * lengths, each followed by a NUL; `n` counts all bytes but the last NUL. LO_NO_OBJECT, LO_NO_MEMORY;
- * LO_TOO_SMALL, where the fields are written all the same.
+ * The text of whole numbers by a format with `d`, `i` and `u` (XSH fprintf). Extra numbers are ignored, and so
+ * are those beyond the 64th.
+ * LOBJ_NO_LOCALE, LOBJ_BAD_FORMAT, LOBJ_MISSING, LOBJ_TOO_SMALL.
  */
-lo_answer lo_localeconv_l(char *buffer, size_t size, lo_lconv *fields, lo_object *object) LO_NONNULL;
+lobj_answer lobj_int_format(char *buffer, size_t size, const lobj_library *library, lobj_locale locale,
+                            const char *format, size_t length, const int64_t *numbers, size_t count) LOBJ_NONNULL;
 
-/*
- * The text of whole numbers by a format with `d`, `i` and `u` (XSH fprintf). Extra numbers are ignored.
- * LO_NO_OBJECT, LO_BAD_FORMAT, LO_MISSING, LO_TOO_SMALL, LO_NO_MEMORY.
- */
-lo_answer lo_int_format_l(char *buffer, size_t size, lo_object *object, const char *format, size_t length,
-                          const int64_t *numbers, size_t count) LO_NONNULL;
+/* The text of an item (XSH nl_langinfo_l). LOBJ_NO_LOCALE, LOBJ_NO_ITEM, LOBJ_TOO_SMALL. */
+lobj_answer lobj_nl_langinfo(char *buffer, size_t size, const lobj_library *library, lobj_locale locale,
+                             uint32_t item) LOBJ_NONNULL;
+
+/* A text of localeconv by its number (XSH localeconv). LOBJ_NO_LOCALE, LOBJ_NO_ITEM, LOBJ_TOO_SMALL. */
+lobj_answer lobj_conv_text(char *buffer, size_t size, const lobj_library *library, lobj_locale locale,
+                           uint32_t number) LOBJ_NONNULL;
+
+/* The numbers of localeconv (XSH localeconv). LOBJ_NO_LOCALE, where the fields are as they were. */
+lobj_answer lobj_localeconv(const lobj_library *library, lobj_locale locale, lobj_lconv *fields) LOBJ_NONNULL;
 
 /*
  * Whether a wide character is of the class with a name (XSH iswctype_l): `n` is 1 or 0.
- * LO_NO_OBJECT, LO_NO_CLASS.
+ * LOBJ_NO_LOCALE, LOBJ_NO_CLASS.
  */
-lo_answer lo_iswctype_l(uint32_t value, const char *class_name, size_t length, lo_object *object) LO_NONNULL;
+lobj_answer lobj_iswctype(const lobj_library *library, lobj_locale locale, uint32_t value, const char *class_name,
+                          size_t length) LOBJ_NONNULL;
 
 /*
- * The number of the class with a name (XSH wctype_l) as `n`, for lo_isclass_l, which need not look for the
- * name. It is of the locale of the object's LC_CTYPE. LO_NO_OBJECT, LO_NO_CLASS.
+ * The number of the class with a name (XSH wctype_l) as `n`, for lobj_isclass, which need not look for the
+ * name. It is of the locale's LC_CTYPE. LOBJ_NO_LOCALE, LOBJ_NO_CLASS.
  */
-lo_answer lo_wctype_l(const char *class_name, size_t length, lo_object *object) LO_NONNULL;
+lobj_answer lobj_wctype(const lobj_library *library, lobj_locale locale, const char *class_name, size_t length) LOBJ_NONNULL;
 
 /*
- * Whether a wide character is of the class with a number: as lo_iswctype_l answers by the name. A number
+ * Whether a wide character is of the class with a number: as lobj_iswctype answers by the name. A number
  * that another locale gave is one of this locale: that of a class that may have another name, or of none,
- * which is LO_NO_CLASS. LO_NO_OBJECT, LO_NO_CLASS.
+ * which is LOBJ_NO_CLASS. LOBJ_NO_LOCALE, LOBJ_NO_CLASS.
  */
-lo_answer lo_isclass_l(uint32_t value, size_t class_number, lo_object *object) LO_NONNULL;
+lobj_answer lobj_isclass(const lobj_library *library, lobj_locale locale, uint32_t value, size_t class_number) LOBJ_NONNULL;
 
-/* The upper and the lower case of a wide character as `n` (XSH towupper_l, towlower_l). LO_NO_OBJECT. */
-lo_answer lo_towupper_l(uint32_t value, lo_object *object) LO_NONNULL;
-lo_answer lo_towlower_l(uint32_t value, lo_object *object) LO_NONNULL;
+/* The upper and the lower case of a wide character as `n` (XSH towupper_l, towlower_l). LOBJ_NO_LOCALE. */
+lobj_answer lobj_towupper(const lobj_library *library, lobj_locale locale, uint32_t value) LOBJ_NONNULL;
+lobj_answer lobj_towlower(const lobj_library *library, lobj_locale locale, uint32_t value) LOBJ_NONNULL;
 
 /*
  * The fields of a time that a text has by a format (XSH strptime); `n` is the first byte that is not read.
- * Under another code the fields are as they were. LO_NO_OBJECT, LO_BAD_FORMAT, LO_MISMATCH.
+ * Under another code the fields are as they were. LOBJ_NO_LOCALE, LOBJ_BAD_FORMAT, LOBJ_MISMATCH.
  */
-lo_answer lo_strptime_l(const char *text, size_t length, const char *format, size_t format_length,
-                        lo_parsed *fields, lo_object *object) LO_NONNULL;
+lobj_answer lobj_strptime(const lobj_library *library, lobj_locale locale, const char *text, size_t length,
+                          const char *format, size_t format_length, lobj_parsed *fields) LOBJ_NONNULL;
+
+/*
+ * The functions below are no calls of the library: a compiler takes them from here.
+ */
+
+/* What a code of an answer means, without a newline; "unknown code" for any other number. */
+static inline const char *lobj_strerror(uint32_t code) {
+    switch (code) {
+    case LOBJ_OK: return "success";
+    case LOBJ_NO_MEMORY: return "out of memory";
+    case LOBJ_TOO_LONG: return "the text has 2^31 bytes or more";
+    case LOBJ_BAD_TEXT: return "the text breaks a rule";
+    case LOBJ_NO_LOCALE: return "the locale is not one of the library";
+    case LOBJ_BAD_MASK: return "the mask has a bit that no category has";
+    case LOBJ_NO_DATA: return "no locale with the name has data for a category";
+    case LOBJ_TOO_SMALL: return "the text does not fit into the buffer";
+    case LOBJ_BAD_FORMAT: return "a % of the format begins no conversion";
+    case LOBJ_MISSING: return "a conversion has no argument";
+    case LOBJ_BAD_AMOUNT: return "the scale of an amount is over 18";
+    case LOBJ_TM_RANGE: return "a field of the time is out of its range";
+    case LOBJ_NO_ITEM: return "there is no such item";
+    case LOBJ_NO_CLASS: return "there is no such class";
+    case LOBJ_MISMATCH: return "the text does not meet the format";
+    default: return "unknown code";
+    }
+}
+
+/*
+ * The time of a `struct tm`, without an offset from UTC: set `has_offset` and `offset` where they are known, as
+ * from `tm_gmtoff` / 60. A year that does not fit is one out of its range.
+ */
+static inline lobj_tm lobj_tm_of(const struct tm *given) {
+    lobj_tm time = { 0, 0, 0, 0, 0, 0, 0, 0, false, 0 };
+    time.year = given->tm_year < 10000 ? given->tm_year + 1900 : 10000;
+    time.mon = given->tm_mon < 12 ? given->tm_mon + 1 : 13;
+    time.mday = given->tm_mday;
+    time.hour = given->tm_hour;
+    time.min = given->tm_min;
+    time.sec = given->tm_sec;
+    time.wday = given->tm_wday;
+    time.yday = given->tm_yday;
+    return time;
+}
+
+/* Writes the fields that a text told to those of a `struct tm`, and leaves the others as they are. */
+static inline void lobj_parsed_to_tm(const lobj_parsed *fields, struct tm *out) {
+    if (fields->year >= 0) out->tm_year = fields->year - 1900;
+    if (fields->mon >= 0) out->tm_mon = fields->mon - 1;
+    if (fields->mday >= 0) out->tm_mday = fields->mday;
+    if (fields->hour >= 0) out->tm_hour = fields->hour;
+    if (fields->min >= 0) out->tm_min = fields->min;
+    if (fields->sec >= 0) out->tm_sec = fields->sec;
+    if (fields->wday >= 0) out->tm_wday = fields->wday;
+    if (fields->yday >= 0) out->tm_yday = fields->yday;
+}
+
+/*
+ * The amount of a decimal text: an optional `-`, digits, and optionally a `.` with at most 18 digits behind it.
+ * Says whether the text is one and its units are those of an int64_t above INT64_MIN; else the amount is as it was.
+ */
+static inline bool lobj_amount_of_text(const char *text, size_t length, lobj_amount *out) {
+    uint64_t units = 0;
+    uint8_t scale = 0;
+    size_t at = length > 0 && text[0] == '-' ? 1 : 0, digits = 0;
+    bool is_below = at == 1, is_behind = false;
+    for (; at < length; at++) {
+        if (text[at] == '.' && !is_behind && digits > 0) {
+            is_behind = true;
+            continue;
+        }
+        if (text[at] < '0' || text[at] > '9' || (is_behind && scale == 18)) return false;
+        const uint64_t digit = (uint64_t)(text[at] - '0');
+        if (units > ((uint64_t)INT64_MAX - digit) / 10) return false;
+        units = units * 10 + digit;
+        digits++;
+        if (is_behind) scale = (uint8_t)(scale + 1);
+    }
+    if (digits == 0 || (is_behind && scale == 0)) return false;
+    out->units = is_below ? -(int64_t)units : (int64_t)units;
+    out->scale = scale;
+    return true;
+}
+
+/*
+ * The amount of a `double` with a number of digits behind the point, at most 18, rounded as printf rounds.
+ * Says whether it is finite and its units are those of an int64_t above INT64_MIN; else the amount is as it was.
+ */
+static inline bool lobj_amount_of_double(double value, int digits, lobj_amount *out) {
+    char text[64], plain[64];
+    size_t count = 0;
+    int length;
+    lobj_amount amount = { 0, 0 };
+    if (digits < 0 || digits > 18) return false;
+    length = snprintf(text, sizeof text, "%.*f", digits, value);
+    if (length <= 0 || (size_t)length >= sizeof text) return false;
+    /* (the point of the C library's locale may have any bytes, so it is passed over) */
+    for (int i = 0; i < length; i++) {
+        if ((text[i] >= '0' && text[i] <= '9') || (i == 0 && text[i] == '-')) plain[count++] = text[i];
+    }
+    if (!lobj_amount_of_text(plain, count, &amount)) return false;
+    out->units = amount.units;
+    out->scale = (uint8_t)digits;
+    return true;
+}
 
 #ifdef __cplusplus
 }

@@ -11,7 +11,7 @@ PLACES = [
     ("VERSION", rf"\A{VERSION}\n\Z"),
     ("crates/tool_answers/src/commands.rt", rf'\.version\("{VERSION}"\)'),
     ("tests/tool/cases", rf"^>locale_tool {VERSION}$"),
-    ("include/locale_objects.h", rf'^#define LO_VERSION "{VERSION}"$'),
+    ("include/locale_objects.h", rf'^#define LOBJ_VERSION "{VERSION}"$'),
     ("docs/man/locale_cli.1", rf'^\.TH \S+ 1 \S+ "locale objects {VERSION}"$'),
     ("docs/man/locale_tool.1", rf'^\.TH \S+ 1 \S+ "locale objects {VERSION}"$'),
     ("README.md", rf"^Version {VERSION};"),

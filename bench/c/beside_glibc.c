@@ -21,12 +21,15 @@
 #include <wctype.h>
 
 #define LONG_FORMAT "%A %d %B %c"
+#define DATE_FORMAT "%A, %d %B %Y"
+#define STAMP_FORMAT "%Y-%m-%dT%H:%M:%S"
 
 enum { MOST_THREADS = 4, COUNTS = 3, ROUNDS = 15 };
 
-/* What a thread has: a call writes its handle, so that two handles in one line of a cache would slow threads. */
+/* What a thread has; the library is that of all. */
 typedef struct side {
-    _Alignas(128) lo_object object;
+    const lobj_library *library;
+    lobj_locale own;
     locale_t locale;
     size_t our_alpha;
     wctype_t alpha;
@@ -35,14 +38,14 @@ typedef struct side {
 /* Makes a call some times, and leaves its text in a buffer of 128 bytes: its length, or what it says. */
 typedef size_t work(side *s, char *text, int times);
 
-static const lo_amount amount = { 123456789, 2 };
-static const lo_tm our_time = { 2026, 7, 15, 9, 5, 0, 3, 195, false, 0 };
+static const lobj_amount amount = { 123456789, 2 };
+static const lobj_tm our_time = { 2026, 7, 15, 9, 5, 0, 3, 195, false, 0 };
 static const struct tm their_time = { .tm_year = 126, .tm_mon = 6, .tm_mday = 15, .tm_hour = 9, .tm_min = 5,
                                       .tm_wday = 3, .tm_yday = 195 };
 
 static size_t our_strfmon(side *s, char *text, int times) {
     size_t n = 0;
-    while (times-- > 0) n = lo_strfmon_l(text, 128, &s->object, "%n", 2, &amount, 1).n;
+    while (times-- > 0) n = lobj_strfmon(text, 128, s->library, s->own, "%n", 2, &amount, 1).n;
     return n;
 }
 
@@ -52,23 +55,79 @@ static size_t their_strfmon(side *s, char *text, int times) {
     return n;
 }
 
-static size_t our_strftime(side *s, char *text, int times) {
-    size_t n = 0;
-    while (times-- > 0) {
-        n = lo_strftime_l(text, 128, LONG_FORMAT, strlen(LONG_FORMAT), &our_time, "", 0, &s->object).n;
+/* The two functions that give the text of a time by a format. */
+#define TIME_ROW(name, format)                                                                                \
+    static size_t our_##name(side *s, char *text, int times) {                                                \
+        size_t n = 0;                                                                                         \
+        while (times-- > 0) {                                                                                 \
+            n = lobj_strftime(text, 128, s->library, s->own, format, strlen(format), &our_time, "", 0).n;     \
+        }                                                                                                     \
+        return n;                                                                                             \
+    }                                                                                                         \
+    static size_t their_##name(side *s, char *text, int times) {                                              \
+        size_t n = 0;                                                                                         \
+        while (times-- > 0) n = strftime_l(text, 128, format, &their_time, s->locale);                        \
+        return n;                                                                                             \
     }
+
+TIME_ROW(strftime, LONG_FORMAT)
+TIME_ROW(date, DATE_FORMAT)
+TIME_ROW(stamp, STAMP_FORMAT)
+
+static size_t our_number(side *s, char *text, int times) {
+    const int64_t number = 1234567;
+    size_t n = 0;
+    while (times-- > 0) n = lobj_int_format(text, 128, s->library, s->own, "%'d", 3, &number, 1).n;
     return n;
 }
 
-static size_t their_strftime(side *s, char *text, int times) {
+static size_t their_number(side *s, char *text, int times) {
+    const locale_t before = uselocale(s->locale);
     size_t n = 0;
-    while (times-- > 0) n = strftime_l(text, 128, LONG_FORMAT, &their_time, s->locale);
+    while (times-- > 0) n = (size_t)snprintf(text, 128, "%'d", 1234567);
+    uselocale(before);
+    return n;
+}
+
+/* The numbers of localeconv, and its first text. */
+static size_t our_conv(side *s, char *text, int times) {
+    lobj_lconv fields;
+    while (times-- > 0) {
+        lobj_localeconv(s->library, s->own, &fields);
+        lobj_conv_text(text, 128, s->library, s->own, LOBJ_DECIMAL_POINT);
+    }
+    return fields.frac_digits;
+}
+
+static size_t their_conv(side *s, char *text, int times) {
+    const locale_t before = uselocale(s->locale);
+    size_t n = 0;
+    while (times-- > 0) {
+        const struct lconv *fields = localeconv();
+        strcpy(text, fields->decimal_point);
+        n = (size_t)fields->frac_digits;
+    }
+    uselocale(before);
+    return n;
+}
+
+static size_t our_upper(side *s, char *text, int times) {
+    size_t n = 0;
+    *text = 0;
+    while (times-- > 0) n = lobj_towupper(s->library, s->own, 'q').n;
+    return n;
+}
+
+static size_t their_upper(side *s, char *text, int times) {
+    size_t n = 0;
+    *text = 0;
+    while (times-- > 0) n = towupper_l(L'q', s->locale);
     return n;
 }
 
 static size_t our_langinfo(side *s, char *text, int times) {
     size_t n = 0;
-    while (times-- > 0) n = lo_nl_langinfo_l(text, 128, LO_D_T_FMT, &s->object).n;
+    while (times-- > 0) n = lobj_nl_langinfo(text, 128, s->library, s->own, LOBJ_D_T_FMT).n;
     return n;
 }
 
@@ -80,14 +139,14 @@ static size_t their_langinfo(side *s, char *text, int times) {
 static size_t our_class(side *s, char *text, int times) {
     size_t n = 0;
     *text = 0;
-    while (times-- > 0) n = lo_isclass_l('q', s->our_alpha, &s->object).n;
+    while (times-- > 0) n = lobj_isclass(s->library, s->own, 'q', s->our_alpha).n;
     return n;
 }
 
 static size_t our_named_class(side *s, char *text, int times) {
     size_t n = 0;
     *text = 0;
-    while (times-- > 0) n = lo_iswctype_l('q', "alpha", 5, &s->object).n;
+    while (times-- > 0) n = lobj_iswctype(s->library, s->own, 'q', "alpha", 5).n;
     return n;
 }
 
@@ -108,9 +167,8 @@ static size_t their_named_class(side *s, char *text, int times) {
 static size_t our_new(side *s, char *text, int times) {
     *text = 0;
     while (times-- > 0) {
-        lo_object made = LO_NOTHING;
-        lo_newlocale(LO_ALL_MASK, "us", 2, &s->object, &made);
-        lo_freelocale(&made);
+        lobj_locale made;
+        lobj_newlocale(s->library, LOBJ_ALL_MASK, "us", 2, s->own, &made);
     }
     return 0;
 }
@@ -122,22 +180,6 @@ static size_t their_new(side *s, char *text, int times) {
     return 0;
 }
 
-static size_t our_dup(side *s, char *text, int times) {
-    *text = 0;
-    while (times-- > 0) {
-        lo_object made = LO_NOTHING;
-        lo_duplocale(&s->object, &made);
-        lo_freelocale(&made);
-    }
-    return 0;
-}
-
-static size_t their_dup(side *s, char *text, int times) {
-    *text = 0;
-    while (times-- > 0) freelocale(duplocale(s->locale));
-    return 0;
-}
-
 static const struct row {
     const char *name;
     work *ours;
@@ -146,11 +188,15 @@ static const struct row {
 } rows[] = {
     { "strfmon %n", our_strfmon, their_strfmon, 50000 },
     { "strftime " LONG_FORMAT, our_strftime, their_strftime, 50000 },
+    { "strftime " DATE_FORMAT, our_date, their_date, 50000 },
+    { "strftime " STAMP_FORMAT, our_stamp, their_stamp, 50000 },
+    { "printf %'d", our_number, their_number, 50000 },
     { "nl_langinfo D_T_FMT", our_langinfo, their_langinfo, 200000 },
+    { "localeconv", our_conv, their_conv, 100000 },
     { "iswctype alpha", our_class, their_class, 200000 },
     { "iswctype, wctype alpha", our_named_class, their_named_class, 200000 },
-    { "newlocale, freelocale", our_new, their_new, 5000 },
-    { "duplocale, freelocale", our_dup, their_dup, 50000 },
+    { "towupper", our_upper, their_upper, 200000 },
+    { "newlocale (and freelocale)", our_new, their_new, 5000 },
 };
 
 typedef struct task {
@@ -181,10 +227,11 @@ static double measured(work *made, int times, side *sides, int threads) {
     return ((double)(end.tv_sec - begin.tv_sec) * 1e9 + (double)(end.tv_nsec - begin.tv_nsec)) / times;
 }
 
-static void read_source(const char *path, lo_object *library) {
+static lobj_library *read_source(const char *path) {
     static char text[1 << 16] = ".locale us UTF-8\n";
     size_t length = strlen(text);
-    lo_place place = { 0, 0 };
+    lobj_library *library = NULL;
+    lobj_place place = { 0, 0 };
     char line[128] = "";
     FILE *file = fopen(path, "rb");
     if (file == NULL) {
@@ -194,10 +241,11 @@ static void read_source(const char *path, lo_object *library) {
     length += fread(text + length, 1, sizeof text - length - 8, file);
     fclose(file);
     memcpy(text + length, ".end\n", 5);
-    if (lo_read(text, length + 5, library, &place, line, sizeof line).code != LO_OK) {
+    if (lobj_read(text, length + 5, &library, &place, line, sizeof line).code != LOBJ_OK) {
         fputs(line, stderr);
         exit(1);
     }
+    return library;
 }
 
 static int by_size(const void *a, const void *b) {
@@ -232,18 +280,19 @@ static void measure_row(const struct row *row, side *sides) {
 
 int main(int count, char **words) {
     side sides[MOST_THREADS];
-    lo_object library = LO_NOTHING;
     int counted = count > 2 ? atoi(words[2]) : 0;
     if (count < 2) return 2;
-    read_source(words[1], &library);
+    lobj_library *library = read_source(words[1]);
+    lobj_locale posix;
+    lobj_posix_locale(library, &posix);
     for (int i = 0; i < MOST_THREADS; i++) {
-        sides[i].object = (lo_object)LO_NOTHING;
+        sides[i].library = library;
         sides[i].locale = newlocale(LC_ALL_MASK, "us", (locale_t)0);
-        if (sides[i].locale == (locale_t)0 || lo_newlocale(LO_ALL_MASK, "us", 2, &library, &sides[i].object).code != LO_OK) {
+        if (sides[i].locale == (locale_t)0 || lobj_newlocale(library, LOBJ_ALL_MASK, "us", 2, posix, &sides[i].own).code != LOBJ_OK) {
             fputs("no locale us: run this by bench/c/run\n", stderr);
             return 1;
         }
-        sides[i].our_alpha = lo_wctype_l("alpha", 5, &sides[i].object).n;
+        sides[i].our_alpha = lobj_wctype(library, sides[i].own, "alpha", 5).n;
         sides[i].alpha = wctype_l("alpha", sides[i].locale);
     }
     if (counted == 0) {
@@ -264,9 +313,8 @@ int main(int count, char **words) {
         }
     }
     for (int i = 0; i < MOST_THREADS; i++) {
-        lo_freelocale(&sides[i].object);
         freelocale(sides[i].locale);
     }
-    lo_freelocale(&library);
+    lobj_library_free(library);
     return 0;
 }

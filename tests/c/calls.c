@@ -1,14 +1,18 @@
 /*
- * Each call of include/locale_objects.h: what it gives, each code once, buffers of each size that is too
- * small, each allocation that fails, and four threads concurrently, which get the texts that one thread
- * gets, with 100000 calls each or as many as the first word says. Ends with status 0 where all is as wanted.
+ * Each call of include/locale_objects.h: what it gives, each code once, each field and each constant by a
+ * value of its own, buffers of each size that is too small, each allocation that fails, and two, 16 and 64
+ * threads and the child of a fork on one library, which get the texts that one thread gets, with 100000 calls in
+ * all threads together or as many as the first word says. Ends with status 0 where all is as wanted.
  * To be linked with -Wl,--wrap=malloc,--wrap=realloc.
  */
+#define _POSIX_C_SOURCE 200809L
 #include "locale_objects.h"
 #include <pthread.h>
 #include <stdio.h>
 #include <stdlib.h>
 #include <string.h>
+#include <sys/wait.h>
+#include <unistd.h>
 
 static int wrong = 0;
 
@@ -21,7 +25,12 @@ static void check(bool holds, const char *what, int line) {
 
 #define CHECK(fact) check((fact), #fact, __LINE__)
 
-static bool is(lo_answer answer, uint32_t code, size_t n) {
+/* A text and its NUL do not fit: the size that they need is told. */
+static bool is_small(lobj_answer answer, size_t size) {
+    return answer.code == LOBJ_TOO_SMALL && answer.n == size;
+}
+
+static bool is(lobj_answer answer, uint32_t code, size_t n) {
     if (answer.code == code && answer.n == n) return true;
     printf("code %u, n %zu: ", (unsigned)answer.code, answer.n);
     return false;
@@ -37,6 +46,8 @@ static const char sources[] =
     "p_cs_precedes 1\np_sep_by_space 0\nn_cs_precedes 1\nn_sep_by_space 0\np_sign_posn 1\nn_sign_posn 1\n"
     "END LC_MONETARY\n.end\n"
     ".locale half UTF-8\nLC_NUMERIC\ndecimal_point \",\"\nEND LC_NUMERIC\n.end\n"
+    ".locale eras UTF-8\nLC_TIME\nera \"+:1:2000/01/01:+*:E:%EC\"\nera_d_fmt \"era d\"\nera_d_t_fmt \"era d t\"\n"
+    "era_t_fmt \"era t\"\nalt_digits \"zero\"\nEND LC_TIME\n.end\n"
     ".native half\n";
 
 /* How many blocks of memory are given before none is; below 0 as many as are asked for. */
@@ -62,209 +73,319 @@ void *__wrap_realloc(void *block, size_t size) {
     return is_given() ? __real_realloc(block, size) : NULL;
 }
 
-static const lo_tm sunday = { 2021, 1, 3, 14, 5, 6, 0, 2, true, 60 };
+static const lobj_tm sunday = { 2021, 1, 3, 14, 5, 6, 0, 2, true, 60 };
 
-static void read_library(lo_object *library) {
-    lo_place place = { 7, 7 };
+static void read_library(lobj_library **library) {
+    lobj_place place = { 7, 7 };
     char line[64];
     memset(line, 'x', sizeof line);
-    CHECK(is(lo_read(sources, strlen(sources), library, &place, line, sizeof line), LO_OK, 0));
-    CHECK(line[0] == 'x' && place.line == 7);
-    CHECK(is(lo_read(sources, strlen(sources), library, &place, line, sizeof line), LO_TAKEN, 0));
+    CHECK(is(lobj_read(sources, strlen(sources), library, &place, line, sizeof line), LOBJ_OK, 0));
+    CHECK(line[0] == 'x' && place.line == 7 && place.column == 7 && *library != NULL);
 }
 
 static void refuse_texts(void) {
     static const char broken[] = "# a comment\n.locale\n";
     static const char told[] = "refused: 2:1 BadLine directive\n";
-    lo_object nothing = LO_NOTHING;
-    lo_place place = { 0, 0 };
+    lobj_library *nothing = NULL;
+    lobj_place place = { 0, 0 };
     char line[64];
-    CHECK(is(lo_read(broken, strlen(broken), &nothing, &place, line, sizeof line), LO_BAD_TEXT, strlen(told)));
-    CHECK(strcmp(line, told) == 0 && place.line == 2 && place.column == 1 && !nothing.full);
+    CHECK(is(lobj_read(broken, strlen(broken), &nothing, &place, line, sizeof line), LOBJ_BAD_TEXT, strlen(told)));
+    CHECK(strcmp(line, told) == 0 && place.line == 2 && place.column == 1 && nothing == NULL);
     memset(line, 'x', sizeof line);
-    CHECK(is(lo_read(broken, strlen(broken), &nothing, &place, line, strlen(told)), LO_TOO_SMALL, 0));
+    CHECK(is(lobj_read(broken, strlen(broken), &nothing, &place, line, strlen(told)), LOBJ_TOO_SMALL, strlen(told) + 1));
     CHECK(line[0] == 'x');
-    CHECK(is(lo_read(broken, strlen(broken), &nothing, &place, line, strlen(told) + 1), LO_BAD_TEXT, strlen(told)));
+    CHECK(is(lobj_read(broken, strlen(broken), &nothing, &place, line, strlen(told) + 1), LOBJ_BAD_TEXT, strlen(told)));
     char *long_text = malloc((size_t)1 << 31);
     if (long_text != NULL) {
-        CHECK(is(lo_read(long_text, (size_t)1 << 31, &nothing, &place, line, sizeof line), LO_TOO_LONG, 0));
+        CHECK(is(lobj_read(long_text, (size_t)1 << 31, &nothing, &place, line, sizeof line), LOBJ_TOO_LONG, 0));
         free(long_text);
     }
+    lobj_library_free(NULL);
 }
 
-static void make_objects(lo_object *library) {
-    lo_object us = LO_NOTHING, again = LO_NOTHING, nothing = LO_NOTHING;
-    char text[64];
-    CHECK(is(lo_newlocale(LO_ALL_MASK, "us", 2, &nothing, &us), LO_NO_OBJECT, 0));
-    CHECK(is(lo_newlocale(32, "us", 2, library, &us), LO_BAD_MASK, 0));
-    CHECK(is(lo_newlocale(LO_ALL_MASK, "de", 2, library, &us), LO_NO_DATA, LO_CTYPE_MASK));
-    CHECK(is(lo_newlocale(LO_TIME_MASK | LO_NUMERIC_MASK, "half", 4, library, &us), LO_NO_DATA, LO_TIME_MASK));
-    CHECK(!us.full);
-    CHECK(is(lo_newlocale(LO_CTYPE_MASK | LO_MONETARY_MASK, "us", 2, library, &us), LO_OK, 0));
-    CHECK(is(lo_newlocale(LO_CTYPE_MASK, "us", 2, library, &us), LO_TAKEN, 0));
-    CHECK(is(lo_newlocale(LO_NUMERIC_MASK, "", 0, &us, &again), LO_OK, 0));
-    CHECK(is(lo_nl_langinfo_l(text, sizeof text, LO_RADIXCHAR, &again), LO_OK, 1) && strcmp(text, ",") == 0);
-    CHECK(is(lo_nl_langinfo_l(text, sizeof text, LO_CRNCYSTR, &again), LO_OK, 2) && strcmp(text, "-$") == 0);
-    CHECK(is(lo_nl_langinfo_l(text, sizeof text, LO_RADIXCHAR, &us), LO_OK, 1) && strcmp(text, ".") == 0);
-    CHECK(is(lo_duplocale(&us, &again), LO_TAKEN, 0));
-    lo_freelocale(&again);
-    lo_freelocale(&again);
-    CHECK(is(lo_duplocale(&again, &nothing), LO_NO_OBJECT, 0));
-    CHECK(is(lo_duplocale(&us, &again), LO_OK, 0));
-    lo_freelocale(&us);
-    CHECK(is(lo_nl_langinfo_l(text, sizeof text, LO_CRNCYSTR, &again), LO_OK, 2) && strcmp(text, "-$") == 0);
-    lo_freelocale(&again);
+static bool is_same(lobj_locale a, lobj_locale b) {
+    return a.mark == b.mark && a.ctype == b.ctype && a.numeric == b.numeric && a.monetary == b.monetary &&
+           a.time == b.time && a.messages == b.messages;
 }
 
-static void format_amounts(lo_object *us) {
-    const lo_amount amounts[] = { { 123456789, 2 }, { -5, 1 } };
-    const lo_amount wrong_scale = { 1, 19 };
-    lo_object nothing = LO_NOTHING;
+/* A locale has each category by its own field, and each field is checked. */
+static void make_locales(const lobj_library *library) {
+    static const char other_text[] = ".locale us UTF-8\n.end\n";
+    lobj_locale posix, us, again, wrong_one;
+    lobj_library *other = NULL, *twin = NULL;
+    lobj_place place;
     char text[64];
-    CHECK(is(lo_strfmon_l(text, sizeof text, us, "%n;%n", 5, amounts, 2), LO_OK, 20));
+    lobj_posix_locale(library, &posix);
+    us = posix;
+    CHECK(is(lobj_newlocale(library, 32, "us", 2, posix, &us), LOBJ_BAD_MASK, 0));
+    CHECK(is(lobj_newlocale(library, LOBJ_ALL_MASK, "de", 2, posix, &us), LOBJ_NO_DATA, LOBJ_CTYPE_MASK));
+    CHECK(is(lobj_newlocale(library, LOBJ_TIME_MASK | LOBJ_NUMERIC_MASK, "half", 4, posix, &us), LOBJ_NO_DATA, LOBJ_TIME_MASK));
+    CHECK(is_same(us, posix));
+    CHECK(is(lobj_newlocale(library, LOBJ_CTYPE_MASK | LOBJ_MONETARY_MASK, "us", 2, posix, &us), LOBJ_OK, 0));
+    CHECK(us.ctype == 1 && us.numeric == 0 && us.monetary == 1 && us.time == 0 && us.messages == 0);
+    CHECK(is(lobj_newlocale(library, LOBJ_NUMERIC_MASK, "", 0, us, &again), LOBJ_OK, 0));
+    CHECK(again.ctype == 1 && again.numeric == 2 && again.monetary == 1 && again.time == 0 && again.messages == 0);
+    CHECK(is(lobj_nl_langinfo(text, sizeof text, library, again, LOBJ_RADIXCHAR), LOBJ_OK, 1) && strcmp(text, ",") == 0);
+    CHECK(is(lobj_nl_langinfo(text, sizeof text, library, again, LOBJ_CRNCYSTR), LOBJ_OK, 2) && strcmp(text, "-$") == 0);
+    CHECK(is(lobj_nl_langinfo(text, sizeof text, library, us, LOBJ_RADIXCHAR), LOBJ_OK, 1) && strcmp(text, ".") == 0);
+    uint32_t *const fields[] = { &wrong_one.ctype, &wrong_one.numeric, &wrong_one.monetary, &wrong_one.time, &wrong_one.messages };
+    for (int i = 0; i < 5; i++) {
+        wrong_one = posix;
+        *fields[i] = 2;
+        CHECK(is(lobj_towupper(library, wrong_one, 'q'), LOBJ_OK, 'Q'));
+        *fields[i] = 4;
+        CHECK(is(lobj_towupper(library, wrong_one, 'q'), LOBJ_NO_LOCALE, 0));
+        CHECK(is(lobj_newlocale(library, LOBJ_NUMERIC_MASK, "us", 2, wrong_one, &us), LOBJ_NO_LOCALE, 0));
+    }
+    CHECK(is(lobj_read(other_text, strlen(other_text), &other, &place, text, sizeof text), LOBJ_OK, 0));
+    CHECK(is(lobj_towupper(other, posix, 'q'), LOBJ_NO_LOCALE, 0));
+    lobj_library_free(other);
+    CHECK(is(lobj_read(sources, strlen(sources), &twin, &place, text, sizeof text), LOBJ_OK, 0));
+    CHECK(is(lobj_towupper(twin, posix, 'q'), LOBJ_OK, 'Q'));
+    lobj_library_free(twin);
+}
+
+static void format_amounts(const lobj_library *library, lobj_locale us) {
+    const lobj_amount amounts[] = { { 123456789, 2 }, { -5, 1 } };
+    const lobj_amount wrong_scale = { 1, 19 };
+    lobj_locale nothing = us;
+    nothing.mark++;
+    char text[64];
+    CHECK(is(lobj_strfmon(text, sizeof text, library, us, "%n;%n", 5, amounts, 2), LOBJ_OK, 20));
     CHECK(strcmp(text, "$1,234,567.89;-$0.50") == 0);
     memset(text, 'x', sizeof text);
-    CHECK(is(lo_strfmon_l(text, 20, us, "%n;%n", 5, amounts, 2), LO_TOO_SMALL, 0));
-    CHECK(is(lo_strfmon_l(text, 19, us, "%n;%n", 5, amounts, 2), LO_TOO_SMALL, 0));
+    CHECK(is_small(lobj_strfmon(text, 20, library, us, "%n;%n", 5, amounts, 2), 21));
+    CHECK(is_small(lobj_strfmon(text, 19, library, us, "%n;%n", 5, amounts, 2), 21));
     CHECK(text[0] == 'x' && text[19] == 'x');
-    CHECK(is(lo_strfmon_l(text, 21, us, "%n;%n", 5, amounts, 2), LO_OK, 20));
+    CHECK(is(lobj_strfmon(text, 21, library, us, "%n;%n", 5, amounts, 2), LOBJ_OK, 20));
     CHECK(text[20] == 0 && text[21] == 'x');
-    CHECK(is(lo_strfmon_l(text, sizeof text, us, "%n%q", 4, amounts, 2), LO_BAD_FORMAT, 2));
-    CHECK(is(lo_strfmon_l(text, sizeof text, us, "%n%n", 4, amounts, 1), LO_MISSING, 2));
-    CHECK(is(lo_strfmon_l(text, sizeof text, us, "%n", 2, &wrong_scale, 1), LO_BAD_AMOUNT, 0));
-    CHECK(is(lo_strfmon_l(text, sizeof text, &nothing, "%n", 2, amounts, 1), LO_NO_OBJECT, 0));
+    CHECK(is(lobj_strfmon(text, sizeof text, library, us, "%n%q", 4, amounts, 2), LOBJ_BAD_FORMAT, 2));
+    CHECK(is(lobj_strfmon(text, sizeof text, library, us, "%n%n", 4, amounts, 1), LOBJ_MISSING, 2));
+    CHECK(is(lobj_strfmon(text, sizeof text, library, us, "%n", 2, &wrong_scale, 1), LOBJ_BAD_AMOUNT, 0));
+    CHECK(is(lobj_strfmon(text, sizeof text, library, nothing, "%n", 2, amounts, 1), LOBJ_NO_LOCALE, 0));
 }
 
-static void format_times(lo_object *us) {
-    lo_tm off = sunday;
-    lo_object nothing = LO_NOTHING;
+static void format_times(const lobj_library *library, lobj_locale us) {
+    lobj_tm off = sunday;
+    lobj_locale nothing = us;
+    nothing.mark++;
     char text[64];
-    CHECK(is(lo_strftime_l(text, sizeof text, "%A %d %B %z %Z", 14, &sunday, "CET", 3, us), LO_OK, 27));
+    CHECK(is(lobj_strftime(text, sizeof text, library, us, "%A %d %B %z %Z", 14, &sunday, "CET", 3), LOBJ_OK, 27));
     CHECK(strcmp(text, "Sunday 03 January +0100 CET") == 0);
     memset(text, 'x', sizeof text);
-    CHECK(is(lo_strftime_l(text, 6, "%A", 2, &sunday, "", 0, us), LO_TOO_SMALL, 0));
+    CHECK(is_small(lobj_strftime(text, 6, library, us, "%A", 2, &sunday, "", 0), 7));
     CHECK(text[0] == 'x');
-    CHECK(is(lo_strftime_l(text, 7, "%A", 2, &sunday, "", 0, us), LO_OK, 6));
-    CHECK(is(lo_strftime_l(text, 1, "", 0, &sunday, "", 0, us), LO_OK, 0));
-    CHECK(is(lo_strftime_l(text, 0, "", 0, &sunday, "", 0, us), LO_TOO_SMALL, 0));
-    CHECK(is(lo_strftime_l(text, sizeof text, "%A%", 3, &sunday, "", 0, us), LO_BAD_FORMAT, 2));
-    off.mon = 13;
-    CHECK(is(lo_strftime_l(text, sizeof text, "%A", 2, &off, "", 0, us), LO_TM_RANGE, 2));
-    off = sunday;
-    off.offset = 1440;
-    CHECK(is(lo_strftime_l(text, sizeof text, "%A", 2, &off, "", 0, us), LO_TM_RANGE, 9));
-    CHECK(is(lo_strftime_l(text, sizeof text, "%A", 2, &sunday, "", 0, &nothing), LO_NO_OBJECT, 0));
+    CHECK(is(lobj_strftime(text, 7, library, us, "%A", 2, &sunday, "", 0), LOBJ_OK, 6));
+    CHECK(is(lobj_strftime(text, 1, library, us, "", 0, &sunday, "", 0), LOBJ_OK, 0));
+    CHECK(is_small(lobj_strftime(text, 0, library, us, "", 0, &sunday, "", 0), 1));
+    CHECK(is(lobj_strftime(text, sizeof text, library, us, "%A%", 3, &sunday, "", 0), LOBJ_BAD_FORMAT, 2));
+    int32_t *const fields[] = { &off.year, &off.mon, &off.mday, &off.hour, &off.min, &off.sec, &off.wday, &off.yday, &off.offset };
+    for (size_t i = 0; i < sizeof fields / sizeof *fields; i++) {
+        off = sunday;
+        *fields[i] = 10000;
+        CHECK(is(lobj_strftime(text, sizeof text, library, us, "%A", 2, &off, "", 0), LOBJ_TM_RANGE, i + 1));
+    }
+    off.has_offset = false;
+    CHECK(is(lobj_strftime(text, sizeof text, library, us, "%z", 2, &off, "", 0), LOBJ_OK, 0));
+    CHECK(is(lobj_strftime(text, sizeof text, library, nothing, "%A", 2, &sunday, "", 0), LOBJ_NO_LOCALE, 0));
 }
 
-static void format_numbers(lo_object *us) {
+static void format_numbers(const lobj_library *library, lobj_locale us) {
     const int64_t numbers[] = { 1234567, INT64_MIN };
-    lo_object nothing = LO_NOTHING;
+    lobj_locale nothing = us;
+    nothing.mark++;
     char text[64];
-    CHECK(is(lo_int_format_l(text, sizeof text, us, "%'d %d", 6, numbers, 2), LO_OK, 30));
+    CHECK(is(lobj_int_format(text, sizeof text, library, us, "%'d %d", 6, numbers, 2), LOBJ_OK, 30));
     CHECK(strcmp(text, "1,234,567 -9223372036854775808") == 0);
-    CHECK(is(lo_int_format_l(text, 30, us, "%'d %d", 6, numbers, 2), LO_TOO_SMALL, 0));
-    CHECK(is(lo_int_format_l(text, sizeof text, us, "%x", 2, numbers, 2), LO_BAD_FORMAT, 0));
-    CHECK(is(lo_int_format_l(text, sizeof text, us, "%d", 2, numbers, 0), LO_MISSING, 0));
-    CHECK(is(lo_int_format_l(text, sizeof text, &nothing, "%d", 2, numbers, 2), LO_NO_OBJECT, 0));
+    CHECK(is_small(lobj_int_format(text, 30, library, us, "%'d %d", 6, numbers, 2), 31));
+    CHECK(is(lobj_int_format(text, sizeof text, library, us, "%x", 2, numbers, 2), LOBJ_BAD_FORMAT, 0));
+    CHECK(is(lobj_int_format(text, sizeof text, library, us, "%d", 2, numbers, 0), LOBJ_MISSING, 0));
+    CHECK(is(lobj_int_format(text, sizeof text, library, nothing, "%d", 2, numbers, 2), LOBJ_NO_LOCALE, 0));
 }
 
-static void ask_class_numbers(lo_object *us) {
+static void ask_class_numbers(const lobj_library *library, lobj_locale us) {
     static const char *const names[] = { "upper", "lower", "alpha", "digit", "alnum", "space", "cntrl",
                                          "punct", "graph", "print", "xdigit", "blank", "vowel" };
     enum { COUNT = sizeof names / sizeof *names };
-    lo_object nothing = LO_NOTHING;
+    lobj_locale nothing = us;
+    nothing.mark++;
     for (int i = 0; i < COUNT; i++) {
-        lo_answer number = lo_wctype_l(names[i], strlen(names[i]), us);
-        CHECK(is(number, LO_OK, number.n) && number.n < COUNT);
+        lobj_answer number = lobj_wctype(library, us, names[i], strlen(names[i]));
+        CHECK(is(number, LOBJ_OK, number.n) && number.n < COUNT);
         for (uint32_t value = 0; value < 0x180; value++) {
-            lo_answer named = lo_iswctype_l(value, names[i], strlen(names[i]), us);
-            CHECK(is(lo_isclass_l(value, number.n, us), LO_OK, named.n));
+            lobj_answer named = lobj_iswctype(library, us, value, names[i], strlen(names[i]));
+            CHECK(is(lobj_isclass(library, us, value, number.n), LOBJ_OK, named.n));
         }
     }
-    size_t vowel = lo_wctype_l("vowel", 5, us).n;
-    CHECK(is(lo_isclass_l('e', vowel, us), LO_OK, 1));
-    CHECK(is(lo_isclass_l('f', vowel, us), LO_OK, 0));
-    CHECK(is(lo_isclass_l('e', COUNT, us), LO_NO_CLASS, 0));
-    CHECK(is(lo_isclass_l('e', SIZE_MAX, us), LO_NO_CLASS, 0));
-    CHECK(is(lo_isclass_l('e', vowel, &nothing), LO_NO_OBJECT, 0));
-    CHECK(is(lo_wctype_l("consonant", 9, us), LO_NO_CLASS, 0));
-    CHECK(is(lo_wctype_l("vowel", 5, &nothing), LO_NO_OBJECT, 0));
+    size_t vowel = lobj_wctype(library, us, "vowel", 5).n;
+    CHECK(is(lobj_isclass(library, us, 'e', vowel), LOBJ_OK, 1));
+    CHECK(is(lobj_isclass(library, us, 'f', vowel), LOBJ_OK, 0));
+    CHECK(is(lobj_isclass(library, us, 'e', COUNT), LOBJ_NO_CLASS, 0));
+    CHECK(is(lobj_isclass(library, us, 'e', SIZE_MAX), LOBJ_NO_CLASS, 0));
+    CHECK(is(lobj_isclass(library, nothing, 'e', vowel), LOBJ_NO_LOCALE, 0));
+    CHECK(is(lobj_wctype(library, us, "consonant", 9), LOBJ_NO_CLASS, 0));
+    CHECK(is(lobj_wctype(library, nothing, "vowel", 5), LOBJ_NO_LOCALE, 0));
 }
 
-static void ask_items_and_classes(lo_object *us) {
-    lo_object nothing = LO_NOTHING;
+static void ask_items_and_classes(const lobj_library *library, lobj_locale us) {
+    lobj_locale nothing = us;
+    nothing.mark++;
     char text[64];
-    CHECK(is(lo_nl_langinfo_l(text, sizeof text, LO_CODESET, us), LO_OK, 5) && strcmp(text, "UTF-8") == 0);
-    CHECK(is(lo_nl_langinfo_l(text, sizeof text, LO_MON_12, us), LO_OK, 8) && strcmp(text, "December") == 0);
-    CHECK(is(lo_nl_langinfo_l(text, 5, LO_CODESET, us), LO_TOO_SMALL, 0));
-    CHECK(is(lo_nl_langinfo_l(text, sizeof text, LO_CRNCYSTR + 1, us), LO_NO_ITEM, 0));
-    CHECK(is(lo_nl_langinfo_l(text, sizeof text, LO_CODESET, &nothing), LO_NO_OBJECT, 0));
-    CHECK(is(lo_iswctype_l('e', "vowel", 5, us), LO_OK, 1));
-    CHECK(is(lo_iswctype_l('f', "vowel", 5, us), LO_OK, 0));
-    CHECK(is(lo_iswctype_l('f', "consonant", 9, us), LO_NO_CLASS, 0));
-    CHECK(is(lo_iswctype_l('f', "vowel", 5, &nothing), LO_NO_OBJECT, 0));
-    ask_class_numbers(us);
-    CHECK(is(lo_towupper_l('q', us), LO_OK, 'Q'));
-    CHECK(is(lo_towlower_l('Q', us), LO_OK, 'q'));
-    CHECK(is(lo_towupper_l('q', &nothing), LO_NO_OBJECT, 0));
-    CHECK(is(lo_towlower_l('q', &nothing), LO_NO_OBJECT, 0));
+    CHECK(is(lobj_nl_langinfo(text, sizeof text, library, us, LOBJ_CODESET), LOBJ_OK, 5) && strcmp(text, "UTF-8") == 0);
+    CHECK(is(lobj_nl_langinfo(text, sizeof text, library, us, LOBJ_MON_12), LOBJ_OK, 8) && strcmp(text, "December") == 0);
+    CHECK(is(lobj_nl_langinfo(text, 5, library, us, LOBJ_CODESET), LOBJ_TOO_SMALL, 6));
+    CHECK(is(lobj_nl_langinfo(text, sizeof text, library, us, LOBJ_CRNCYSTR + 1), LOBJ_NO_ITEM, 0));
+    CHECK(is(lobj_nl_langinfo(text, sizeof text, library, nothing, LOBJ_CODESET), LOBJ_NO_LOCALE, 0));
+    CHECK(is(lobj_iswctype(library, us, 'e', "vowel", 5), LOBJ_OK, 1));
+    CHECK(is(lobj_iswctype(library, us, 'f', "vowel", 5), LOBJ_OK, 0));
+    CHECK(is(lobj_iswctype(library, us, 'f', "consonant", 9), LOBJ_NO_CLASS, 0));
+    CHECK(is(lobj_iswctype(library, nothing, 'f', "vowel", 5), LOBJ_NO_LOCALE, 0));
+    ask_class_numbers(library, us);
+    CHECK(is(lobj_towupper(library, us, 'q'), LOBJ_OK, 'Q'));
+    CHECK(is(lobj_towlower(library, us, 'Q'), LOBJ_OK, 'q'));
+    CHECK(is(lobj_towupper(library, nothing, 'q'), LOBJ_NO_LOCALE, 0));
+    CHECK(is(lobj_towlower(library, nothing, 'q'), LOBJ_NO_LOCALE, 0));
 }
 
-static void ask_conventions(lo_object *us) {
-    static const char texts[] = ".\0,\0\3\0USD \0$\0.\0,\0\3\0\0-";
-    lo_lconv fields;
-    lo_object nothing = LO_NOTHING;
+/* The numbers of localeconv by the names of their keywords. */
+static void ask_numbers_of_money(void) {
+    static const struct {
+        const char *keyword;
+        size_t at;
+    } rows[] = {
+#define ROW(field) { #field, offsetof(lobj_lconv, field) }
+        ROW(int_frac_digits), ROW(frac_digits), ROW(p_cs_precedes), ROW(p_sep_by_space), ROW(n_cs_precedes),
+        ROW(n_sep_by_space), ROW(p_sign_posn), ROW(n_sign_posn), ROW(int_p_cs_precedes), ROW(int_n_cs_precedes),
+        ROW(int_p_sep_by_space), ROW(int_n_sep_by_space), ROW(int_p_sign_posn), ROW(int_n_sign_posn)
+#undef ROW
+    };
+    for (size_t i = 0; i < sizeof rows / sizeof *rows; i++) {
+        char source[128], line[64];
+        lobj_library *library = NULL;
+        lobj_locale money;
+        lobj_lconv fields;
+        lobj_place place;
+        int length = snprintf(source, sizeof source, ".locale m UTF-8\nLC_MONETARY\n%s 1\nEND LC_MONETARY\n.end\n", rows[i].keyword);
+        CHECK(is(lobj_read(source, (size_t)length, &library, &place, line, sizeof line), LOBJ_OK, 0));
+        if (library == NULL) continue;
+        lobj_posix_locale(library, &money);
+        CHECK(is(lobj_newlocale(library, LOBJ_MONETARY_MASK, "m", 1, money, &money), LOBJ_OK, 0));
+        CHECK(is(lobj_localeconv(library, money, &fields), LOBJ_OK, 0));
+        for (size_t k = 0; k < sizeof rows / sizeof *rows; k++) {
+            CHECK(((const uint8_t *)&fields)[rows[k].at] == (k == i ? 1 : 127));
+        }
+        lobj_library_free(library);
+    }
+}
+
+static void ask_conventions(const lobj_library *library, lobj_locale us) {
+    static const char *const texts[] = { ".", ",", "\3", "USD ", "$", ".", ",", "\3", "", "-" };
+    static const uint32_t numbers[] = { LOBJ_DECIMAL_POINT, LOBJ_THOUSANDS_SEP, LOBJ_GROUPING, LOBJ_INT_CURR_SYMBOL,
+                                        LOBJ_CURRENCY_SYMBOL, LOBJ_MON_DECIMAL_POINT, LOBJ_MON_THOUSANDS_SEP,
+                                        LOBJ_MON_GROUPING, LOBJ_POSITIVE_SIGN, LOBJ_NEGATIVE_SIGN };
+    lobj_lconv fields;
+    lobj_locale nothing = us, half = us;
     char text[64];
+    nothing.mark++;
     memset(&fields, 1, sizeof fields);
-    CHECK(is(lo_localeconv_l(text, sizeof text, &fields, &nothing), LO_NO_OBJECT, 0) && fields.frac_digits == 1);
-    CHECK(is(lo_localeconv_l(text, sizeof text, &fields, us), LO_OK, sizeof texts - 1));
-    CHECK(memcmp(text, texts, sizeof texts) == 0);
-    CHECK(fields.decimal_point == 1 && fields.int_curr_symbol == 4 && fields.positive_sign == 0);
+    CHECK(is(lobj_localeconv(library, nothing, &fields), LOBJ_NO_LOCALE, 0) && fields.frac_digits == 1);
+    CHECK(is(lobj_localeconv(library, us, &fields), LOBJ_OK, 0));
     CHECK(fields.frac_digits == 2 && fields.n_sign_posn == 1);
-    memset(text, 'x', sizeof text);
-    CHECK(is(lo_localeconv_l(text, sizeof texts - 1, &fields, us), LO_TOO_SMALL, 0) && text[0] == 'x');
-    CHECK(is(lo_localeconv_l(text, sizeof texts, &fields, us), LO_OK, sizeof texts - 1));
+    for (size_t i = 0; i < sizeof texts / sizeof *texts; i++) {
+        size_t length = strlen(texts[i]);
+        CHECK(is(lobj_conv_text(text, sizeof text, library, us, numbers[i]), LOBJ_OK, length));
+        CHECK(strcmp(text, texts[i]) == 0);
+        CHECK(is(lobj_conv_text(text, length, library, us, numbers[i]), LOBJ_TOO_SMALL, length + 1));
+    }
+    half.numeric = 2;
+    CHECK(is(lobj_conv_text(text, sizeof text, library, half, LOBJ_DECIMAL_POINT), LOBJ_OK, 1) && text[0] == ',');
+    CHECK(is(lobj_conv_text(text, sizeof text, library, half, LOBJ_MON_DECIMAL_POINT), LOBJ_OK, 1) && text[0] == '.');
+    CHECK(is(lobj_conv_text(text, sizeof text, library, us, 10), LOBJ_NO_ITEM, 0));
+    CHECK(is(lobj_conv_text(text, sizeof text, library, nothing, 0), LOBJ_NO_LOCALE, 0));
+    ask_numbers_of_money();
 }
 
-static void scan_times(lo_object *us) {
-    lo_parsed fields = { 5, 5, 5, 5, 5, 5, 5, 5 };
-    lo_object nothing = LO_NOTHING;
-    CHECK(is(lo_strptime_l("x", 1, "%d", 2, &fields, us), LO_MISMATCH, 0));
-    CHECK(is(lo_strptime_l("7", 1, "%d%q", 4, &fields, us), LO_BAD_FORMAT, 2));
-    CHECK(is(lo_strptime_l("7", 1, "%d", 2, &fields, &nothing), LO_NO_OBJECT, 0));
+/* Each item of the POSIX locale, but with the eras of another. */
+static void ask_items(const lobj_library *library) {
+    static const struct {
+        uint32_t item;
+        const char *text;
+    } rows[] = {
+        { LOBJ_D_T_FMT, "%a %b %e %H:%M:%S %Y" }, { LOBJ_D_FMT, "%m/%d/%y" }, { LOBJ_T_FMT, "%H:%M:%S" },
+        { LOBJ_T_FMT_AMPM, "%I:%M:%S %p" }, { LOBJ_AM_STR, "AM" }, { LOBJ_PM_STR, "PM" },
+        { LOBJ_DAY_1, "Sunday" }, { LOBJ_DAY_2, "Monday" }, { LOBJ_DAY_3, "Tuesday" }, { LOBJ_DAY_4, "Wednesday" },
+        { LOBJ_DAY_5, "Thursday" }, { LOBJ_DAY_6, "Friday" }, { LOBJ_DAY_7, "Saturday" },
+        { LOBJ_ABDAY_1, "Sun" }, { LOBJ_ABDAY_2, "Mon" }, { LOBJ_ABDAY_3, "Tue" }, { LOBJ_ABDAY_4, "Wed" },
+        { LOBJ_ABDAY_5, "Thu" }, { LOBJ_ABDAY_6, "Fri" }, { LOBJ_ABDAY_7, "Sat" },
+        { LOBJ_MON_1, "January" }, { LOBJ_MON_2, "February" }, { LOBJ_MON_3, "March" }, { LOBJ_MON_4, "April" },
+        { LOBJ_MON_5, "May" }, { LOBJ_MON_6, "June" }, { LOBJ_MON_7, "July" }, { LOBJ_MON_8, "August" },
+        { LOBJ_MON_9, "September" }, { LOBJ_MON_10, "October" }, { LOBJ_MON_11, "November" },
+        { LOBJ_MON_12, "December" },
+        { LOBJ_ABMON_1, "Jan" }, { LOBJ_ABMON_2, "Feb" }, { LOBJ_ABMON_3, "Mar" }, { LOBJ_ABMON_4, "Apr" },
+        { LOBJ_ABMON_5, "May" }, { LOBJ_ABMON_6, "Jun" }, { LOBJ_ABMON_7, "Jul" }, { LOBJ_ABMON_8, "Aug" },
+        { LOBJ_ABMON_9, "Sep" }, { LOBJ_ABMON_10, "Oct" }, { LOBJ_ABMON_11, "Nov" }, { LOBJ_ABMON_12, "Dec" },
+        { LOBJ_RADIXCHAR, "." }, { LOBJ_THOUSEP, "" }, { LOBJ_YESEXPR, "^[yY]" }, { LOBJ_NOEXPR, "^[nN]" }
+    };
+    static const struct {
+        uint32_t item;
+        const char *text;
+    } eras[] = { { LOBJ_ERA, "+:1:2000/01/01:+*:E:%EC" }, { LOBJ_ERA_D_FMT, "era d" }, { LOBJ_ERA_D_T_FMT, "era d t" },
+                 { LOBJ_ERA_T_FMT, "era t" }, { LOBJ_ALT_DIGITS, "zero" } };
+    lobj_locale posix, era;
+    char text[64];
+    lobj_posix_locale(library, &posix);
+    for (size_t i = 0; i < sizeof rows / sizeof *rows; i++) {
+        CHECK(is(lobj_nl_langinfo(text, sizeof text, library, posix, rows[i].item), LOBJ_OK, strlen(rows[i].text)));
+        CHECK(strcmp(text, rows[i].text) == 0);
+    }
+    CHECK(is(lobj_newlocale(library, LOBJ_TIME_MASK, "eras", 4, posix, &era), LOBJ_OK, 0));
+    for (size_t i = 0; i < sizeof eras / sizeof *eras; i++) {
+        CHECK(is(lobj_nl_langinfo(text, sizeof text, library, era, eras[i].item), LOBJ_OK, strlen(eras[i].text)));
+        CHECK(strcmp(text, eras[i].text) == 0);
+    }
+}
+
+static void scan_times(const lobj_library *library, lobj_locale us) {
+    lobj_parsed fields = { 5, 5, 5, 5, 5, 5, 5, 5 };
+    lobj_locale nothing = us;
+    nothing.mark++;
+    CHECK(is(lobj_strptime(library, us, "x", 1, "%d", 2, &fields), LOBJ_MISMATCH, 0));
+    CHECK(is(lobj_strptime(library, us, "7", 1, "%d%q", 4, &fields), LOBJ_BAD_FORMAT, 2));
+    CHECK(is(lobj_strptime(library, nothing, "7", 1, "%d", 2, &fields), LOBJ_NO_LOCALE, 0));
     CHECK(fields.mday == 5 && fields.year == 5);
-    CHECK(is(lo_strptime_l("3 January 2021.", 15, "%d %B %Y", 8, &fields, us), LO_OK, 14));
+    CHECK(is(lobj_strptime(library, us, "3 January 2021.", 15, "%d %B %Y", 8, &fields), LOBJ_OK, 14));
     CHECK(fields.year == 2021 && fields.mon == 1 && fields.mday == 3 && fields.hour == -1 && fields.yday == -1);
+    CHECK(is(lobj_strptime(library, us, "14:15:16 4 099", 14, "%H:%M:%S %w %j", 14, &fields), LOBJ_OK, 14));
+    CHECK(fields.hour == 14 && fields.min == 15 && fields.sec == 16 && fields.wday == 4 && fields.yday == 98);
+    CHECK(fields.year == -1 && fields.mon == -1 && fields.mday == -1);
 }
 
 /* The calls that give a text, each for a number. */
-typedef lo_answer text_call(char *buffer, size_t size, lo_object *object, int number);
+typedef lobj_answer text_call(char *buffer, size_t size, const lobj_library *library, lobj_locale locale, int number);
 
-static lo_answer money_text(char *buffer, size_t size, lo_object *object, int number) {
-    const lo_amount amount = { (int64_t)number * 7919 - 300000000, (uint8_t)(number % 4) };
-    return lo_strfmon_l(buffer, size, object, "%n", 2, &amount, 1);
+static lobj_answer money_text(char *buffer, size_t size, const lobj_library *library, lobj_locale locale, int number) {
+    const lobj_amount amount = { (int64_t)number * 7919 - 300000000, (uint8_t)(number % 4) };
+    return lobj_strfmon(buffer, size, library, locale, "%n", 2, &amount, 1);
 }
 
-static lo_answer time_text(char *buffer, size_t size, lo_object *object, int number) {
-    lo_tm time = sunday;
+static lobj_answer time_text(char *buffer, size_t size, const lobj_library *library, lobj_locale locale, int number) {
+    lobj_tm time = sunday;
     time.sec = number % 60;
     time.wday = number % 7;
-    return lo_strftime_l(buffer, size, "%A %X %z", 8, &time, "", 0, object);
+    return lobj_strftime(buffer, size, library, locale, "%A %X %z", 8, &time, "", 0);
 }
 
-static lo_answer item_text(char *buffer, size_t size, lo_object *object, int number) {
-    return lo_nl_langinfo_l(buffer, size, (uint32_t)number % (LO_CRNCYSTR + 1), object);
+static lobj_answer item_text(char *buffer, size_t size, const lobj_library *library, lobj_locale locale, int number) {
+    return lobj_nl_langinfo(buffer, size, library, locale, (uint32_t)number % (LOBJ_CRNCYSTR + 1));
 }
 
-static lo_answer number_text(char *buffer, size_t size, lo_object *object, int number) {
+static lobj_answer number_text(char *buffer, size_t size, const lobj_library *library, lobj_locale locale, int number) {
     const int64_t value = (int64_t)number * 104729;
-    return lo_int_format_l(buffer, size, object, "%'d", 3, &value, 1);
+    return lobj_int_format(buffer, size, library, locale, "%'d", 3, &value, 1);
 }
 
-static lo_answer conventions_text(char *buffer, size_t size, lo_object *object, int number) {
-    lo_lconv fields;
-    (void)number;
-    return lo_localeconv_l(buffer, size, &fields, object);
+static lobj_answer conventions_text(char *buffer, size_t size, const lobj_library *library, lobj_locale locale, int number) {
+    return lobj_conv_text(buffer, size, library, locale, (uint32_t)number % 10);
 }
 
 static text_call *const text_calls[] = { money_text, time_text, item_text, number_text, conventions_text };
@@ -276,109 +397,64 @@ static bool is_untouched(const char *buffer, const char *end) {
 }
 
 /* A buffer that is too small stays as it is, and one that just has room is written no further. */
-static void try_each_size(text_call *call, lo_object *object) {
+static void try_each_size(text_call *call, const lobj_library *library, lobj_locale us) {
     char text[64], buffer[64];
-    size_t length = call(text, sizeof text, object, 99).n;
+    size_t length = call(text, sizeof text, library, us, 99).n;
     memset(buffer, 'x', sizeof buffer);
     for (size_t size = 0; size <= length; size++) {
-        CHECK(is(call(buffer, size, object, 99), LO_TOO_SMALL, 0));
+        CHECK(is_small(call(buffer, size, library, us, 99), length + 1));
     }
     CHECK(is_untouched(buffer, buffer + sizeof buffer));
-    CHECK(is(call(buffer, length + 1, object, 99), LO_OK, length));
+    CHECK(is(call(buffer, length + 1, library, us, 99), LOBJ_OK, length));
     CHECK(memcmp(buffer, text, length + 1) == 0);
     CHECK(is_untouched(buffer + length + 1, buffer + sizeof buffer));
 }
 
-/* Calls that want memory; one that gives an object puts it into `out`. */
-typedef lo_answer wanting_call(lo_object *object, lo_object *out, char *buffer, size_t size);
-
-static lo_answer want_library(lo_object *object, lo_object *out, char *buffer, size_t size) {
-    lo_place place;
-    (void)object;
-    return lo_read(sources, strlen(sources), out, &place, buffer, size);
-}
-
-static lo_answer want_object(lo_object *object, lo_object *out, char *buffer, size_t size) {
-    (void)buffer;
-    (void)size;
-    return lo_newlocale(LO_NUMERIC_MASK, "us", 2, object, out);
-}
-
-static lo_answer want_duplicate(lo_object *object, lo_object *out, char *buffer, size_t size) {
-    (void)buffer;
-    (void)size;
-    return lo_duplocale(object, out);
-}
-
-static lo_answer want_money(lo_object *object, lo_object *out, char *buffer, size_t size) {
-    (void)out;
-    return money_text(buffer, size, object, 99);
-}
-
-static lo_answer want_time(lo_object *object, lo_object *out, char *buffer, size_t size) {
-    (void)out;
-    return time_text(buffer, size, object, 99);
-}
-
-static lo_answer want_numbers(lo_object *object, lo_object *out, char *buffer, size_t size) {
-    (void)out;
-    return number_text(buffer, size, object, 99);
-}
-
-static lo_answer want_conventions(lo_object *object, lo_object *out, char *buffer, size_t size) {
-    (void)out;
-    return conventions_text(buffer, size, object, 99);
-}
-
-static wanting_call *const wanting_calls[] = { want_library, want_object, want_duplicate, want_money,
-                                               want_time, want_numbers, want_conventions };
-
-/*
- * Each of the allocations of each call fails in turn: the call says so, and leaves all as it was. Each is made
- * of an object that has given no text yet, and keeps no block of memory for the next.
- */
-static void run_out_of_memory(lo_object *us) {
-    for (size_t i = 0; i < sizeof wanting_calls / sizeof *wanting_calls; i++) {
-        lo_object own = LO_NOTHING, out = LO_NOTHING;
+/* Each of the allocations of a library fails in turn: the call says so, and leaves all as it was. */
+static void run_out_of_memory(void) {
+    static const char broken[] = "# a comment\n.locale\n";
+    const char *const texts[] = { sources, broken };
+    for (int i = 0; i < 2; i++) {
+        lobj_library *out = NULL;
+        lobj_place place = { 7, 7 };
         char buffer[64];
-        lo_answer answer = { LO_NO_MEMORY, 0 };
+        lobj_answer answer = { LOBJ_NO_MEMORY, 0 };
         long given = 0;
-        CHECK(is(lo_duplocale(us, &own), LO_OK, 0));
         memset(buffer, 'x', sizeof buffer);
-        for (; answer.code == LO_NO_MEMORY; given++) {
-            CHECK(answer.n == 0 && !out.full && own.full && is_untouched(buffer, buffer + sizeof buffer));
+        for (; answer.code == LOBJ_NO_MEMORY; given++) {
+            CHECK(answer.n == 0 && out == NULL && place.line == 7 && place.column == 7);
+            CHECK(is_untouched(buffer, buffer + sizeof buffer));
             blocks_left = given;
-            answer = wanting_calls[i](&own, &out, buffer, sizeof buffer);
+            answer = lobj_read(texts[i], strlen(texts[i]), &out, &place, buffer, sizeof buffer);
             blocks_left = -1;
         }
-        CHECK(is(answer, LO_OK, answer.n));
+        CHECK(answer.code == (i == 0 ? LOBJ_OK : LOBJ_BAD_TEXT));
         CHECK(given > 1);
-        lo_freelocale(&out);
-        lo_freelocale(&own);
+        lobj_library_free(out);
     }
 }
 
-/* Amounts and times ask for no memory where the same object gave a text before that was as long. */
-static void keep_a_block(lo_object *us) {
-    lo_object own = LO_NOTHING;
-    char text[64];
-    size_t time, money;
-    CHECK(is(lo_duplocale(us, &own), LO_OK, 0));
-    time = time_text(text, sizeof text, &own, 99).n;
-    money = money_text(text, sizeof text, &own, 99).n;
-    blocks_left = 0;
-    CHECK(is(time_text(text, sizeof text, &own, 99), LO_OK, time));
-    CHECK(is(money_text(text, sizeof text, &own, 99), LO_OK, money));
-    blocks_left = -1;
-    lo_freelocale(&own);
+/* A text that there is no memory for leaves the buffer as it was. */
+/* No text asks for memory: each is given where none is left. */
+static void run_out_in_texts(const lobj_library *library, lobj_locale us) {
+    for (int i = 0; i < TEXT_CALLS; i++) {
+        char buffer[64];
+        memset(buffer, 'x', sizeof buffer);
+        blocks_left = 0;
+        const lobj_answer answer = text_calls[i](buffer, sizeof buffer, library, us, 99);
+        blocks_left = -1;
+        CHECK(answer.code == LOBJ_OK);
+    }
 }
 
-enum { THREADS = 4 };
+enum { MOST_THREADS = 64 };
 
 static int calls = 100000;
 
 typedef struct task {
-    lo_object own;
+    const lobj_library *library;
+    lobj_locale locale;
+    int calls;
     uint64_t sum;
 } task;
 
@@ -387,59 +463,66 @@ static void *sum_of_texts(void *given) {
     task *t = given;
     char text[64];
     t->sum = 14695981039346656037u;
-    for (int i = 0; i < calls; i++) {
-        lo_answer answer = text_calls[i % TEXT_CALLS](text, sizeof text, &t->own, i);
-        answer.code |= lo_isclass_l((uint32_t)i % 0x180, 2, &t->own).code;
-        if (i % 100 == 0) {
-            lo_object again = LO_NOTHING;
-            answer.code |= lo_duplocale(&t->own, &again).code;
-            lo_freelocale(&t->own);
-            t->own = again;
-        }
-        if (answer.code != LO_OK) return NULL;
+    for (int i = 0; i < t->calls; i++) {
+        lobj_answer answer = text_calls[i % TEXT_CALLS](text, sizeof text, t->library, t->locale, i);
+        answer.code |= lobj_isclass(t->library, t->locale, (uint32_t)i % 0x180, 2).code;
+        if (answer.code != LOBJ_OK) return NULL;
         for (size_t k = 0; k <= answer.n; k++) t->sum = (t->sum ^ (unsigned char)text[k]) * 1099511628211u;
     }
     return t;
 }
 
-static void run_threads(lo_object *us) {
-    task one = { LO_NOTHING, 0 }, tasks[THREADS];
-    pthread_t threads[THREADS];
-    CHECK(is(lo_duplocale(us, &one.own), LO_OK, 0));
+/* So many threads read one library through one pointer, and so does the child of a fork while they do. */
+static void run_threads(const lobj_library *library, lobj_locale us, int count) {
+    task one = { library, us, calls / count, 0 }, tasks[MOST_THREADS];
+    pthread_t threads[MOST_THREADS];
     CHECK(sum_of_texts(&one) != NULL);
-    lo_freelocale(&one.own);
-    for (int i = 0; i < THREADS; i++) {
-        tasks[i] = (task){ LO_NOTHING, 0 };
-        CHECK(is(lo_duplocale(us, &tasks[i].own), LO_OK, 0));
+    for (int i = 0; i < count; i++) {
+        tasks[i] = (task){ library, us, calls / count, 0 };
         CHECK(pthread_create(&threads[i], NULL, sum_of_texts, &tasks[i]) == 0);
     }
-    for (int i = 0; i < THREADS; i++) {
+    pid_t child = fork();
+    if (child == 0) {
+        task own = { library, us, TEXT_CALLS, 0 };
+        lobj_answer answer = lobj_towupper(library, us, 'q');
+        char text[64];
+        bool holds = is(answer, LOBJ_OK, 'Q') && item_text(text, sizeof text, own.library, own.locale, 1).code == LOBJ_OK;
+        _exit(holds ? 0 : 1);
+    }
+    int status = 1;
+    CHECK(child > 0 && waitpid(child, &status, 0) == child && status == 0);
+    for (int i = 0; i < count; i++) {
         void *all = NULL;
         pthread_join(threads[i], &all);
         CHECK(all != NULL && tasks[i].sum == one.sum);
-        lo_freelocale(&tasks[i].own);
     }
 }
 
 int main(int count, char **words) {
     if (count > 1) calls = atoi(words[1]);
-    lo_object library = LO_NOTHING, us = LO_NOTHING;
-    read_library(&library);
+    lobj_library *own = NULL;
+    lobj_locale posix, us;
+    read_library(&own);
+    if (own == NULL) return 1;
+    const lobj_library *library = own;
     refuse_texts();
-    make_objects(&library);
-    CHECK(is(lo_newlocale(LO_CTYPE_MASK | LO_NUMERIC_MASK | LO_MONETARY_MASK, "us", 2, &library, &us), LO_OK, 0));
-    lo_freelocale(&library);
-    format_amounts(&us);
-    format_times(&us);
-    format_numbers(&us);
-    ask_items_and_classes(&us);
-    ask_conventions(&us);
-    scan_times(&us);
-    for (int i = 0; i < TEXT_CALLS; i++) try_each_size(text_calls[i], &us);
-    run_out_of_memory(&us);
-    keep_a_block(&us);
-    run_threads(&us);
-    lo_freelocale(&us);
+    make_locales(library);
+    lobj_posix_locale(library, &posix);
+    CHECK(is(lobj_newlocale(library, LOBJ_CTYPE_MASK | LOBJ_NUMERIC_MASK | LOBJ_MONETARY_MASK, "us", 2, posix, &us), LOBJ_OK, 0));
+    format_amounts(library, us);
+    format_times(library, us);
+    format_numbers(library, us);
+    ask_items_and_classes(library, us);
+    ask_items(library);
+    ask_conventions(library, us);
+    scan_times(library, us);
+    for (int i = 0; i < TEXT_CALLS; i++) try_each_size(text_calls[i], library, us);
+    run_out_of_memory();
+    run_out_in_texts(library, us);
+    run_threads(library, us, 2);
+    run_threads(library, us, 16);
+    run_threads(library, us, MOST_THREADS);
+    lobj_library_free(own);
     puts(wrong ? "calls: not as wanted" : "calls: as wanted");
     return wrong;
 }

@@ -1,6 +1,6 @@
 -- Objects over a small library: what newlocale gives, and what is read of an object.
 use Rattle.std.proofs.Common.{ap}
-use Rattle.std.specs.Prelude.{◌≡◌, ℕ, pos, List, [], ◌∷◌, codes, None, Ok, Err, refl}
+use Rattle.std.specs.Prelude.{◌≡◌, ℕ, pos, List, [], ◌∷◌, codes, None, Some, Ok, Err, refl}
 use Rattle.lc_base.specs.declared.place.Place.{Place}
 use Rattle.lc_base.specs.declared.reason.Reason.{Reason}
 use Rattle.lc_base.specs.Reading.{Reads, ◌>>=◌}
@@ -12,8 +12,11 @@ use Rattle.compiled_categories.specs.Locale.{Locale, posix_locale}
 use Rattle.category_store.specs.Catalog.{Catalog}
 use Rattle.script_lang.specs.declared.bundle.Bundle.{Bundle}
 use Rattle.script_lang.specs.Accepted.{bundle_of}
-use Rattle.shared_objects.specs.Shared.{Shared}
-use Rattle.shared_objects.specs.Objects.{catalog_of, first_object, object_in, new_object, ctype_in, numeric_in, monetary_in, time_in, messages_in}
+use Rattle.shared_objects.specs.Shared.{Shared, Stock}
+use Rattle.shared_objects.specs.declared.fault.NewFault.TheVariants.{NoLocale, NoData}
+use Rattle.shared_objects.specs.declared.locale.LocaleParts.{LocaleParts}
+use Rattle.shared_objects.specs.Objects.{catalog_of, first_object, new_parts, ctype_in, numeric_in, monetary_in, time_in, messages_in}
+use Rattle.shared_objects.specs.Locales.{mark_of, stock_of, stock_in, posix_of, locale_of, shared_of, new_locale}
 
 -- a locale with the categories of a mask
 abbrev locale : List ℕ → ℕ → Locale
@@ -35,53 +38,85 @@ parts c n m t g = record { ctype = c; numeric = n; monetary = m; time = t; messa
 abbrev object : Parts → Shared
 object ps = record { library = library; object = ps }
 
+abbrev stock : Stock
+stock = record { library = library; mark = 7; count = 2 }
+
+-- a locale of the library with these parts
+abbrev made : Parts → LocaleParts
+made ps = locale_of 7 ps
+
+-- ---- marks
+
+-- a 1, and the bytes as digits in base 257
+marks : mark_of [] ∷ mark_of (5 ∷ []) ∷ mark_of (0 ∷ 5 ∷ []) ∷ [] ≡ 1 ∷ 262 ∷ 66054 ∷ []
+marks = refl
+
+-- the remainder: 257 ^ 7 is 74051159531521793, twice the modulus and 1993565493593967 more
+long_mark : mark_of (0 ∷ 0 ∷ 0 ∷ 0 ∷ 0 ∷ 0 ∷ 0 ∷ []) ≡ 1993565493593967
+long_mark = refl
+
 -- ---- a library that is read
 
 -- a bundle that is refused gives its own fault
-bundle_first : (text : List ℕ) (fault : Place × Reason) → bundle_of text ≡ Err fault → object_in text ≡ Err fault
-bundle_first text fault h = ap (λ (b : Reads Bundle). (b >>= catalog_of) >>= λ (l : Catalog). Ok (first_object l)) h
+bundle_first : (text : List ℕ) (fault : Place × Reason) → bundle_of text ≡ Err fault → stock_in text ≡ Err fault
+bundle_first text fault h = ap (λ (b : Reads Bundle). b >>= λ (b : Bundle). stock_of b (mark_of text)) h
 
 -- no locale, whatever the threads and rounds of the script are
-no_blocks : (threads : List (List ℕ)) (rounds : ℕ) → catalog_of (record { charmaps = []; locales = []; later = []; catalogs = []; native = None; threads = threads; rounds = rounds; commands = [] })
-    ≡ Ok (record { locales = []; names = []; first = []; keys = []; native = 0 })
+no_blocks : (threads : List (List ℕ)) (rounds : ℕ) → stock_of (record { charmaps = []; locales = []; later = []; catalogs = []; native = None; threads = threads; rounds = rounds; commands = [] }) 7
+    ≡ Ok (record { library = record { locales = []; names = []; first = []; keys = []; native = 0 }; mark = 7; count = 0 })
 no_blocks threads rounds = refl
+
+-- ---- locales of a library
+
+own_locale : shared_of stock (made (parts 1 2 0 1 0)) ≡ Some (object (parts 1 2 0 1 0))
+own_locale = refl
+
+-- another mark, or a number above the last
+foreign : shared_of stock (locale_of 8 (parts 0 0 0 0 0)) ∷ shared_of stock (made (parts 3 0 0 0 0)) ∷ shared_of stock (made (parts 0 3 0 0 0)) ∷ shared_of stock (made (parts 0 0 3 0 0))
+    ∷ shared_of stock (made (parts 0 0 0 3 0)) ∷ shared_of stock (made (parts 0 0 0 0 3)) ∷ []
+    ≡ None ∷ None ∷ None ∷ None ∷ None ∷ None ∷ []
+foreign = refl
 
 -- ---- newlocale
 
--- the first object has the POSIX locale in each category
-first_is_posix : first_object library ≡ object (parts 0 0 0 0 0)
+-- the first locale has the POSIX locale in each category
+first_is_posix : posix_of stock ≡ made (parts 0 0 0 0 0)
 first_is_posix = refl
 
-all_categories : new_object (first_object library) 31 (codes "us") ≡ Ok (object (parts 1 1 1 1 1))
+all_categories : new_locale stock 31 (codes "us") (posix_of stock) ≡ Ok (made (parts 1 1 1 1 1))
 all_categories = refl
 
 -- a category outside of the mask keeps what the base has
-others_of_the_base : new_object (object (parts 1 1 0 1 0)) 2 (codes "half") ≡ Ok (object (parts 1 2 0 1 0))
+others_of_the_base : new_locale stock 2 (codes "half") (made (parts 1 1 0 1 0)) ≡ Ok (made (parts 1 2 0 1 0))
 others_of_the_base = refl
 
-posix_by_name : new_object (object (parts 1 2 1 1 1)) 9 (codes "POSIX") ≡ Ok (object (parts 0 2 1 0 1))
+posix_by_name : new_locale stock 9 (codes "POSIX") (made (parts 1 2 1 1 1)) ≡ Ok (made (parts 0 2 1 0 1))
 posix_by_name = refl
 
 -- the first category of the mask for which there is no data
-no_ctype : new_object (first_object library) 31 (codes "half") ≡ Err Ctype
+no_ctype : new_locale stock 31 (codes "half") (posix_of stock) ≡ Err (NoData Ctype)
 no_ctype = refl
 
-no_time : new_object (first_object library) 26 (codes "half") ≡ Err Time
+no_time : new_locale stock 26 (codes "half") (posix_of stock) ≡ Err (NoData Time)
 no_time = refl
 
-no_locale : new_object (first_object library) 24 (codes "de") ≡ Err Time
+no_locale : new_locale stock 24 (codes "de") (posix_of stock) ≡ Err (NoData Time)
 no_locale = refl
 
 -- an empty mask asks for nothing, and an empty name for the native locale
-empty_mask : new_object (object (parts 1 2 0 1 0)) 0 (codes "de") ≡ Ok (object (parts 1 2 0 1 0))
+empty_mask : new_locale stock 0 (codes "de") (made (parts 1 2 0 1 0)) ≡ Ok (made (parts 1 2 0 1 0))
 empty_mask = refl
 
-native : new_object (first_object library) 2 [] ≡ Ok (object (parts 0 2 0 0 0))
+native : new_locale stock 2 [] (posix_of stock) ≡ Ok (made (parts 0 2 0 0 0))
 native = refl
 
 -- each category has its own part of a mixed name
-mixed : new_object (first_object library) 19 (codes "LC_CTYPE=us;LC_NUMERIC=half;LC_MONETARY=de;LC_TIME=de;LC_MESSAGES=us") ≡ Ok (object (parts 1 2 0 0 1))
+mixed : new_locale stock 19 (codes "LC_CTYPE=us;LC_NUMERIC=half;LC_MONETARY=de;LC_TIME=de;LC_MESSAGES=us") (posix_of stock) ≡ Ok (made (parts 1 2 0 0 1))
 mixed = refl
+
+-- a base of another library goes before all else
+other_base : new_locale stock 24 (codes "de") (locale_of 8 (parts 0 0 0 0 0)) ≡ Err NoLocale
+other_base = refl
 
 -- ---- the categories of an object
 

@@ -1,4 +1,4 @@
--- Objects over one library: what they are composed of, and the categories of each (XSH newlocale, duplocale).
+-- Objects over one library: what they are composed of, and the categories of each (XSH newlocale).
 use Rattle.std.specs.Prelude.{◌≡◌, ℕ, Bool, not, ◌&&◌, List, slice_get, Option, None, Some, unwrap_or, Result, Ok, Err}
 use Rattle.std.specs.List.{find}
 use Rattle.lc_base.specs.declared.category.Category.{Category}
@@ -18,8 +18,6 @@ use Rattle.category_store.specs.Catalog.{Catalog}
 use Rattle.category_store.specs.Library.{catalog, locale_at, numbers, posix_object, opening}
 use Rattle.script_lang.specs.declared.bundle.Bundle.{Bundle}
 use Rattle.script_lang.specs.Accepted.{bundle_of}
-use Rattle.shared_objects.specs.declared.fault.NewFault.{NewFault}
-use Rattle.shared_objects.specs.declared.fault.NewFault.TheVariants.{NoData, Memory}
 use Rattle.shared_objects.specs.Shared.{Shared}
 
 -- ---- a library that is read
@@ -35,10 +33,6 @@ catalog_in text = bundle_of text >>= catalog_of
 -- the POSIX object over a library
 abbrev pub first_object : Catalog → Shared
 first_object library = record { library = library; object = posix_object }
-
--- the POSIX object over the library of a text, or its first fault
-abbrev pub object_in : List ℕ → Reads Shared
-object_in text = catalog_in text >>= λ library. Ok (first_object library)
 
 -- ---- newlocale
 
@@ -68,30 +62,23 @@ picked library ns = record {
   messages = picked_part library ns Messages;
 }
 
--- an object, unless a category lacks data
-abbrev pub unless_lacking : Option Category → Shared → Result Shared Category
-unless_lacking (Some category) object = Err category
-unless_lacking None object = Ok object
+-- the parts of an object, unless a category lacks data
+abbrev pub unless_lacking : Option Category → Parts → Result Parts Category
+unless_lacking (Some category) parts = Err category
+unless_lacking None parts = Ok parts
 
--- the object with the parts of names in the categories of the mask, and those of the base in the others
-abbrev pub composed_from : Shared → ℕ → List ℕ → Result Shared Category
-composed_from base mask ns =
-    unless_lacking (lacking base.library mask ns) (record { library = base.library; object = composed mask (picked base.library ns) base.object })
+-- the parts of names in the categories of the mask, and those of the base in the others
+abbrev pub composed_from : Catalog → ℕ → List ℕ → Parts → Result Parts Category
+composed_from library mask ns base = unless_lacking (lacking library mask ns) (composed mask (picked library ns) base)
 
--- the object of the numbers that a name has, or the first category whose name no block has
-abbrev pub from_numbers : Shared → ℕ → Result (List ℕ) Category → Result Shared Category
-from_numbers base mask (Ok ns) = composed_from base mask ns
-from_numbers base mask (Err category) = Err category
+-- the parts of the numbers that a name has, or the first category whose name no block has
+abbrev pub from_numbers : Catalog → ℕ → Parts → Result (List ℕ) Category → Result Parts Category
+from_numbers library mask base (Ok ns) = composed_from library mask ns base
+from_numbers library mask base (Err category) = Err category
 
--- the object of a name, a mask and a base, or the first category of the mask without data
-abbrev pub new_object : Shared → ℕ → List ℕ → Result Shared Category
-new_object base mask name = from_numbers base mask (numbers base.library name mask)
-
--- a result is the wanted one, unless it is out of memory
-abbrev pub Composes : Result Shared NewFault → Result Shared Category → Type 0
-Composes (Ok object) wanted = wanted ≡ Ok object
-Composes (Err (NoData category)) wanted = wanted ≡ Err category
-Composes (Err Memory) wanted = Unit {0}
+-- the parts of a name, a mask and a base, or the first category of the mask without data
+abbrev pub new_parts : Catalog → ℕ → List ℕ → Parts → Result Parts Category
+new_parts library mask name base = from_numbers library mask base (numbers library name mask)
 
 -- ---- the categories of an object, each as its locale has it
 

@@ -1,27 +1,15 @@
-//! Why no object is composed.
-
-ghost use Rattle.std.specs.Prelude.{◌≡◌};
-ghost use Rattle.shared_objects.specs.declared.fault.NewFault.TheVariants.{Memory};
+//! Why there is no locale.
 
 use lc_base::Category;
-use std::alloc::AllocError;
 use thiserror::Error;
 
-/// Why a name, a mask and a base make no object.
+/// Why a library, a mask, a name and a base make no locale.
 #[derive(Clone, Copy, Debug, PartialEq, Eq, Error)]
 pub enum NewFault {
+    /// The base is no locale of the library.
+    #[error("the base is no locale of the library")]
+    NoLocale,
     /// The category of the mask for which no locale with its name has data, the first one.
     #[error("no locale has data for a category")]
     NoData(Category),
-    /// Out of memory.
-    #[error("out of memory")]
-    Memory,
-}
-
-impl From<AllocError> for NewFault {
-    ghost from_gives = { λ _ e. e ≡ Memory };
-
-    fn from(_e: AllocError) -> NewFault {
-        NewFault::Memory
-    }
 }

@@ -1,11 +1,15 @@
-//! Objects over a library of compiled locales that they share.
+//! Libraries of compiled locales for threads that read them, and the locales of each as plain values.
 #![tactic(auto)]
 
 mod fault;
-mod object;
+mod locale;
+mod mark;
 mod reads;
+mod shelf;
 mod shelved;
+mod view;
 
 pub use fault::NewFault;
-pub use object::SharedObject;
-pub use shelved::Shelved;
+pub use locale::LocaleParts;
+pub use shelf::Shelf;
+pub use view::View;

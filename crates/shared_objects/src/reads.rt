@@ -1,38 +1,35 @@
 //! What an object is asked for.
 
-ghost use Rattle.std.specs.Prelude.{◌≡◌, ℕ, true, [], IfOk, IfSome, OnErr};
-ghost use Rattle.std.specs.Cow.{cow_slice_items};
+ghost use Rattle.std.specs.Prelude.{◌≡◌, ℕ, true, map, IfSome};
 ghost use Rattle.std.specs.List.{list_all};
 ghost use Rattle.lc_base.specs.Named.{place_of};
-ghost use Rattle.ctype_classes.specs.Classes.{class_answer, numbered_answer};
+ghost use Rattle.ctype_classes.specs.Classes.{class_answer, numbered_answer, AreClassBits};
 ghost use Rattle.ctype_classes.specs.Case.{image};
-ghost use Rattle.strfmon.specs.Money.{money};
-ghost use Rattle.strfmon.specs.Money as strfmon;
-ghost use Rattle.strftime_fields.specs.Answers.{answer, with_text};
-ghost use Rattle.strftime_fields.specs.Answers as strftime;
-ghost use Rattle.int_format.specs.Ints.{is_number, at_most, ints};
-ghost use Rattle.int_format.specs.Ints as int_format;
+ghost use Rattle.text_buffer.specs.Written.{Written};
+ghost use Rattle.strfmon.specs.Money.{money_text};
+ghost use Rattle.strftime_fields.specs.Answers.{whole_answer};
+ghost use Rattle.strftime_fields.specs.Zones.{in_zone};
+ghost use Rattle.int_format.specs.Ints.{is_number, ints};
 ghost use Rattle.strptime_fields.specs.Scans.{scan, answer_of};
 ghost use Rattle.langinfo.specs.Items.{info};
-ghost use Rattle.langinfo.specs.Conv.{conv};
+ghost use Rattle.langinfo.specs.Conv.{conv, bare_numbers, bare_texts};
 ghost use Rattle.shared_objects.specs.Objects.{ctype_in, numeric_in, monetary_in, time_in, messages_in};
 
-use crate::object::SharedObject;
+use crate::view::View;
 use ctype_classes::Ctype;
-use int_format::{IntFault, int_format};
-use langinfo::{Categories, Lconv, item_text, localeconv, nl_langinfo};
-use lc_base::{ByteText, Category, Item};
+use int_format::int_format_to;
+use langinfo::{Categories, LentFields, lent_fields, lent_item};
+use lc_base::{Category, Item};
 use messages_cat::Messages;
 use monetary_cat::Monetary;
 use numeric_cat::Numeric;
-use std::alloc::{AllocError, Global};
-use std::borrow::CowSlice;
-use strfmon::{Amount, MoneyFault, strfmon, strfmon_into};
-use strftime_fields::{TimeFault, Tm, strftime, strftime_into};
+use strfmon::{Amount, strfmon_to};
+use strftime_fields::{Tm, strftime_to};
 use strptime_fields::{Parsed, ScanFault, strptime};
+use text_buffer::Unwritten;
 use time_cat::Time;
 
-impl Categories for SharedObject {
+impl Categories for View<'_> {
     ghost ctype_of = { ctype_in };
 
     ghost numeric_of = { numeric_in };
@@ -64,7 +61,7 @@ impl Categories for SharedObject {
     }
 }
 
-impl SharedObject {
+impl View<'_> {
     /// Whether a character is of a class, where there is such a class (XSH iswctype).
     pub fn is(&self, class: &[u8], value: u32) -> Option<bool>
         ensures { result ≡ class_answer (ctype_in self.now).classes class.now value }
@@ -88,6 +85,14 @@ impl SharedObject {
         self.ctype().is_in(number, value)
     }
 
+    /// The first 64 classes that have a character: the bit of a class is that of its number, the lowest
+    /// first.
+    pub fn classes_of(&self, value: u32) -> u64
+        ensures { AreClassBits (ctype_in self.now).classes value result }
+    {
+        self.ctype().classes_of(value)
+    }
+
     /// The upper case of a character (XSH towupper).
     pub fn upper(&self, value: u32) -> u32
         ensures { result ≡ image (ctype_in self.now).upper value }
@@ -102,107 +107,60 @@ impl SharedObject {
         self.ctype().lower(value)
     }
 
-    /// What an item is (XSH nl_langinfo).
-    pub fn nl_langinfo(&self, alloc: Global, item: Item) -> Result<ByteText, AllocError>
-        ensures { IfOk result (λ t. t ≡ info (ctype_in self.now) (numeric_in self.now) (monetary_in self.now) (time_in self.now) (messages_in self.now) item) }
+    /// What an item is (XSH nl_langinfo), lent.
+    pub fn item(&self, item: Item) -> &[u8]
+        ensures { result.now ≡ info (ctype_in self.now) (numeric_in self.now) (monetary_in self.now) (time_in self.now) (messages_in self.now) item }
     {
-        nl_langinfo(
-            alloc,
-            self.ctype(),
-            self.numeric(),
-            self.monetary(),
-            self.time(),
-            self.messages(),
-            item,
-        )
+        lent_item(self, item)
     }
 
-    /// What an item is (XSH nl_langinfo), lent where no sign stands before it.
-    pub fn item_text(
+    /// How numbers and amounts are written (XSH localeconv), the texts lent.
+    pub fn conv(&self) -> LentFields<'_>
+        ensures texts { map (λ t. t.now) result.texts ≡ bare_texts (conv (numeric_in self.now) (monetary_in self.now)).texts }
+        ensures numbers { result.numbers ≡ bare_numbers (conv (numeric_in self.now) (monetary_in self.now)).numbers }
+    {
+        lent_fields(self.numeric(), self.monetary())
+    }
+
+    /// Writes the text of amounts of money to the front of a buffer, and says how many bytes it has (XSH
+    /// strfmon).
+    pub fn strfmon_to(
         &self,
-        alloc: Global,
-        item: Item,
-    ) -> Result<CowSlice<'_, u8, Global>, AllocError>
-        ensures { IfOk result (λ t. cow_slice_items t ≡ info (ctype_in self.now) (numeric_in self.now) (monetary_in self.now) (time_in self.now) (messages_in self.now) item) }
-    {
-        item_text(alloc, self, item)
-    }
-
-    /// How numbers and amounts are written (XSH localeconv).
-    pub fn localeconv(&self, alloc: Global) -> Result<Lconv, AllocError>
-        ensures { IfOk result (λ l. l ≡ conv (numeric_in self.now) (monetary_in self.now)) }
-    {
-        localeconv(alloc, self.numeric(), self.monetary())
-    }
-
-    /// The text of amounts of money, at most `max` bytes (XSH strfmon).
-    pub fn strfmon(
-        &self,
-        alloc: Global,
+        buffer: &mut [u8],
         format: &[u8],
         amounts: &[Amount],
-        max: usize,
-    ) -> Result<ByteText, MoneyFault>
-        ensures { strfmon.Answers (λ text. text) result (money (monetary_in self.now) format.now amounts.now max) }
+    ) -> Result<usize, Unwritten>
+        ensures { Written buffer.old buffer.new result (money_text (monetary_in self.now) format.now amounts.now) }
     {
-        strfmon(alloc, self.monetary(), format, amounts, max)
+        strfmon_to(buffer, self.monetary(), format, amounts)
     }
 
-    /// Puts the same text in place of what a `Vec` holds, whose memory is used again. The `Vec` is
-    /// empty where there is no text.
-    pub fn strfmon_into(
+    /// Writes the text of a time, with the name of its zone, to the front of a buffer, and says how many
+    /// bytes it has (XSH strftime).
+    pub fn strftime_to(
         &self,
-        out: &mut Vec<u8>,
-        format: &[u8],
-        amounts: &[Amount],
-        max: usize,
-    ) -> Result<(), MoneyFault>
-        ensures answer { strfmon.Answers (λ _. out.new.items) result (money (monetary_in self.now) format.now amounts.now max) }
-        ensures emptied { OnErr result (out.new.items ≡ []) }
-    {
-        strfmon_into(out, self.monetary(), format, amounts, max)
-    }
-
-    /// The text of a time, at most `max` bytes (XSH strftime).
-    pub fn strftime(
-        &self,
-        alloc: Global,
+        buffer: &mut [u8],
         format: &[u8],
         tm: &Tm,
-        max: usize,
-    ) -> Result<ByteText, TimeFault>
-        ensures { strftime.Answers result (answer (time_in self.now) tm.now format.now max) }
+        zone: &[u8],
+    ) -> Result<usize, Unwritten>
+        ensures { Written buffer.old buffer.new result (whole_answer (time_in self.now) (in_zone tm.now zone.now) format.now) }
     {
-        strftime(alloc, self.time(), format, tm, max)
+        strftime_to(buffer, self.time(), format, tm, zone)
     }
 
-    /// Puts the same text in place of what a `Vec` holds, whose memory is used again. The `Vec` is
-    /// empty where there is no text.
-    pub fn strftime_into(
+    /// Writes the text of whole numbers to the front of a buffer, and says how many bytes it has (XSH
+    /// fprintf).
+    pub fn int_format_to(
         &self,
-        out: &mut Vec<u8>,
-        format: &[u8],
-        tm: &Tm,
-        max: usize,
-    ) -> Result<(), TimeFault>
-        ensures answer { strftime.Answers (with_text out.new.items result) (answer (time_in self.now) tm.now format.now max) }
-        ensures emptied { OnErr result (out.new.items ≡ []) }
-    {
-        strftime_into(out, self.time(), format, tm, max)
-    }
-
-    /// The text of whole numbers, at most `max` bytes (XSH fprintf).
-    pub fn int_format(
-        &self,
-        alloc: Global,
+        buffer: &mut [u8],
         format: &[u8],
         numbers: &[i128],
-        max: usize,
-    ) -> Result<ByteText, IntFault>
+    ) -> Result<usize, Unwritten>
         requires { list_all is_number numbers.now ≡ true }
-        ensures { int_format.Answers (λ text. text) result (at_most max (ints (numeric_in self.now) format.now numbers.now)) }
+        ensures { Written buffer.old buffer.new result (ints (numeric_in self.now) format.now numbers.now) }
     {
-        int_format(alloc, self.numeric(), format, numbers, max)
+        int_format_to(buffer, self.numeric(), format, numbers)
     }
 
     /// The fields of a time that a text has, and the index of the first byte that is not read (XSH

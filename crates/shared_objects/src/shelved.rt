@@ -4,12 +4,12 @@ ghost use Rattle.std.specs.Prelude.{◌≡◌, IfOk, ◌<◌};
 ghost use Rattle.std.specs.List.{find};
 ghost use Rattle.lc_base.specs.declared.category.Category.{Category};
 ghost use Rattle.category_store.specs.Library.{locale_at};
-ghost use Rattle.shared_objects.specs.Objects.{offer_of, is_lacking, lacking, picked_part, picked};
+ghost use Rattle.shared_objects.specs.Objects.{offer_of, is_lacking, lacking, picked_part, picked, composed_from, new_parts};
 ghost use Rattle.lc_base.specs.Categories.{number_for};
 
-use category_store::{Compiled, Library, Share};
+use category_store::{Compiled, Library, NoData, Share};
 use lc_base::{CATEGORIES, Category, List, Mask, number_for};
-use mask_compose::{Object, Offer};
+use mask_compose::{Object, Offer, compose};
 use std::alloc::{AllocError, Global};
 use std::marker::Model;
 
@@ -56,13 +56,6 @@ impl Shelved {
         self.library.compiled(share)
     }
 
-    /// The numbers of names, as the library gives them.
-    pub(crate) fn library(&self) -> &Library
-        ensures { result.now ≡ self.now }
-    {
-        &self.library
-    }
-
     /// What the name with a number offers.
     fn offer_of(&self, number: u32) -> Offer<Share>
         ensures { result ≡ offer_of self.now number }
@@ -102,7 +95,7 @@ impl Shelved {
     }
 
     /// The first category of the mask that the offer of its name lacks.
-    pub(crate) fn lacking(&self, mask: Mask, numbers: &[u32; 5]) -> Option<Category>
+    fn lacking(&self, mask: Mask, numbers: &[u32; 5]) -> Option<Category>
         ensures { result ≡ lacking self.now mask numbers.now }
     {
         self.first_lacking(mask, numbers, &CATEGORIES)
@@ -119,7 +112,7 @@ impl Shelved {
     }
 
     /// The parts that the offers of names have.
-    pub(crate) fn picked(&self, numbers: &[u32; 5]) -> Object<Share>
+    fn picked(&self, numbers: &[u32; 5]) -> Object<Share>
         ensures { result ≡ picked self.now numbers.now }
     {
         Object::of(
@@ -129,6 +122,37 @@ impl Shelved {
             self.picked_part(numbers, Category::Time),
             self.picked_part(numbers, Category::Messages),
         )
+    }
+
+    /// The object of names by their numbers, or the first category of the mask without data.
+    fn composed_from(
+        &self,
+        mask: Mask,
+        numbers: &[u32; 5],
+        base: &Object<Share>,
+    ) -> Result<Object<Share>, Category>
+        ensures { result ≡ composed_from self.now mask numbers.now base.now }
+    {
+        match self.lacking(mask, numbers) {
+            Some(category) => Err(category),
+            None => Ok(compose(mask, &self.picked(numbers), base)),
+        }
+    }
+
+    /// The object of a name in the categories of a mask, and of a base in the others; or the first
+    /// category of the mask that no locale with its name has.
+    pub fn compose(
+        &self,
+        mask: Mask,
+        name: &[u8],
+        base: &Object<Share>,
+    ) -> Result<Object<Share>, Category>
+        ensures { result ≡ new_parts self.now mask name.now base.now }
+    {
+        match self.library.numbers(name, mask) {
+            Ok(numbers) => self.composed_from(mask, &numbers, base),
+            Err(NoData { category }) => Err(category),
+        }
     }
 }
 

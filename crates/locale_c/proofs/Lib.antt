@@ -1,5 +1,0 @@
-mod AnswerLemmas
-mod AsBox
-mod BufferLemmas
-mod Examples
-mod NumberLemmas

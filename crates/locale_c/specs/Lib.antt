@@ -1,4 +1,0 @@
-pub mod Hold
-pub mod Answers
-pub mod Items
-pub mod Conv

@@ -1,0 +1,6 @@
+mod AsBox
+mod BufferLemmas
+mod Examples
+mod NumberLemmas
+mod PeekSteps
+mod TextLemmas

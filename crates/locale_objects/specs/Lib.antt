@@ -1,0 +1,5 @@
+pub mod Hold
+pub mod Lending
+pub mod Answers
+pub mod Items
+pub mod Conv

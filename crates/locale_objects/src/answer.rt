@@ -1,0 +1,79 @@
+//! What calls answer.
+
+ghost use Rattle.std.specs.Prelude.{◌≡◌};
+ghost use Rattle.locale_objects.specs.Answers.{answered, refusal_told};
+
+use lc_base::FormatRefusal;
+
+/// The call did what it says.
+pub const OK: u32 = 0;
+
+/// Out of memory.
+pub const NO_MEMORY: u32 = 1;
+
+/// The text has 2^31 bytes or more.
+pub const TOO_LONG: u32 = 2;
+
+/// The text breaks a rule.
+pub const BAD_TEXT: u32 = 3;
+
+/// The locale is not one of the library.
+pub const NO_LOCALE: u32 = 4;
+
+/// The mask has a bit that no category has.
+pub const BAD_MASK: u32 = 5;
+
+/// No locale with the name has data for a category.
+pub const NO_DATA: u32 = 6;
+
+/// The text does not fit into the buffer.
+pub const TOO_SMALL: u32 = 7;
+
+/// A `%` begins no conversion.
+pub const BAD_FORMAT: u32 = 8;
+
+/// A conversion has no argument.
+pub const MISSING: u32 = 9;
+
+/// The scale of an amount is over 18.
+pub const BAD_AMOUNT: u32 = 10;
+
+/// A field of a time is out of its range.
+pub const TM_RANGE: u32 = 11;
+
+/// There is no such item.
+pub const NO_ITEM: u32 = 12;
+
+/// There is no such class.
+pub const NO_CLASS: u32 = 13;
+
+/// The text does not meet the format.
+pub const MISMATCH: u32 = 14;
+
+/// What a call answers: a code, and a number whose meaning the call says. C has `lobj_answer` for it.
+#[repr(C)]
+#[derive(Clone, Copy)]
+pub struct LobjAnswer {
+    pub code: u32,
+    pub n: usize,
+}
+
+/// An answer.
+pub fn answered(code: u32, n: usize) -> LobjAnswer
+    ensures { result ≡ answered code n }
+{
+    LobjAnswer { code, n }
+}
+
+/// The answer where a format has none.
+pub fn refusal_told(refusal: FormatRefusal) -> LobjAnswer
+    ensures { result ≡ refusal_told refusal }
+{
+    match refusal {
+        FormatRefusal::BadFormat { at } => answered(BAD_FORMAT, at),
+        FormatRefusal::MissingAmount { at } => answered(MISSING, at),
+        FormatRefusal::MissingNumber { at } => answered(MISSING, at),
+        FormatRefusal::Mismatch { at } => answered(MISMATCH, at),
+        FormatRefusal::TooBig => answered(TOO_SMALL, 0),
+    }
+}

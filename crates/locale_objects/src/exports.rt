@@ -1,0 +1,295 @@
+//! The calls of C programs. `include/locale_objects.h` says how C calls them.
+//!
+//! Each that reads takes the pointer to a library that the caller lends, and looks the locale up in it.
+
+ghost use Rattle.std.specs.Prelude.{◌≡◌, ◌<◌, ◌≤◌, ◌^◌, length, IsSome};
+ghost use Rattle.lc_base.specs.Named.{place_of};
+ghost use Rattle.ctype_classes.specs.Classes.{class_answer, numbered_answer};
+ghost use Rattle.ctype_classes.specs.Case.{image};
+ghost use Rattle.shared_objects.specs.Objects.{ctype_in};
+ghost use Rattle.shared_objects.specs.Locales.{posix_of, shared_of, stock_in};
+ghost use Rattle.locale_objects.specs.declared.answer.TheConstants.{NO_MEMORY, OK, TOO_LONG};
+ghost use Rattle.locale_objects.specs.Conv.{conv_text, lconv_by};
+ghost use Rattle.locale_objects.specs.Items.{item_of};
+ghost use Rattle.locale_objects.specs.Answers.{answered, of_object, by_object, IsReadUnlessMemory, new_told, number_told, class_told, item_told, conv_told, amounts_told, tm_given, tm_told, numbers_told, scan_by};
+
+use crate::amounts::LobjAmount;
+use crate::answer::{LobjAnswer, NO_LOCALE, NO_MEMORY, OK, TOO_LONG, answered};
+use crate::conv::{LobjLconv, lconv_of};
+use crate::fault::LobjPlace;
+use crate::hold::Hold;
+use crate::lent::LentLibrary;
+use crate::parsed::{LobjParsed, put_fields};
+use crate::reads::{class_told, number_told, put_new, read_into};
+use crate::texts::{put_amounts, put_conv_text, put_item, put_numbers, put_tm};
+use crate::times::LobjTm;
+use shared_objects::LocaleParts;
+use std::alloc::Global;
+
+/// The most bytes of a text that is read, and one more.
+const TEXT_END: usize = 0x8000_0000;
+
+/// Reads a text, and gives its library. What the pointer was before is not looked at.
+#[unsafe(no_mangle)]
+pub extern "C" fn lobj_read(
+    alloc: Global,
+    text: &[u8],
+    out: &mut Hold,
+    place: &mut LobjPlace,
+    buffer: &mut [u8],
+) -> LobjAnswer
+    ensures read { length text.now < 2 ^ 31 → IsReadUnlessMemory (stock_in text.now) result out.old.library out.new.library place.old place.new buffer.old buffer.new }
+    ensures too_long { 2 ^ 31 ≤ length text.now → (result ≡ answered TOO_LONG 0) × (out.new.library ≡ out.old.library) × (place.new ≡ place.old) × (buffer.new ≡ buffer.old) }
+{
+    if text.len() >= TEXT_END {
+        answered(TOO_LONG, 0)
+    } else {
+        match read_into(alloc, text, out, place, buffer) {
+            Ok(answer) => answer,
+            Err(_) => answered(NO_MEMORY, 0),
+        }
+    }
+}
+
+/// Frees a library that no call reads any more.
+#[unsafe(no_mangle)]
+pub extern "C" fn lobj_library_end(library: Hold)
+    requires { IsSome library.library }
+{
+    drop(library.into_box());
+}
+
+/// Gives the POSIX locale.
+#[unsafe(no_mangle)]
+pub extern "C" fn lobj_posix_locale(library: LentLibrary, out: &mut LocaleParts)
+    ensures { out.new ≡ posix_of library.value }
+{
+    let peek = library.peek();
+    *out = peek.get().posix();
+}
+
+/// Gives the locale of a name in the categories of a mask, and of a base in the others (XSH
+/// newlocale).
+#[unsafe(no_mangle)]
+pub extern "C" fn lobj_newlocale(
+    library: LentLibrary,
+    mask: u32,
+    name: &[u8],
+    base: LocaleParts,
+    out: &mut LocaleParts,
+) -> LobjAnswer
+    ensures { (result, out.new) ≡ new_told out.old library.value mask name.now base }
+{
+    let peek = library.peek();
+    put_new(out, peek.get(), mask, name, &base)
+}
+
+/// Gives the text of amounts of money (XSH strfmon_l).
+#[unsafe(no_mangle)]
+pub extern "C" fn lobj_strfmon(
+    buffer: &mut [u8],
+    library: LentLibrary,
+    locale: LocaleParts,
+    format: &[u8],
+    amounts: &[LobjAmount],
+) -> LobjAnswer
+    ensures { (result, buffer.new) ≡ of_object buffer.old (shared_of library.value locale) (λ o. amounts_told buffer.old o format.now amounts.now) }
+{
+    let peek = library.peek();
+    let view = peek.get().view(&locale);
+    match view {
+        None => answered(NO_LOCALE, 0),
+        Some(view) => put_amounts(buffer, &view, format, amounts),
+    }
+}
+
+/// Gives the text of a time (XSH strftime_l).
+#[unsafe(no_mangle)]
+pub extern "C" fn lobj_strftime(
+    alloc: Global,
+    buffer: &mut [u8],
+    library: LentLibrary,
+    locale: LocaleParts,
+    format: &[u8],
+    tm: &LobjTm,
+    zone: &[u8],
+) -> LobjAnswer
+    ensures { (result, buffer.new) ≡ of_object buffer.old (shared_of library.value locale) (λ o. tm_told buffer.old o format.now zone.now (tm_given tm.now)) }
+{
+    let peek = library.peek();
+    let view = peek.get().view(&locale);
+    match view {
+        None => answered(NO_LOCALE, 0),
+        Some(view) => put_tm(alloc, buffer, &view, format, tm, zone),
+    }
+}
+
+/// Gives the text of whole numbers (XSH fprintf).
+#[unsafe(no_mangle)]
+pub extern "C" fn lobj_int_format(
+    buffer: &mut [u8],
+    library: LentLibrary,
+    locale: LocaleParts,
+    format: &[u8],
+    numbers: &[i64],
+) -> LobjAnswer
+    ensures { (result, buffer.new) ≡ of_object buffer.old (shared_of library.value locale) (λ o. numbers_told buffer.old o format.now numbers.now) }
+{
+    let peek = library.peek();
+    let view = peek.get().view(&locale);
+    match view {
+        None => answered(NO_LOCALE, 0),
+        Some(view) => put_numbers(buffer, &view, format, numbers),
+    }
+}
+
+/// Gives the text of an item (XSH nl_langinfo_l).
+#[unsafe(no_mangle)]
+pub extern "C" fn lobj_nl_langinfo(
+    buffer: &mut [u8],
+    library: LentLibrary,
+    locale: LocaleParts,
+    item: u32,
+) -> LobjAnswer
+    ensures { (result, buffer.new) ≡ of_object buffer.old (shared_of library.value locale) (λ o. item_told buffer.old o (item_of item)) }
+{
+    let peek = library.peek();
+    let view = peek.get().view(&locale);
+    match view {
+        None => answered(NO_LOCALE, 0),
+        Some(view) => put_item(buffer, &view, item),
+    }
+}
+
+/// Gives a text of localeconv by its number (XSH localeconv).
+#[unsafe(no_mangle)]
+pub extern "C" fn lobj_conv_text(
+    buffer: &mut [u8],
+    library: LentLibrary,
+    locale: LocaleParts,
+    number: u32,
+) -> LobjAnswer
+    ensures { (result, buffer.new) ≡ of_object buffer.old (shared_of library.value locale) (λ o. conv_told buffer.old (conv_text o number)) }
+{
+    let peek = library.peek();
+    let view = peek.get().view(&locale);
+    match view {
+        None => answered(NO_LOCALE, 0),
+        Some(view) => put_conv_text(buffer, &view, number),
+    }
+}
+
+/// Gives the numbers of localeconv (XSH localeconv).
+#[unsafe(no_mangle)]
+pub extern "C" fn lobj_localeconv(
+    library: LentLibrary,
+    locale: LocaleParts,
+    fields: &mut LobjLconv,
+) -> LobjAnswer
+    ensures told { result ≡ by_object (shared_of library.value locale) (λ o. answered OK 0) }
+    ensures fields { fields.new ≡ lconv_by fields.old (shared_of library.value locale) }
+{
+    let peek = library.peek();
+    let view = peek.get().view(&locale);
+    match view {
+        None => answered(NO_LOCALE, 0),
+        Some(view) => {
+            *fields = lconv_of(&view);
+            answered(OK, 0)
+        }
+    }
+}
+
+/// Says whether a character is of a class (XSH iswctype_l).
+#[unsafe(no_mangle)]
+pub extern "C" fn lobj_iswctype(
+    library: LentLibrary,
+    locale: LocaleParts,
+    value: u32,
+    class: &[u8],
+) -> LobjAnswer
+    ensures { result ≡ by_object (shared_of library.value locale) (λ o. class_told (class_answer (ctype_in o).classes class.now value)) }
+{
+    let peek = library.peek();
+    let view = peek.get().view(&locale);
+    match view {
+        None => answered(NO_LOCALE, 0),
+        Some(view) => class_told(view.is(class, value)),
+    }
+}
+
+/// Gives the number of a class (XSH wctype_l).
+#[unsafe(no_mangle)]
+pub extern "C" fn lobj_wctype(library: LentLibrary, locale: LocaleParts, class: &[u8]) -> LobjAnswer
+    ensures { result ≡ by_object (shared_of library.value locale) (λ o. number_told (place_of (ctype_in o).classes class.now)) }
+{
+    let peek = library.peek();
+    let view = peek.get().view(&locale);
+    match view {
+        None => answered(NO_LOCALE, 0),
+        Some(view) => number_told(view.class_number(class)),
+    }
+}
+
+/// Says whether a character is of the class with a number (XSH iswctype_l).
+#[unsafe(no_mangle)]
+pub extern "C" fn lobj_isclass(
+    library: LentLibrary,
+    locale: LocaleParts,
+    value: u32,
+    number: usize,
+) -> LobjAnswer
+    ensures { result ≡ by_object (shared_of library.value locale) (λ o. class_told (numbered_answer (ctype_in o).classes number value)) }
+{
+    let peek = library.peek();
+    let view = peek.get().view(&locale);
+    match view {
+        None => answered(NO_LOCALE, 0),
+        Some(view) => class_told(view.is_in(number, value)),
+    }
+}
+
+/// Gives the upper case of a character (XSH towupper_l).
+#[unsafe(no_mangle)]
+pub extern "C" fn lobj_towupper(library: LentLibrary, locale: LocaleParts, value: u32) -> LobjAnswer
+    ensures { result ≡ by_object (shared_of library.value locale) (λ o. answered OK (image (ctype_in o).upper value)) }
+{
+    let peek = library.peek();
+    let view = peek.get().view(&locale);
+    match view {
+        None => answered(NO_LOCALE, 0),
+        Some(view) => answered(OK, view.upper(value) as usize),
+    }
+}
+
+/// Gives the lower case of a character (XSH towlower_l).
+#[unsafe(no_mangle)]
+pub extern "C" fn lobj_towlower(library: LentLibrary, locale: LocaleParts, value: u32) -> LobjAnswer
+    ensures { result ≡ by_object (shared_of library.value locale) (λ o. answered OK (image (ctype_in o).lower value)) }
+{
+    let peek = library.peek();
+    let view = peek.get().view(&locale);
+    match view {
+        None => answered(NO_LOCALE, 0),
+        Some(view) => answered(OK, view.lower(value) as usize),
+    }
+}
+
+/// Gives the fields of a time that a text has (XSH strptime).
+#[unsafe(no_mangle)]
+pub extern "C" fn lobj_strptime(
+    library: LentLibrary,
+    locale: LocaleParts,
+    text: &[u8],
+    format: &[u8],
+    fields: &mut LobjParsed,
+) -> LobjAnswer
+    ensures { (result, fields.new) ≡ scan_by fields.old (shared_of library.value locale) format.now text.now }
+{
+    let peek = library.peek();
+    let view = peek.get().view(&locale);
+    match view {
+        None => answered(NO_LOCALE, 0),
+        Some(view) => put_fields(fields, view.strptime(format, text)),
+    }
+}

@@ -1,0 +1,37 @@
+//! A library that C lends for a call.
+
+ghost use Rattle.std.specs.Prelude.{◌≡◌, ℕ};
+ghost use Rattle.shared_objects.specs.Shared.{Stock};
+ghost use Rattle.locale_objects.specs.Lending.{library_lent, library_coded};
+
+use crate::hold::Opaque;
+use crate::peek::Peek;
+use shared_objects::Shelf;
+use std::marker::Model;
+
+/// A library that C lends for a call, by its pointer. C has a `const lobj_library *` for it. Any number of
+/// threads may lend the same library at once, each with a share of its own.
+#[repr(C)]
+#[derive(Drop)]
+pub struct LentLibrary {
+    at: *const Opaque,
+    pub ghost life: { ℕ },
+    pub ghost part: { ℕ },
+    pub ghost value: { Stock } by { library_coded },
+}
+
+impl Model for LentLibrary {
+    ghost also_owns = { λ l. library_lent l.at l.life l.part l.value };
+}
+
+impl LentLibrary {
+    /// The library, to be read.
+    pub fn peek(self) -> Peek<Shelf>
+        ensures { result.value ≡ self.value }
+    {
+        let LentLibrary { at } = self;
+        Peek {
+            at: at as *const Shelf,
+        }
+    }
+}

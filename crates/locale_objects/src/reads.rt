@@ -1,0 +1,95 @@
+//! Libraries that are read, locales that are made, and what is asked of one without a buffer.
+
+ghost use Rattle.std.specs.Prelude.{◌≡◌, ◌<◌, ◌^◌, length, IfOk, OnErr};
+ghost use Rattle.shared_objects.specs.Locales.{stock_in};
+ghost use Rattle.locale_objects.specs.Answers.{IsRead, locale_told, new_told, number_told, class_told};
+
+use crate::answer::{BAD_MASK, LobjAnswer, NO_CLASS, NO_DATA, NO_LOCALE, OK, answered};
+use crate::fault::{LobjPlace, place_of, put_fault};
+use crate::hold::Hold;
+use lc_base::{Mask, TextFault};
+use shared_objects::{LocaleParts, NewFault, Shelf};
+use std::alloc::{AllocError, Global};
+
+/// Reads a text, and puts its library behind a pointer, or the line of its refusal into a buffer.
+pub fn read_into(
+    alloc: Global,
+    text: &[u8],
+    out: &mut Hold,
+    place: &mut LobjPlace,
+    buffer: &mut [u8],
+) -> Result<LobjAnswer, AllocError>
+    requires { length text.now < 2 ^ 31 }
+    ensures read { IfOk result (λ a. IsRead (stock_in text.now) a out.old.library out.new.library place.old place.new buffer.old buffer.new) }
+    ensures kept { OnErr result (out.new.library ≡ out.old.library) }
+    ensures same { OnErr result (place.new ≡ place.old) }
+    ensures untouched { OnErr result (buffer.new ≡ buffer.old) }
+{
+    match Shelf::read(alloc, text) {
+        Ok(library) => {
+            *out = Hold::of(Box::new(alloc, library)?);
+            Ok(answered(OK, 0))
+        }
+        Err(TextFault::At(at, reason)) => {
+            let answer = put_fault(alloc, buffer, at, reason)?;
+            *place = place_of(at);
+            Ok(answer)
+        }
+        Err(TextFault::Memory) => Err(AllocError),
+    }
+}
+
+/// Writes a locale that was made.
+fn put_locale(out: &mut LocaleParts, made: Result<LocaleParts, NewFault>) -> LobjAnswer
+    ensures { (result, out.new) ≡ locale_told out.old made }
+{
+    match made {
+        Ok(locale) => {
+            *out = locale;
+            answered(OK, 0)
+        }
+        Err(NewFault::NoLocale) => answered(NO_LOCALE, 0),
+        Err(NewFault::NoData(category)) => answered(NO_DATA, category.bit() as usize),
+    }
+}
+
+/// Writes the locale of the bits of a mask, a name and a base.
+pub fn put_new(
+    out: &mut LocaleParts,
+    library: &Shelf,
+    bits: u32,
+    name: &[u8],
+    base: &LocaleParts,
+) -> LobjAnswer
+    ensures { (result, out.new) ≡ new_told out.old library.now bits name.now base.now }
+{
+    if bits < 32 {
+        match Mask::of_bits(bits) {
+            Some(mask) => put_locale(out, library.new_locale(mask, name, base)),
+            None => unreachable!(),
+        }
+    } else {
+        answered(BAD_MASK, 0)
+    }
+}
+
+/// The number of a class.
+pub fn number_told(number: Option<usize>) -> LobjAnswer
+    ensures { result ≡ number_told number }
+{
+    match number {
+        None => answered(NO_CLASS, 0),
+        Some(number) => answered(OK, number),
+    }
+}
+
+/// Whether a character is of a class: 1 or 0.
+pub fn class_told(is: Option<bool>) -> LobjAnswer
+    ensures { result ≡ class_told is }
+{
+    match is {
+        None => answered(NO_CLASS, 0),
+        Some(true) => answered(OK, 1),
+        Some(false) => answered(OK, 0),
+    }
+}
