@@ -1,0 +1,246 @@
+"""Libraries of compiled locales, and locales as values."""
+
+from __future__ import annotations
+
+import os
+from typing import Dict, Iterable, List, Mapping, Optional, Tuple, Union
+
+from . import _native as native
+from ._faults import FormatFault, TimeFault, UnknownLocale, UnknownName
+from ._sources import Source, as_bytes, bundle_of, imported, name_of_file, named
+from ._values import Amount, Moment, ParsedTime, amount_parts, time_fields
+
+CATEGORIES = ("ctype", "numeric", "monetary", "time", "messages")
+MASKS = {name: 1 << bit for bit, name in enumerate(CATEGORIES)}
+ALL = 31
+
+Text = Union[str, bytes]
+
+
+def encoded(text: str) -> bytes:
+    """The bytes of a text; what was no UTF-8 comes back as it was."""
+    return text.encode("utf-8", "surrogateescape")
+
+
+def decoded(text: bytes) -> str:
+    """The text of bytes; a byte that is no UTF-8 becomes a lone surrogate, as in file names."""
+    return text.decode("utf-8", "surrogateescape")
+
+
+def _index(text: bytes, at: int) -> int:
+    """The index in characters of a byte's index."""
+    return len(decoded(text[:at]))
+
+
+class Library:
+    """Locales compiled from sources. It never changes, any thread may use it, and it is freed with the last of its locales."""
+
+    __slots__ = ("_handle", "_names", "__weakref__")
+
+    def __init__(self, sources: Iterable[Source]):
+        given = list(sources)
+        self._handle = native.Handle(bundle_of(given), given)
+        self._names = tuple(it.directive.split()[1] for it in given if it.directive.startswith(".locale "))
+
+    @classmethod
+    def from_texts(
+        cls,
+        locales: Mapping[str, Text],
+        *,
+        charmaps: Optional[Mapping[str, Text]] = None,
+        charsets: Optional[Mapping[str, str]] = None,
+        catalogs: Optional[Mapping[Tuple[str, str], Text]] = None,
+    ) -> "Library":
+        """The library of locale sources by their names.
+
+        `charsets` names the charset of a locale: UTF-8, which is the default, POSIX, or one of `charmaps`.
+        `catalogs` has sources of message catalogs by name and locale. The first rule that is broken is a
+        `SourceFault`, which names the source.
+        """
+        sources: List[Source] = []
+        for name, text in (charmaps or {}).items():
+            sources.append(Source(f".charmap {named(name, 'charmap')}", name, as_bytes(text)))
+        for name, text in locales.items():
+            charset = (charsets or {}).get(name, "UTF-8")
+            if charset not in ("UTF-8", "POSIX"):
+                named(charset, "charmap")
+            sources.append(Source(f".locale {named(name, 'locale')} {charset}", name, as_bytes(text)))
+        for (name, of), text in (catalogs or {}).items():
+            sources.append(Source(f".catalog {named(name, 'catalog')} {of if of == 'C' else named(of, 'locale')}", name, as_bytes(text)))
+        return cls(sources)
+
+    @classmethod
+    def from_files(
+        cls,
+        *paths: Union[str, os.PathLike],
+        charmaps: Optional[Mapping[str, Union[str, os.PathLike]]] = None,
+        charsets: Optional[Mapping[str, str]] = None,
+    ) -> "Library":
+        """The library of locale sources in files, each of which names its locale."""
+        sources: List[Source] = []
+        for name, path in (charmaps or {}).items():
+            with open(path, "rb") as it:
+                sources.append(Source(f".charmap {named(name, 'charmap')}", os.fspath(path), it.read()))
+        for path in paths:
+            name = named(name_of_file(path), "locale")
+            with open(path, "rb") as it:
+                sources.append(Source(f".locale {name} {(charsets or {}).get(name, 'UTF-8')}", os.fspath(path), it.read()))
+        return cls(sources)
+
+    @classmethod
+    def from_system(
+        cls, *names: str, folders: Iterable[Union[str, os.PathLike]] = (), tool: Optional[str] = None
+    ) -> "Library":
+        """The library of locales whose sources the system has (on Debian the package `locales`).
+
+        Each source is made standard by `locale_tool import`, which `tool` or the variable LOCALE_TOOL
+        names; `folders` are looked in before the system's own.
+        """
+        by = tool or os.environ.get("LOCALE_TOOL", "locale_tool")
+        paths = [os.fspath(it) for it in folders]
+        return cls(Source(f".locale {named(it, 'locale')} UTF-8", it, imported(it, by, paths)) for it in names)
+
+    @property
+    def names(self) -> Tuple[str, ...]:
+        """The names of its locales, in the order in which they were given."""
+        return self._names
+
+    def locale(self, name: Optional[str] = None, *, base: Optional["Locale"] = None, **parts: str) -> "Locale":
+        """The locale of a name; or one with single categories of other names, as `monetary="de_CH"`.
+
+        Without a name the other categories are those of `base`, or of the POSIX locale. The categories are
+        `ctype`, `numeric`, `monetary`, `time` and `messages`.
+        """
+        unknown = [it for it in parts if it not in MASKS]
+        if unknown:
+            raise TypeError(f"{unknown[0]!r} is no category: these are {', '.join(CATEGORIES)}")
+        if base is not None and base.library is not self:
+            raise ValueError("the base is a locale of another library")
+        value = base._value if base is not None else self._handle.posix()
+        if name is not None:
+            value = self._new(ALL, name, value)
+        for category, of in parts.items():
+            value = self._new(MASKS[category], of, value)
+        return Locale(self, value)
+
+    def _new(self, mask: int, name: str, base: "native.LocaleValue") -> "native.LocaleValue":
+        try:
+            return self._handle.new(mask, encoded(name), base)
+        except native.NoData as lacking:
+            known = name in self._names or name in ("C", "POSIX")
+            category = next((it for it in CATEGORIES if MASKS[it] == lacking.mask), None)
+            raise UnknownLocale(name, f"LC_{category.upper()}" if known and category else None) from None
+
+    def __repr__(self) -> str:
+        return f"<Library of {', '.join(self._names) or 'no locale'}>"
+
+
+class Locale:
+    """A locale: a value that any thread may use. Two are equal if they have the same five categories of one library."""
+
+    __slots__ = ("library", "_value", "_key")
+
+    def __init__(self, library: Library, value: "native.LocaleValue"):
+        self.library = library
+        """The library that it is of."""
+        self._value = value
+        self._key = bytes(value)
+
+    def __eq__(self, other: object) -> bool:
+        return isinstance(other, Locale) and self.library is other.library and self._key == other._key
+
+    def __hash__(self) -> int:
+        return hash((id(self.library), self._key))
+
+    def money(self, *amounts: Amount, format: str = "%n") -> str:
+        """Amounts of money by a format of strfmon (XSH strfmon), exactly: `Decimal` or `int`, and no `float`."""
+        text = encoded(format)
+        given = [amount_parts(it) for it in amounts]
+        with _formats(format, text):
+            return decoded(self.library._handle.money(self._value, text, given))
+
+    def time(self, when: Moment, format: str = "%c") -> str:
+        """A time by a format of strftime (XSH strftime). An aware datetime has its own offset and zone."""
+        text = encoded(format)
+        fields = time_fields(when)
+        with _formats(format, text):
+            return decoded(self.library._handle.time(self._value, text, fields))
+
+    def parse_time(self, text: str, format: str) -> ParsedTime:
+        """What a text tells of a time by a format of strptime (XSH strptime)."""
+        given, by = encoded(text), encoded(format)
+        with _formats(format, by):
+            try:
+                fields, end = self.library._handle.parse(self._value, given, by)
+            except native.Mismatch as at:
+                raise TimeFault(f"{text!r} does not meet {format!r} at index {_index(given, at.n)}") from None
+        year, mon, mday, hour, minute, second, wday, yday = (it if it >= 0 else None for it in fields)
+        return ParsedTime(
+            year, mon, mday, hour, minute, second,
+            (wday + 6) % 7 if wday is not None else None, yday + 1 if yday is not None else None, _index(given, end),
+        )
+
+    def number(self, *numbers: int, format: str = "%'d") -> str:
+        """Whole numbers by a format of printf with `d`, `i` and `u` (XSH fprintf), grouped by default."""
+        for it in numbers:
+            if isinstance(it, bool) or not isinstance(it, int):
+                raise TypeError(f"a number is an int, and not a {type(it).__name__}")
+            if not -(2**63) <= it < 2**63:
+                raise OverflowError(f"{it} does not fit 64 bits")
+        text = encoded(format)
+        with _formats(format, text):
+            return decoded(self.library._handle.number(self._value, text, numbers))
+
+    def item(self, name: str) -> str:
+        """The text of an item of nl_langinfo (XSH nl_langinfo), as `D_FMT` or `DAY_1`."""
+        number = native.ITEMS.get(name)
+        if number is None:
+            raise UnknownName(f"there is no item {name!r}")
+        return decoded(self.library._handle.item(self._value, number))
+
+    def conv(self) -> Dict[str, Union[str, int, List[int]]]:
+        """How numbers and amounts are written (XSH localeconv), as `locale.localeconv()` tells it."""
+        return self.library._handle.conv(self._value, decoded)
+
+    def is_class(self, char: str, name: str) -> bool:
+        """Whether a character is of a class (XSH iswctype), as `alpha` or one that the locale declares."""
+        try:
+            return self.library._handle.is_class(self._value, _value(char), encoded(name))
+        except native.NoClass:
+            raise UnknownName(f"the locale has no class {name!r}") from None
+
+    def upper(self, text: str) -> str:
+        """A text in upper case, character by character (XSH towupper)."""
+        return "".join(chr(self.library._handle.upper(self._value, ord(it))) for it in text)
+
+    def lower(self, text: str) -> str:
+        """A text in lower case, character by character (XSH towlower)."""
+        return "".join(chr(self.library._handle.lower(self._value, ord(it))) for it in text)
+
+    def __repr__(self) -> str:
+        return f"<Locale of {self.library!r}>"
+
+
+def _value(char: str) -> int:
+    if len(char) != 1:
+        raise ValueError(f"{char!r} is not one character")
+    return ord(char)
+
+
+class _formats:
+    """Tells a fault of a format by its index in the `str`."""
+
+    __slots__ = ("format", "text")
+
+    def __init__(self, format: str, text: bytes):
+        self.format, self.text = format, text
+
+    def __enter__(self) -> None:
+        return None
+
+    def __exit__(self, kind, fault, trace) -> bool:
+        if kind is native.BadFormat:
+            raise FormatFault(self.format, _index(self.text, fault.n), "a `%` begins no conversion") from None
+        if kind is native.Missing:
+            raise FormatFault(self.format, _index(self.text, fault.n), "a `%` has no value") from None
+        return False

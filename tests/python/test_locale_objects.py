@@ -1,0 +1,305 @@
+"""Tests of the package over the built library: `tests/python/run` says where it is."""
+
+import datetime
+import gc
+import locale as system
+import multiprocessing
+import pickle
+import os
+import resource
+import threading
+import unittest
+from decimal import Decimal
+
+from locale_objects import AmountFault, FormatFault, Library, SourceFault, TimeFault, UnknownLocale, UnknownName
+
+US = """LC_CTYPE
+END LC_CTYPE
+LC_NUMERIC
+decimal_point "."
+thousands_sep ","
+grouping 3;3
+END LC_NUMERIC
+LC_MONETARY
+int_curr_symbol "USD "
+currency_symbol "$"
+mon_decimal_point "."
+mon_thousands_sep ","
+mon_grouping 3;3
+positive_sign ""
+negative_sign "-"
+int_frac_digits 2
+frac_digits 2
+p_cs_precedes 1
+p_sep_by_space 0
+n_cs_precedes 1
+n_sep_by_space 0
+p_sign_posn 1
+n_sign_posn 1
+END LC_MONETARY
+LC_TIME
+d_t_fmt "%a %d %b %Y %r"
+d_fmt "%m/%d/%Y"
+t_fmt "%r"
+END LC_TIME
+LC_MESSAGES
+END LC_MESSAGES
+"""
+
+DE = """LC_CTYPE
+END LC_CTYPE
+LC_NUMERIC
+decimal_point ","
+thousands_sep "."
+grouping 3;3
+END LC_NUMERIC
+LC_MONETARY
+int_curr_symbol "EUR "
+currency_symbol "<U20AC>"
+mon_decimal_point ","
+mon_thousands_sep "."
+mon_grouping 3;3
+negative_sign "-"
+int_frac_digits 2
+frac_digits 2
+p_cs_precedes 0
+p_sep_by_space 1
+n_cs_precedes 0
+n_sep_by_space 1
+p_sign_posn 1
+n_sign_posn 1
+END LC_MONETARY
+LC_TIME
+abday "So";"Mo";"Di";"Mi";"Do";"Fr";"Sa"
+day "Sonntag";"Montag";"Dienstag";"Mittwoch";"Donnerstag";"Freitag";"Samstag"
+mon "Januar";"Februar";"M<U00E4>rz";"April";"Mai";"Juni";"Juli";"August";"September";"Oktober";"November";"Dezember"
+d_t_fmt "%a %d. %B %Y %T"
+d_fmt "%d.%m.%Y"
+t_fmt "%T"
+am_pm "";""
+t_fmt_ampm ""
+END LC_TIME
+LC_MESSAGES
+yesexpr "^[jJyY]"
+END LC_MESSAGES
+"""
+
+MOMENT = datetime.datetime(2026, 7, 14, 9, 5, 0)
+
+MANY = 20_000 if os.environ.get("LOCALE_OBJECTS_TESTS") == "short" else 1_000_000
+"""How many calls show that memory is flat."""
+
+
+def made() -> Library:
+    return Library.from_texts({"us": US, "de": DE})
+
+
+class Texts(unittest.TestCase):
+    """Amounts, times, numbers and items, by the rules of the sources above."""
+
+    def setUp(self):
+        self.library = made()
+        self.us, self.de = self.library.locale("us"), self.library.locale("de")
+
+    def test_amounts(self):
+        rows = [
+            (self.us, "%n", Decimal("1234567.89"), "$1,234,567.89"),
+            (self.us, "%i", Decimal("-0.5"), "-USD 0.50"),
+            (self.us, "%n", 3, "$3.00"),
+            (self.us, "%.0n", Decimal("2.5"), "$2"),
+            (self.us, "%.0n", Decimal("3.5"), "$4"),
+            (self.us, "%(n", Decimal("-1.25"), "($1.25)"),
+            (self.de, "%n", Decimal("1234567.89"), "1.234.567,89 €"),
+            (self.de, "%n", Decimal("-0.5"), "-0,50 €"),
+            (self.de, "%!n", Decimal("1E+3"), "1.000,00"),
+            (self.us, "%n", Decimal("0.1") + Decimal("0.2"), "$0.30"),
+            (self.us, "%.18n", Decimal("0.000000000000000001"), "$0.000000000000000001"),
+            (self.us, "%n", Decimal("1.5000000000000000000000"), "$1.50"),
+            (self.us, "%n", Decimal("-0.00"), "$0.00"),
+        ]
+        for by, format, amount, text in rows:
+            with self.subTest(format=format, amount=amount):
+                self.assertEqual(by.money(amount, format=format), text)
+        self.assertEqual(self.us.money(1, Decimal("2.5"), format="%n and %n"), "$1.00 and $2.50")
+
+    def test_times(self):
+        rows = [
+            (self.us, "%c", "Tue 14 Jul 2026 09:05:00 AM"),
+            (self.de, "%c", "Di 14. Juli 2026 09:05:00"),
+            (self.de, "%A, %d. %B %Y", "Dienstag, 14. Juli 2026"),
+            (self.us, "%F %T %j %u %V", "2026-07-14 09:05:00 195 2 29"),
+            (self.us, "%z%Z", ""),
+        ]
+        for by, format, text in rows:
+            with self.subTest(format=format):
+                self.assertEqual(by.time(MOMENT, format), text)
+                self.assertEqual(by.time(MOMENT.timetuple(), format), text)
+        zone = datetime.timezone(datetime.timedelta(hours=-3, minutes=-30), "NST")
+        self.assertEqual(self.us.time(MOMENT.replace(tzinfo=zone), "%H:%M %z %Z"), "09:05 -0330 NST")
+        self.assertEqual(self.us.time(datetime.date(2024, 2, 29), "%F %j"), "2024-02-29 060")
+
+    def test_numbers(self):
+        self.assertEqual(self.us.number(1234567), "1,234,567")
+        self.assertEqual(self.de.number(-1234567), "-1.234.567")
+        self.assertEqual(self.us.number(7, 8, format="%03d/%+d"), "007/+8")
+
+    def test_items(self):
+        self.assertEqual(self.de.item("DAY_2"), "Montag")
+        self.assertEqual(self.de.item("CODESET"), "UTF-8")
+        self.assertEqual(self.de.item("CRNCYSTR"), "+€")
+        conv = self.de.conv()
+        self.assertEqual((conv["decimal_point"], conv["grouping"], conv["frac_digits"]), (",", [3, 3], 2))
+        self.assertEqual(set(conv) - set(system.localeconv()), {
+            it for it in conv if it.startswith("int_") and it not in system.localeconv()
+        })
+
+    def test_classes(self):
+        self.assertTrue(self.de.is_class("q", "alpha"))
+        self.assertFalse(self.de.is_class("7", "alpha"))
+        self.assertEqual(self.de.upper("straße 7"), "STRAßE 7")
+        self.assertEqual(self.de.lower("ABC"), "abc")
+
+    def test_parsed(self):
+        told = self.de.parse_time("14. Juli 2026, 9 Uhr", "%d. %B %Y")
+        self.assertEqual((told.year, told.month, told.day, told.hour), (2026, 7, 14, None))
+        self.assertEqual(told.end, len("14. Juli 2026"))
+        self.assertEqual(told.date(), datetime.date(2026, 7, 14))
+        march = self.de.parse_time("März 2026 x", "%B %Y")
+        self.assertEqual((march.month, march.end), (3, len("März 2026")))
+
+
+class Values(unittest.TestCase):
+    """Locales are values."""
+
+    def test_equal(self):
+        library = made()
+        self.assertEqual(library.locale("us"), library.locale("us"))
+        self.assertNotEqual(library.locale("us"), library.locale("de"))
+        self.assertNotEqual(library.locale("us"), made().locale("us"))
+        self.assertEqual(len({library.locale("us"), library.locale("us"), library.locale("de")}), 2)
+
+    def test_parts(self):
+        library = made()
+        mixed = library.locale("us", monetary="de")
+        self.assertEqual(mixed.money(1), "1,00 €")
+        self.assertEqual(mixed.number(1000), "1,000")
+        self.assertEqual(library.locale(base=mixed, numeric="de").number(1000), "1.000")
+        self.assertEqual(library.locale().number(1000), "1000")
+
+    def test_library_outlives(self):
+        kept = made().locale("us")
+        gc.collect()
+        self.assertEqual(kept.money(1), "$1.00")
+
+
+class Faults(unittest.TestCase):
+    """Each fault once, by its own class and place."""
+
+    def setUp(self):
+        self.library = made()
+        self.us = self.library.locale("us")
+
+    def test_source(self):
+        with self.assertRaises(SourceFault) as met:
+            Library.from_texts({"us": US, "xx": "LC_NUMERIC\ngrouping 3\ndecimal_point \"\"\nEND LC_NUMERIC\n"})
+        fault = met.exception
+        self.assertEqual((fault.file, fault.line, fault.column, fault.reason), ("xx", 3, 15, "EmptyRadix"))
+        again = pickle.loads(pickle.dumps(fault))
+        self.assertEqual((again.file, again.line), ("xx", 3))
+
+    def test_unknown(self):
+        with self.assertRaises(UnknownLocale):
+            self.library.locale("fr")
+        with self.assertRaises(UnknownName):
+            self.us.item("D_D_FMT")
+        with self.assertRaises(UnknownName):
+            self.us.is_class("q", "vowel")
+        with self.assertRaises(TypeError):
+            self.library.locale("us", collate="de")
+
+    def test_formats(self):
+        with self.assertRaises(FormatFault) as met:
+            self.us.money(1, format="äö %n %q")
+        self.assertEqual(met.exception.at, 6)
+        with self.assertRaises(FormatFault):
+            self.us.money(format="%n")
+        with self.assertRaises(FormatFault):
+            self.us.time(MOMENT, "%Q")
+        with self.assertRaises(TimeFault):
+            self.us.parse_time("x", "%d")
+
+    def test_amounts(self):
+        with self.assertRaisesRegex(TypeError, "a float holds most decimal fractions only nearly"):
+            self.us.money(0.1)
+        for wrong in ("NaN", "Infinity", "1E+30", "1E-19", "9223372036854775808"):
+            with self.subTest(amount=wrong), self.assertRaises(AmountFault):
+                self.us.money(Decimal(wrong))
+        with self.assertRaises(TypeError):
+            self.us.money("1")
+        with self.assertRaises(OverflowError):
+            self.us.number(2**63)
+
+    def test_names(self):
+        for wrong in ("", "C", "POSIX", "a b", "x" * 65):
+            with self.subTest(name=wrong), self.assertRaises(ValueError):
+                Library.from_texts({wrong: US})
+        with self.assertRaises(SourceFault):
+            Library.from_texts({"xx": "LC_TIME\n.end\nEND LC_TIME\n"})
+
+
+def in_child(amount: int) -> str:
+    return KEPT.money(amount)
+
+
+KEPT = made().locale("us")
+
+
+class Threads(unittest.TestCase):
+    """Any number of threads, and children of a fork, read one library."""
+
+    def test_sixteen_threads(self):
+        library = made()
+        wanted = {"us": "$1,234.50", "de": "1.234,50 €"}
+        wrong = []
+
+        def work(name: str) -> None:
+            by = library.locale(name)
+            for _ in range(100_000 // 16):
+                if by.money(Decimal("1234.5")) != wanted[name]:
+                    wrong.append(name)
+
+        threads = [threading.Thread(target=work, args=(("us", "de")[n % 2],)) for n in range(16)]
+        for it in threads:
+            it.start()
+        for it in threads:
+            it.join()
+        self.assertEqual(wrong, [])
+
+    def test_fork(self):
+        with multiprocessing.get_context("fork").Pool(4) as pool:
+            texts = pool.map(in_child, range(1000))
+        self.assertEqual(texts[999], "$999.00")
+        self.assertEqual(KEPT.money(1), "$1.00")
+
+    def test_memory_is_flat(self):
+        by = made().locale("de")
+        amount = Decimal("1234.5")
+        for _ in range(20_000):
+            by.money(amount)
+        before = resource.getrusage(resource.RUSAGE_SELF).ru_maxrss
+        for _ in range(MANY):
+            by.money(amount)
+        self.assertLess(resource.getrusage(resource.RUSAGE_SELF).ru_maxrss - before, 1024)
+
+    def test_libraries_are_freed(self):
+        for _ in range(20):
+            made()
+        before = resource.getrusage(resource.RUSAGE_SELF).ru_maxrss
+        for _ in range(200):
+            made().locale("us").money(1)
+        gc.collect()
+        self.assertLess(resource.getrusage(resource.RUSAGE_SELF).ru_maxrss - before, 4096)
+
+
+if __name__ == "__main__":
+    unittest.main()
