@@ -1,11 +1,13 @@
 //! The fields of localeconv's structure (XSH localeconv, XBD <locale.h>).
 
-ghost use Rattle.std.specs.Prelude.{◌≡◌, map, IfOk};
+ghost use Rattle.std.specs.Prelude.{◌≡◌, slice_get, IfOk};
+ghost use Rattle.std.specs.Option.{option_copied};
 ghost use Rattle.monetary_cat.specs.Monetary.{number_of};
 ghost use Rattle.lconv_chars.specs.Chars.{encoded};
 ghost use Rattle.langinfo.specs.Conv.{bare_numbers, bare_texts, conv, number_fields, text_fields};
 ghost use Rattle.langinfo.specs.Lent.{lconv_of, owned_numbers, owned_text, owned_texts};
 
+use crate::categories::Categories;
 use crate::field::LentText::{Bytes, Sizes};
 use crate::field::{ConvText, FieldName, LentText};
 use lc_base::{ByteText, List};
@@ -53,14 +55,6 @@ impl Drop for Lconv {
 pub struct LentConv<'a> {
     pub texts: [(&'a [u8], LentText<'a>); CONV_TEXTS],
     pub numbers: [(&'a [u8], u8); CONV_NUMBERS],
-}
-
-/// The fields of localeconv without their names, in the order of the standard's page, the texts lent
-/// by the categories as C has them.
-#[derive(Clone, Copy)]
-pub struct LentFields<'a> {
-    pub texts: [&'a [u8]; CONV_TEXTS],
-    pub numbers: [u8; CONV_NUMBERS],
 }
 
 /// How numbers and amounts are written in the locale that has these categories (XSH localeconv).
@@ -126,41 +120,52 @@ pub fn lent_conv<'a>(numeric: &'a Numeric, monetary: &'a Monetary) -> LentConv<'
     LentConv { texts, numbers }
 }
 
-/// The fields of localeconv in the locale that has these categories, which lend them, without their
-/// names. Takes no memory.
-pub fn lent_fields<'a>(numeric: &'a Numeric, monetary: &'a Monetary) -> LentFields<'a>
-    ensures texts { map (λ t. t.now) result.texts ≡ bare_texts (conv numeric.now monetary.now).texts }
-    ensures numbers { result.numbers ≡ bare_numbers (conv numeric.now monetary.now).numbers }
+/// The text of a field of localeconv by its number, in the order of the standard's page, in the locale
+/// that has these categories. Its category lends it, as C has it. Takes no memory.
+#[inline(always)]
+pub fn lent_conv_text<C: Categories>(from: &C, number: usize) -> Option<&[u8]>
+    ensures { option_copied result ≡ slice_get (bare_texts (conv (C.numeric_of from.now) (C.monetary_of from.now)).texts) number }
 {
-    LentFields {
-        texts: bare_texts(&text_fields(numeric, monetary)),
-        numbers: bare_numbers(&number_fields(monetary)),
+    match number {
+        0 => Some(from.numeric().decimal_point()),
+        1 => Some(from.numeric().thousands_sep()),
+        2 => Some(from.numeric().group_chars()),
+        3 => Some(from.monetary().text(IntCurrSymbol)),
+        4 => Some(from.monetary().text(CurrencySymbol)),
+        5 => Some(from.monetary().text(MonDecimalPoint)),
+        6 => Some(from.monetary().text(MonThousandsSep)),
+        7 => Some(from.monetary().group_chars()),
+        8 => Some(from.monetary().text(PositiveSign)),
+        9 => Some(from.monetary().text(NegativeSign)),
+        _ => None,
     }
 }
 
-/// Texts without their names.
-fn bare_texts<'a>(fields: &[(&'static [u8], LentText<'a>); CONV_TEXTS]) -> [&'a [u8]; CONV_TEXTS]
-    ensures { map (λ t. t.now) result ≡ bare_texts (owned_texts fields.now) }
+/// The fields of localeconv that are numbers, in the order of the standard's page. Takes no memory.
+#[inline(always)]
+pub fn lent_conv_numbers(monetary: &Monetary) -> [u8; CONV_NUMBERS]
+    ensures { result ≡ bare_numbers (number_fields monetary.now) }
 {
-    let mut texts: [&'a [u8]; CONV_TEXTS] = [&[]; CONV_TEXTS];
-    for (i, (_, text)) in fields.iter().enumerate() {
-        texts[i] = text.as_bytes();
-    }
-    texts
-}
-
-/// Numbers without their names.
-fn bare_numbers(fields: &[(&'static [u8], u8); CONV_NUMBERS]) -> [u8; CONV_NUMBERS]
-    ensures { result ≡ bare_numbers (owned_numbers fields.now) }
-{
-    let mut numbers = [0; CONV_NUMBERS];
-    for (i, (_, number)) in fields.iter().enumerate() {
-        numbers[i] = *number;
-    }
-    numbers
+    [
+        number(monetary, IntFracDigits),
+        number(monetary, FracDigits),
+        number(monetary, PCsPrecedes),
+        number(monetary, PSepBySpace),
+        number(monetary, NCsPrecedes),
+        number(monetary, NSepBySpace),
+        number(monetary, PSignPosn),
+        number(monetary, NSignPosn),
+        number(monetary, IntPCsPrecedes),
+        number(monetary, IntNCsPrecedes),
+        number(monetary, IntPSepBySpace),
+        number(monetary, IntNSepBySpace),
+        number(monetary, IntPSignPosn),
+        number(monetary, IntNSignPosn),
+    ]
 }
 
 /// The fields that are texts, each with its name in C and the value of its keyword.
+#[inline(always)]
 fn text_fields<'n, 'a>(
     numeric: &'a Numeric,
     monetary: &'a Monetary,
@@ -182,6 +187,7 @@ fn text_fields<'n, 'a>(
 }
 
 /// The fields that are numbers, each with its name in C and the value of its keyword.
+#[inline(always)]
 fn number_fields<'n>(monetary: &Monetary) -> [(&'n [u8], u8); CONV_NUMBERS]
     ensures { owned_numbers result ≡ number_fields monetary.now }
 {

@@ -39,6 +39,7 @@ pub fn nl_langinfo(
 
 /// What an item is in the locale that has these categories (XSH nl_langinfo), lent by its category.
 /// Takes no memory.
+#[inline(always)]
 pub fn lent_item<C: Categories>(from: &C, item: Item) -> &[u8]
     ensures { result.now ≡ info (C.ctype_of from.now) (C.numeric_of from.now) (C.monetary_of from.now) (C.time_of from.now) (C.messages_of from.now) item }
 {

@@ -40,6 +40,7 @@ pub enum Keyword {
 }
 
 /// The keyword that an item reads.
+#[inline(always)]
 pub fn keyword_of(item: Item) -> Keyword
     ensures is { result ≡ keyword_of item }
     ensures within { IsWithin result }

@@ -9,7 +9,8 @@ mod keyword;
 
 pub use categories::{Categories, LentCategories};
 pub use conv::{
-    CONV_NUMBERS, CONV_TEXTS, Lconv, LentConv, LentFields, lent_conv, lent_fields, localeconv,
+    CONV_NUMBERS, CONV_TEXTS, Lconv, LentConv, lent_conv, lent_conv_numbers, lent_conv_text,
+    localeconv,
 };
 pub use field::{ConvText, FieldName, LentText};
 pub use items::{lent_item, nl_langinfo};

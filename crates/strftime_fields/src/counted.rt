@@ -32,6 +32,11 @@ impl Output for Counter {
     }
 
     #[inline(always)]
+    fn is_within(&self, _lent: &[u8], stop: usize) -> bool {
+        self.count <= stop
+    }
+
+    #[inline(always)]
     fn put(&mut self, _lent: &mut [u8], max: usize, bytes: &[u8]) -> Result<(), Stop> {
         if bytes.len() > max - self.count {
             return Err(Stop::TooBig);

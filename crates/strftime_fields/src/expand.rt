@@ -34,11 +34,11 @@ struct Left<'a> {
     whole: bool,
 }
 
-/// Adds what a format gives, with so many formats within one another, up to the first `%` that begins
-/// no conversion, and says where that stands.
-#[cycle(expand)]
+/// Adds what the caller's format gives, with so many formats within one another, up to the first `%`
+/// that begins no conversion, and says where that stands. It lies in the code of its caller, and should
+/// have one caller for each output: a function with several is compiled by itself.
 #[inline(always)]
-pub fn put_format<L: Ledger, O: Output>(
+pub fn put_whole<L: Ledger, O: Output>(
     levels: u8,
     t: &Time,
     tm: &TimeFields,
@@ -70,11 +70,46 @@ pub fn put_format<L: Ledger, O: Output>(
     put_left(t, tm, max, &mut left, steps, out, lent)
 }
 
+/// The same of any format, in calls.
+#[cycle(expand)]
+#[inline(always)]
+pub fn put_format<L: Ledger, O: Output>(
+    levels: u8,
+    t: &Time,
+    tm: &TimeFields,
+    max: usize,
+    format: &[u8],
+    steps: &mut Steps<L>,
+    out: &mut O,
+    lent: &mut [u8],
+) -> Result<Option<usize>, Stop>
+    requires short { length (O.text out.old lent.old) ≤ max }
+    requires holds { Holds O.kind max (length lent.old) }
+    ensures text { Appends O.kind max (O.text out.old lent.old) (expanded levels t.now tm.now format.now) (O.text out.new lent.new) (added result) }
+    ensures bad { IfOk result (λ bad. 0 < levels → bad ≡ bad_place (pieces format.now)) }
+    ensures steps { CountsTo (added result) (steps.old + reads max levels t.now tm.now (length (O.text out.old lent.old)) format.now) steps.new }
+{
+    if levels == 0 {
+        return Ok(None);
+    }
+    let mut left = Left {
+        format,
+        rest: format,
+        levels,
+        whole: true,
+    };
+    put_quick_apart(t, tm, max, &mut left, steps, out, lent);
+    if left.rest.is_empty() {
+        return Ok(None);
+    }
+    put_left(t, tm, max, &mut left, steps, out, lent)
+}
+
 /// Adds what the next pieces give that are told at first sight and for which there is room, also those of
 /// a format of the locale that ends this one. All that it needs stays in registers, as nothing that it
 /// calls is a call in the program.
-#[inline(never)]
-fn put_quick<'a, L: Ledger, O: Output>(
+#[inline(always)]
+fn put_pieces<'a, L: Ledger, O: Output>(
     t: &'a Time,
     tm: &TimeFields,
     max: usize,
@@ -95,7 +130,7 @@ fn put_quick<'a, L: Ledger, O: Output>(
     let stop = limit - MOST;
     let mut rest = left.rest;
     let mut text = out.held();
-    'reading: while text.text_len(lent) <= stop {
+    'reading: while text.is_within(lent, stop) {
         match put_piece(&mut text, lent, t, tm, rest) {
             Seen::Added(Short::Byte(_)) => rest = &rest[1..],
             Seen::Added(Short::Plain { .. }) => {
@@ -121,6 +156,44 @@ fn put_quick<'a, L: Ledger, O: Output>(
     }
     left.rest = rest;
     *out = text;
+}
+
+/// The same, with a copy of the time, which stays in registers too.
+#[inline(always)]
+fn put_quick<'a, L: Ledger, O: Output>(
+    t: &'a Time,
+    tm: &TimeFields,
+    max: usize,
+    left: &mut Left<'a>,
+    steps: &mut Steps<L>,
+    out: &mut O,
+    lent: &mut [u8],
+)
+    requires stands { Stands (place_of left.old) }
+    requires short { length (O.text out.old lent.old) ≤ max }
+    ensures goes { Goes O.kind max t.now tm.now (O.text out.old lent.old) steps.old (place_of left.old) (O.text out.new lent.new) steps.new (place_of left.new) }
+    ensures short { length (O.text out.new lent.new) ≤ max }
+{
+    put_pieces(t, &tm.here(), max, left, steps, out, lent);
+}
+
+/// The same, in code of its own.
+#[inline(never)]
+fn put_quick_apart<'a, L: Ledger, O: Output>(
+    t: &'a Time,
+    tm: &TimeFields,
+    max: usize,
+    left: &mut Left<'a>,
+    steps: &mut Steps<L>,
+    out: &mut O,
+    lent: &mut [u8],
+)
+    requires stands { Stands (place_of left.old) }
+    requires short { length (O.text out.old lent.old) ≤ max }
+    ensures goes { Goes O.kind max t.now tm.now (O.text out.old lent.old) steps.old (place_of left.old) (O.text out.new lent.new) steps.new (place_of left.new) }
+    ensures short { length (O.text out.new lent.new) ≤ max }
+{
+    put_quick(t, tm, max, left, steps, out, lent);
 }
 
 /// Adds what is left of a format gives, up to the first `%` that begins no conversion, and says where
@@ -171,7 +244,7 @@ fn put_left<'a, L: Ledger, O: Output>(
                 left.rest = &left.format[next..];
             }
         }
-        put_quick(t, tm, max, left, steps, out, lent);
+        put_quick_apart(t, tm, max, left, steps, out, lent);
     }
 }
 

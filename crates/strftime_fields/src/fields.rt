@@ -43,6 +43,17 @@ impl<'a> TimeFields<'a> {
         TimeFields { tm, zone }
     }
 
+    /// The same time: a loop over one of its own keeps it in registers.
+    #[inline(always)]
+    pub fn here(&self) -> TimeFields<'a>
+        ensures { result ≡ self.now }
+    {
+        TimeFields {
+            tm: self.tm,
+            zone: self.zone,
+        }
+    }
+
     /// The year, from 1 to 9999.
     #[inline(always)]
     pub fn year(&self) -> u32

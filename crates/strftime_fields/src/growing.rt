@@ -26,6 +26,11 @@ impl Output for Vec<u8> {
     }
 
     #[inline(always)]
+    fn is_within(&self, _lent: &[u8], stop: usize) -> bool {
+        self.len() <= stop
+    }
+
+    #[inline(always)]
     fn put(&mut self, _lent: &mut [u8], max: usize, bytes: &[u8]) -> Result<(), Stop> {
         if bytes.len() > max - self.len() {
             return Err(Stop::TooBig);

@@ -1,6 +1,7 @@
 //! A text in bytes that a caller lends.
 
-ghost use Rattle.std.specs.Prelude.{◌≡◌, ◌≤◌, ◌-◌, length, take};
+ghost use Rattle.std.specs.Prelude.{◌≡◌, ◌≤◌, ◌+◌, ◌-◌, ◌++◌, length, take, drop};
+ghost use Rattle.text_buffer.specs.Written.{over};
 ghost use Rattle.strftime_fields.specs.Kept.{Lent};
 
 use crate::output::Output;
@@ -35,6 +36,11 @@ impl Output for Place {
     }
 
     #[inline(always)]
+    fn is_within(&self, _lent: &[u8], stop: usize) -> bool {
+        self.at <= stop
+    }
+
+    #[inline(always)]
     fn put(&mut self, lent: &mut [u8], max: usize, bytes: &[u8]) -> Result<(), Stop> {
         let at = self.text_len(lent);
         if bytes.len() > max - at {
@@ -54,7 +60,7 @@ impl Output for Place {
 
     #[inline(always)]
     fn put_front(&mut self, lent: &mut [u8], front: &[u8; NAME_FRONT], len: usize) {
-        let _end = put_at(lent, self.at, front);
+        let _end = put_array(lent, self.at, *front);
         self.at += len;
     }
 
@@ -62,4 +68,27 @@ impl Output for Place {
     fn held(&mut self) -> Place {
         replace(self, Place { at: 0 })
     }
+}
+
+/// Writes an array over the first bytes of a buffer.
+#[inline(always)]
+fn put_first<const N: usize>(target: &mut [u8], bytes: [u8; N])
+    requires { N ≤ length target.old }
+    ensures { target.new ≡ bytes.entry ++ drop N target.old }
+{
+    match target.first_chunk_mut::<N>() {
+        Some(chunk) => *chunk = bytes,
+        None => unreachable!(),
+    }
+}
+
+/// Writes an array over the bytes of a buffer from a place on, and says where it ends.
+#[inline(always)]
+fn put_array<const N: usize>(target: &mut [u8], at: usize, bytes: [u8; N]) -> usize
+    requires { at + N ≤ length target.old }
+    ensures ends { result ≡ at + N }
+    ensures written { target.new ≡ over target.old at bytes.entry }
+{
+    put_first(&mut target[at..], bytes);
+    at + N
 }

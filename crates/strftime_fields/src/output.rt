@@ -10,7 +10,7 @@ use time_cat::{NAME_FRONT, Name};
 /// Where a text goes: a `Vec`, bytes that a caller lends, or nowhere where only its length is wanted.
 /// The bytes that are lent are handed to each call.
 pub trait Output: Drop {
-    ghost use Rattle.std.specs.Prelude.{◌≡◌, ◌≤◌, ◌+◌, ◌++◌, length, take, ℕ, List};
+    ghost use Rattle.std.specs.Prelude.{◌≡◌, ◌≤◌, ◌+◌, ◌++◌, true, length, take, ℕ, List};
     ghost use Rattle.strftime_fields.specs.Appending.{Appends};
     ghost use Rattle.strftime_fields.specs.Kept.{Kind, kept, Holds};
 
@@ -26,6 +26,10 @@ pub trait Output: Drop {
     /// How long its text is.
     fn text_len(&self, lent: &[u8]) -> usize
         ensures { result ≡ length (text self.now lent.now) };
+
+    /// Whether it is known that its text is no longer than `stop`.
+    fn is_within(&self, lent: &[u8], stop: usize) -> bool
+        ensures { result ≡ true → length (text self.now lent.now) ≤ stop };
 
     /// How long its text may become without more memory.
     fn room_for(&self, lent: &[u8]) -> usize

@@ -10,7 +10,7 @@ ghost use Rattle.strftime_fields.specs.Answers.{whole_answer};
 ghost use Rattle.strftime_fields.specs.Zones.{in_zone};
 
 use crate::counted::Counter;
-use crate::expand::put_format;
+use crate::expand::{put_format, put_whole};
 use crate::fields::TimeFields;
 use crate::lent::Place;
 use crate::output::Output;
@@ -105,7 +105,7 @@ fn put_text<L: Ledger>(
     let mut steps = Steps::<L>::new(blank);
     let mut draft = [0; DRAFT];
     let mut place = Place { at: 0 };
-    match put_format(
+    match put_whole(
         LEVELS, t, tm, DRAFT, format, &mut steps, &mut place, &mut draft,
     ) {
         Ok(None) => {
@@ -127,6 +127,8 @@ fn put_text<L: Ledger>(
 /// `BadFormat` comes exactly where a `%` of the format begins no conversion, at the first one, and
 /// `TooSmall` exactly where none does and the text is longer than the buffer, with the text's length.
 /// Under both the buffer is as it was, and what it has beyond the text always is.
+// In code of its own, so that no digits of a time are made before a conversion asks for them.
+#[inline(never)]
 pub fn strftime_to(
     buffer: &mut [u8],
     t: &Time,

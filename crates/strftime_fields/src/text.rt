@@ -8,7 +8,7 @@ ghost use Rattle.strftime_fields.specs.Appending.{fault_of};
 ghost use Rattle.strftime_fields.specs.Cost.{cost, Counts};
 ghost use Rattle.strftime_fields.specs.declared.fault.TimeFault.TheVariants.{BadFormat};
 
-use crate::expand::put_format;
+use crate::expand::{put_format, put_whole};
 use crate::fault::TimeFault;
 use crate::fields::TimeFields;
 use crate::read::{Short, short_at};
@@ -132,7 +132,7 @@ fn put_from<L: Ledger>(
     if out.capacity() < SPARE {
         out.reserve(first_room(format, max))?;
     }
-    match put_format(
+    match put_whole(
         LEVELS,
         t,
         &TimeFields::of(tm),

@@ -28,40 +28,40 @@ put_format-returns-then-levels-eq0-clause-steps g t c =
 pub put_format-returns-then-is_empty-clause-text : goal.put_format-returns-then-is_empty-clause-text
 put_format-returns-then-is_empty-clause-text g t c =
     let some : 0 < c.args.levels = omega (arith, c.if-levels-eq0.false) in
-    let none : length c.put_quick.new.left.rest.now ≡ 0 = eqb-true _ 0 (sym c.if-is_empty.ensures) in
-    let end = ends_all _ _ _ _ _ _ _ _ _ _ c.put_quick.ensures.goes (nothing_left c.put_quick.new.left.format.now (length c.put_quick.new.left.format.now - length c.put_quick.new.left.rest.now) (omega (arith, none))) c.put_quick.ensures.short in
-    whole_text _ c.args.max c.args.t.now c.args.tm.now (g.O.Output.text c.args.out.now c.args.lent.now) c.args.steps.now c.args.levels c.args.format.now (g.O.Output.text c.put_quick.new.out c.put_quick.new.lent) c.put_quick.new.steps (Ok None) some end
+    let none : length c.put_quick_apart.new.left.rest.now ≡ 0 = eqb-true _ 0 (sym c.if-is_empty.ensures) in
+    let end = ends_all _ _ _ _ _ _ _ _ _ _ c.put_quick_apart.ensures.goes (nothing_left c.put_quick_apart.new.left.format.now (length c.put_quick_apart.new.left.format.now - length c.put_quick_apart.new.left.rest.now) (omega (arith, none))) c.put_quick_apart.ensures.short in
+    whole_text _ c.args.max c.args.t.now c.args.tm.now (g.O.Output.text c.args.out.now c.args.lent.now) c.args.steps.now c.args.levels c.args.format.now (g.O.Output.text c.put_quick_apart.new.out c.put_quick_apart.new.lent) c.put_quick_apart.new.steps (Ok None) some end
 
 pub put_format-returns-then-is_empty-clause-bad : goal.put_format-returns-then-is_empty-clause-bad
 put_format-returns-then-is_empty-clause-bad g t c =
-    let none : length c.put_quick.new.left.rest.now ≡ 0 = eqb-true _ 0 (sym c.if-is_empty.ensures) in
-    let end = ends_all _ _ _ _ _ _ _ _ _ _ c.put_quick.ensures.goes (nothing_left c.put_quick.new.left.format.now (length c.put_quick.new.left.format.now - length c.put_quick.new.left.rest.now) (omega (arith, none))) c.put_quick.ensures.short in
-    whole_bad _ c.args.max c.args.t.now c.args.tm.now (g.O.Output.text c.args.out.now c.args.lent.now) c.args.steps.now c.args.levels c.args.format.now (g.O.Output.text c.put_quick.new.out c.put_quick.new.lent) c.put_quick.new.steps (Ok None) end
+    let none : length c.put_quick_apart.new.left.rest.now ≡ 0 = eqb-true _ 0 (sym c.if-is_empty.ensures) in
+    let end = ends_all _ _ _ _ _ _ _ _ _ _ c.put_quick_apart.ensures.goes (nothing_left c.put_quick_apart.new.left.format.now (length c.put_quick_apart.new.left.format.now - length c.put_quick_apart.new.left.rest.now) (omega (arith, none))) c.put_quick_apart.ensures.short in
+    whole_bad _ c.args.max c.args.t.now c.args.tm.now (g.O.Output.text c.args.out.now c.args.lent.now) c.args.steps.now c.args.levels c.args.format.now (g.O.Output.text c.put_quick_apart.new.out c.put_quick_apart.new.lent) c.put_quick_apart.new.steps (Ok None) end
 
 pub put_format-returns-then-is_empty-clause-steps : goal.put_format-returns-then-is_empty-clause-steps
 put_format-returns-then-is_empty-clause-steps g t c =
     let some : 0 < c.args.levels = omega (arith, c.if-levels-eq0.false) in
-    let none : length c.put_quick.new.left.rest.now ≡ 0 = eqb-true _ 0 (sym c.if-is_empty.ensures) in
-    let end = ends_all _ _ _ _ _ _ _ _ _ _ c.put_quick.ensures.goes (nothing_left c.put_quick.new.left.format.now (length c.put_quick.new.left.format.now - length c.put_quick.new.left.rest.now) (omega (arith, none))) c.put_quick.ensures.short in
-    whole_reads _ c.args.max c.args.t.now c.args.tm.now (g.O.Output.text c.args.out.now c.args.lent.now) c.args.steps.now c.args.levels c.args.format.now (g.O.Output.text c.put_quick.new.out c.put_quick.new.lent) c.put_quick.new.steps (Ok None) some end
+    let none : length c.put_quick_apart.new.left.rest.now ≡ 0 = eqb-true _ 0 (sym c.if-is_empty.ensures) in
+    let end = ends_all _ _ _ _ _ _ _ _ _ _ c.put_quick_apart.ensures.goes (nothing_left c.put_quick_apart.new.left.format.now (length c.put_quick_apart.new.left.format.now - length c.put_quick_apart.new.left.rest.now) (omega (arith, none))) c.put_quick_apart.ensures.short in
+    whole_reads _ c.args.max c.args.t.now c.args.tm.now (g.O.Output.text c.args.out.now c.args.lent.now) c.args.steps.now c.args.levels c.args.format.now (g.O.Output.text c.put_quick_apart.new.out c.put_quick_apart.new.lent) c.put_quick_apart.new.steps (Ok None) some end
 
 -- a format of which something is left
 pub put_format-returns-clause-text : goal.put_format-returns-clause-text
 put_format-returns-clause-text g t c =
     let some : 0 < c.args.levels = omega (arith, c.if-levels-eq0.false) in
     whole_text _ c.args.max c.args.t.now c.args.tm.now (g.O.Output.text c.args.out.now c.args.lent.now) c.args.steps.now c.args.levels c.args.format.now (g.O.Output.text c.put_left.new.out c.put_left.new.lent) c.put_left.new.steps c.put_left.result some
-    (ends_behind _ _ _ _ _ _ _ _ _ _ _ _ _ c.put_quick.ensures.goes c.put_left.ensures)
+    (ends_behind _ _ _ _ _ _ _ _ _ _ _ _ _ c.put_quick_apart.ensures.goes c.put_left.ensures)
 
 pub put_format-returns-clause-bad : goal.put_format-returns-clause-bad
 put_format-returns-clause-bad g t c =
     whole_bad _ c.args.max c.args.t.now c.args.tm.now (g.O.Output.text c.args.out.now c.args.lent.now) c.args.steps.now c.args.levels c.args.format.now (g.O.Output.text c.put_left.new.out c.put_left.new.lent) c.put_left.new.steps c.put_left.result
-    (ends_behind _ _ _ _ _ _ _ _ _ _ _ _ _ c.put_quick.ensures.goes c.put_left.ensures)
+    (ends_behind _ _ _ _ _ _ _ _ _ _ _ _ _ c.put_quick_apart.ensures.goes c.put_left.ensures)
 
 pub put_format-returns-clause-steps : goal.put_format-returns-clause-steps
 put_format-returns-clause-steps g t c =
     let some : 0 < c.args.levels = omega (arith, c.if-levels-eq0.false) in
     whole_reads _ c.args.max c.args.t.now c.args.tm.now (g.O.Output.text c.args.out.now c.args.lent.now) c.args.steps.now c.args.levels c.args.format.now (g.O.Output.text c.put_left.new.out c.put_left.new.lent) c.put_left.new.steps c.put_left.result some
-    (ends_behind _ _ _ _ _ _ _ _ _ _ _ _ _ c.put_quick.ensures.goes c.put_left.ensures)
+    (ends_behind _ _ _ _ _ _ _ _ _ _ _ _ _ c.put_quick_apart.ensures.goes c.put_left.ensures)
 
 -- what is left
 pub put_left-returns-in-End : goal.put_left-returns-in-End
@@ -101,18 +101,18 @@ put_left-reading-preserved g t c =
           let same : c.step_at.new.steps ≡ c.reading.steps = omega (arith, w.in-Byte.ensures.counted) in
           let cut : take (length format - (at + 1)) (drop (at + 1) format) ≡ drop 1 c.reading.left.rest.now = take_all (length format - (at + 1)) (drop (at + 1) format) (omega (arith, length-drop (at + 1) format)) ∙ (sym (drop-drop 1 at format) ∙ sym (ap (drop 1) c.reading.invariant.goes.stands.left)) in
           let goes = goes_literal _ c.args.max c.args.t.now c.args.tm.now (g.O.Output.text c.reading.out c.reading.lent) (g.O.Output.text w.put_byte.new.out w.put_byte.new.lent) c.reading.steps (place_of c.reading.left) _ w.in-Byte.byte c.reading.invariant.goes.stands w.in-Byte.ensures.stands w.in_ok-put_byte-in-Byte.ensures.0 cut in
-          let quick = rw (w.left-is, w.steps-is, w.out-is, w.lent-is, same) at c.put_quick.ensures.goes in
+          let quick = rw (w.left-is, w.steps-is, w.out-is, w.lent-is, same) at c.put_quick_apart.ensures.goes in
           record {
             goes = goes_both _ _ _ _ _ _ _ _ _ _ _ _ _ c.reading.invariant.goes (goes_both _ _ _ _ _ _ _ _ _ _ _ _ _ goes quick);
-            short = c.put_quick.ensures.short;
+            short = c.put_quick_apart.ensures.short;
           }
       | put_left-in-Conv+in_ok-put_other-in-Conv w ↦
           let cut : take (length format - w.in-Conv.next) (drop w.in-Conv.next format) ≡ drop w.in-Conv.next format = take_all (length format - w.in-Conv.next) (drop w.in-Conv.next format) (omega (arith, length-drop w.in-Conv.next format)) in
           let counts : w.put_other.new.steps ≡ c.reading.steps + 1 + read_for c.args.t.now c.args.tm.now (reads c.args.max (c.reading.left.levels - 1) c.args.t.now c.args.tm.now (length (g.O.Output.text c.reading.out c.reading.lent))) (conversion w.in-Conv.modifier w.in-Conv.letter) = omega (arith, w.in_ok-put_other-in-Conv.ensures.steps, w.in-Conv.ensures.counted) in
           let goes = goes_conversion _ c.args.max c.args.t.now c.args.tm.now (g.O.Output.text c.reading.out c.reading.lent) (g.O.Output.text w.put_other.new.out w.put_other.new.lent) c.reading.steps w.put_other.new.steps (place_of c.reading.left) _ w.in-Conv.modifier w.in-Conv.letter _ w.in-Conv.next c.reading.invariant.goes.stands w.in-Conv.ensures.stands c.reading.invariant.short w.in_ok-put_other-in-Conv.ensures.text.0 counts cut in
-          let quick = rw (w.left-is, w.steps-is, w.out-is, w.lent-is) at c.put_quick.ensures.goes in
+          let quick = rw (w.left-is, w.steps-is, w.out-is, w.lent-is) at c.put_quick_apart.ensures.goes in
           record {
             goes = goes_both _ _ _ _ _ _ _ _ _ _ _ _ _ c.reading.invariant.goes (goes_both _ _ _ _ _ _ _ _ _ _ _ _ _ goes quick);
-            short = c.put_quick.ensures.short;
+            short = c.put_quick_apart.ensures.short;
           }
     ]

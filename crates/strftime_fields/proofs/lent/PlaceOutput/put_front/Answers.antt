@@ -13,7 +13,7 @@ returns-clause-text c =
     let rest = drop (at + length front) old in
     let wide : length front ≡ 16 = search rules in
     let here : length (take at old) ≡ at = omega (arith, length-take at old, c.requires.room) in
-    ap (take (at + c.args.len)) c.put_at-end.ensures.written ∙
+    ap (take (at + c.args.len)) c.put_array-end.ensures.written ∙
     (ap (λ k. take (k + c.args.len) (over old at front)) (sym here) ∙
     (take-append-add (take at old) (front ++ rest) c.args.len ∙
     ap (λ x. take at old ++ x) (take-append-le c.args.len front rest (omega (arith, wide, c.requires.few)))))
