@@ -63,14 +63,14 @@ row_kept G H t r row count alive same s = record {
 
 -- an accepted Open makes the next handle of its row
 open_makes : (c : CatalogSetting) (H : History) (w r number : ℕ) → free_row c H w ≡ Some r
-    → (making (entry c H w (Open number))).handle ≡ Some (nth catalog_handles w r (makes H w r + 1))
+    → (making (entry c H w (Open number) 0)).handle ≡ Some (nth catalog_handles w r (makes H w r + 1))
 open_makes c H w r number found = ap (λ o. handle_made (Open number) (opened_in H w o)) found
 
 -- the handle of an accepted Open is live, and has its catalog
 open_live : (c : CatalogSetting) (H : History) (w r number : ℕ) → free_row c H w ≡ Some r
-    → live_book (entry c H w (Open number) ∷ H) (nth catalog_handles w r (makes H w r + 1)) ≡ Some number
+    → live_book (entry c H w (Open number) 0 ∷ H) (nth catalog_handles w r (makes H w r + 1)) ≡ Some number
 open_live c H w r number found =
-    let e : Entry = entry c H w (Open number) in
+    let e : Entry = entry c H w (Open number) 0 in
     let h : CatalogHandle = nth catalog_handles w r (makes H w r + 1) in
     let makes_it : makes_handle e h ≡ true =
     ap (λ o. is_handle catalog_handles (handle_made (Open number) (opened_in H w o)) h) found ∙ same_itself catalog_handles h
@@ -79,9 +79,9 @@ open_live c H w r number found =
     ∙ ap (λ b. if b || live H h then Some (if b then number else book H h) else None) makes_it
 
 keeps_open_here : (c : CatalogSetting) (H : History) (w r number : ℕ) (row : RowData) → free_row c H w ≡ Some r → RowStands H w r row
-    → RowStands (entry c H w (Open number) ∷ H) w r (opened number row)
+    → RowStands (entry c H w (Open number) 0 ∷ H) w r (opened number row)
 keeps_open_here c H w r number row found s =
-    let e : Entry = entry c H w (Open number) in
+    let e : Entry = entry c H w (Open number) 0 in
     let h : CatalogHandle = nth catalog_handles w r (makes H w r + 1) in
     let count : makes (e ∷ H) w r ≡ makes H w r + 1 = more_in_row catalog_handles (making e) (makings H) w r (open_makes c H w r number found)
     in record {
@@ -90,9 +90,9 @@ keeps_open_here c H w r number row found s =
     }
 
 keeps_open_elsewhere : (c : CatalogSetting) (H : History) (w r number t q : ℕ) (row : RowData) → free_row c H w ≡ Some r
-    → ((t ≡ w) × (q ≡ r) → ⊥) → RowStands H t q row → RowStands (entry c H w (Open number) ∷ H) t q row
+    → ((t ≡ w) × (q ≡ r) → ⊥) → RowStands H t q row → RowStands (entry c H w (Open number) 0 ∷ H) t q row
 keeps_open_elsewhere c H w r number t q row found apart s =
-    let e : Entry = entry c H w (Open number) in
+    let e : Entry = entry c H w (Open number) 0 in
     let h : CatalogHandle = nth catalog_handles w r (makes H w r + 1) in
     let un : makes_handle e (newest H t q) ≡ false =
     ap (λ o. is_handle catalog_handles (handle_made (Open number) (opened_in H w o)) (newest H t q)) found
@@ -106,7 +106,7 @@ keeps_open_elsewhere c H w r number t q row found apart s =
     (book_kept e H (newest H t q) un) s
 
 pub keeps_open : (c : CatalogSetting) (H : History) (w r number : ℕ) (rows : GridData RowData) → w < c.threads → r < rows.width
-    → free_row c H w ≡ Some r → Keeps c H rows → Keeps c (entry c H w (Open number) ∷ H) (after_open rows w r number)
+    → free_row c H w ≡ Some r → Keeps c H rows → Keeps c (entry c H w (Open number) 0 ∷ H) (after_open rows w r number)
 keeps_open c H w r number rows caller inside found k =
     let next : RowData = opened number (row_at rows w r) in
     let lines = k.lines in
@@ -122,15 +122,15 @@ keeps_open c H w r number rows caller inside found k =
             | inl is ↦
                 let at = in_row_numbers catalog_handles w r (nth catalog_handles t q 0) is in
                 let here = keeps_open_here c H w r number (row_at rows w r) found (k.each w r caller (omega arith)) in
-                subst (λ s. RowStands (entry c H w (Open number) ∷ H) s q (row_at (after_open rows w r number) s q)) (sym at.0)
-                (subst (λ p. RowStands (entry c H w (Open number) ∷ H) w p (row_at (after_open rows w r number) w p)) (sym at.1)
-                (subst (RowStands (entry c H w (Open number) ∷ H) w r)
+                subst (λ s. RowStands (entry c H w (Open number) 0 ∷ H) s q (row_at (after_open rows w r number) s q)) (sym at.0)
+                (subst (λ p. RowStands (entry c H w (Open number) 0 ∷ H) w p (row_at (after_open rows w r number) w p)) (sym at.1)
+                (subst (RowStands (entry c H w (Open number) 0 ∷ H) w r)
                 (sym (cell_here rows w r next no_row k.full (omega arith) inside)) here))
             | inr other ↦
                 let apart : (t ≡ w) × (q ≡ r) → ⊥ = λ same.
                 false≢true (sym other ∙ and_from (t == w) (q == r) (eq-eqb t w same.0) (eq-eqb q r same.1))
                 in
-                subst (RowStands (entry c H w (Open number) ∷ H) t q)
+                subst (RowStands (entry c H w (Open number) 0 ∷ H) t q)
                 (sym (cell_elsewhere rows w r t q next no_row inside (omega arith) apart))
                 (keeps_open_elsewhere c H w r number t q (row_at rows t q) found apart stands)
           ];
@@ -138,9 +138,9 @@ keeps_open c H w r number rows caller inside found k =
 
 -- an Open without a free row is refused, and changes nothing
 pub keeps_full : (c : CatalogSetting) (H : History) (w number : ℕ) (rows : GridData RowData) → w < c.threads → free_row c H w ≡ None → Keeps c H rows
-    → Keeps c (entry c H w (Open number) ∷ H) rows
+    → Keeps c (entry c H w (Open number) 0 ∷ H) rows
 keeps_full c H w number rows caller full k =
-    let e : Entry = entry c H w (Open number) in
+    let e : Entry = entry c H w (Open number) 0 in
     let none : handle_made e.op e.reply ≡ None = ap (λ o. handle_made (Open number) (opened_in H w o)) full in record {
       legal = (refl, k.legal);
       callers = (caller, k.callers);
@@ -162,9 +162,9 @@ against_live H h alive =
     ∙ ap (λ b. if b then None else Some Stale) alive
 
 -- no handle is live after its Close, whether it was accepted or not
-closed_now : (c : CatalogSetting) (H : History) (w : ℕ) (h : CatalogHandle) → live (entry c H w (Close h) ∷ H) h ≡ false
+closed_now : (c : CatalogSetting) (H : History) (w : ℕ) (h : CatalogHandle) → live (entry c H w (Close h) 0 ∷ H) h ≡ false
 closed_now c H w h =
-    let e : Entry = entry c H w (Close h) in
+    let e : Entry = entry c H w (Close h) 0 in
     elim (cases_Bool (live H h)) [
       | inl alive ↦
           ap (λ o. not (is_accepted (unless o Closed) && same_handle h h) && live H h) (against_live H h alive)
@@ -173,9 +173,9 @@ closed_now c H w h =
     ]
 
 -- the other handles stay as they were
-close_leaves : (c : CatalogSetting) (H : History) (w : ℕ) (g h : CatalogHandle) → same_handle g h ≡ false → live (entry c H w (Close g) ∷ H) h ≡ live H h
+close_leaves : (c : CatalogSetting) (H : History) (w : ℕ) (g h : CatalogHandle) → same_handle g h ≡ false → live (entry c H w (Close g) 0 ∷ H) h ≡ live H h
 close_leaves c H w g h other =
-    let e : Entry = entry c H w (Close g) in
+    let e : Entry = entry c H w (Close g) 0 in
     live_kept e H h refl (and_right (is_accepted e.reply) (same_handle g h) other)
 
 -- the row of a handle that is closed
@@ -218,17 +218,17 @@ width_after rows h false = refl
 
 -- the row whose newest handle is closed
 keeps_closed_row : (c : CatalogSetting) (H : History) (w : ℕ) (h : CatalogHandle) (t r : ℕ) (row : RowData) → h ≡ newest H t r → RowStands H t r row
-    → RowStands (entry c H w (Close h) ∷ H) t r (closed row)
+    → RowStands (entry c H w (Close h) 0 ∷ H) t r (closed row)
 keeps_closed_row c H w h t r row is s =
-    let G : History = entry c H w (Close h) ∷ H in record {
+    let G : History = entry c H w (Close h) 0 ∷ H in record {
       makes = s.makes;
       book = sym (ap (live_book G) (sym is) ∙ ap (λ b. if b then Some (book G h) else None) (closed_now c H w h));
     }
 
 pub keeps_close : (c : CatalogSetting) (H : History) (w : ℕ) (h : CatalogHandle) (rows : GridData RowData) → w < c.threads → Keeps c H rows
-    → Keeps c (entry c H w (Close h) ∷ H) (after_close rows h)
+    → Keeps c (entry c H w (Close h) 0 ∷ H) (after_close rows h)
 keeps_close c H w h rows caller k =
-    let e : Entry = entry c H w (Close h) in
+    let e : Entry = entry c H w (Close h) 0 in
     let G : History = e ∷ H in
     let lines = lines_after rows h (is_newest rows h) in
     let width = width_after rows h (is_newest rows h) in record {
@@ -268,6 +268,18 @@ keeps_close c H w h rows caller k =
 
 -- what is kept after a call, where the setting and the rows are given by what they are
 pub keeps_after : (c d : CatalogSetting) (H : History) (w : ℕ) (op : Op) (rows after : GridData RowData) → c ≡ d → after ≡ rows
-    → Keeps c (entry c H w op ∷ H) rows → Keeps c (entry d H w op ∷ H) after
+    → Keeps c (entry c H w op 0 ∷ H) rows → Keeps c (entry d H w op 0 ∷ H) after
 keeps_after c d H w op rows after same to k =
-    subst (λ s. Keeps c (entry s H w op ∷ H) after) same (subst (Keeps c (entry c H w op ∷ H)) (sym to) k)
+    subst (λ s. Keeps c (entry s H w op 0 ∷ H) after) same (subst (Keeps c (entry c H w op 0 ∷ H)) (sym to) k)
+
+-- no stamp says anything of handles
+pub any_stamp : (c d : CatalogSetting) (H : History) (w : ℕ) (op : Op) (stamp : ℕ) (rows : GridData RowData) → Keeps c (entry d H w op 0 ∷ H) rows
+    → Keeps c (entry d H w op stamp ∷ H) rows
+any_stamp c d H w op stamp rows k = record {
+  legal = k.legal;
+  callers = k.callers;
+  lines = k.lines;
+  width = k.width;
+  full = k.full;
+  each = λ t r line column. let s = k.each t r line column in record { makes = s.makes; book = s.book };
+}

@@ -127,8 +127,8 @@ part_alike c S (e ∷ H) legal closed =
 pub part_legal : (c : CatalogSetting) (S : List ℕ) (H : History) → IsLegal c H → IsClosed S H → IsLegal c (part_of S H)
 part_legal c S H legal closed = (part_alike c S H legal closed).0
 
-pub answer_apart : (c : CatalogSetting) (S : List ℕ) (H : History) (t : ℕ) (op : Op) → IsLegal c H → has_thread S t ≡ true
-    → IsClosed S (entry c H t op ∷ H) → answer c H t op ≡ answer c (part_of S H) t op
-answer_apart c S H t op legal inside closed =
+pub answer_apart : (c : CatalogSetting) (S : List ℕ) (H : History) (t : ℕ) (op : Op) (stamp : ℕ) → IsLegal c H → has_thread S t ≡ true
+    → IsClosed S (entry c H t op stamp ∷ H) → answer c H t op ≡ answer c (part_of S H) t op
+answer_apart c S H t op stamp legal inside closed =
     let both = part_alike c S H legal closed.1 in
-    sym (answer_alike c S (part_of S H) H t op both.1 inside (apart_inside S (entry c H t op) closed.0 inside))
+    sym (answer_alike c S (part_of S H) H t op both.1 inside (apart_inside S (entry c H t op stamp) closed.0 inside))

@@ -17,12 +17,12 @@ use Rattle.catalog_handles.proofs.Refused.{refused_changes_nothing}
 -- the history after some calls, given oldest first
 abbrev played : CatalogSetting → History → List (ℕ × Op) → History
 played c H [] = H
-played c H ((t, op) ∷ calls) = played c (entry c H t op ∷ H) calls
+played c H ((t, op) ∷ calls) = played c (entry c H t op 0 ∷ H) calls
 
 -- the replies to some calls, oldest first
 abbrev replies : CatalogSetting → History → List (ℕ × Op) → List Reply
 replies c H [] = []
-replies c H ((t, op) ∷ calls) = answer c H t op ∷ replies c (entry c H t op ∷ H) calls
+replies c H ((t, op) ∷ calls) = answer c H t op ∷ replies c (entry c H t op 0 ∷ H) calls
 
 abbrev usual : CatalogSetting
 usual = record { threads = 2; rows = 16; generations = 65535 }
@@ -78,13 +78,13 @@ own_part : part_of (1 ∷ []) (played usual [] ((0, Open 5) ∷ (1, Open 6) ∷ 
     ≡ played usual [] ((1, Open 6) ∷ (1, Get (handle 1 0 1)) ∷ [])
 own_part = refl
 
-names_another : keeps_apart (1 ∷ []) (entry usual crossed 1 (Get (handle 0 0 1))) ≡ false
+names_another : keeps_apart (1 ∷ []) (entry usual crossed 1 (Get (handle 0 0 1)) 0) ≡ false
 names_another = refl
 
-named_by_another : keeps_apart (0 ∷ []) (entry usual crossed 1 (Get (handle 0 0 1))) ≡ false
+named_by_another : keeps_apart (0 ∷ []) (entry usual crossed 1 (Get (handle 0 0 1)) 0) ≡ false
 named_by_another = refl
 
-names_own : keeps_apart (0 ∷ []) (entry usual crossed 0 (Get (handle 0 0 1))) ≡ true
+names_own : keeps_apart (0 ∷ []) (entry usual crossed 0 (Get (handle 0 0 1)) 0) ≡ true
 names_own = refl
 
 not_closed_for_either : IsClosed (0 ∷ []) crossed → ⊥
@@ -125,10 +125,10 @@ open_live_book : live_book reopened (handle 0 0 2) ≡ Some 8
 open_live_book = refl
 
 -- a refused Open leaves what the history says; a Close does not
-refused_open : SaysTheSame narrow (entry narrow reopened 0 (Open 9) ∷ reopened) reopened
-refused_open = refused_changes_nothing narrow (entry narrow reopened 0 (Open 9)) reopened refl
+refused_open : SaysTheSame narrow (entry narrow reopened 0 (Open 9) 0 ∷ reopened) reopened
+refused_open = refused_changes_nothing narrow (entry narrow reopened 0 (Open 9) 0) reopened refl
 
-accepted_close : SaysTheSame narrow (entry narrow reopened 0 (Close (handle 0 0 2)) ∷ reopened) reopened → ⊥
+accepted_close : SaysTheSame narrow (entry narrow reopened 0 (Close (handle 0 0 2)) 0 ∷ reopened) reopened → ⊥
 accepted_close same = let alive = same.live (handle 0 0 2) in cc alive
 
 -- ---- rows

@@ -1,5 +1,5 @@
 -- Threads of shared catalogs that have seen more.
-use Rattle.std.proofs.Common.{◌≡◌, ℕ, ◌+◌, ◌≤◌, ◌++◌, [], length, refl, sym, ap, ◌∙◌, arith, append_assoc, length-append}
+use Rattle.std.proofs.Common.{◌≡◌, ◌+◌, ◌≤◌, ◌++◌, [], length, refl, sym, ap, ◌∙◌, arith, append_assoc, length-append}
 use Rattle.catalog_handles.specs.Entry.{History}
 use Rattle.catalog_handles.specs.Reader.{ReaderData, GoesOnFrom, SawMore}
 

@@ -28,9 +28,9 @@ answer c H t (Open number) = opened_in H t (free_row c H t)
 answer c H t (Get h) = unless (against H h) (Book (book H h))
 answer c H t (Close h) = unless (against H h) Closed
 
--- the entry of a call, with the reply that it gets
-abbrev pub entry : CatalogSetting → History → ℕ → Op → Entry
-entry c H t op = record { who = t; op = op; reply = answer c H t op }
+-- the entry of a call, with the reply that it gets, and a stamp
+abbrev pub entry : CatalogSetting → History → ℕ → Op → ℕ → Entry
+entry c H t op stamp = record { who = t; op = op; reply = answer c H t op; stamp = stamp }
 
 -- a legal history: the reply of each entry is the answer at what came before it
 abbrev pub IsLegal : CatalogSetting → History → Type 0

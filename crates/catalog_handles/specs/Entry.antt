@@ -18,11 +18,12 @@ pub data Reply : Type 0 where
   Closed : Reply
   Refused : CatalogRefusal → Reply
 
--- one call of a thread, with its reply
+-- one call of a thread, with its reply and its stamp: a number by which this history is put in order with another one
 pub record Entry : Type 0 where
   pub who : ℕ
   pub op : Op
   pub reply : Reply
+  pub stamp : ℕ
 
 -- all entries, the newest first, so that each search goes from the end of the history to its begin;
 -- an entry's place is the number of entries below it

@@ -44,5 +44,5 @@ PartIsLegal = (c : CatalogSetting) (S : List ℕ) (H : History) → IsLegal c H 
 
 abbrev pub PartAnswersTheSame : Type 0
 PartAnswersTheSame =
-    (c : CatalogSetting) (S : List ℕ) (H : History) (t : ℕ) (op : Op) → IsLegal c H → has_thread S t ≡ true
-    → IsClosed S (entry c H t op ∷ H) → answer c H t op ≡ answer c (part_of S H) t op
+    (c : CatalogSetting) (S : List ℕ) (H : History) (t : ℕ) (op : Op) (stamp : ℕ) → IsLegal c H → has_thread S t ≡ true
+    → IsClosed S (entry c H t op stamp ∷ H) → answer c H t op ≡ answer c (part_of S H) t op

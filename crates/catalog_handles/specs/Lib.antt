@@ -1,4 +1,5 @@
 pub mod Entry
+pub mod Stamps
 pub mod History
 pub mod Answer
 pub mod Causes

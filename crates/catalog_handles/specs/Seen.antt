@@ -7,6 +7,8 @@ use Rattle.catalog_handles.specs.declared.op.CatalogOp.{CatalogOp}
 use Rattle.catalog_handles.specs.declared.op.CatalogOp.TheVariants as ops
 use Rattle.catalog_handles.specs.declared.op.CatalogReply.{CatalogReply}
 use Rattle.catalog_handles.specs.declared.op.CatalogReply.TheVariants as replies
+use Rattle.catalog_handles.specs.declared.stamped.StampedOp.{StampedOp}
+use Rattle.catalog_handles.specs.declared.stamped.StampedReply.{StampedReply}
 use Rattle.catalog_handles.specs.Entry.{Op, Open, Get, Close, Reply, Opened, Book, Closed, Refused, Entry, History}
 
 -- an op as data, by the numbers of catalogs
@@ -23,13 +25,13 @@ reply_of number replies.Closed = Closed
 reply_of number (replies.Refused refusal) = Refused refusal
 
 -- a call on the turns as an entry
-abbrev pub entry_of : {B : Type 0} → (B → ℕ) → calls.Entry (CatalogOp B) (CatalogReply B) → Entry
-entry_of number e = record { who = e.who; op = op_of number e.op; reply = reply_of number e.reply }
+abbrev pub entry_of : {B : Type 0} → (B → ℕ) → calls.Entry (StampedOp B) (StampedReply B) → Entry
+entry_of number e = record { who = e.who; op = op_of number e.op.op; reply = reply_of number e.reply.reply; stamp = e.reply.stamp }
 
 -- the calls on the turns as a history
-abbrev pub entries_of : {B : Type 0} → (B → ℕ) → turns.History (CatalogOp B) (CatalogReply B) → History
+abbrev pub entries_of : {B : Type 0} → (B → ℕ) → turns.History (StampedOp B) (StampedReply B) → History
 entries_of number H = map (entry_of number) H
 
 -- the caller is one of the setting's threads
-abbrev pub IsCaller : {B : Type 0} → CatalogSetting → ℕ → CatalogOp B → Type 0
+abbrev pub IsCaller : {B : Type 0} → CatalogSetting → ℕ → StampedOp B → Type 0
 IsCaller c who op = who < c.threads

@@ -11,7 +11,6 @@ use generations::Grid;
 use mask_compose::Part;
 use std::alloc::{AllocError, Global};
 use std::marker::Model;
-use turn_gate::Machine;
 
 /// The catalogs that some threads have open, under handles of rows as locale objects have them.
 ///
@@ -80,13 +79,13 @@ impl<B: Part> Catalogs<B> {
 
     /// Answers one op of the thread `who`. Takes no memory, and waits for nobody.
     ///
-    /// A refused op stands in the history, and changes nothing else.
+    /// A refused op stands in the history, and changes nothing else. No answer depends on stamps.
     pub fn step(&mut self, who: u32, op: CatalogOp<B>) -> CatalogReply<B>
         requires { who < self.old.setting.threads }
         ensures answers { (H : History) → StandsFor self.old H →
             reply_of B.number result ≡ answer self.old.setting H who (op_of B.number op) }
-        ensures stands { (H : History) → StandsFor self.old H →
-            StandsFor self.new (entry self.old.setting H who (op_of B.number op) ∷ H) }
+        ensures stands { (H : History) (stamp : ℕ) → StandsFor self.old H →
+            StandsFor self.new (entry self.old.setting H who (op_of B.number op) stamp ∷ H) }
 
         // Each refusal has its cause, and comes wherever the cause is.
         ensures never_made { (H : History) → StandsFor self.old H →
@@ -97,12 +96,12 @@ impl<B: Part> Catalogs<B> {
             (reply_of B.number result ≡ Refused TooMany) ↔ IsWithoutRow self.old.setting H who (op_of B.number op) }
 
         // What a refused step leaves.
-        ensures refused { (H : History) → StandsFor self.old H → is_accepted (reply_of B.number result) ≡ false →
-            SaysTheSame self.old.setting (entry self.old.setting H who (op_of B.number op) ∷ H) H }
+        ensures refused { (H : History) (stamp : ℕ) → StandsFor self.old H → is_accepted (reply_of B.number result) ≡ false →
+            SaysTheSame self.old.setting (entry self.old.setting H who (op_of B.number op) stamp ∷ H) H }
 
         // Threads that share handles with themselves alone get what they would get without the others.
-        ensures isolated { (H : History) (S : List ℕ) → StandsFor self.old H → has_thread S who ≡ true →
-            IsClosed S (entry self.old.setting H who (op_of B.number op) ∷ H) →
+        ensures isolated { (H : History) (S : List ℕ) (stamp : ℕ) → StandsFor self.old H → has_thread S who ≡ true →
+            IsClosed S (entry self.old.setting H who (op_of B.number op) stamp ∷ H) →
             reply_of B.number result ≡ answer self.old.setting (part_of S H) who (op_of B.number op) }
 
         ensures setting { self.new.setting ≡ self.old.setting }
@@ -116,7 +115,7 @@ impl<B: Part> Catalogs<B> {
         ensures answers { (H : History) → StandsFor self.old H →
             reply_of B.number result ≡ answer self.old.setting H who (op_of B.number op) }
         ensures stands { (H : History) → StandsFor self.old H →
-            StandsFor self.new (entry self.old.setting H who (op_of B.number op) ∷ H) }
+            StandsFor self.new (entry self.old.setting H who (op_of B.number op) 0 ∷ H) }
         ensures setting { self.new.setting ≡ self.old.setting }
     {
         match op {
@@ -132,7 +131,7 @@ impl<B: Part> Catalogs<B> {
         ensures answers { (H : History) → StandsFor self.old H →
             reply_of B.number result ≡ answer self.old.setting H who (Open (B.number book)) }
         ensures stands { (H : History) → StandsFor self.old H →
-            StandsFor self.new (entry self.old.setting H who (Open (B.number book)) ∷ H) }
+            StandsFor self.new (entry self.old.setting H who (Open (B.number book)) 0 ∷ H) }
         ensures setting { self.new.setting ≡ self.old.setting }
     {
         match self.rows.free_row(self.setting.generations, who) {
@@ -161,7 +160,7 @@ impl<B: Part> Catalogs<B> {
         ensures answers { (H : History) (who : ℕ) → StandsFor self.old H →
             reply_of B.number result ≡ answer self.old.setting H who (Close h) }
         ensures stands { (H : History) (who : ℕ) → who < self.old.setting.threads → StandsFor self.old H →
-            StandsFor self.new (entry self.old.setting H who (Close h) ∷ H) }
+            StandsFor self.new (entry self.old.setting H who (Close h) 0 ∷ H) }
         ensures setting { self.new.setting ≡ self.old.setting }
     {
         let refusal = self.refusal(h);
@@ -182,45 +181,5 @@ impl<B: Part> Catalogs<B> {
         } else {
             CatalogRefusal::NeverMade
         }
-    }
-}
-
-impl<B: Part> Machine for Catalogs<B> {
-    ghost use Rattle.catalog_handles.specs.Answer.{IsLegal};
-    ghost use Rattle.catalog_handles.specs.Table.{StandsFor};
-    ghost use Rattle.catalog_handles.specs.Seen.{entries_of, IsCaller};
-
-    type Op = CatalogOp<B>;
-
-    type Reply = CatalogReply<B>;
-
-    type Query = ();
-
-    type Found = ();
-
-    type Setting = CatalogSetting;
-
-    ghost setting = { λ m. m.setting };
-
-    ghost room = { λ _. 2147483647 };
-
-    ghost stands = { λ m H. StandsFor m (entries_of B.number H) };
-
-    ghost legal = { λ c H. IsLegal c (entries_of B.number H) };
-
-    ghost may = { IsCaller };
-
-    ghost answer = { λ _ _ _. tt };
-
-    ghost version_of = { λ _. 0 };
-
-    fn step(&mut self, who: u32, op: CatalogOp<B>) -> CatalogReply<B> {
-        self.step(who, op)
-    }
-
-    fn ask(&self, _query: &()) {}
-
-    fn version(&self) -> u32 {
-        0
     }
 }

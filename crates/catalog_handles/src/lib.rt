@@ -11,6 +11,7 @@ mod rows;
 mod setting;
 mod share;
 mod shared;
+mod stamped;
 
 pub use catalogs::Catalogs;
 pub use handle::CatalogHandle;

@@ -6,6 +6,7 @@ ghost use Rattle.catalog_handles.specs.Seen.{op_of, reply_of};
 ghost use Rattle.catalog_handles.specs.Reader.{IsReaderOf, IsInOrder, IsUnused, Answered, SawMore, GoesOnFrom, first_reader, reader_of};
 
 use crate::reader::Reader;
+use crate::stamped::{Stamped, StampedOp, StampedReply};
 use crate::{CatalogOp, CatalogReply, Catalogs};
 use lc_base::List;
 use mask_compose::Part;
@@ -19,7 +20,7 @@ use turn_gate::{Seat, Turns};
 /// Each turn makes one entry of the one history that all threads have. No call but `new` takes
 /// memory.
 pub struct SharedCatalogs<B: Part> {
-    turns: Turns<Catalogs<B>>,
+    turns: Turns<Stamped<B>>,
 }
 
 impl<B: Part> Drop for SharedCatalogs<B> {
@@ -42,7 +43,7 @@ impl<B: Part> Model for SharedCatalogs<B> {
 
 // Adds a thread for each of the seats, in their order.
 fn seat_all<B: Part>(
-    seats: &mut Vec<Seat<Catalogs<B>>>,
+    seats: &mut Vec<Seat<Stamped<B>>>,
     all: &mut Vec<Reader<B>>,
 ) -> Result<(), AllocError>
     requires { All IsUnused seats.old.items }
@@ -86,26 +87,30 @@ impl<B: Part> SharedCatalogs<B> {
     {
         let catalogs = Catalogs::new(alloc, threads, rows, generations)?;
         let mut all = Vec::with_capacity(alloc, threads as usize)?;
-        let (turns, seats) = Turns::new(rt, alloc, catalogs, threads, quota)?;
+        let (turns, seats) = Turns::new(rt, alloc, Stamped::new(catalogs), threads, quota)?;
         let mut seats = seats.into_vec();
         seat_all(&mut seats, &mut all)?;
         Ok((SharedCatalogs { turns }, List::of(all)))
     }
 
-    /// Makes one entry as the thread, and gives its place and its reply. The place is the number of
-    /// entries before it.
+    /// Makes one entry as the thread, and gives its place, its stamp and its reply. The place is the
+    /// number of entries before it. The stamp is not below `least`, nor below the stamp of any entry
+    /// before it.
     pub fn turn<R: Wait>(
         &self,
         rt: &R,
         reader: &mut Reader<B>,
         op: CatalogOp<B>,
-    ) -> (u64, CatalogReply<B>)
+        least: u64,
+    ) -> (u64, u64, CatalogReply<B>)
         requires thread { IsReaderOf self.now reader.old }
         requires quota { length reader.old.calls < self.now.terms.quota }
-        ensures answered { Answered self.now reader.old reader.new (op_of B.number op) result.0 (reply_of B.number result.1) }
+        ensures answered { Answered self.now reader.old reader.new (op_of B.number op) least result.0 result.1 (reply_of B.number result.2) }
         ensures in_order { IsInOrder self.now.terms reader.new }
     {
-        self.turns.turn(rt, &mut reader.seat, op)
+        let asked = StampedOp { op, least };
+        let (place, StampedReply { reply, stamp }) = self.turns.turn(rt, &mut reader.seat, asked);
+        (place, stamp, reply)
     }
 
     /// Afterwards each of the two has seen what either had seen.

@@ -15,15 +15,14 @@ use Rattle.handle_table.specs.declared.op.Refusal.TheVariants as refusals
 use Rattle.handle_table.specs.Entry as table
 use Rattle.handle_table.specs.Entry.{Setting, History}
 use Rattle.script_words.specs.declared.categories.CategoryArgument.TheVariants.{All}
-use Rattle.script_out.specs.declared.output.OutLine.{OutLine}
 use Rattle.script_out.specs.declared.output.Places.TheVariants as places
 use Rattle.script_out.specs.declared.output.Why.{Why}
 use Rattle.script_out.specs.declared.output.Why.TheVariants as whys
 use Rattle.script_out.specs.declared.output.Said.TheVariants as said
-use Rattle.script_lines.specs.Variables.{Variable, Bindings, bound, locale_variable, catalog_variable}
+use Rattle.script_lines.specs.Variables.{Bindings, bound, locale_variable, catalog_variable}
 use Rattle.script_lines.specs.Wishes.{Wish, Calls, OpensCatalog, GetsMessage, ClosesCatalog}
 use Rattle.script_lines.specs.Lines.{Caller, line}
-use Rattle.script_lines.specs.Catalogs.{Books, book_named, message_at, book_for, catalog_op_by, message_shown, handle_reply_shown}
+use Rattle.script_lines.specs.Catalogs.{Books, book_named, message_at, catalog_op_by, message_shown, handle_reply_shown}
 use Rattle.script_lines.specs.Outcome.{Outcome, without_entry, granted, catalogs_left}
 
 -- ---- the catalog `greet`, of a locale `us` and of POSIX
@@ -177,7 +176,7 @@ own_us = record { who = 0; op = table.Use (Of first_handle); reply = table.Was G
 
 -- the catalog of `us` is open in the only row
 abbrev greet_open : catalogs.History
-greet_open = record { who = 0; op = catalogs.Open 0; reply = catalogs.Opened (record { owner = 0; row = 0; generation = 1 }) } ∷ []
+greet_open = record { who = 0; op = catalogs.Open 0; reply = catalogs.Opened (record { owner = 0; row = 0; generation = 1 }); stamp = 1 } ∷ []
 
 by_own : greet_by own_us [] ≡ without_entry own_us (line caller (places.Catalog 0) None (said.Opened (record { owner = 0; row = 0; generation = 1 })))
 by_own = refl

@@ -25,12 +25,11 @@ use Rattle.script_lines.specs.Wishes.{Wish, Calls, ReadsOf, Reads, AsksSelection
 use Rattle.script_lines.specs.Lines.{Caller, line, plain_line, placed_line, object_line}
 use Rattle.catalog_handles.specs.Entry as catalogs
 use Rattle.catalog_handles.specs.declared.handle.CatalogHandle.{CatalogHandle}
-use Rattle.catalog_handles.specs.declared.setting.CatalogSetting.{CatalogSetting}
 use Rattle.lc_base.specs.declared.handle.Handle.{Handle}
-use Rattle.script_lines.specs.Catalogs.{Books, Asked, not_asked, book_for, catalog_setting, object_used, catalog_op_by, handle_meant, message_shown, handle_reply_shown, open_line}
+use Rattle.script_lines.specs.Catalogs.{Books, not_asked, book_for, catalog_setting, object_used, catalog_op_by, handle_meant, message_shown, handle_reply_shown, open_line}
 use Rattle.script_lines.specs.Outcome.{with_call}
 use Rattle.script_lines.specs.Thread.{BindsAs}
-use Rattle.script_lines.specs.Board.{Answers, Finds, AnswersCatalog, Moments, reads_between, reads_of, reads, opens, Left, LeftCatalogs, LeavesAsked, LeavesLine, Leaves, LeavesReadBetween, turn_caller, LeavesTurn}
+use Rattle.script_lines.specs.Board.{Answers, Finds, Asks, Moments, reads_between, reads_of, reads, opens, Left, LeftCatalogs, LeavesAsked, LeavesLine, Leaves, LeavesReadBetween, turn_caller, LeavesTurn}
 use Rattle.script_lines.proofs.WishLemmas.{wish_same}
 
 -- ---- lines without a call
@@ -210,95 +209,107 @@ unasked c library books later catalogs_later at catalogs_at H M caller wish l as
       m,
       leaves.1,
       leaves.2,
-      subst (λ (op : Option catalogs.Op). LeftCatalogs (catalog_setting c) catalogs_later catalogs_at caller.thread M op m.asked) (sym (asks (object_used (own m.seen caller.thread) (global c m.first)))) here,
+      subst (λ (op : Option catalogs.Op). LeftCatalogs (catalog_setting c) catalogs_later catalogs_at caller.thread M op (length m.first) (length m.second) m.asked) (sym (asks (object_used (own m.seen caller.thread) (global c m.first)))) here,
     )
 
 -- a catopen by the thread's own object
 pub own_opens : (c : Setting) (library : Catalog) (books : Books) (later : History → History → Type 0) (catalogs_later : catalogs.History → catalogs.History → Type 0) (at : History → Type 0) (catalogs_at : catalogs.History → Type 0)
     (H : History) (M : catalogs.History) (caller : Caller) (name : List ℕ) (number : ℕ) (object : Parts) (book : Option ℕ) (l : OutLine)
-    → caller.thread ≡ number → Some object ≡ own H number → at H → later H H → book ≡ book_for library books object name
-    → LeavesAsked (catalog_setting c) catalogs_later catalogs_at caller.thread M (option_map catalogs.Open book) (λ asked. open_line caller None asked book) l
+    → caller.thread ≡ number → Some object ≡ own H number → later H H → book ≡ book_for library books object name
+    → LeavesAsked c later catalogs_later at catalogs_at caller.thread H M (option_map catalogs.Open book) (λ asked. open_line caller None asked book) l
     → Leaves c library books later catalogs_later at catalogs_at H M caller (Ok (OpensCatalog name)) l
-own_opens c library books later catalogs_later at catalogs_at H M caller name number object book l same is here stays named opened =
+own_opens c library books later catalogs_later at catalogs_at H M caller name number object book l same is stays named opened =
     let gives : Some object ≡ own H caller.thread = is ∙ ap (λ (t : ℕ). own H t) (sym same) in
-    let m : Moments = record { seen = H; first = H; second = H; asked = opened.0 } in (
+    let m : Moments = record { seen = H; first = H; second = opened.behind; asked = opened.asked } in
+    let Gives : Option catalogs.Op → Type 0 = λ op. LeftCatalogs (catalog_setting c) catalogs_later catalogs_at caller.thread M op (length H) (length opened.behind) opened.asked in (
       m,
-      record { seen = refl; first = stays },
+      record { moments = record { seen = refl; first = stays }; second = opened.is_later },
       subst (λ (x : Option Parts). Left at (opens c library books m caller name x) l) gives
-          (record { line = opened.1 ∙ ap (λ (b : Option ℕ). open_line caller None opened.0 b) named; now_at = here }),
-      subst (λ (x : Option Parts). LeftCatalogs (catalog_setting c) catalogs_later catalogs_at caller.thread M (catalog_op_by library books (object_used x (global c H)) (Ok (OpensCatalog name))) opened.0) gives
-          (subst (λ (b : Option ℕ). LeftCatalogs (catalog_setting c) catalogs_later catalogs_at caller.thread M (option_map catalogs.Open b) opened.0) named opened.2),
+          (record { line = opened.line ∙ ap (λ (b : Option ℕ). open_line caller None opened.asked b) named; now_at = opened.now_at }),
+      subst (λ (x : Option Parts). Gives (catalog_op_by library books (object_used x (global c H)) (Ok (OpensCatalog name)))) gives
+          (subst (λ (b : Option ℕ). Gives (option_map catalogs.Open b)) named opened.left),
     )
 
 -- a catopen by the global locale
 pub global_opens : (c c' : Setting) (library : Catalog) (books : Books) (later : Setting → ℕ → History → History → Type 0) (catalogs_later : Setting → ℕ → catalogs.History → catalogs.History → Type 0)
     (at at' : History → Type 0) (catalogs_at : catalogs.History → Type 0) (H : History) (M : catalogs.History) (caller : Caller) (name : List ℕ) (number number' version : ℕ) (object : Parts) (book : Option ℕ) (l : OutLine)
-    → caller.thread ≡ number → number' ≡ number → c' ≡ c → None ≡ own H number → Finds c (later c number) at H version object → ((G : History) → at G → at' G)
+    → caller.thread ≡ number → number' ≡ number → c' ≡ c → None ≡ own H number → Finds c (later c number) at H version object
     → book ≡ book_for library books object name
-    → LeavesAsked (catalog_setting c') (catalogs_later c' number') catalogs_at caller.thread M (option_map catalogs.Open book) (λ asked. open_line caller (Some version) asked book) l
+    → ((G : History) → at G → LeavesAsked c' (later c' number') (catalogs_later c' number') at' catalogs_at caller.thread G M (option_map catalogs.Open book) (λ asked. open_line caller (Some version) asked book) l)
     → Leaves c library books (later c number) (catalogs_later c number) at' catalogs_at H M caller (Ok (OpensCatalog name)) l
-global_opens c c' library books later catalogs_later at at' catalogs_at H M caller name number number' version object book l same kept fixed is found stays named opened =
+global_opens c c' library books later catalogs_later at at' catalogs_at H M caller name number number' version object book l same kept fixed is found named asks =
     let gives : None ≡ own H caller.thread = is ∙ ap (λ (t : ℕ). own H t) (sym same) in
     let G : History = found.before in
-    let m : Moments = record { seen = H; first = G; second = G; asked = opened.0 } in
     let chosen : book ≡ book_for library books (global c G) name = named ∙ ap (λ (p : Parts). book_for library books p name) found.object_is in
-    let asked : LeftCatalogs (catalog_setting c) (catalogs_later c number) catalogs_at caller.thread M (option_map catalogs.Open book) opened.0 =
-    subst (λ (s : Setting). LeftCatalogs (catalog_setting s) (catalogs_later s number) catalogs_at caller.thread M (option_map catalogs.Open book) opened.0) fixed
-    (subst (λ (t : ℕ). LeftCatalogs (catalog_setting c') (catalogs_later c' t) catalogs_at caller.thread M (option_map catalogs.Open book) opened.0) kept opened.2)
-    in (
+    let opened : LeavesAsked c (later c number) (catalogs_later c number) at' catalogs_at caller.thread G M (option_map catalogs.Open book) (λ asked. open_line caller (Some version) asked book) l =
+    subst (λ (s : Setting). LeavesAsked s (later s number) (catalogs_later s number) at' catalogs_at caller.thread G M (option_map catalogs.Open book) (λ asked. open_line caller (Some version) asked book) l) fixed
+    (subst (λ (t : ℕ). LeavesAsked c' (later c' t) (catalogs_later c' t) at' catalogs_at caller.thread G M (option_map catalogs.Open book) (λ asked. open_line caller (Some version) asked book) l) kept (asks G found.now_at))
+    in
+    let m : Moments = record { seen = H; first = G; second = opened.behind; asked = opened.asked } in
+    let Gives : Option catalogs.Op → Type 0 = λ op. LeftCatalogs (catalog_setting c) (catalogs_later c number) catalogs_at caller.thread M op (length G) (length opened.behind) opened.asked in (
       m,
-      record { seen = refl; first = found.is_later },
+      record { moments = record { seen = refl; first = found.is_later }; second = opened.is_later },
       subst (λ (x : Option Parts). Left at' (opens c library books m caller name x) l) gives (record {
         line =
-            opened.1
-            ∙ ap (λ (v : ℕ). open_line caller (Some v) opened.0 book) found.version_is
-            ∙ ap (λ (b : Option ℕ). open_line caller (Some (sets G)) opened.0 b) chosen;
-        now_at = stays G found.now_at;
+            opened.line
+            ∙ ap (λ (v : ℕ). open_line caller (Some v) opened.asked book) found.version_is
+            ∙ ap (λ (b : Option ℕ). open_line caller (Some (sets G)) opened.asked b) chosen;
+        now_at = opened.now_at;
       }),
-      subst (λ (x : Option Parts). LeftCatalogs (catalog_setting c) (catalogs_later c number) catalogs_at caller.thread M (catalog_op_by library books (object_used x (global c G)) (Ok (OpensCatalog name))) opened.0) gives
-          (subst (λ (b : Option ℕ). LeftCatalogs (catalog_setting c) (catalogs_later c number) catalogs_at caller.thread M (option_map catalogs.Open b) opened.0) chosen asked),
+      subst (λ (x : Option Parts). Gives (catalog_op_by library books (object_used x (global c G)) (Ok (OpensCatalog name)))) gives
+          (subst (λ (b : Option ℕ). Gives (option_map catalogs.Open b)) chosen opened.left),
     )
 
 -- a catgets
 pub message_leaves : (c : Setting) (library : Catalog) (books : Books) (later : History → History → Type 0) (catalogs_later : catalogs.History → catalogs.History → Type 0) (at : History → Type 0) (catalogs_at : catalogs.History → Type 0)
     (H : History) (M : catalogs.History) (caller : Caller) (h : Handle) (meant : CatalogHandle) (set message : ℕ) (default : List ℕ) (number place : ℕ) (r : catalogs.Reply) (reply : Said) (l : OutLine)
-    → caller.thread ≡ number → at H → later H H → meant ≡ handle_meant h → AnswersCatalog (catalog_setting c) catalogs_later catalogs_at number M (catalogs.Get meant) place r
+    → caller.thread ≡ number → later H H → meant ≡ handle_meant h → Asks c later catalogs_later at catalogs_at number H M (catalogs.Get meant) place r
     → reply ≡ message_shown books set message default r → l ≡ line caller (places.Catalog place) None reply
     → Leaves c library books later catalogs_later at catalogs_at H M caller (Ok (GetsMessage h set message default)) l
-message_leaves c library books later catalogs_later at catalogs_at H M caller h meant set message default number place r reply l same here stays means answered reply_is printed =
-    let asked : Asked = record { place = place; reply = r } in (
-      record { seen = H; first = H; second = H; asked = asked },
-      record { seen = refl; first = stays },
-      record { line = printed ∙ ap (λ (s : Said). line caller (places.Catalog place) None s) reply_is; now_at = here },
-      subst (λ (g : CatalogHandle). AnswersCatalog (catalog_setting c) catalogs_later catalogs_at caller.thread M (catalogs.Get g) place r) means
-          (subst (λ (t : ℕ). AnswersCatalog (catalog_setting c) catalogs_later catalogs_at t M (catalogs.Get meant) place r) (sym same) answered),
+message_leaves c library books later catalogs_later at catalogs_at H M caller h meant set message default number place r reply l same stays means asks reply_is printed =
+    let a : Asks c later catalogs_later at catalogs_at caller.thread H M (catalogs.Get (handle_meant h)) place r =
+    subst (λ (g : CatalogHandle). Asks c later catalogs_later at catalogs_at caller.thread H M (catalogs.Get g) place r) means
+    (subst (λ (t : ℕ). Asks c later catalogs_later at catalogs_at t H M (catalogs.Get meant) place r) (sym same) asks)
+    in (
+      record { seen = H; first = H; second = a.behind; asked = record { place = place; reply = r } },
+      record { moments = record { seen = refl; first = stays }; second = a.is_later },
+      record { line = printed ∙ ap (λ (s : Said). line caller (places.Catalog place) None s) reply_is; now_at = a.now_at },
+      a.answered,
     )
 
 -- a catclose
 pub close_leaves : (c : Setting) (library : Catalog) (books : Books) (later : History → History → Type 0) (catalogs_later : catalogs.History → catalogs.History → Type 0) (at : History → Type 0) (catalogs_at : catalogs.History → Type 0)
     (H : History) (M : catalogs.History) (caller : Caller) (h : Handle) (meant : CatalogHandle) (number place : ℕ) (r : catalogs.Reply) (reply : Said) (l : OutLine)
-    → caller.thread ≡ number → at H → later H H → meant ≡ handle_meant h → AnswersCatalog (catalog_setting c) catalogs_later catalogs_at number M (catalogs.Close meant) place r
+    → caller.thread ≡ number → later H H → meant ≡ handle_meant h → Asks c later catalogs_later at catalogs_at number H M (catalogs.Close meant) place r
     → reply ≡ handle_reply_shown r → l ≡ line caller (places.Catalog place) None reply
     → Leaves c library books later catalogs_later at catalogs_at H M caller (Ok (ClosesCatalog h)) l
-close_leaves c library books later catalogs_later at catalogs_at H M caller h meant number place r reply l same here stays means answered reply_is printed =
-    let asked : Asked = record { place = place; reply = r } in (
-      record { seen = H; first = H; second = H; asked = asked },
-      record { seen = refl; first = stays },
-      record { line = printed ∙ ap (λ (s : Said). line caller (places.Catalog place) None s) reply_is; now_at = here },
-      subst (λ (g : CatalogHandle). AnswersCatalog (catalog_setting c) catalogs_later catalogs_at caller.thread M (catalogs.Close g) place r) means
-          (subst (λ (t : ℕ). AnswersCatalog (catalog_setting c) catalogs_later catalogs_at t M (catalogs.Close meant) place r) (sym same) answered),
+close_leaves c library books later catalogs_later at catalogs_at H M caller h meant number place r reply l same stays means asks reply_is printed =
+    let a : Asks c later catalogs_later at catalogs_at caller.thread H M (catalogs.Close (handle_meant h)) place r =
+    subst (λ (g : CatalogHandle). Asks c later catalogs_later at catalogs_at caller.thread H M (catalogs.Close g) place r) means
+    (subst (λ (t : ℕ). Asks c later catalogs_later at catalogs_at t H M (catalogs.Close meant) place r) (sym same) asks)
+    in (
+      record { seen = H; first = H; second = a.behind; asked = record { place = place; reply = r } },
+      record { moments = record { seen = refl; first = stays }; second = a.is_later },
+      record { line = printed ∙ ap (λ (s : Said). line caller (places.Catalog place) None s) reply_is; now_at = a.now_at },
+      a.answered,
     )
 
 -- a catopen of a catalog
-pub book_asked : (c : CatalogSetting) (catalogs_later : catalogs.History → catalogs.History → Type 0) (catalogs_at : catalogs.History → Type 0)
-    (M : catalogs.History) (caller : Caller) (number place n : ℕ) (version : Option ℕ) (r : catalogs.Reply) (reply : Said) (l : OutLine)
-    → caller.thread ≡ number → AnswersCatalog c catalogs_later catalogs_at number M (catalogs.Open n) place r → reply ≡ handle_reply_shown r → l ≡ line caller (places.Catalog place) version reply
-    → LeavesAsked c catalogs_later catalogs_at caller.thread M (Some (catalogs.Open n)) (λ asked. open_line caller version asked (Some n)) l
-book_asked c catalogs_later catalogs_at M caller number place n version r reply l same answered reply_is printed = (
-  record { place = place; reply = r },
-  printed ∙ ap (λ (s : Said). line caller (places.Catalog place) version s) reply_is,
-  subst (λ (t : ℕ). AnswersCatalog c catalogs_later catalogs_at t M (catalogs.Open n) place r) (sym same) answered,
-)
+pub book_asked : (c : Setting) (later : History → History → Type 0) (catalogs_later : catalogs.History → catalogs.History → Type 0) (at : History → Type 0) (catalogs_at : catalogs.History → Type 0)
+    (H : History) (M : catalogs.History) (caller : Caller) (number place n : ℕ) (version : Option ℕ) (r : catalogs.Reply) (reply : Said) (l : OutLine)
+    → caller.thread ≡ number → Asks c later catalogs_later at catalogs_at number H M (catalogs.Open n) place r → reply ≡ handle_reply_shown r → l ≡ line caller (places.Catalog place) version reply
+    → LeavesAsked c later catalogs_later at catalogs_at caller.thread H M (Some (catalogs.Open n)) (λ asked. open_line caller version asked (Some n)) l
+book_asked c later catalogs_later at catalogs_at H M caller number place n version r reply l same asks reply_is printed =
+    let a : Asks c later catalogs_later at catalogs_at caller.thread H M (catalogs.Open n) place r =
+    subst (λ (t : ℕ). Asks c later catalogs_later at catalogs_at t H M (catalogs.Open n) place r) (sym same) asks
+    in record {
+      asked = record { place = place; reply = r };
+      line = printed ∙ ap (λ (s : Said). line caller (places.Catalog place) version s) reply_is;
+      behind = a.behind;
+      is_later = a.is_later;
+      now_at = a.now_at;
+      left = a.answered;
+    }
 
 -- ---- turns
 

@@ -1,5 +1,5 @@
 -- Names of two spaces as the variables of one thread.
-use Rattle.std.proofs.Common.{◌≡◌, ℕ, Bool, true, false, cond, List, [], ◌∷◌, ◌++◌, Option, Some, None, refl, sym, ◌∙◌, ap}
+use Rattle.std.proofs.Common.{◌≡◌, ℕ, cond, List, [], ◌∷◌, ◌++◌, Option, Some, None, refl, sym, ◌∙◌, ap}
 use Rattle.std.specs.Str.{bytes_eq}
 use Rattle.lc_base.specs.declared.handle.Handle.{Handle}
 use Rattle.script_lines.specs.declared.variables.Space.{Space}

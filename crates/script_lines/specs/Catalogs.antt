@@ -99,14 +99,15 @@ pub record Asked : Type 0 where
 abbrev pub not_asked : Asked
 not_asked = record { place = 0; reply = catalogs.Closed }
 
--- what they answer after a history, and their history with the call
+-- what they answer after a history, and their history with the call, whose entry has this stamp: a count of entries of the table. The
+-- entry stands behind so many of them, and before the others
 abbrev pub asked_after : CatalogSetting → catalogs.History → ℕ → Option catalogs.Op → Asked
 asked_after c M thread None = not_asked
 asked_after c M thread (Some op) = record { place = length M; reply = answers.answer c M thread op }
 
-abbrev pub catalogs_after : CatalogSetting → catalogs.History → ℕ → Option catalogs.Op → catalogs.History
-catalogs_after c M thread None = M
-catalogs_after c M thread (Some op) = answers.entry c M thread op ∷ M
+abbrev pub catalogs_after : CatalogSetting → catalogs.History → ℕ → ℕ → Option catalogs.Op → catalogs.History
+catalogs_after c M thread stamp None = M
+catalogs_after c M thread stamp (Some op) = answers.entry c M thread op stamp ∷ M
 
 -- ---- what is printed
 

@@ -63,7 +63,8 @@ read_line c library H at read None = global_read_line library at read (sets H) (
 abbrev pub name_line : Setting → Catalog → History → Caller → CategoryArgument → OutLine
 name_line c library H at categories = global_name_line library at categories (sets H) (global c H)
 
--- what a wish asks of the catalogs, what they answer after their history, and their history then
+-- what a wish asks of the catalogs, what they answer after their history, and their history then; the stamp of
+-- the entry counts all of the table
 abbrev pub catalog_op_of : Setting → Catalog → Books → History → ℕ → Result Wish Why → Option catalogs.Op
 catalog_op_of c library books H thread wish = catalog_op_by library books (object_used (own H thread) (global c H)) wish
 
@@ -71,7 +72,7 @@ abbrev pub asked_of : Setting → Catalog → Books → History → catalogs.His
 asked_of c library books H M thread wish = asked_after (catalog_setting c) M thread (catalog_op_of c library books H thread wish)
 
 abbrev pub catalogs_left : Setting → Catalog → Books → History → catalogs.History → ℕ → Result Wish Why → catalogs.History
-catalogs_left c library books H M thread wish = catalogs_after (catalog_setting c) M thread (catalog_op_of c library books H thread wish)
+catalogs_left c library books H M thread wish = catalogs_after (catalog_setting c) M thread (length H) (catalog_op_of c library books H thread wish)
 
 -- a catopen by the thread's own object, or by the global locale with its version
 abbrev pub opens_line : Setting → Catalog → Books → History → Caller → List ℕ → Asked → Option Parts → OutLine

@@ -47,8 +47,8 @@ pub trait Board: Drop {
     ghost use Rattle.handle_table.specs.Seen.{op_of, reply_of};
     ghost use Rattle.catalog_handles.specs.Entry.{History as Catalogs};
     ghost use Rattle.catalog_handles.specs.Seen.{op_of as catalog_op_of, reply_of as catalog_reply_of};
-    ghost use Rattle.script_lines.specs.Board.{Answers, Finds, AnswersCatalog};
-    ghost use Rattle.script_lines.specs.Catalogs.{number_of as book_number, catalog_setting};
+    ghost use Rattle.script_lines.specs.Board.{Answers, Finds, Asks};
+    ghost use Rattle.script_lines.specs.Catalogs.{number_of as book_number};
 
     /// What a thread keeps.
     type Side: Side;
@@ -102,17 +102,17 @@ pub trait Board: Drop {
         ensures ready { (n : ℕ) → ready n self.old side.old → ready n self.new side.new };
 
     /// Answers an op of the thread at its catalogs: the place of its entry in their history, and the
-    /// reply.
+    /// reply. The entry has a stamp, so that one order has the calls of both histories: it stands behind
+    /// as many entries of the table, and before the others. Afterwards the thread has seen these.
     fn catalog(
         &mut self,
         side: &mut Self::Side,
         op: CatalogOp<BookShare>,
     ) -> (u64, CatalogReply<BookShare>)
         requires ready { ready 1 self.old side.old }
-        ensures answers { (M : Catalogs) → catalogs_at self.old side.old M
-            → AnswersCatalog (catalog_setting (setting_of self.old)) (catalogs_later (setting_of self.old) (Self.Side.number_of side.old)) (catalogs_at self.new side.new) (Self.Side.number_of side.old) M
+        ensures answers { (H : History) (M : Catalogs) → at self.old side.old H → catalogs_at self.old side.old M
+            → Asks (setting_of self.old) (later (setting_of self.old) (Self.Side.number_of side.old)) (catalogs_later (setting_of self.old) (Self.Side.number_of side.old)) (at self.new side.new) (catalogs_at self.new side.new) (Self.Side.number_of side.old) H M
             (catalog_op_of book_number op) result.0 (catalog_reply_of book_number result.1) }
-        ensures table { (H : History) → at self.old side.old H → at self.new side.new H }
         ensures number { Self.Side.number_of side.new ≡ Self.Side.number_of side.old }
         ensures setting { setting_of self.new ≡ setting_of self.old }
         ensures ready { (n : ℕ) → ready (n + 1) self.old side.old → ready n self.new side.new };

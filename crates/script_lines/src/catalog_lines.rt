@@ -6,7 +6,7 @@ ghost use Rattle.handle_table.specs.Entry.{History};
 ghost use Rattle.catalog_handles.specs.Entry as catalogs;
 ghost use Rattle.script_lines.specs.Board.{LeavesAsked, Leaves};
 ghost use Rattle.category_store.specs.Catalog.{Catalog};
-ghost use Rattle.script_lines.specs.Catalogs.{Books as CatalogBooks, number_of, handle_meant, catalog_setting, open_line};
+ghost use Rattle.script_lines.specs.Catalogs.{Books as CatalogBooks, number_of, handle_meant, open_line};
 ghost use Rattle.script_lines.specs.Seen.{caller};
 ghost use Rattle.script_lines.specs.Wishes.{OpensCatalog, GetsMessage, ClosesCatalog};
 
@@ -62,10 +62,9 @@ fn book_line<B: Board>(
 ) -> OutLine
     requires ready { B.ready 1 board.old side.old }
     requires caller { at.thread ≡ B.Side.number_of side.old }
-    ensures asked { (M : catalogs.History) → B.catalogs_at board.old side.old M
-        → LeavesAsked (catalog_setting (B.setting_of board.old)) (B.catalogs_later (B.setting_of board.old) (B.Side.number_of side.old)) (B.catalogs_at board.new side.new) at.thread M
+    ensures asked { (H : History) (M : catalogs.History) → B.at board.old side.old H → B.catalogs_at board.old side.old M
+        → LeavesAsked (B.setting_of board.old) (B.later (B.setting_of board.old) (B.Side.number_of side.old)) (B.catalogs_later (B.setting_of board.old) (B.Side.number_of side.old)) (B.at board.new side.new) (B.catalogs_at board.new side.new) at.thread H M
         (option_map catalogs.Open (option_map number_of book)) (λ asked. open_line (caller at) version asked (option_map number_of book)) result }
-    ensures table { (H : History) → B.at board.old side.old H → B.at board.new side.new H }
     ensures number { B.Side.number_of side.new ≡ B.Side.number_of side.old }
     ensures setting { B.setting_of board.new ≡ B.setting_of board.old }
     ensures ready { (n : ℕ) → B.ready (n + 1) board.old side.old → B.ready n board.new side.new }

@@ -1,5 +1,5 @@
 -- Histories that go on, and the calls that are found at places.
-use Rattle.std.proofs.Common.{◌≡◌, ℕ, ◌≤◌, Bool, List, [], ◌∷◌, ◌++◌, map, find, zip, Option, Some, None, Result, refl, sym, ap, subst, ◌∙◌, arith, append_assoc, zero, suc, ◌+◌, inl, inr}
+use Rattle.std.proofs.Common.{◌≡◌, ℕ, ◌≤◌, Bool, List, [], ◌∷◌, ◌++◌, map, find, zip, Option, Some, None, Result, refl, sym, ap, subst, ◌∙◌, arith, append_assoc, zero, suc, inl, inr}
 use Rattle.std.specs.Prelude.{◌==◌}
 use Rattle.std.proofs.lemmas.Bool.{cases_lt}
 use Rattle.handle_table.specs.Entry.{Entry, History, Setting}

@@ -5,6 +5,9 @@ pub mod GoingOn
 pub mod IsolationExamples
 pub mod KeyLemmas
 pub mod LineLists
+pub mod OrderExamples
+pub mod OrderLaws
+pub mod Orders
 pub mod PlacedCalls
 pub mod PlanParts
 pub mod PrintsExamples

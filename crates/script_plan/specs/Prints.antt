@@ -16,6 +16,7 @@ use Rattle.catalog_handles.specs.Entry as catalog
 use Rattle.catalog_handles.specs.Entry.{History as CatalogHistory}
 use Rattle.catalog_handles.specs.Answer as catalog_answers
 use Rattle.catalog_handles.specs.Answer.{AreThreads}
+use Rattle.catalog_handles.specs.Stamps.{IsRising, stamp_at}
 use Rattle.script_commands.specs.declared.command.Read.{Read}
 use Rattle.script_words.specs.declared.categories.CategoryArgument.{CategoryArgument}
 use Rattle.script_words.specs.declared.categories.CategoryArgument.TheVariants.{All as AllCategories}
@@ -231,11 +232,12 @@ IsRead x at l read (Some object) = l ≡ object_line x.plan.library at read obje
 IsRead x at l read None = IsGlobalRead x at l read
 
 -- what the catalogs have answered to an op of a thread, in a history of theirs: the entry at the place is the thread's, with this
--- op and the answer to what stands before it
+-- op and the answer to what stands before it, and with some stamp
 pub record IsAsked (c : CatalogSetting) (M : CatalogHistory) (thread : ℕ) (op : catalog.Op) (asked : Asked) : Type 0 where
   pub before : CatalogHistory
   pub behind : CatalogHistory
-  pub whole : M ≡ behind ++ catalog_answers.entry c before thread op ∷ before
+  pub stamp : ℕ
+  pub whole : M ≡ behind ++ catalog_answers.entry c before thread op stamp ∷ before
   pub place : asked.place ≡ length before
   pub reply : asked.reply ≡ catalog_answers.answer c before thread op
 
@@ -343,13 +345,28 @@ pub record AreCatalogsPlaced (c : CatalogSetting) (M : CatalogHistory) (lines : 
   pub threads : (thread : ℕ) → IsStrictlyIncreasing (all_catalog_places (of_thread thread lines))
   pub rounds : (round : ℕ) → All (λ (p : ℕ). All (λ (q : ℕ). p < q) (all_catalog_places (from_round round lines))) (all_catalog_places (before_round round lines))
 
--- a script prints these lines: one for each turn, in order; with the places of one history of the table, and of one of the catalogs;
--- and each prints what it asks for
+-- the calls of some lines stand before those of others, in an order that has each entry of the catalogs behind as many entries of the
+-- table as its stamp says, and before the others: those on one history and those on the other
+pub record StandBefore (stamps : ℕ → ℕ) (before after : List OutLine) : Type 0 where
+  pub table : All (λ (p : ℕ). All (λ (q : ℕ). p < stamps q) (all_catalog_places after)) (all_places before)
+  pub catalogs : All (λ (q : ℕ). All (λ (p : ℕ). stamps q ≤ p) (all_places after)) (all_catalog_places before)
+
+-- There is one order of all calls, of which the order of the table's places and that of the catalogs' are parts: the entries of the
+-- catalogs have stamps that never fall. It has the calls of each thread in the order of its lines, wherever these are cut in two, and
+-- the calls of each round before those of later rounds
+pub record HaveOneOrder (M : CatalogHistory) (lines : List OutLine) : Type 0 where
+  pub rising : IsRising M
+  pub threads : (thread : ℕ) (before after : List OutLine) → of_thread thread lines ≡ before ++ after → StandBefore (stamp_at M) before after
+  pub rounds : (round : ℕ) → StandBefore (stamp_at M) (before_round round lines) (from_round round lines)
+
+-- a script prints these lines: one for each turn, in order; with the places of one history of the table, and of one of the catalogs,
+-- which are parts of one order of all calls; and each prints what it asks for
 pub record Prints (c : Setting) (plan : PlanData) (lines : List OutLine) : Type 0 where
   pub catalogs : CatalogHistory
   pub callers : map caller_of lines ≡ callers_after [] (all_turns c plan lines)
   pub placed : ArePlaced plan.bundle.rounds lines
   pub catalogs_placed : AreCatalogsPlaced (catalog_setting c) catalogs lines
+  pub one_order : HaveOneOrder catalogs lines
   pub answered : let ds = with_tasks (all_turns c plan lines) lines in AreAnswered c plan lines catalogs (calls_after plan.library [] ds) [] ds
 
 -- ---- lines of which each is printed before the next call is made

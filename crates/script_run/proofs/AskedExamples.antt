@@ -20,13 +20,13 @@ h = record { owner = 0; row = 0; generation = 1 }
 
 -- A opens a catalog, B reads it, and A closes it
 abbrev opened : CatalogHistory
-opened = catalog_answers.entry c [] 0 (catalogs.Open 5) ∷ []
+opened = catalog_answers.entry c [] 0 (catalogs.Open 5) 2 ∷ []
 
 abbrev read : CatalogHistory
-read = catalog_answers.entry c opened 1 (catalogs.Get h) ∷ opened
+read = catalog_answers.entry c opened 1 (catalogs.Get h) 2 ∷ opened
 
 abbrev all : CatalogHistory
-all = catalog_answers.entry c read 0 (catalogs.Close h) ∷ read
+all = catalog_answers.entry c read 0 (catalogs.Close h) 4 ∷ read
 
 of_the_first : catalog_places_by 0 all ≡ 2 ∷ 0 ∷ []
 of_the_first = refl
@@ -35,11 +35,11 @@ of_the_second : catalog_places_by 1 all ≡ 1 ∷ []
 of_the_second = refl
 
 -- the read stands in the history, with the catalog's number
-the_read : StandsAsked c all 1 (Some (catalogs.Get h)) (record { place = 1; reply = catalogs.Book 5 })
-the_read = record { before = opened; behind = catalog_answers.entry c read 0 (catalogs.Close h) ∷ []; whole = refl; place = refl; reply = refl }
+the_read : StandsAsked c all 1 (Some (catalogs.Get h)) (record { place = 1; reply = catalogs.Book 5 }) 2
+the_read = record { before = opened; behind = catalog_answers.entry c read 0 (catalogs.Close h) 4 ∷ []; whole = refl; place = refl; reply = refl }
 
 -- what asks nothing stands in each
-nothing : StandsAsked c [] 1 None (record { place = 7; reply = catalogs.Closed })
+nothing : StandsAsked c [] 1 None (record { place = 7; reply = catalogs.Closed }) 3
 nothing = tt
 
 -- ---- lines of rounds
@@ -48,6 +48,7 @@ abbrev asks : ℕ → ℕ → ℕ → Timed
 asks round thread place = record {
   task_line = record { task = Ends; line = line (record { round = round; thread = thread; index = 1 }) (places.Catalog place) None said.Closed };
   moment = 0;
+  stamp = 0;
   op = Some (catalogs.Close h);
   asked = record { place = place; reply = catalogs.Closed };
 }

@@ -168,7 +168,7 @@ granted_shows c library books m at (Ok (OpensCatalog name)) = opens_shows c libr
 granted_shows c library books m at (Ok (GetsMessage h set message default)) = refl
 granted_shows c library books m at (Ok (ClosesCatalog h)) = refl
 
-abbrev Shows : Timed → Type 0
+abbrev pub Shows : Timed → Type 0
 Shows t = catalog_places_in t.task_line.line.places ≡ asked_in t
 
 line_shows : (c : Setting) (plan : PlanData) (W : History) (before : List TaskLine) (t : Timed) → IsRight c plan W before t → Shows t
@@ -178,7 +178,7 @@ line_shows c plan W before t r =
     ∙ granted_shows c plan.library (books_of plan) (moments_in W before t) (caller_of t.task_line.line) w
     ∙ ap (λ (op : Option catalogs.Op). asked_place op t.asked) (sym r.op)
 
-all_show : (c : Setting) (plan : PlanData) (W : History) (ts : List Timed) → AreRight c plan W ts → All Shows ts
+pub all_show : (c : Setting) (plan : PlanData) (W : History) (ts : List Timed) → AreRight c plan W ts → All Shows ts
 all_show c plan W [] right = All-nil Shows
 all_show c plan W (t ∷ ts) right = All-cons Shows t ts (line_shows c plan W (task_lines ts) t right.0) (all_show c plan W ts right.1)
 
@@ -312,7 +312,7 @@ closers_ask c plan W (t ∷ ts) made right all =
     (closers_ask c plan W ts made right.1 (All-tail Closer t ts all))
 
 nothing_stands : (c : CatalogSetting) (V : CatalogHistory) (t : Timed) → AsksNothing t → HasStanding c V t
-nothing_stands c V t none = subst (λ (op : Option catalogs.Op). StandsAsked c V t.task_line.line.thread op t.asked) (sym none) tt
+nothing_stands c V t none = subst (λ (op : Option catalogs.Op). StandsAsked c V t.task_line.line.thread op t.asked t.stamp) (sym none) tt
 
 nothing_in : (t : Timed) → AsksNothing t → asked_in t ≡ []
 nothing_in t none = ap (λ (op : Option catalogs.Op). asked_place op t.asked) none
@@ -335,7 +335,7 @@ without_closing keep closing made none =
     ∙ ap (λ (ps : List ℕ). ps ++ asked_back (filter keep made)) (nothing_back (filter keep closing) (All-filter keep AsksNothing closing none))
 
 -- what the lines of the commands have asked is what all lines have
-asked_with : (c : Setting) (plan : PlanData) (W : History) (V : CatalogHistory) (closing made : List Timed) → AreRight c plan W (closing ++ made) → All (λ (t : Timed). IsClosingTask t.task_line.task) closing
+pub asked_with : (c : Setting) (plan : PlanData) (W : History) (V : CatalogHistory) (closing made : List Timed) → AreRight c plan W (closing ++ made) → All (λ (t : Timed). IsClosingTask t.task_line.task) closing
     → AreAsked (catalog_setting c) V made → AreAsked (catalog_setting c) V (closing ++ made)
 asked_with c plan W V closing made right closers a =
     let none : All AsksNothing closing = closers_ask c plan W closing made right closers in
@@ -354,6 +354,7 @@ asked_with c plan W V closing made right closers a =
     in
     record {
       legal = a.legal;
+      rising = a.rising;
       callers = a.callers;
       standing = all_standing c plan W V closing made right closers a.standing;
       places = λ thread lt. a.places thread lt ∙ sym (without_closing (λ (t : Timed). t.task_line.line.thread == thread) closing made none);

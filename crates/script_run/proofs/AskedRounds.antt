@@ -6,6 +6,7 @@ use Rattle.catalog_handles.specs.declared.setting.CatalogSetting.{CatalogSetting
 use Rattle.catalog_handles.specs.Entry as catalogs
 use Rattle.catalog_handles.specs.Entry.{History as CatalogHistory}
 use Rattle.catalog_handles.specs.Answer as catalog_answers
+use Rattle.catalog_handles.specs.Stamps.{IsRising}
 use Rattle.catalog_handles.specs.Reader.{GoesOnFrom}
 use Rattle.script_lines.specs.Catalogs.{Asked}
 use Rattle.script_run.specs.Timed.{Timed, catalog_places_by, asked_place, asked_in, asked_back, own_lines, stacked, in_rounds_before, in_rounds_to, StandsAsked, HasStanding, IsWithin, IsAskedInRound, AreAsked}
@@ -15,26 +16,26 @@ use Rattle.script_run.proofs.Stacked.{EachOwn, own_stacked, all_stacked, stacked
 
 -- ---- when the history grows
 
-stands_grow : (c : CatalogSetting) (V' V : CatalogHistory) (thread : ℕ) (op : Option catalogs.Op) (asked : Asked) → GoesOnFrom V' V → StandsAsked c V thread op asked → StandsAsked c V' thread op asked
-stands_grow c V' V thread None asked on is = tt
-stands_grow c V' V thread (Some op) asked on is = record {
+stands_grow : (c : CatalogSetting) (V' V : CatalogHistory) (thread : ℕ) (op : Option catalogs.Op) (asked : Asked) (stamp : ℕ) → GoesOnFrom V' V → StandsAsked c V thread op asked stamp → StandsAsked c V' thread op asked stamp
+stands_grow c V' V thread None asked stamp on is = tt
+stands_grow c V' V thread (Some op) asked stamp on is = record {
   before = is.before;
   behind = on.0 ++ is.behind;
-  whole = on.1 ∙ ap (λ (M : CatalogHistory). on.0 ++ M) is.whole ∙ sym (append_assoc on.0 is.behind (catalog_answers.entry c is.before thread op ∷ is.before));
+  whole = on.1 ∙ ap (λ (M : CatalogHistory). on.0 ++ M) is.whole ∙ sym (append_assoc on.0 is.behind (catalog_answers.entry c is.before thread op stamp ∷ is.before));
   place = is.place;
   reply = is.reply;
 }
 
 pub standing_grow : (c : CatalogSetting) (V' V : CatalogHistory) (ts : List Timed) → GoesOnFrom V' V → All (HasStanding c V) ts → All (HasStanding c V') ts
-standing_grow c V' V ts on all = All-weaker (HasStanding c V) (HasStanding c V') (λ t is. stands_grow c V' V t.task_line.line.thread t.op t.asked on is) ts all
+standing_grow c V' V ts on all = All-weaker (HasStanding c V) (HasStanding c V') (λ t is. stands_grow c V' V t.task_line.line.thread t.op t.asked t.stamp on is) ts all
 
 -- what was asked stands within the history
-stands_within : (c : CatalogSetting) (V : CatalogHistory) (thread : ℕ) (op : Option catalogs.Op) (asked : Asked) → StandsAsked c V thread op asked → All (λ (p : ℕ). p < length V) (asked_place op asked)
-stands_within c V thread None asked is = All-nil (λ (p : ℕ). p < length V)
-stands_within c V thread (Some op) asked is =
+stands_within : (c : CatalogSetting) (V : CatalogHistory) (thread : ℕ) (op : Option catalogs.Op) (asked : Asked) (stamp : ℕ) → StandsAsked c V thread op asked stamp → All (λ (p : ℕ). p < length V) (asked_place op asked)
+stands_within c V thread None asked stamp is = All-nil (λ (p : ℕ). p < length V)
+stands_within c V thread (Some op) asked stamp is =
     let place : asked.place ≡ length is.before = is.place in
-    let long : length V ≡ length is.behind + length (catalog_answers.entry c is.before thread op ∷ is.before) =
-    ap (λ (M : CatalogHistory). length M) is.whole ∙ length-append is.behind (catalog_answers.entry c is.before thread op ∷ is.before)
+    let long : length V ≡ length is.behind + length (catalog_answers.entry c is.before thread op stamp ∷ is.before) =
+    ap (λ (M : CatalogHistory). length M) is.whole ∙ length-append is.behind (catalog_answers.entry c is.before thread op stamp ∷ is.before)
     in
     All-cons (λ (p : ℕ). p < length V) asked.place [] (omega (arith, place, long)) (All-nil (λ (p : ℕ). p < length V))
 
@@ -95,15 +96,15 @@ within_all c V low high [] long since standing = All-nil (λ (t : Timed). All (I
 within_all c V low high (t ∷ ts) long since standing =
     All-cons (λ (x : Timed). All (IsWithin low high) (asked_in x)) t ts
     (both_bounds low high (asked_in t) (All-head (HasAskedSince low) t ts since)
-    (subst (λ (n : ℕ). All (λ (p : ℕ). p < n) (asked_in t)) long (stands_within c V t.task_line.line.thread t.op t.asked (All-head (HasStanding c V) t ts standing))))
+    (subst (λ (n : ℕ). All (λ (p : ℕ). p < n) (asked_in t)) long (stands_within c V t.task_line.line.thread t.op t.asked t.stamp (All-head (HasStanding c V) t ts standing))))
     (within_all c V low high ts long (All-tail (HasAskedSince low) t ts since) (All-tail (HasStanding c V) t ts standing))
 
 -- what all threads have asked, with what they ask in one round more
 pub asked_stacked : (c : CatalogSetting) (V0 V : CatalogHistory) (made : List Timed) (more : ℕ → List Timed) (round : ℕ) → AreAsked c V0 made → All (λ (t : Timed). t.task_line.line.round < round) made
     → All (λ (t : Timed). t.task_line.line.thread < c.threads) made → All (λ (t : Timed). t.task_line.line.thread < c.threads) (stacked more made c.threads)
-    → catalog_answers.IsLegal c V → catalog_answers.AreThreads c.threads V → GoesOnFrom V V0 → EachOwn more c.threads
+    → catalog_answers.IsLegal c V → IsRising V → catalog_answers.AreThreads c.threads V → GoesOnFrom V V0 → EachOwn more c.threads
     → ((i : ℕ) → i < c.threads → All (λ (t : Timed). t.task_line.line.round ≡ round) (more i)) → ((i : ℕ) → i < c.threads → HasAskedMore c V0 V made i (more i)) → AreAsked c V (stacked more made c.threads)
-asked_stacked c V0 V made more round was before threads₀ threads legal callers on own of_round each =
+asked_stacked c V0 V made more round was before threads₀ threads legal rising callers on own of_round each =
     let n : ℕ = c.threads in
     let all : List Timed = stacked more made n in
     let added : List Timed = stacked more [] n in
@@ -120,6 +121,7 @@ asked_stacked c V0 V made more round was before threads₀ threads legal callers
     let standing : All (HasStanding c V) added = all_stacked (HasStanding c V) more [] n (λ i lt. (each i lt).standing) (All-nil (HasStanding c V)) in
     record {
       legal = legal;
+      rising = rising;
       callers = callers;
       standing = all_stacked (HasStanding c V) more made n (λ i lt. (each i lt).standing) (standing_grow c V V0 made on was.standing);
       places = places;

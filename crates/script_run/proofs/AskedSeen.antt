@@ -1,5 +1,5 @@
 -- A thread that has asked the catalogs: what its next line adds, and what stays when it has seen more.
-use Rattle.std.proofs.Common.{◌≡◌, ℕ, ◌+◌, ◌≤◌, Bool, true, false, cond, List, [], ◌∷◌, ◌++◌, length, Option, Some, None, refl, sym, ap, subst, ◌∙◌, arith, length-append, eq-eqb}
+use Rattle.std.proofs.Common.{◌≡◌, ℕ, ◌≤◌, Bool, true, false, cond, List, [], ◌∷◌, ◌++◌, length, Option, Some, None, refl, sym, ap, subst, ◌∙◌, arith, length-append, eq-eqb}
 use Rattle.std.specs.Prelude.{◌==◌, All}
 use Rattle.std.proofs.lemmas.List.{map-append}
 use Rattle.std.proofs.lemmas.List.Elements.{All-nil, All-cons}
@@ -22,6 +22,7 @@ use Rattle.script_run.specs.Timed.{Timed, catalog_places_by, asked_place, asked_
 use Rattle.script_run.specs.Beside.{HasAsked, HasAskedSince}
 use Rattle.script_run.proofs.AskedPlaces.{shadow, shadow_places}
 use Rattle.script_run.proofs.AskedRounds.{standing_grow}
+use Rattle.script_run.proofs.LineSteps.{stamp_by}
 use Rattle.script_run.proofs.Seeing as seeing
 
 -- ---- the calls of a thread, by who has called alone
@@ -92,10 +93,11 @@ same_calls_long gate old new was is number =
     ∙ ap (λ (V : CatalogHistory). length (entries_by old.reader.number V)) is.seen
     ∙ ap (λ (V : CatalogHistory). length V) was.in_order.calls
 
-pub asks_next : (c : Setting) (gate : Gate CatalogSetting) (old new : Seated) (op : Option catalogs.Op) (asked : Asked) (made : List Timed) (t : Timed) → gate.terms.setting ≡ catalog_setting c
+pub asks_next : (c : Setting) (gate : Gate CatalogSetting) (old new : Seated) (op : Option catalogs.Op) (asked : Asked) (low high moment : ℕ) (made : List Timed) (t : Timed) → gate.terms.setting ≡ catalog_setting c
     → IsAskingAt gate old old.reader.seen → HasAsked gate.terms old.reader made → new.number ≡ old.number → t.op ≡ op → t.asked ≡ asked → t.task_line.line.thread ≡ old.number
-    → LeftCatalogs (catalog_setting c) (MayFollowAsked c old.number) (IsAskingAt gate new) old.number old.reader.seen op asked → AsksNext gate old new op asked made t
-asks_next c gate old new None asked made t agree at was number op_is asked_is thread left =
+    → (left : LeftCatalogs (catalog_setting c) (MayFollowAsked c old.number) (IsAskingAt gate new) old.number old.reader.seen op low high asked)
+    → t.stamp ≡ stamp_by (catalog_setting c) (MayFollowAsked c old.number) (IsAskingAt gate new) old.reader.seen old.number low high asked op left moment → AsksNext gate old new op asked made t
+asks_next c gate old new None asked low high moment made t agree at was number op_is asked_is thread left stamp_is =
     let nothing : asked_in t ≡ [] = ap (λ (o : Option catalogs.Op). asked_place o t.asked) op_is in
     let seen : new.reader.seen ≡ old.reader.seen = left.seen in
     let mine : new.reader.number ≡ old.reader.number = left.number ∙ number ∙ sym at.number in
@@ -104,19 +106,19 @@ asks_next c gate old new None asked made t agree at was number op_is asked_is th
       has = record {
         in_order = left.in_order;
         standing = All-cons (HasStanding gate.terms.setting new.reader.seen) t made
-            (subst (λ (o : Option catalogs.Op). StandsAsked gate.terms.setting new.reader.seen t.task_line.line.thread o t.asked) (sym op_is) tt)
+            (subst (λ (o : Option catalogs.Op). StandsAsked gate.terms.setting new.reader.seen t.task_line.line.thread o t.asked t.stamp) (sym op_is) tt)
             (subst (λ (V : CatalogHistory). All (HasStanding gate.terms.setting V) made) (sym seen) was.standing);
         places = ap (λ (V : CatalogHistory). catalog_places_by new.reader.number V) seen ∙ ap (λ (n : ℕ). catalog_places_by n old.reader.seen) mine ∙ was.places ∙ ap (λ (ps : List ℕ). ps ++ asked_back made) (sym nothing);
       };
       since = subst (All (λ (p : ℕ). length old.reader.seen ≤ p)) (sym nothing) (All-nil (λ (p : ℕ). length old.reader.seen ≤ p));
       later = subst (λ (V : CatalogHistory). GoesOnFrom V old.reader.seen) (sym seen) (goes_same old.reader.seen);
     }
-asks_next c gate old new (Some op) asked made t agree at was number op_is asked_is thread left =
+asks_next c gate old new (Some op) asked low high moment made t agree at was number op_is asked_is thread left stamp_is =
     let cs : CatalogSetting = catalog_setting c in
     let S : CatalogHistory = old.reader.seen in
     let first : CatalogHistory = left.before in
     let f : MayFollowAsked c old.number first S = left.is_later in
-    let e : catalogs.Entry = catalog_answers.entry cs first old.number op in
+    let e : catalogs.Entry = catalog_answers.entry cs first old.number op left.stamp in
     let now : IsAskingAt gate new (e ∷ first) = left.now_at in
     let seen : new.reader.seen ≡ e ∷ first = now.seen in
     let here : asked_in t ≡ asked.place ∷ [] = ap (λ (o : Option catalogs.Op). asked_place o t.asked) op_is ∙ ap (λ (a : Asked). a.place ∷ []) asked_is in
@@ -125,13 +127,14 @@ asks_next c gate old new (Some op) asked made t agree at was number op_is asked_
     let later : GoesOnFrom (e ∷ first) S = (e ∷ f.later.0, ap (λ (V : CatalogHistory). e ∷ V) f.later.1) in
     let long : length S ≤ length first = as_long first S f.later in
     let place : asked.place ≡ length first = left.place_is in
-    let stands : StandsAsked cs (e ∷ first) old.number (Some op) asked = record { before = first; behind = []; whole = refl; place = place; reply = left.reply_is } in
-    let stands_t : StandsAsked cs (e ∷ first) t.task_line.line.thread t.op t.asked =
-    subst (λ (n : ℕ). StandsAsked cs (e ∷ first) n t.op t.asked) (sym thread)
-    (subst (λ (o : Option catalogs.Op). StandsAsked cs (e ∷ first) old.number o t.asked) (sym op_is)
-    (subst (λ (a : Asked). StandsAsked cs (e ∷ first) old.number (Some op) a) (sym asked_is) stands))
+    let stands : StandsAsked cs (e ∷ first) old.number (Some op) asked left.stamp = record { before = first; behind = []; whole = refl; place = place; reply = left.reply_is } in
+    let stands_t : StandsAsked cs (e ∷ first) t.task_line.line.thread t.op t.asked t.stamp =
+    subst (λ (n : ℕ). StandsAsked cs (e ∷ first) n t.op t.asked t.stamp) (sym thread)
+    (subst (λ (o : Option catalogs.Op). StandsAsked cs (e ∷ first) old.number o t.asked t.stamp) (sym op_is)
+    (subst (λ (a : Asked). StandsAsked cs (e ∷ first) old.number (Some op) a t.stamp) (sym asked_is)
+    (subst (StandsAsked cs (e ∷ first) old.number (Some op) asked) (sym stamp_is) stands)))
     in
-    let Here : CatalogSetting → CatalogHistory → Type 0 = λ s V. StandsAsked s V t.task_line.line.thread t.op t.asked in
+    let Here : CatalogSetting → CatalogHistory → Type 0 = λ s V. StandsAsked s V t.task_line.line.thread t.op t.asked t.stamp in
     let before_places : catalog_places_by old.number first ≡ asked_back made =
     same_asked_places old.number S first f.later f.others ∙ ap (λ (n : ℕ). catalog_places_by n S) (sym own) ∙ was.places
     in

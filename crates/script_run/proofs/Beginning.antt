@@ -28,7 +28,7 @@ first_in_order : (gate : Gate Setting) (i : ℕ) → i < gate.terms.seats → Is
 first_in_order gate i lt = record { legal = tt; callers = tt; calls = refl; in_reach = lt }
 
 first_asked_order : (gate : Gate CatalogSetting) (i : ℕ) → i < gate.terms.seats → readers.IsInOrder gate.terms (first_reader gate i)
-first_asked_order gate i lt = record { legal = tt; callers = tt; calls = refl; in_reach = lt }
+first_asked_order gate i lt = record { legal = tt; rising = tt; callers = tt; calls = refl; in_reach = lt }
 
 first_worker : (gate : Gates) (plan : PlanData) (mines : List Thread) (all : List ReaderData) (i : ℕ) (w : Worker) → IsForAsked gate.locales.terms gate.catalogs.terms → IsFirst mines all i w
     → mine_of w ≡ first_thread gate.locales i → reader_at w ≡ first_reader gate.catalogs i → i < gate.locales.terms.seats → IsWorker gate plan w.thread []
@@ -100,6 +100,7 @@ between_first gate plan mines all ws for for_asked are are_readers long first =
       asked = [];
       asked_whole = record {
         legal = tt;
+        rising = tt;
         callers = tt;
         standing = All-nil (HasStanding gate.catalogs.terms.setting []);
         places = λ thread lt. refl;

@@ -49,15 +49,15 @@ oldest_length p (e ∷ W) le =
 -- ---- what a line is judged by
 
 -- the Release of a read between stands before the end of its line
-pub second_within : (ps : List ℕ) (moment : ℕ) → second_moment ps moment ≤ unwrap_or (behind_last ps) moment
-second_within [] moment = omega arith
-second_within (place ∷ []) moment = omega arith
-second_within (hold ∷ release ∷ more) moment = omega arith
+pub second_within : (ps : List ℕ) (moment stamp : ℕ) → moment ≤ unwrap_or (behind_last ps) stamp → second_moment ps moment ≤ unwrap_or (behind_last ps) stamp
+second_within [] moment stamp since = since
+second_within (place ∷ []) moment stamp since = omega arith
+second_within (hold ∷ release ∷ more) moment stamp since = omega arith
 
-end_within : (ps : List ℕ) (moment earlier n : ℕ) → unwrap_or (behind_last ps) moment ≤ n → earlier ≤ n → or_earlier (behind_last ps) earlier ≤ n
-end_within [] moment earlier n here before = before
-end_within (place ∷ []) moment earlier n here before = here
-end_within (hold ∷ release ∷ more) moment earlier n here before = here
+end_within : (ps : List ℕ) (stamp earlier n : ℕ) → unwrap_or (behind_last ps) stamp ≤ n → earlier ≤ n → or_earlier (behind_last ps) earlier ≤ n
+end_within [] stamp earlier n here before = before
+end_within (place ∷ []) stamp earlier n here before = here
+end_within (hold ∷ release ∷ more) stamp earlier n here before = here
 
 either_within : (b : Bool) (x y n : ℕ) → x ≤ n → y ≤ n → (if b then x else y) ≤ n
 either_within true x y n here there = here
@@ -70,7 +70,7 @@ next_within c plan W thread (t ∷ ts) right =
     let before : next_place thread (task_lines ts) ≤ length W = next_within c plan W thread ts right.1 in
     let ps : List ℕ = places_in t.task_line.line.places in
     either_within (t.task_line.line.thread == thread) (or_earlier (behind_last ps) (next_place thread (task_lines ts))) (next_place thread (task_lines ts)) (length W)
-    (end_within ps t.moment (next_place thread (task_lines ts)) (length W) right.0.within before)
+    (end_within ps t.stamp (next_place thread (task_lines ts)) (length W) right.0.within before)
     before
 
 abbrev moments_of : History → History → History → Asked → Moments
@@ -101,7 +101,7 @@ right_more c plan more W before t seen r =
     let long : length (more ++ W) ≡ length more + length W = length-append more W in
     let within : end_of t ≤ length W = r.within in
     let since : t.moment ≤ end_of t = r.since in
-    let second : second_moment (places_in t.task_line.line.places) t.moment ≤ end_of t = second_within (places_in t.task_line.line.places) t.moment in
+    let second : second_moment (places_in t.task_line.line.places) t.moment ≤ end_of t = second_within (places_in t.task_line.line.places) t.moment t.stamp since in
     let first_le : t.moment ≤ length W = omega (arith, since, within) in
     let second_le : second_moment (places_in t.task_line.line.places) t.moment ≤ length W = omega (arith, second, within) in
     let same : moments_in (more ++ W) before t ≡ moments_in W before t = moments_grow more W before t seen first_le second_le in

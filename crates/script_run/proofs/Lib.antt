@@ -15,6 +15,7 @@ pub mod LineAnswered
 pub mod LineSteps
 pub mod MadeLines
 pub mod Meeting
+pub mod Ordering
 pub mod Placed
 pub mod Rounding
 pub mod Running

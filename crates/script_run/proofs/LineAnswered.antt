@@ -21,7 +21,7 @@ use Rattle.script_lines.specs.Holds.{object_held, open_holds, held_as}
 use Rattle.script_lines.specs.Lines.{plain_line, placed_line, entry_line, global_read_line, global_name_line}
 use Rattle.script_lines.specs.Variables.{bindings_of}
 use Rattle.script_lines.specs.Wishes.{Wish, Calls, ReadsOf, Reads, AsksSelection, AsksName, OpensCatalog, GetsMessage, ClosesCatalog, wish_of}
-use Rattle.script_plan.specs.Prints.{bound_by, places_in, call_of, Around, past, next_place, IsVersion, global_of, IsCall, IsReadOf, IsRead, IsOpenOf, IsOpen, IsGranted, IsAnswered, caller_of}
+use Rattle.script_plan.specs.Prints.{bound_by, places_in, call_of, Around, past, next_place, IsVersion, global_of, IsCall, IsReadOf, IsRead, IsOpenOf, IsAsked, IsOpen, IsGranted, IsAnswered, caller_of}
 use Rattle.script_plan.specs.Plan.{books_of}
 use Rattle.script_plan.proofs.GoingOn.{wished_calls}
 use Rattle.script_run.specs.Timed.{oldest, Timed, second_moment, moments_in, IsEntryOf, IsRight, StandsAsked, HasStanding}
@@ -113,13 +113,16 @@ of_answered x W t n read None j entries is = between_answered x W t n read (obje
 
 -- what the catalogs have answered to what is asked of them
 abbrev Asks : Around → Timed → Option catalogs.Op → Type 0
-Asks x t op = StandsAsked (catalog_setting x.setting) x.catalogs t.task_line.line.thread op t.asked
+Asks x t op = StandsAsked (catalog_setting x.setting) x.catalogs t.task_line.line.thread op t.asked t.stamp
+
+as_asked : (x : Around) (t : Timed) (op : catalogs.Op) → Asks x t (Some op) → IsAsked (catalog_setting x.setting) x.catalogs t.task_line.line.thread op t.asked
+as_asked x t op stands = record { before = stands.before; behind = stands.behind; stamp = t.stamp; whole = stands.whole; place = stands.place; reply = stands.reply }
 
 -- a catopen, of a catalog that there is or not
 found_answered : (x : Around) (t : Timed) (version : Option ℕ) (n : Option ℕ) → Asks x t (option_map catalogs.Open n) → t.task_line.line ≡ open_line (caller_of t.task_line.line) version t.asked n
     → IsOpenOf x (caller_of t.task_line.line) t.task_line.line version n
 found_answered x t version None stands is = is
-found_answered x t version (Some n) stands is = record { asked = t.asked; stands = stands; is = is }
+found_answered x t version (Some n) stands is = record { asked = t.asked; stands = as_asked x t _ stands; is = is }
 
 open_answered : (x : Around) (W : History) (t : Timed) (name : List ℕ) (object : Option Parts) → Judges x W t
     → Asks x t (option_map catalogs.Open (book_for x.plan.library (books_of x.plan) (object_used object (global x.setting (oldest t.moment W))) name))
@@ -166,8 +169,8 @@ granted_answered x W t (Ok (OpensCatalog name)) j entries is stands =
     let place : ℕ = next_place thread x.before in
     subst (λ (G : History). IsOpen x (caller_of t.task_line.line) t.task_line.line name (own G thread)) (sym (j.pasts place))
     (open_answered x W t name (own (oldest place W) thread) j stands is)
-granted_answered x W t (Ok (GetsMessage h set message default)) j entries is stands = record { asked = t.asked; stands = stands; is = is }
-granted_answered x W t (Ok (ClosesCatalog h)) j entries is stands = record { asked = t.asked; stands = stands; is = is }
+granted_answered x W t (Ok (GetsMessage h set message default)) j entries is stands = record { asked = t.asked; stands = as_asked x t _ stands; is = is }
+granted_answered x W t (Ok (ClosesCatalog h)) j entries is stands = record { asked = t.asked; stands = as_asked x t _ stands; is = is }
 
 -- a line that is right for a history prints what its task asks for
 pub line_answered : (x : Around) (W : History) (t : Timed) → Judges x W t → IsRight x.setting x.plan W x.before t → IsAnswered x t.task_line

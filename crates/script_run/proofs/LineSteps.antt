@@ -12,7 +12,6 @@ use Rattle.lc_base.specs.declared.handle.Handle.{Handle}
 use Rattle.lc_base.specs.declared.handle.Named.{Named}
 use Rattle.lc_base.specs.declared.handle.Named.TheVariants.{Global, Of}
 use Rattle.handle_table.specs.Entry as table
-use Rattle.handle_table.specs.declared.op.Refusal.{Refusal}
 use Rattle.handle_table.specs.declared.op.Refusal.TheVariants.{NotHeld}
 use Rattle.handle_table.specs.Entry.{Op, New, Dup, Free, Use, Hold, Release, SetGlobal, Install, Post, Fetch, Pins, End, Reply, Released, Entry, History, Setting, names, is_accepted}
 use Rattle.handle_table.specs.History.{sets, global, selection, holding}
@@ -32,14 +31,16 @@ use Rattle.script_lines.specs.declared.holds.OpenHold.{OpenHold}
 use Rattle.script_lines.specs.declared.holds.HoldChange.{HoldChange}
 use Rattle.script_lines.specs.declared.holds.HoldChange.TheVariants as changes
 use Rattle.script_lines.specs.Holds.{object_held, with_hold, without, hold_change, changed, holds_after, open_holds, held_as, is_of}
+use Rattle.catalog_handles.specs.declared.setting.CatalogSetting.{CatalogSetting}
 use Rattle.catalog_handles.specs.Entry as catalogs
+use Rattle.catalog_handles.specs.Entry.{History as CatalogHistory}
 use Rattle.script_lines.specs.Wishes.{Wish, Calls, ReadsOf, Reads, AsksSelection, AsksName, OpensCatalog, GetsMessage, ClosesCatalog, ops_of}
 use Rattle.script_lines.specs.Lines.{Caller, version_made, shown, line, plain_line, entry_line, object_line, held_line}
 use Rattle.script_lines.specs.Names.{object_name}
 use Rattle.script_lines.specs.Reads.{local}
 use Rattle.script_lines.specs.Outcome.{Outcome, without_entry, with_call, calls, read_line, name_line}
 use Rattle.script_lines.specs.Catalogs.{Books, Asked, object_used, book_for, open_line, handle_reply_shown, message_shown, handle_meant}
-use Rattle.script_lines.specs.Board.{Moments, reads_between, reads_of, reads, opens, catalog_op, granted_at, AreMomentsOf}
+use Rattle.script_lines.specs.Board.{Moments, reads_between, reads_of, reads, opens, catalog_op, granted_at, AreMomentsOf, LeftCatalogs}
 use Rattle.script_plan.specs.Prints.{PlacedCall, call_of, caller_of, places_in, behind_last}
 use Rattle.script_seats.specs.Seated.{MayFollow}
 use Rattle.script_run.specs.Timed.{oldest, places_by, second_moment, IsEntryOf}
@@ -52,19 +53,19 @@ use Rattle.script_seats.proofs.OwnCalls.{own_says, selection_says, holds_says}
 
 -- where a line ends
 abbrev pub ended : OutLine → ℕ → ℕ
-ended l moment = unwrap_or (behind_last (places_in l.places)) moment
+ended l stamp = unwrap_or (behind_last (places_in l.places)) stamp
 
 -- the histories of a line, by what its thread has seen behind it
 abbrev pub moments_by : History → History → OutLine → ℕ → Asked → Moments
 moments_by W seen l moment asked = record { seen = seen; first = oldest moment W; second = oldest (second_moment (places_in l.places) moment) W; asked = asked }
 
 -- the line of a wish of a thread that had seen S leads to the history of an outcome, where the catalogs are asked for the op and
--- answer this
-pub record IsStep (c : Setting) (library : Catalog) (books : Books) (at : Caller) (wish : Result Wish Why) (S : History) (done : Outcome) (moment : ℕ) (op : Option catalogs.Op) (asked : Asked) : Type 0 where
+-- answer this, with a stamp
+pub record IsStep (c : Setting) (library : Catalog) (books : Books) (at : Caller) (wish : Result Wish Why) (S : History) (done : Outcome) (moment stamp : ℕ) (op : Option catalogs.Op) (asked : Asked) : Type 0 where
   pub later : GoesOnFrom done.history S
   pub since : length S ≤ moment
-  pub until : moment ≤ ended done.line moment
-  pub within : ended done.line moment ≤ length done.history
+  pub until : moment ≤ ended done.line stamp
+  pub within : ended done.line stamp ≤ length done.history
   pub places : places_by at.thread done.history ≡ reverse (places_in done.line.places) ++ places_by at.thread S
   pub caller : caller_of done.line ≡ at
   pub entries : All (IsEntryOf c done.history) (map (call_of at.thread) (zip (places_in done.line.places) (ops_of wish)))
@@ -165,27 +166,8 @@ stays : (c : Setting) (library : Catalog) (books : Books) (at : Caller) (wish : 
     → ((seen : History) → entries_by at.thread seen ≡ entries_by at.thread S
     → line at places.None version reply ≡ (granted_at c library books (moments_by S seen (line at places.None version reply) (length S) asked) at wish).line)
     → ((seen : History) → entries_by at.thread seen ≡ entries_by at.thread S → op ≡ catalog_op c library books (moments_by S seen (line at places.None version reply) (length S) asked) at.thread wish)
-    → IsStep c library books at wish S (without_entry S (line at places.None version reply)) (length S) op asked
+    → IsStep c library books at wish S (without_entry S (line at places.None version reply)) (length S) (length S) op asked
 stays c library books at wish S version reply op asked same asks = record {
-  later = ([], refl);
-  since = omega arith;
-  until = omega arith;
-  within = omega arith;
-  places = refl;
-  caller = refl;
-  entries = All-nil (IsEntryOf c S);
-  line = same;
-  asks = asks;
-  few = omega arith;
-}
-
--- the same of a line of the catalogs
-stays_asked : (c : Setting) (library : Catalog) (books : Books) (at : Caller) (wish : Result Wish Why) (S : History) (place : ℕ) (version : Option ℕ) (reply : Said) (op : Option catalogs.Op) (asked : Asked)
-    → ((seen : History) → entries_by at.thread seen ≡ entries_by at.thread S
-    → line at (places.Catalog place) version reply ≡ (granted_at c library books (moments_by S seen (line at (places.Catalog place) version reply) (length S) asked) at wish).line)
-    → ((seen : History) → entries_by at.thread seen ≡ entries_by at.thread S → op ≡ catalog_op c library books (moments_by S seen (line at (places.Catalog place) version reply) (length S) asked) at.thread wish)
-    → IsStep c library books at wish S (without_entry S (line at (places.Catalog place) version reply)) (length S) op asked
-stays_asked c library books at wish S place version reply op asked same asks = record {
   later = ([], refl);
   since = omega arith;
   until = omega arith;
@@ -203,7 +185,7 @@ looks : (c : Setting) (library : Catalog) (books : Books) (at : Caller) (wish : 
     → ((seen : History) → entries_by at.thread seen ≡ entries_by at.thread S
     → line at places.None version reply ≡ (granted_at c library books (moments_by first seen (line at places.None version reply) (length first) asked) at wish).line)
     → ((seen : History) → entries_by at.thread seen ≡ entries_by at.thread S → op ≡ catalog_op c library books (moments_by first seen (line at places.None version reply) (length first) asked) at.thread wish)
-    → IsStep c library books at wish S (without_entry first (line at places.None version reply)) (length first) op asked
+    → IsStep c library books at wish S (without_entry first (line at places.None version reply)) (length first) (length first) op asked
 looks c library books at wish S first version reply op asked f same asks =
     let entries = ap (λ (H : History). length H) f.others in
     let holds = ap (λ (os : List OpenHold). length os) (follow_holds c at.thread first S f) in
@@ -220,26 +202,56 @@ looks c library books at wish S first version reply op asked f same asks =
       few = omega arith;
     }
 
--- the same of a line of the catalogs
-looks_asked : (c : Setting) (library : Catalog) (books : Books) (at : Caller) (wish : Result Wish Why) (S first : History) (place : ℕ) (version : Option ℕ) (reply : Said) (op : Option catalogs.Op) (asked : Asked) → MayFollow c at.thread first S
+-- what stood at an earlier moment of a history that goes on
+first_back : (c : Setting) (t : ℕ) (first second : History) → MayFollow c t second first → oldest (length first) second ≡ first
+first_back c t first second g = ap (oldest (length first)) g.later.1 ∙ oldest_grows (length first) g.later.0 first (omega arith) ∙ oldest_all first
+
+-- a line without a place, of what stood before the thread had seen more
+passes : (c : Setting) (library : Catalog) (books : Books) (at : Caller) (wish : Result Wish Why) (S first second : History) (version : Option ℕ) (reply : Said) (op : Option catalogs.Op) (asked : Asked)
+    → MayFollow c at.thread first S → MayFollow c at.thread second first
     → ((seen : History) → entries_by at.thread seen ≡ entries_by at.thread S
-    → line at (places.Catalog place) version reply ≡ (granted_at c library books (moments_by first seen (line at (places.Catalog place) version reply) (length first) asked) at wish).line)
-    → ((seen : History) → entries_by at.thread seen ≡ entries_by at.thread S → op ≡ catalog_op c library books (moments_by first seen (line at (places.Catalog place) version reply) (length first) asked) at.thread wish)
-    → IsStep c library books at wish S (without_entry first (line at (places.Catalog place) version reply)) (length first) op asked
-looks_asked c library books at wish S first place version reply op asked f same asks =
-    let entries = ap (λ (H : History). length H) f.others in
-    let holds = ap (λ (os : List OpenHold). length os) (follow_holds c at.thread first S f) in
+    → line at places.None version reply ≡ (granted_at c library books (moments_by second seen (line at places.None version reply) (length first) asked) at wish).line)
+    → ((seen : History) → entries_by at.thread seen ≡ entries_by at.thread S → op ≡ catalog_op c library books (moments_by second seen (line at places.None version reply) (length first) asked) at.thread wish)
+    → IsStep c library books at wish S (without_entry second (line at places.None version reply)) (length first) (length first) op asked
+passes c library books at wish S first second version reply op asked f g same asks =
+    let entries : length (entries_by at.thread second) ≡ length (entries_by at.thread S) = ap (λ (H : History). length H) (g.others ∙ f.others) in
+    let holds : length (open_holds second at.thread) ≡ length (open_holds S at.thread) =
+    ap (λ (os : List OpenHold). length os) (follow_holds c at.thread second first g ∙ follow_holds c at.thread first S f) in
     record {
-      later = f.later;
+      later = goes_further second first S g.later f.later;
       since = longer first S f.later;
       until = omega arith;
-      within = omega arith;
-      places = follow_places c at.thread first S f;
+      within = longer second first g.later;
+      places = follow_places c at.thread second first g ∙ follow_places c at.thread first S f;
       caller = refl;
-      entries = All-nil (IsEntryOf c first);
+      entries = All-nil (IsEntryOf c second);
       line = same;
       asks = asks;
-      few = omega arith;
+      few = omega (arith, entries, holds);
+    }
+
+-- the same of a line of the catalogs, with its stamp
+passes_asked : (c : Setting) (library : Catalog) (books : Books) (at : Caller) (wish : Result Wish Why) (S first second : History) (place stamp : ℕ) (version : Option ℕ) (reply : Said) (op : Option catalogs.Op) (asked : Asked)
+    → MayFollow c at.thread first S → MayFollow c at.thread second first → length first ≤ stamp → stamp ≤ length second
+    → ((seen : History) → entries_by at.thread seen ≡ entries_by at.thread S
+    → line at (places.Catalog place) version reply ≡ (granted_at c library books (moments_by second seen (line at (places.Catalog place) version reply) (length first) asked) at wish).line)
+    → ((seen : History) → entries_by at.thread seen ≡ entries_by at.thread S → op ≡ catalog_op c library books (moments_by second seen (line at (places.Catalog place) version reply) (length first) asked) at.thread wish)
+    → IsStep c library books at wish S (without_entry second (line at (places.Catalog place) version reply)) (length first) stamp op asked
+passes_asked c library books at wish S first second place stamp version reply op asked f g from to same asks =
+    let entries : length (entries_by at.thread second) ≡ length (entries_by at.thread S) = ap (λ (H : History). length H) (g.others ∙ f.others) in
+    let holds : length (open_holds second at.thread) ≡ length (open_holds S at.thread) =
+    ap (λ (os : List OpenHold). length os) (follow_holds c at.thread second first g ∙ follow_holds c at.thread first S f) in
+    record {
+      later = goes_further second first S g.later f.later;
+      since = longer first S f.later;
+      until = from;
+      within = to;
+      places = follow_places c at.thread second first g ∙ follow_places c at.thread first S f;
+      caller = refl;
+      entries = All-nil (IsEntryOf c second);
+      line = same;
+      asks = asks;
+      few = omega (arith, entries, holds);
     }
 
 -- a line with a place
@@ -249,7 +261,7 @@ enters : (c : Setting) (library : Catalog) (books : Books) (at : Caller) (wish :
     → line at (places.One (length first)) version reply
     ≡ (granted_at c library books (moments_by (with_call c first at.thread op) seen (line at (places.One (length first)) version reply) (length first) asked) at wish).line)
     → ((m : Moments) → None ≡ catalog_op c library books m at.thread wish)
-    → IsStep c library books at wish S (record { history = with_call c first at.thread op; line = line at (places.One (length first)) version reply }) (length first) None asked
+    → IsStep c library books at wish S (record { history = with_call c first at.thread op; line = line at (places.One (length first)) version reply }) (length first) (length first) None asked
 enters c library books at wish S first op rest version reply asked f ops same asks =
     let t : ℕ = at.thread in
     let W : History = with_call c first t op in
@@ -331,7 +343,7 @@ between : (c : Setting) (library : Catalog) (books : Books) (at : Caller) (S fir
     → held_line library (length first) (length second) at read o
     ≡ (granted_at c library books (moments_by (with_call c second at.thread (Release n)) seen (held_line library (length first) (length second) at read o) (length first) asked) at (Ok (ReadsOf n read))).line)
     → IsStep c library books at (Ok (ReadsOf n read)) S
-    (record { history = with_call c second at.thread (Release n); line = held_line library (length first) (length second) at read o }) (length first) None asked
+    (record { history = with_call c second at.thread (Release n); line = held_line library (length first) (length second) at read o }) (length first) (length first) None asked
 between c library books at S first second n read o asked f g is same =
     let t : ℕ = at.thread in
     let H : History = with_call c first t (Hold n) in
@@ -378,12 +390,12 @@ moment_of m at (Ok (ReadsOf n read)) = read_moment m (held_as (open_holds m.seen
 moment_of m at (Ok (Reads read)) = read_moment m (own m.seen at.thread)
 moment_of m at (Ok AsksSelection) = length m.seen
 moment_of m at (Ok (AsksName chosen)) = length m.first
-moment_of m at (Ok (OpensCatalog name)) = read_moment m (own m.seen at.thread)
-moment_of m at (Ok (GetsMessage h set message default)) = length m.seen
-moment_of m at (Ok (ClosesCatalog h)) = length m.seen
+moment_of m at (Ok (OpensCatalog name)) = length m.first
+moment_of m at (Ok (GetsMessage h set message default)) = length m.first
+moment_of m at (Ok (ClosesCatalog h)) = length m.first
 
 pub call_step : (c : Setting) (library : Catalog) (books : Books) (at : Caller) (m : Moments) (chosen : CategoryArgument) (op : Op) → MayFollow c at.thread m.first m.seen
-    → IsStep c library books at (Ok (Calls chosen op)) m.seen (calls c library m.first at chosen op) (length m.first) None m.asked
+    → IsStep c library books at (Ok (Calls chosen op)) m.seen (calls c library m.first at chosen op) (length m.first) (length m.first) None m.asked
 call_step c library books at m chosen op f =
     let r : Reply = answer c m.first at.thread op in
     enters c library books at (Ok (Calls chosen op)) m.seen m.first op [] (version_made r) (shown library chosen r) m.asked f refl
@@ -391,7 +403,7 @@ call_step c library books at m chosen op f =
     (λ n. refl)
 
 own_step : (c : Setting) (library : Catalog) (books : Books) (at : Caller) (m : Moments) (read : Read) (x : Option Parts) → own m.seen at.thread ≡ x → MayFollow c at.thread m.first m.seen
-    → IsStep c library books at (Ok (Reads read)) m.seen (reads c library m at read x) (read_moment m x) None m.asked
+    → IsStep c library books at (Ok (Reads read)) m.seen (reads c library m at read x) (read_moment m x) (read_moment m x) None m.asked
 own_step c library books at m read (Some o) is f =
     stays c library books at (Ok (Reads read)) m.seen None (local library o read) None m.asked
     (λ seen same.
@@ -406,60 +418,76 @@ own_step c library books at m read None is f =
     ∙ ap (λ (x : Option Parts). (reads c library (moments_by m.first seen l (length m.first) m.asked) at read x).line) (sym (own_says at.thread seen m.seen same ∙ is)))
     (λ seen same. refl)
 
--- a catopen: by the thread's own object, or by the global locale, of a catalog that there is or not
-open_own_step : (c : Setting) (library : Catalog) (books : Books) (at : Caller) (m : Moments) (name : List ℕ) (o : Parts) (n : Option ℕ) → own m.seen at.thread ≡ Some o → book_for library books o name ≡ n
-    → IsStep c library books at (Ok (OpensCatalog name)) m.seen (without_entry m.seen (open_line at None m.asked n)) (length m.seen) (option_map catalogs.Open n) m.asked
-open_own_step c library books at m name o None is found =
-    stays c library books at (Ok (OpensCatalog name)) m.seen None (said.Refused whys.NoCatalog) None m.asked
-    (λ seen same.
-    ap (λ (k : Option ℕ). open_line at None m.asked k) (sym found)
-    ∙ ap (λ (x : Option Parts). (opens c library books (moments_by m.seen seen (open_line at None m.asked None) (length m.seen) m.asked) at name x).line) (sym (own_says at.thread seen m.seen same ∙ is)))
-    (λ seen same.
-    ap (option_map catalogs.Open) (sym found)
-    ∙ ap (λ (x : Option Parts). option_map catalogs.Open (book_for library books (object_used x (global c (oldest (length m.seen) m.seen))) name)) (sym (own_says at.thread seen m.seen same ∙ is)))
-open_own_step c library books at m name o (Some k) is found =
-    stays_asked c library books at (Ok (OpensCatalog name)) m.seen m.asked.place None (handle_reply_shown m.asked.reply) (Some (catalogs.Open k)) m.asked
-    (λ seen same.
-    ap (λ (j : Option ℕ). open_line at None m.asked j) (sym found)
-    ∙ ap (λ (x : Option Parts). (opens c library books (moments_by m.seen seen (open_line at None m.asked (Some k)) (length m.seen) m.asked) at name x).line) (sym (own_says at.thread seen m.seen same ∙ is)))
-    (λ seen same.
-    ap (option_map catalogs.Open) (sym found)
-    ∙ ap (λ (x : Option Parts). option_map catalogs.Open (book_for library books (object_used x (global c (oldest (length m.seen) m.seen))) name)) (sym (own_says at.thread seen m.seen same ∙ is)))
+-- the stamp of what the catalogs have answered, and the line's moment where they were not asked
+module _ (cs : CatalogSetting) (catalogs_later : CatalogHistory → CatalogHistory → Type 0) (catalogs_at : CatalogHistory → Type 0) (M : CatalogHistory) where
+  abbrev pub stamp_by : (thread low high : ℕ) (asked : Asked) (op : Option catalogs.Op) → LeftCatalogs cs catalogs_later catalogs_at thread M op low high asked → ℕ → ℕ
+  stamp_by thread low high asked None left moment = moment
+  stamp_by thread low high asked (Some op) left moment = left.stamp
 
-open_global_step : (c : Setting) (library : Catalog) (books : Books) (at : Caller) (m : Moments) (name : List ℕ) (n : Option ℕ) → own m.seen at.thread ≡ None → MayFollow c at.thread m.first m.seen
-    → book_for library books (global c m.first) name ≡ n
-    → IsStep c library books at (Ok (OpensCatalog name)) m.seen (without_entry m.first (open_line at (Some (sets m.first)) m.asked n)) (length m.first) (option_map catalogs.Open n) m.asked
-open_global_step c library books at m name None is f found =
-    let l : OutLine = open_line at (Some (sets m.first)) m.asked None in
-    looks c library books at (Ok (OpensCatalog name)) m.seen m.first (Some (sets m.first)) (said.Refused whys.NoCatalog) None m.asked f
-    (λ seen same.
-    ap (λ (k : Option ℕ). open_line at (Some (sets m.first)) m.asked k) (sym found)
-    ∙ ap (λ (F : History). open_line at (Some (sets F)) m.asked (book_for library books (global c F) name)) (sym (oldest_all m.first))
-    ∙ ap (λ (x : Option Parts). (opens c library books (moments_by m.first seen l (length m.first) m.asked) at name x).line) (sym (own_says at.thread seen m.seen same ∙ is)))
-    (λ seen same.
-    ap (option_map catalogs.Open) (sym found)
-    ∙ ap (λ (F : History). option_map catalogs.Open (book_for library books (global c F) name)) (sym (oldest_all m.first))
-    ∙ ap (λ (x : Option Parts). option_map catalogs.Open (book_for library books (object_used x (global c (oldest (length m.first) m.first))) name)) (sym (own_says at.thread seen m.seen same ∙ is)))
-open_global_step c library books at m name (Some k) is f found =
-    let l : OutLine = open_line at (Some (sets m.first)) m.asked (Some k) in
-    looks_asked c library books at (Ok (OpensCatalog name)) m.seen m.first m.asked.place (Some (sets m.first)) (handle_reply_shown m.asked.reply) (Some (catalogs.Open k)) m.asked f
-    (λ seen same.
-    ap (λ (j : Option ℕ). open_line at (Some (sets m.first)) m.asked j) (sym found)
-    ∙ ap (λ (F : History). open_line at (Some (sets F)) m.asked (book_for library books (global c F) name)) (sym (oldest_all m.first))
-    ∙ ap (λ (x : Option Parts). (opens c library books (moments_by m.first seen l (length m.first) m.asked) at name x).line) (sym (own_says at.thread seen m.seen same ∙ is)))
-    (λ seen same.
-    ap (option_map catalogs.Open) (sym found)
-    ∙ ap (λ (F : History). option_map catalogs.Open (book_for library books (global c F) name)) (sym (oldest_all m.first))
-    ∙ ap (λ (x : Option Parts). option_map catalogs.Open (book_for library books (object_used x (global c (oldest (length m.first) m.first))) name)) (sym (own_says at.thread seen m.seen same ∙ is)))
+  -- a catopen: by the thread's own object, or by the global locale, of a catalog that there is or not
+  open_own_step : (c : Setting) (library : Catalog) (books : Books) (at : Caller) (m : Moments) (name : List ℕ) (o : Parts) (n : Option ℕ) → own m.seen at.thread ≡ Some o → book_for library books o name ≡ n
+      → MayFollow c at.thread m.first m.seen → MayFollow c at.thread m.second m.first
+      → (left : LeftCatalogs cs catalogs_later catalogs_at at.thread M (option_map catalogs.Open n) (length m.first) (length m.second) m.asked)
+      → IsStep c library books at (Ok (OpensCatalog name)) m.seen (without_entry m.second (open_line at None m.asked n)) (length m.first)
+      (stamp_by at.thread (length m.first) (length m.second) m.asked (option_map catalogs.Open n) left (length m.first)) (option_map catalogs.Open n) m.asked
+  open_own_step c library books at m name o None is found f g left =
+      passes c library books at (Ok (OpensCatalog name)) m.seen m.first m.second None (said.Refused whys.NoCatalog) None m.asked f g
+      (λ seen same.
+      ap (λ (k : Option ℕ). open_line at None m.asked k) (sym found)
+      ∙ ap (λ (x : Option Parts). (opens c library books (moments_by m.second seen (open_line at None m.asked None) (length m.first) m.asked) at name x).line) (sym (own_says at.thread seen m.seen same ∙ is)))
+      (λ seen same.
+      ap (option_map catalogs.Open) (sym found)
+      ∙ ap (λ (x : Option Parts). option_map catalogs.Open (book_for library books (object_used x (global c (oldest (length m.first) m.second))) name)) (sym (own_says at.thread seen m.seen same ∙ is)))
+  open_own_step c library books at m name o (Some k) is found f g left =
+      passes_asked c library books at (Ok (OpensCatalog name)) m.seen m.first m.second m.asked.place left.stamp None (handle_reply_shown m.asked.reply) (Some (catalogs.Open k)) m.asked f g left.since left.until
+      (λ seen same.
+      ap (λ (j : Option ℕ). open_line at None m.asked j) (sym found)
+      ∙ ap (λ (x : Option Parts). (opens c library books (moments_by m.second seen (open_line at None m.asked (Some k)) (length m.first) m.asked) at name x).line) (sym (own_says at.thread seen m.seen same ∙ is)))
+      (λ seen same.
+      ap (option_map catalogs.Open) (sym found)
+      ∙ ap (λ (x : Option Parts). option_map catalogs.Open (book_for library books (object_used x (global c (oldest (length m.first) m.second))) name)) (sym (own_says at.thread seen m.seen same ∙ is)))
 
-open_step : (c : Setting) (library : Catalog) (books : Books) (at : Caller) (m : Moments) (name : List ℕ) (x : Option Parts) → own m.seen at.thread ≡ x → MayFollow c at.thread m.first m.seen
-    → IsStep c library books at (Ok (OpensCatalog name)) m.seen (opens c library books m at name x) (read_moment m x) (option_map catalogs.Open (book_for library books (object_used x (global c m.first)) name)) m.asked
-open_step c library books at m name (Some o) is f = open_own_step c library books at m name o (book_for library books o name) is refl
-open_step c library books at m name None is f = open_global_step c library books at m name (book_for library books (global c m.first) name) is f refl
+  open_global_step : (c : Setting) (library : Catalog) (books : Books) (at : Caller) (m : Moments) (name : List ℕ) (n : Option ℕ) → own m.seen at.thread ≡ None → book_for library books (global c m.first) name ≡ n
+      → MayFollow c at.thread m.first m.seen → MayFollow c at.thread m.second m.first
+      → (left : LeftCatalogs cs catalogs_later catalogs_at at.thread M (option_map catalogs.Open n) (length m.first) (length m.second) m.asked)
+      → IsStep c library books at (Ok (OpensCatalog name)) m.seen (without_entry m.second (open_line at (Some (sets m.first)) m.asked n)) (length m.first)
+      (stamp_by at.thread (length m.first) (length m.second) m.asked (option_map catalogs.Open n) left (length m.first)) (option_map catalogs.Open n) m.asked
+  open_global_step c library books at m name None is found f g left =
+      let l : OutLine = open_line at (Some (sets m.first)) m.asked None in
+      let back : oldest (length m.first) m.second ≡ m.first = first_back c at.thread m.first m.second g in
+      passes c library books at (Ok (OpensCatalog name)) m.seen m.first m.second (Some (sets m.first)) (said.Refused whys.NoCatalog) None m.asked f g
+      (λ seen same.
+      ap (λ (k : Option ℕ). open_line at (Some (sets m.first)) m.asked k) (sym found)
+      ∙ ap (λ (F : History). open_line at (Some (sets F)) m.asked (book_for library books (global c F) name)) (sym back)
+      ∙ ap (λ (x : Option Parts). (opens c library books (moments_by m.second seen l (length m.first) m.asked) at name x).line) (sym (own_says at.thread seen m.seen same ∙ is)))
+      (λ seen same.
+      ap (option_map catalogs.Open) (sym found)
+      ∙ ap (λ (F : History). option_map catalogs.Open (book_for library books (global c F) name)) (sym back)
+      ∙ ap (λ (x : Option Parts). option_map catalogs.Open (book_for library books (object_used x (global c (oldest (length m.first) m.second))) name)) (sym (own_says at.thread seen m.seen same ∙ is)))
+  open_global_step c library books at m name (Some k) is found f g left =
+      let l : OutLine = open_line at (Some (sets m.first)) m.asked (Some k) in
+      let back : oldest (length m.first) m.second ≡ m.first = first_back c at.thread m.first m.second g in
+      passes_asked c library books at (Ok (OpensCatalog name)) m.seen m.first m.second m.asked.place left.stamp (Some (sets m.first)) (handle_reply_shown m.asked.reply) (Some (catalogs.Open k)) m.asked f g left.since left.until
+      (λ seen same.
+      ap (λ (j : Option ℕ). open_line at (Some (sets m.first)) m.asked j) (sym found)
+      ∙ ap (λ (F : History). open_line at (Some (sets F)) m.asked (book_for library books (global c F) name)) (sym back)
+      ∙ ap (λ (x : Option Parts). (opens c library books (moments_by m.second seen l (length m.first) m.asked) at name x).line) (sym (own_says at.thread seen m.seen same ∙ is)))
+      (λ seen same.
+      ap (option_map catalogs.Open) (sym found)
+      ∙ ap (λ (F : History). option_map catalogs.Open (book_for library books (global c F) name)) (sym back)
+      ∙ ap (λ (x : Option Parts). option_map catalogs.Open (book_for library books (object_used x (global c (oldest (length m.first) m.second))) name)) (sym (own_says at.thread seen m.seen same ∙ is)))
+
+  open_step : (c : Setting) (library : Catalog) (books : Books) (at : Caller) (m : Moments) (name : List ℕ) (x : Option Parts) → own m.seen at.thread ≡ x
+      → MayFollow c at.thread m.first m.seen → MayFollow c at.thread m.second m.first
+      → let op = option_map catalogs.Open (book_for library books (object_used x (global c m.first)) name) in
+      (left : LeftCatalogs cs catalogs_later catalogs_at at.thread M op (length m.first) (length m.second) m.asked)
+      → IsStep c library books at (Ok (OpensCatalog name)) m.seen (opens c library books m at name x) (length m.first) (stamp_by at.thread (length m.first) (length m.second) m.asked op left (length m.first)) op m.asked
+  open_step c library books at m name (Some o) is f g left = open_own_step c library books at m name o (book_for library books o name) is refl f g left
+  open_step c library books at m name None is f g left = open_global_step c library books at m name (book_for library books (global c m.first) name) is refl f g left
 
 between_step : (c : Setting) (library : Catalog) (books : Books) (at : Caller) (m : Moments) (n : Named) (read : Read) (y : Option Parts) → object_held (answer c m.first at.thread (Hold n)) ≡ y
     → held_as (open_holds m.seen at.thread) n ≡ None → MayFollow c at.thread m.first m.seen → MayFollow c at.thread m.second (with_call c m.first at.thread (Hold n))
-    → IsStep c library books at (Ok (ReadsOf n read)) m.seen (reads_between c library m at n read y) (length m.first) None m.asked
+    → IsStep c library books at (Ok (ReadsOf n read)) m.seen (reads_between c library m at n read y) (length m.first) (length m.first) None m.asked
 between_step c library books at m n read None held free f g =
     let r : Reply = answer c m.first at.thread (Hold n) in
     let l : OutLine = entry_line library m.first at categories.All r in
@@ -492,7 +520,7 @@ between_step c library books at m n read (Some o) held free f g =
 
 held_step : (c : Setting) (library : Catalog) (books : Books) (at : Caller) (m : Moments) (n : Named) (read : Read) (x : Option Parts) → held_as (open_holds m.seen at.thread) n ≡ x
     → MayFollow c at.thread m.first m.seen → (held_as (open_holds m.seen at.thread) n ≡ None → MayFollow c at.thread m.second (with_call c m.first at.thread (Hold n)))
-    → IsStep c library books at (Ok (ReadsOf n read)) m.seen (reads_of c library m at n read x) (read_moment m x) None m.asked
+    → IsStep c library books at (Ok (ReadsOf n read)) m.seen (reads_of c library m at n read x) (read_moment m x) (read_moment m x) None m.asked
 held_step c library books at m n read (Some o) is f g =
     stays c library books at (Ok (ReadsOf n read)) m.seen None (local library o read) None m.asked
     (λ seen same.
@@ -502,24 +530,28 @@ held_step c library books at m n read (Some o) is f g =
 held_step c library books at m n read None is f g =
     between_step c library books at m n read (object_held (answer c m.first at.thread (Hold n))) refl is f (g is)
 
-pub granted_step : (c : Setting) (library : Catalog) (books : Books) (at : Caller) (m : Moments) (wish : Result Wish Why) (S : History) → AreMomentsOf c (MayFollow c at.thread) at.thread S wish m
-    → IsStep c library books at wish m.seen (granted_at c library books m at wish) (moment_of m at wish) (catalog_op c library books m at.thread wish) m.asked
-granted_step c library books at m (Err why) S of = stays c library books at (Err why) m.seen None (said.Refused why) None m.asked (λ seen same. refl) (λ seen same. refl)
-granted_step c library books at m (Ok (Calls chosen op)) S of = call_step c library books at m chosen op of.first
-granted_step c library books at m (Ok (ReadsOf n read)) S of = held_step c library books at m n read (held_as (open_holds m.seen at.thread) n) refl of.moments.first of.second
-granted_step c library books at m (Ok (Reads read)) S of = own_step c library books at m read (own m.seen at.thread) refl of.first
-granted_step c library books at m (Ok AsksSelection) S of =
-    stays c library books at (Ok AsksSelection) m.seen None (said.Is (selection m.seen at.thread)) None m.asked
-    (λ seen same. ap (λ (n : Named). plain_line at (said.Is n)) (sym (selection_says at.thread seen m.seen same)))
-    (λ seen same. refl)
-granted_step c library books at m (Ok (AsksName chosen)) S of =
-    looks c library books at (Ok (AsksName chosen)) m.seen m.first (Some (sets m.first)) (said.Name (object_name library (global c m.first) chosen)) None m.asked of.first
-    (λ seen same. ap (λ (F : History). name_line c library F at chosen) (sym (oldest_all m.first)))
-    (λ seen same. refl)
-granted_step c library books at m (Ok (OpensCatalog name)) S of = open_step c library books at m name (own m.seen at.thread) refl of.first
-granted_step c library books at m (Ok (GetsMessage h set message default)) S of =
-    stays_asked c library books at (Ok (GetsMessage h set message default)) m.seen m.asked.place None (message_shown books set message default m.asked.reply) (Some (catalogs.Get (handle_meant h))) m.asked
-    (λ seen same. refl) (λ seen same. refl)
-granted_step c library books at m (Ok (ClosesCatalog h)) S of =
-    stays_asked c library books at (Ok (ClosesCatalog h)) m.seen m.asked.place None (handle_reply_shown m.asked.reply) (Some (catalogs.Close (handle_meant h))) m.asked
-    (λ seen same. refl) (λ seen same. refl)
+module _ (cs : CatalogSetting) (catalogs_later : CatalogHistory → CatalogHistory → Type 0) (catalogs_at : CatalogHistory → Type 0) (M : CatalogHistory) where
+  pub granted_step : (c : Setting) (library : Catalog) (books : Books) (at : Caller) (m : Moments) (wish : Result Wish Why) (S : History) → AreMomentsOf c (MayFollow c at.thread) at.thread S wish m
+      → (left : LeftCatalogs cs catalogs_later catalogs_at at.thread M (catalog_op c library books m at.thread wish) (length m.first) (length m.second) m.asked)
+      → IsStep c library books at wish m.seen (granted_at c library books m at wish) (moment_of m at wish)
+      (stamp_by cs catalogs_later catalogs_at M at.thread (length m.first) (length m.second) m.asked (catalog_op c library books m at.thread wish) left (moment_of m at wish))
+      (catalog_op c library books m at.thread wish) m.asked
+  granted_step c library books at m (Err why) S of left = stays c library books at (Err why) m.seen None (said.Refused why) None m.asked (λ seen same. refl) (λ seen same. refl)
+  granted_step c library books at m (Ok (Calls chosen op)) S of left = call_step c library books at m chosen op of.first
+  granted_step c library books at m (Ok (ReadsOf n read)) S of left = held_step c library books at m n read (held_as (open_holds m.seen at.thread) n) refl of.moments.first of.second
+  granted_step c library books at m (Ok (Reads read)) S of left = own_step c library books at m read (own m.seen at.thread) refl of.first
+  granted_step c library books at m (Ok AsksSelection) S of left =
+      stays c library books at (Ok AsksSelection) m.seen None (said.Is (selection m.seen at.thread)) None m.asked
+      (λ seen same. ap (λ (n : Named). plain_line at (said.Is n)) (sym (selection_says at.thread seen m.seen same)))
+      (λ seen same. refl)
+  granted_step c library books at m (Ok (AsksName chosen)) S of left =
+      looks c library books at (Ok (AsksName chosen)) m.seen m.first (Some (sets m.first)) (said.Name (object_name library (global c m.first) chosen)) None m.asked of.first
+      (λ seen same. ap (λ (F : History). name_line c library F at chosen) (sym (oldest_all m.first)))
+      (λ seen same. refl)
+  granted_step c library books at m (Ok (OpensCatalog name)) S of left = open_step cs catalogs_later catalogs_at M c library books at m name (own m.seen at.thread) refl of.moments.first of.second left
+  granted_step c library books at m (Ok (GetsMessage h set message default)) S of left =
+      passes_asked c library books at (Ok (GetsMessage h set message default)) m.seen m.first m.second m.asked.place left.stamp None (message_shown books set message default m.asked.reply) (Some (catalogs.Get (handle_meant h))) m.asked
+      of.moments.first of.second left.since left.until (λ seen same. refl) (λ seen same. refl)
+  granted_step c library books at m (Ok (ClosesCatalog h)) S of left =
+      passes_asked c library books at (Ok (ClosesCatalog h)) m.seen m.first m.second m.asked.place left.stamp None (handle_reply_shown m.asked.reply) (Some (catalogs.Close (handle_meant h))) m.asked
+      of.moments.first of.second left.since left.until (λ seen same. refl) (λ seen same. refl)

@@ -92,14 +92,14 @@ pub record HasLines (c : Setting) (plan : PlanData) (t : ℕ) (S : History) (mad
   pub timed : AreTimed made
   pub places : places_by t S ≡ placed_back made
 
-abbrev pub made_line : Task → OutLine → ℕ → Option catalogs.Op → Asked → Timed
-made_line task l moment op asked = record { task_line = record { task = task; line = l }; moment = moment; op = op; asked = asked }
+abbrev pub made_line : Task → OutLine → ℕ → ℕ → Option catalogs.Op → Asked → Timed
+made_line task l moment stamp op asked = record { task_line = record { task = task; line = l }; moment = moment; stamp = stamp; op = op; asked = asked }
 
 -- the histories that the line goes by
-seen_same : (c : Setting) (plan : PlanData) (at : Caller) (wish : Result Wish Why) (S : History) (done : Outcome) (moment : ℕ) (op : Option catalogs.Op) (asked : Asked) (made : List Timed)
-    → HasLines c plan at.thread S made → IsStep c plan.library (books_of plan) at wish S done moment op asked
+seen_same : (c : Setting) (plan : PlanData) (at : Caller) (wish : Result Wish Why) (S : History) (done : Outcome) (moment stamp : ℕ) (op : Option catalogs.Op) (asked : Asked) (made : List Timed)
+    → HasLines c plan at.thread S made → IsStep c plan.library (books_of plan) at wish S done moment stamp op asked
     → entries_by at.thread (oldest (next_place at.thread (task_lines made)) done.history) ≡ entries_by at.thread S
-seen_same c plan at wish S done moment op asked made has step =
+seen_same c plan at wish S done moment stamp op asked made has step =
     let t : ℕ = at.thread in
     let p : ℕ = next_place t (task_lines made) in
     let here : p ≡ behind (places_by t S) = next_is t made has.own ∙ ap behind (sym has.places) in
@@ -110,17 +110,17 @@ seen_same c plan at wish S done moment op asked made has step =
     ∙ ap (entries_by t) (oldest_grows p step.later.0 S low)
     ∙ all_before t p S high
 
-right_line : (c : Setting) (plan : PlanData) (at : Caller) (S : History) (done : Outcome) (moment : ℕ) (op : Option catalogs.Op) (asked : Asked) (made : List Timed) (task : Task)
+right_line : (c : Setting) (plan : PlanData) (at : Caller) (S : History) (done : Outcome) (moment stamp : ℕ) (op : Option catalogs.Op) (asked : Asked) (made : List Timed) (task : Task)
     → HasLines c plan at.thread S made → at.index ≡ length made + 1
-    → IsStep c plan.library (books_of plan) at (wish_of plan.library (bindings_of at.thread (bound_by (task_lines made))) task) S done moment op asked → caller_of done.line ≡ at
-    → IsRight c plan done.history (task_lines made) (made_line task done.line moment op asked)
-right_line c plan at S done moment op asked made task has index step caller =
+    → IsStep c plan.library (books_of plan) at (wish_of plan.library (bindings_of at.thread (bound_by (task_lines made))) task) S done moment stamp op asked → caller_of done.line ≡ at
+    → IsRight c plan done.history (task_lines made) (made_line task done.line moment stamp op asked)
+right_line c plan at S done moment stamp op asked made task has index step caller =
     let t : ℕ = at.thread in
     let bounds = bound_by (task_lines made) in
     let W : History = done.history in
     let l : OutLine = done.line in
     let thread : t ≡ l.thread = sym (ap (λ (x : Caller). x.thread) caller) in
-    let seen = seen_same c plan at (wish_of plan.library (bindings_of t bounds) task) S done moment op asked made has step in
+    let seen = seen_same c plan at (wish_of plan.library (bindings_of t bounds) task) S done moment stamp op asked made has step in
     record {
       within = step.within;
       since = step.until;
@@ -134,17 +134,17 @@ right_line c plan at S done moment op asked made task has index step caller =
           ∙ ap (λ (k : ℕ). catalog_op c plan.library (books_of plan) (moments_by W (oldest (next_place k (task_lines made)) W) l moment asked) k (wish_of plan.library (bindings_of k bounds) task)) thread;
     }
 
-pub more_lines : (c : Setting) (plan : PlanData) (at : Caller) (S : History) (done : Outcome) (moment : ℕ) (op : Option catalogs.Op) (asked : Asked) (made : List Timed) (task : Task)
+pub more_lines : (c : Setting) (plan : PlanData) (at : Caller) (S : History) (done : Outcome) (moment stamp : ℕ) (op : Option catalogs.Op) (asked : Asked) (made : List Timed) (task : Task)
     → HasLines c plan at.thread S made → at.index ≡ length made + 1
-    → IsStep c plan.library (books_of plan) at (wish_of plan.library (bindings_of at.thread (bound_by (task_lines made))) task) S done moment op asked
-    → HasLines c plan at.thread done.history (made_line task done.line moment op asked ∷ made)
-more_lines c plan at S done moment op asked made task has index step =
-    let m : Timed = made_line task done.line moment op asked in
+    → IsStep c plan.library (books_of plan) at (wish_of plan.library (bindings_of at.thread (bound_by (task_lines made))) task) S done moment stamp op asked
+    → HasLines c plan at.thread done.history (made_line task done.line moment stamp op asked ∷ made)
+more_lines c plan at S done moment stamp op asked made task has index step =
+    let m : Timed = made_line task done.line moment stamp op asked in
     let last = last_within c plan S made has.right in
     let since = step.since in
     record {
       own = All-cons (λ (x : Timed). x.task_line.line.thread ≡ at.thread) m made (ap (λ (x : Caller). x.thread) step.caller) has.own;
-      right = (right_line c plan at S done moment op asked made task has index step step.caller, are_right_grow c plan done.history S made step.later has.right);
+      right = (right_line c plan at S done moment stamp op asked made task has index step step.caller, are_right_grow c plan done.history S made step.later has.right);
       timed = (omega arith, has.timed);
       places = step.places ∙ ap (λ (ps : List ℕ). reverse (places_in done.line.places) ++ ps) has.places;
     }

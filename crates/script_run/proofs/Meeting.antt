@@ -158,6 +158,7 @@ all_met gate f0 f1 f2 os0 os1 os2 first second one two seen long longer order = 
   on = each_end (λ (w : Worker). GoesOnFrom (mine_of w).seen (mine_of f1).seen) os2 f2 (λ i d lt. (two i d (omega (arith, lt, longer))).other) second.saw.later;
   asked = (reader_at f1).seen;
   asked_legal = (first.asked_order order.1).legal;
+  asked_rising = (first.asked_order order.1).rising;
   asked_callers = (first.asked_order order.1).callers;
   asked_from = each_end (λ (w : Worker). readers.GoesOnFrom (reader_at f1).seen (reader_at w).seen) os0 f0 (λ i d lt. (seen i d lt).asked) first.asked_saw.later;
   asked_on = each_end (λ (w : Worker). readers.GoesOnFrom (reader_at w).seen (reader_at f1).seen) os2 f2 (λ i d lt. (two i d (omega (arith, lt, longer))).asked_other) second.asked_saw.later;

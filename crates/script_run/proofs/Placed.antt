@@ -90,12 +90,12 @@ pub record IsBetween (moment end p : ℕ) : Type 0 where
 abbrev pub AreBetween : ℕ → ℕ → List ℕ → Type 0
 AreBetween moment end ps = All (IsBetween moment end) ps
 
-places_between : (at : Places) (moment : ℕ) → StartsAt moment (places_in at) → GoDown (reverse (places_in at)) → AreBetween moment (unwrap_or (behind_last (places_in at)) moment) (reverse (places_in at))
-places_between places.None moment starts down = All-nil (IsBetween moment moment)
-places_between (places.Catalog place) moment starts down = All-nil (IsBetween moment moment)
-places_between (places.One place) moment starts down =
+places_between : (at : Places) (moment stamp : ℕ) → StartsAt moment (places_in at) → GoDown (reverse (places_in at)) → AreBetween moment (unwrap_or (behind_last (places_in at)) stamp) (reverse (places_in at))
+places_between places.None moment stamp starts down = All-nil (IsBetween moment stamp)
+places_between (places.Catalog place) moment stamp starts down = All-nil (IsBetween moment stamp)
+places_between (places.One place) moment stamp starts down =
     All-cons (IsBetween moment (place + 1)) place [] (record { since = omega (arith, starts); until = omega arith }) (All-nil (IsBetween moment (place + 1)))
-places_between (places.Two hold release) moment starts down =
+places_between (places.Two hold release) moment stamp starts down =
     let up : hold < release = All-head (λ (y : ℕ). y < release) hold [] down.0 in
     All-cons (IsBetween moment (release + 1)) release (hold ∷ []) (record { since = omega (arith, starts, up); until = omega arith })
     (All-cons (IsBetween moment (release + 1)) hold [] (record { since = omega (arith, starts); until = omega (arith, up) }) (All-nil (IsBetween moment (release + 1))))
@@ -122,7 +122,7 @@ all_span c plan W (t ∷ ts) right down =
     let ps : List ℕ = places_in t.task_line.line.places in
     let here : GoDown (reverse ps) = down_left (reverse ps) (placed_back ours) (subst (λ (b : Bool). GoDown (placed_back (if b then t ∷ ours else ours))) (eq-eqb who who refl) (down who)) in
     All-cons Spans t ts
-    (record { since = right.0.since; between = places_between t.task_line.line.places t.moment (line_starts c plan W (task_lines ts) t right.0) here; down = here })
+    (record { since = right.0.since; between = places_between t.task_line.line.places t.moment t.stamp (line_starts c plan W (task_lines ts) t right.0) here; down = here })
     (all_span c plan W ts right.1 (λ thread. rest_down t (own_lines thread ts) (t.task_line.line.thread == thread) (down thread)))
 
 -- the places of those that span, where each line has them in a range

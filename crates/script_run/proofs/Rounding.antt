@@ -320,7 +320,7 @@ next_at gate plan rounds lines lines' turns ws worked given met d was for for_as
     (asked_stacked gate.catalogs.terms.setting U V made more round was.asked_whole before
     (subst (λ (k : ℕ). All (λ (t : Timed). t.task_line.line.thread < k) made) (sym agree) was.whole.threads)
     (subst (λ (k : ℕ). All (λ (t : Timed). t.task_line.line.thread < k) (stacked more made k)) (sym agree) whole.threads)
-    all.asked_legal (subst (λ (k : ℕ). catalog_answers.AreThreads k V) (seats_asked ∙ sym agree) all.asked_callers) (chosen.is 0 some).asked_on
+    all.asked_legal all.asked_rising (subst (λ (k : ℕ). catalog_answers.AreThreads k V) (seats_asked ∙ sym agree) all.asked_callers) (chosen.is 0 some).asked_on
     (λ j lt. own j (omega (arith, lt, agree))) (λ j lt. (chosen.is j (omega (arith, lt, agree))).share.of_round) (λ j lt. (chosen.is j (omega (arith, lt, agree))).asked))
     in
     record {

@@ -1,5 +1,5 @@
 -- A plan and the table that its script runs at.
-use Rattle.std.proofs.Common.{◌≡◌, ℕ, ◌+◌, ◌*◌, ◌<◌, Bool, true, false, List, [], ◌∷◌, ◌++◌, length, map, refl, sym, ap, subst, ◌∙◌, arith}
+use Rattle.std.proofs.Common.{◌≡◌, ℕ, ◌+◌, ◌*◌, ◌<◌, ◌≤◌, Bool, true, false, List, [], ◌∷◌, ◌++◌, length, map, refl, sym, ap, subst, ◌∙◌, arith}
 use Rattle.std.specs.Prelude.{All}
 use Rattle.std.specs.List.{range_with_len}
 use Rattle.std.proofs.lemmas.Bool.{false≢true}
@@ -22,6 +22,8 @@ use Rattle.script_plan.specs.Isolation.{IsIsolated}
 use Rattle.script_plan.specs.Plan.{PlanData, books_of}
 use Rattle.script_plan.specs.Prints.{with_tasks, calls_after, history_below, AreAnswered, callers_after, command_calls, all_turns, Prints}
 use Rattle.script_plan.specs.Serial.{setting}
+use Rattle.script_plan.proofs.Orders.{cut_stands}
+use Rattle.catalog_handles.specs.Stamps.{stamp_at}
 use Rattle.script_plan.proofs.LineLists.{increasing}
 use Rattle.script_plan.proofs.RoundTurns.{no_turns, no_closing_turns}
 use Rattle.script_plan.proofs.AnsweredApart.{isolated}
@@ -113,6 +115,11 @@ none_prints plan rows generations none =
         once = λ place lt. absurd (omega (arith, lt));
         threads = λ thread. increasing [] tt;
         rounds = λ round. All-nil (λ (p : ℕ). All (λ (q : ℕ). p < q) []);
+      };
+      one_order = record {
+        rising = tt;
+        threads = λ thread before after is. cut_stands (stamp_at []) 0 0 [] before after (omega arith) is;
+        rounds = λ round. record { table = All-nil (λ (p : ℕ). All (λ (q : ℕ). p < stamp_at [] q) []); catalogs = All-nil (λ (q : ℕ). All (λ (p : ℕ). stamp_at [] q ≤ p) []) };
       };
       answered = subst (λ (ts : List Turn). let ds = with_tasks ts [] in AreAnswered c plan [] [] (calls_after plan.library [] ds) [] ds) (sym nothing) tt;
     }

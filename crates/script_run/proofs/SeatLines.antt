@@ -39,7 +39,7 @@ use Rattle.script_run.specs.Beside.{Stock, stock_of, HasMade, IsWorker, Adds, Ha
 use Rattle.script_run.proofs.AskedSeen.{AsksNext, asks_next}
 use Rattle.script_seats.proofs.HoldLists.{holds_of, apart_holds, kept_all}
 use Rattle.script_seats.proofs.SeatLemmas.{seated_as}
-use Rattle.script_run.proofs.LineSteps.{IsStep, moment_of, granted_step, longer, goes_further, follow_holds, own_entry, own_holds}
+use Rattle.script_run.proofs.LineSteps.{IsStep, moment_of, stamp_by, granted_step, longer, goes_further, follow_holds, own_entry, own_holds}
 use Rattle.script_run.proofs.MadeLines.{HasLines, made_line, more_lines}
 
 -- ---- one turn
@@ -51,9 +51,9 @@ moments_seen c later t H (Ok (ReadsOf n read)) m of = of.moments.seen
 moments_seen c later t H (Ok (Reads read)) m of = of.seen
 moments_seen c later t H (Ok AsksSelection) m of = of.seen
 moments_seen c later t H (Ok (AsksName chosen)) m of = of.seen
-moments_seen c later t H (Ok (OpensCatalog name)) m of = of.seen
-moments_seen c later t H (Ok (GetsMessage h set message default)) m of = of.seen
-moments_seen c later t H (Ok (ClosesCatalog h)) m of = of.seen
+moments_seen c later t H (Ok (OpensCatalog name)) m of = of.moments.seen
+moments_seen c later t H (Ok (GetsMessage h set message default)) m of = of.moments.seen
+moments_seen c later t H (Ok (ClosesCatalog h)) m of = of.moments.seen
 
 pub lines_made : (terms : Terms Setting) (plan : PlanData) (t : ℕ) (S : History) (made : List Timed) (thread : Thread) → HasLines terms.setting plan t S made
     → t ≡ thread.number → S ≡ thread.seen → IsInOrder terms thread → HasMade terms plan thread made
@@ -72,16 +72,26 @@ pub record AddsRight (gate : Gates) (plan : PlanData) (asked : Turn) (old new : 
   pub asked_later : readers.GoesOnFrom new.side.reader.seen old.side.reader.seen
   pub worker : IsWorker gate plan new (newest ∷ made)
 
+-- where it leaves a thread with this number at the catalogs, and the stamp of what they have answered, if anything
+abbrev LeftWith : (gate : Gates) (number : ℕ) (new : Seated) (M : CatalogHistory) (op : Option catalogs.Op) (low high : ℕ) (asked : Asked) (moment stamp : ℕ) → ℕ → Type 0
+LeftWith gate number new M op low high asked moment stamp t =
+    let c : Setting = gate.locales.terms.setting in
+    (left : LeftCatalogs (catalog_setting c) (MayFollowAsked c number) (IsAskingAt gate.catalogs new) t M op low high asked)
+    × (stamp ≡ stamp_by (catalog_setting c) (MayFollowAsked c number) (IsAskingAt gate.catalogs new) M t low high asked op left moment)
+
 -- the step of a turn, and where it leaves the thread
 record Stepped (gate : Gates) (plan : PlanData) (turn : Turn) (old new : ScriptThread Seated) (made : List Timed) (l : OutLine) : Type 0 where
   done : Outcome
   moment : ℕ
+  stamp : ℕ
   line : l ≡ done.line
   op : Option catalogs.Op
   asked : Asked
   now_at : IsSeatedAt gate.locales new.side done.history
-  step : IsStep gate.locales.terms.setting plan.library (books_of plan) (turn_caller old.lines turn) (wish_of plan.library (bindings_of turn.thread (bound_by (task_lines made))) turn.task) old.side.mine.seen done moment op asked
-  left : LeftCatalogs (catalog_setting gate.locales.terms.setting) (MayFollowAsked gate.locales.terms.setting old.side.number) (IsAskingAt gate.catalogs new.side) old.side.number old.side.reader.seen op asked
+  step : IsStep gate.locales.terms.setting plan.library (books_of plan) (turn_caller old.lines turn) (wish_of plan.library (bindings_of turn.thread (bound_by (task_lines made))) turn.task) old.side.mine.seen done moment stamp op asked
+  low : ℕ
+  high : ℕ
+  left : LeftWith gate old.side.number new.side old.side.reader.seen op low high asked moment stamp old.side.number
 
 stepped : (gate : Gates) (plan : PlanData) (turn : Turn) (old new : ScriptThread Seated) (made : List Timed) (l : OutLine) → turn.thread ≡ old.side.number
     → LeavesTurn gate.locales.terms.setting plan.library (books_of plan) (MayFollow gate.locales.terms.setting old.side.number) (MayFollowAsked gate.locales.terms.setting old.side.number)
@@ -96,16 +106,21 @@ stepped gate plan turn old new made l own leaves =
     let of : AreMomentsOf c (MayFollow c turn.thread) turn.thread S wish m = subst (λ (k : ℕ). AreMomentsOf c (MayFollow c k) turn.thread S wish m) (sym own) leaves.1 in
     let done : Outcome = granted_at c plan.library (books_of plan) m at wish in
     let op : Option catalogs.Op = catalog_op c plan.library (books_of plan) m at.thread wish in
+    let moment : ℕ = moment_of m at wish in
+    let stamp : ℕ = stamp_by (catalog_setting c) (MayFollowAsked c old.side.number) (IsAskingAt gate.catalogs new.side) old.side.reader.seen at.thread (length m.first) (length m.second) m.asked op leaves.3 moment in
     record {
       done = done;
-      moment = moment_of m at wish;
+      moment = moment;
+      stamp = stamp;
       op = op;
       asked = m.asked;
-      left = subst (λ (k : ℕ). LeftCatalogs (catalog_setting c) (MayFollowAsked c old.side.number) (IsAskingAt gate.catalogs new.side) k old.side.reader.seen op m.asked) own leaves.3;
+      low = length m.first;
+      high = length m.second;
+      left = subst (LeftWith gate old.side.number new.side old.side.reader.seen op (length m.first) (length m.second) m.asked moment stamp) own (leaves.3, refl);
       line = leaves.2.line;
       now_at = leaves.2.now_at;
-      step = subst (λ (H : History). IsStep c plan.library (books_of plan) at wish H done (moment_of m at wish) op m.asked) (moments_seen c (MayFollow c turn.thread) turn.thread S wish m of)
-          (granted_step c plan.library (books_of plan) at m wish S of);
+      step = subst (λ (H : History). IsStep c plan.library (books_of plan) at wish H done moment stamp op m.asked) (moments_seen c (MayFollow c turn.thread) turn.thread S wish m of)
+          (granted_step (catalog_setting c) (MayFollowAsked c old.side.number) (IsAskingAt gate.catalogs new.side) old.side.reader.seen c plan.library (books_of plan) at m wish S of leaves.3);
     }
 
 step_right : (gate : Gates) (plan : PlanData) (turn : Turn) (old new : ScriptThread Seated) (lines lines' : List OutLine) (made : List Timed) → turn.thread ≡ old.side.number
@@ -116,11 +131,11 @@ step_right gate plan turn old new lines lines' made own worker a s =
     let S : History = old.side.mine.seen in
     let W : History = s.done.history in
     let l : OutLine = s.done.line in
-    let m : Timed = made_line turn.task l s.moment s.op s.asked in
+    let m : Timed = made_line turn.task l s.moment s.stamp s.op s.asked in
     let was = worker.made in
     let number : old.side.mine.number ≡ turn.thread = worker.seated.knows.number ∙ sym own in
     let has : HasLines c plan turn.thread S made = subst (λ (k : ℕ). HasLines c plan k S made) number (record { own = was.own; right = was.right; timed = was.timed; places = was.places }) in
-    let now : HasLines c plan turn.thread W (m ∷ made) = more_lines c plan at S s.done s.moment s.op s.asked made turn.task has (ap (λ (n : ℕ). n + 1) worker.lines) s.step in
+    let now : HasLines c plan turn.thread W (m ∷ made) = more_lines c plan at S s.done s.moment s.stamp s.op s.asked made turn.task has (ap (λ (n : ℕ). n + 1) worker.lines) s.step in
     let seen : W ≡ new.side.mine.seen = sym s.now_at.knows.seen in
     let mine : turn.thread ≡ new.side.mine.number = own ∙ sym a.adds.number ∙ sym s.now_at.knows.number in
     let thread : l.thread ≡ old.side.number = ap (λ (x : Caller). x.thread) s.step.caller ∙ own in
@@ -136,7 +151,7 @@ step_right gate plan turn old new lines lines' made own worker a s =
     let more : new.lines ≡ old.lines + 1 = a.adds.lines in
     let count : old.lines ≡ length made = worker.lines in
     let asks : AsksNext gate.catalogs old.side new.side s.op s.asked made m =
-    asks_next c gate.catalogs old.side new.side s.op s.asked made m worker.agree worker.asking worker.asked a.adds.number refl refl thread s.left
+    asks_next c gate.catalogs old.side new.side s.op s.asked s.low s.high s.moment made m worker.agree worker.asking worker.asked a.adds.number refl refl thread s.left.0 s.left.1
     in
     let bounds = bound_by (task_lines made) in
     let bound = a.adds.variables bounds worker.variables in

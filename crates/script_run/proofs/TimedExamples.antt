@@ -52,7 +52,7 @@ of_nobody = refl
 -- ---- lines with their moments: A makes an object and posts it; B reads it by the handle, between A's calls; then both are closed
 
 abbrev timed : Task → ℕ → ℕ → ℕ → ℕ → Places → Said → Timed
-timed task moment round thread index at reply = record { task_line = record { task = task; line = line_of round thread index at None reply }; moment = moment; op = None; asked = not_asked }
+timed task moment round thread index at reply = record { task_line = record { task = task; line = line_of round thread index at None reply }; moment = moment; stamp = moment; op = None; asked = not_asked }
 
 abbrev made : Timed
 made = timed (Runs (New (codes "x") 2 (codes "a") None)) 0 1 0 1 (places.One 0) (said.Handle (first_of 0))

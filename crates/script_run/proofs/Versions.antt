@@ -46,7 +46,7 @@ entry_version : (c : Setting) (library : Catalog) (W : History) (u : Timed) (cat
 entry_version c library W u categories op more is entries =
     let thread : ℕ = u.task_line.line.thread in
     let first : History = oldest u.moment W in
-    let end : end_of u ≡ length first + 1 = ap (λ (l : OutLine). unwrap_or (behind_last (places_in l.places)) u.moment) is in
+    let end : end_of u ≡ length first + 1 = ap (λ (l : OutLine). unwrap_or (behind_last (places_in l.places)) u.stamp) is in
     let here : IsEntryOf c W (call_of thread (length first, op)) = All-head (IsEntryOf c W) (call_of thread (length first, op)) more entries in
     let after : with_call c first thread op ≡ oldest (end_of u) W =
     ap (λ (G : History). with_call c G thread op) (sym (oldest_again u.moment W)) ∙ sym here.entry ∙ ap (λ (n : ℕ). oldest n W) (sym end)
@@ -140,21 +140,26 @@ timed_if : (b : Bool) (u : Timed) (own : List Timed) → AreTimed (cond b (u ∷
 timed_if true u own timed = timed.1
 timed_if false u own timed = timed
 
-next_or : (o : Option ℕ) (n moment : ℕ) → n ≤ moment → unwrap_or o n ≤ unwrap_or o moment
-next_or None n moment le = le
-next_or (Some k) n moment le = le_refl k
+next_or : (o : Option ℕ) (n stamp : ℕ) → n ≤ unwrap_or o stamp → unwrap_or o n ≤ unwrap_or o stamp
+next_or None n stamp le = le
+next_or (Some k) n stamp le = le_refl k
 
-next_if : (b : Bool) (u : Timed) (own : List Timed) (n : ℕ) → n ≤ last_end own → AreTimed (cond b (u ∷ own) own)
+next_if : (b : Bool) (u : Timed) (own : List Timed) (n : ℕ) → u.moment ≤ end_of u → n ≤ last_end own → AreTimed (cond b (u ∷ own) own)
     → (if b then unwrap_or (behind_last (places_in u.task_line.line.places)) n else n) ≤ last_end (cond b (u ∷ own) own)
-next_if true u own n le timed = let later = timed.0 in next_or (behind_last (places_in u.task_line.line.places)) n u.moment (omega (arith, le, later))
-next_if false u own n le timed = le
+next_if true u own n since le timed = let later = timed.0 in next_or (behind_last (places_in u.task_line.line.places)) n u.stamp (omega (arith, le, later, since))
+next_if false u own n since le timed = le
 
 -- what a thread has seen of its own calls ends where its newest line does, or before
-pub next_up : (thread : ℕ) (ts : List Timed) → AreTimed (own_lines thread ts) → next_place thread (task_lines ts) ≤ last_end (own_lines thread ts)
-next_up thread [] timed = omega arith
-next_up thread (u ∷ ts) timed =
+pub next_up : (thread : ℕ) (ts : List Timed) → All (λ (t : Timed). t.moment ≤ end_of t) ts → AreTimed (own_lines thread ts) → next_place thread (task_lines ts) ≤ last_end (own_lines thread ts)
+next_up thread [] since timed = omega arith
+next_up thread (u ∷ ts) since timed =
     let own : Bool = u.task_line.line.thread == thread in
-    next_if own u (own_lines thread ts) (next_place thread (task_lines ts)) (next_up thread ts (timed_if own u (own_lines thread ts) timed)) timed
+    next_if own u (own_lines thread ts) (next_place thread (task_lines ts)) (All-head (λ (t : Timed). t.moment ≤ end_of t) u ts since)
+    (next_up thread ts (All-tail (λ (t : Timed). t.moment ≤ end_of t) u ts since) (timed_if own u (own_lines thread ts) timed)) timed
+
+all_since : (c : Setting) (plan : PlanData) (W : History) (ts : List Timed) → AreRight c plan W ts → All (λ (t : Timed). t.moment ≤ end_of t) ts
+all_since c plan W [] right = All-nil (λ (t : Timed). t.moment ≤ end_of t)
+all_since c plan W (t ∷ ts) right = All-cons (λ (u : Timed). u.moment ≤ end_of u) t ts right.0.since (all_since c plan W ts right.1)
 
 -- a thread's lines print no version above that of what stands behind them
 version_if : (small : ℕ → Type 0) (b : Bool) (n : ℕ) (u : Timed) (own : List Timed) (rest : List OutLine) → u.moment ≤ end_of u → AreTimed (cond b (u ∷ own) own) → last_end (cond b (u ∷ own) own) ≤ n
@@ -333,7 +338,7 @@ module _ (c : Setting) (plan : PlanData) (W : History) (ts : List Timed) (w : Is
       let right : AreRight c plan W (t ∷ older) = right_here older after t among in
       let this : IsInRound ts t = in_round older after t among in
       let place : ℕ = next_place thread (task_lines older) in
-      let up = next_up thread older own.1 in
+      let up = next_up thread older (all_since c plan W older right.1) own.1 in
       let later = own.0 in
       let since = right.0.since in
       let until = this.until in

@@ -19,10 +19,11 @@ use Rattle.script_plan.proofs.RoundTurns.{rounds_within, closing_round}
 use Rattle.script_run.specs.Timed.{oldest, places_by, Timed, AreTimed, lines_in, task_lines, turn_made, turns_made, placed_back, own_lines, AreRight, IsRight, IsWhole, AreAsked, HasStanding}
 use Rattle.script_run.proofs.Before.{IsBetween, is_between}
 use Rattle.script_run.proofs.Counted.{all_reversed}
-use Rattle.script_run.proofs.Placed.{placed}
+use Rattle.script_run.proofs.Ordering.{one_order}
+use Rattle.script_run.proofs.Placed.{placed, all_span, each_goes_down}
 use Rattle.script_run.proofs.History.{calls_back, right_back, pasts_are, whole_is}
 use Rattle.script_run.proofs.LineAnswered.{line_answered}
-use Rattle.script_run.proofs.AskedPlaces.{IsClosingTask, closing_tasks, all_standing, catalogs_placed}
+use Rattle.script_run.proofs.AskedPlaces.{IsClosingTask, closing_tasks, all_standing, catalogs_placed, asked_with}
 use Rattle.script_run.proofs.Versions.{right_part, back_one, StandsAmong, around_it, right_here, version_is}
 
 -- ---- lists that stand the other way
@@ -195,6 +196,7 @@ module _ (c : Setting) (plan : PlanData) (M W : History) (closing made : List Ti
     catalogs = V;
     callers = callers_are;
     catalogs_placed = catalogs_placed c plan W V closing made w closers asked;
+    one_order = one_order c plan W V all w (asked_with c plan W V closing made w.right closers asked) (all_span c plan W all w.right (each_goes_down c plan W all w));
     placed = placed c plan W closing made plan.bundle.rounds w rounds_of_commands rounds_of_closing timed;
     answered = subst (λ (ds : List TaskLine). AreAnswered c plan lines V (calls_after plan.library [] ds) [] ds) (sym task_lines_are) all_answered;
   }

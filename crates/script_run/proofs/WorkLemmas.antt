@@ -334,7 +334,7 @@ end_line round t place = line (record { round = round; thread = t.side.number; i
 module _ (gate : Gates) (plan : PlanData) (round : ℕ) (mid : ScriptThread Seated) (seat : Caller Setting (ops.Op Share) (replies.Reply Share)) (cached place : ℕ) (made : List Timed) where
   -- the lines with that of the end
   ended_lines : IsWorker gate plan mid made → Answered gate.locales mid.side.mine (thread_of cached seat) End place Ended → IsInOrder gate.locales.terms (thread_of cached seat)
-      → HasMade gate.locales.terms plan (thread_of 0 seat) (made_line Ends (end_line round mid (length (before (thread_of cached seat)))) (length (before (thread_of cached seat))) None not_asked ∷ made)
+      → HasMade gate.locales.terms plan (thread_of 0 seat) (made_line Ends (end_line round mid (length (before (thread_of cached seat)))) (length (before (thread_of cached seat))) (length (before (thread_of cached seat))) None not_asked ∷ made)
   ended_lines worker a is =
       let c : Setting = gate.locales.terms.setting in
       let t : ℕ = mid.side.number in
@@ -350,10 +350,10 @@ module _ (gate : Gates) (plan : PlanData) (round : ℕ) (mid : ScriptThread Seat
       let m : Moments = record { seen = S; first = first; second = first; asked = not_asked } in
       let was = worker.made in
       let has : HasLines c plan t S made = subst (λ (k : ℕ). HasLines c plan k S made) number (record { own = was.own; right = was.right; timed = was.timed; places = was.places }) in
-      let now : HasLines c plan t (with_call c first t End) (made_line Ends (end_line round mid (length first)) (length first) None not_asked ∷ made) =
-      more_lines c plan at S (calls c plan.library first at categories.All End) (length first) None not_asked made Ends has (ap (λ (n : ℕ). n + 1) worker.lines)
+      let now : HasLines c plan t (with_call c first t End) (made_line Ends (end_line round mid (length first)) (length first) (length first) None not_asked ∷ made) =
+      more_lines c plan at S (calls c plan.library first at categories.All End) (length first) (length first) None not_asked made Ends has (ap (λ (n : ℕ). n + 1) worker.lines)
       (call_step c plan.library (books_of plan) at m categories.All End f) in
-      lines_made gate.locales.terms plan t (with_call c first t End) (made_line Ends (end_line round mid (length first)) (length first) None not_asked ∷ made) (thread_of 0 seat) now
+      lines_made gate.locales.terms plan t (with_call c first t End) (made_line Ends (end_line round mid (length first)) (length first) (length first) None not_asked ∷ made) (thread_of 0 seat) now
       (sym (a.same.number ∙ number)) (sym (a.seen ∙ ap (λ (k : ℕ). record { who = k; op = End; reply = Ended } ∷ first) number))
       (record { legal = is.legal; callers = is.callers; calls = is.calls; in_reach = is.in_reach })
 
@@ -365,7 +365,7 @@ closes gate stock plan round old mid seat made lines lines' lines'' same worker 
     let a = e.answered in
     let first : History = before (thread_of e.cached seat) in
     let w = g.works plan made same worker in
-    let m : Timed = made_line Ends (end_line round mid (length first)) (length first) None not_asked in
+    let m : Timed = made_line Ends (end_line round mid (length first)) (length first) (length first) None not_asked in
     let all = ended_lines gate plan round mid seat e.cached e.place (w.more ++ made) w.worker a e.in_order in
     let line_is : end_line round mid e.place ≡ m.task_line.line = ap (end_line round mid) a.place_is in
     let behind = longer first mid.side.mine.seen a.later in

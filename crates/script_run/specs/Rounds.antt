@@ -20,6 +20,7 @@ use Rattle.script_plan.specs.Plan.{PlanData}
 use Rattle.catalog_handles.specs.declared.setting.CatalogSetting.{CatalogSetting}
 use Rattle.catalog_handles.specs.Entry.{History as CatalogHistory}
 use Rattle.catalog_handles.specs.Answer as catalog_answers
+use Rattle.catalog_handles.specs.Stamps.{IsRising}
 use Rattle.catalog_handles.specs.Reader as readers
 use Rattle.catalog_handles.specs.Reader.{ReaderData}
 use Rattle.script_lines.specs.Catalogs.{Books, catalog_setting}
@@ -133,6 +134,7 @@ pub record AllMet (gate : Gates) (olds news : List Worker) : Type 0 where
   pub on : Each news (λ i w. GoesOnFrom (mine_of w).seen met)
   pub asked : CatalogHistory
   pub asked_legal : catalog_answers.IsLegal gate.catalogs.terms.setting asked
+  pub asked_rising : IsRising asked
   pub asked_callers : catalog_answers.AreThreads gate.catalogs.terms.seats asked
   pub asked_from : Each olds (λ i w. readers.GoesOnFrom asked (reader_at w).seen)
   pub asked_on : Each news (λ i w. readers.GoesOnFrom (reader_at w).seen asked)

@@ -9,6 +9,7 @@ use Rattle.catalog_handles.specs.declared.setting.CatalogSetting.{CatalogSetting
 use Rattle.catalog_handles.specs.Entry as catalogs
 use Rattle.catalog_handles.specs.Entry.{History as CatalogHistory}
 use Rattle.catalog_handles.specs.Answer as catalog_answers
+use Rattle.catalog_handles.specs.Stamps.{IsRising}
 use Rattle.script_out.specs.declared.output.OutLine.{OutLine}
 use Rattle.script_lines.specs.Turns.{Turn}
 use Rattle.script_lines.specs.Variables.{bindings_of}
@@ -17,7 +18,7 @@ use Rattle.script_lines.specs.Outcome.{with_call}
 use Rattle.script_lines.specs.Board.{Moments, catalog_op, granted_at}
 use Rattle.script_lines.specs.Catalogs.{Asked}
 use Rattle.script_plan.specs.Plan.{PlanData, books_of}
-use Rattle.script_plan.specs.Prints.{TaskLine, PlacedCall, bound_by, caller_of, places_in, behind_last, next_place, calls_of, IsAsked}
+use Rattle.script_plan.specs.Prints.{TaskLine, PlacedCall, bound_by, caller_of, places_in, behind_last, next_place, calls_of}
 
 -- ---- what stands before a place
 
@@ -38,17 +39,18 @@ catalog_places_by thread (e ∷ M) = if e.who == thread then length M ∷ catalo
 
 -- ---- lines with their moments
 
--- a line with its task, and how many entries stood when it was made: before its first call, or when it read the global locale; and
--- what it asked of the catalogs, if anything, and what they have answered
+-- a line with its task, and how many entries stood when it was made: before its first call, or when it read the global locale, and
+-- when it asked the catalogs, or else the same number; and what it asked of the catalogs, if anything, and what they have answered
 pub record Timed : Type 0 where
   pub task_line : TaskLine
   pub moment : ℕ
+  pub stamp : ℕ
   pub op : Option catalogs.Op
   pub asked : Asked
 
--- how many entries stood behind the line's last call, or at its moment
+-- how many entries stood behind the line's last call, or where it made none when it was done
 abbrev pub end_of : Timed → ℕ
-end_of t = unwrap_or (behind_last (places_in t.task_line.line.places)) t.moment
+end_of t = unwrap_or (behind_last (places_in t.task_line.line.places)) t.stamp
 
 -- the same of the newest line
 abbrev pub last_end : List Timed → ℕ
@@ -163,13 +165,22 @@ pub record IsWhole (c : Setting) (plan : PlanData) (W : History) (ts : List Time
 
 -- ---- what all lines have asked of the catalogs
 
+-- the entry of a history of the catalogs at a place is the thread's, with this op and the answer to what stands before it, and with
+-- this stamp
+pub record IsAskedAt (c : CatalogSetting) (V : CatalogHistory) (thread : ℕ) (op : catalogs.Op) (asked : Asked) (stamp : ℕ) : Type 0 where
+  pub before : CatalogHistory
+  pub behind : CatalogHistory
+  pub whole : V ≡ behind ++ catalog_answers.entry c before thread op stamp ∷ before
+  pub place : asked.place ≡ length before
+  pub reply : asked.reply ≡ catalog_answers.answer c before thread op
+
 -- what a thread has asked and the catalogs have answered stands in a history of theirs
-abbrev pub StandsAsked : CatalogSetting → CatalogHistory → ℕ → Option catalogs.Op → Asked → Type 0
-StandsAsked c V thread None asked = Unit {0}
-StandsAsked c V thread (Some op) asked = IsAsked c V thread op asked
+abbrev pub StandsAsked : CatalogSetting → CatalogHistory → ℕ → Option catalogs.Op → Asked → ℕ → Type 0
+StandsAsked c V thread None asked stamp = Unit {0}
+StandsAsked c V thread (Some op) asked stamp = IsAskedAt c V thread op asked stamp
 
 abbrev pub HasStanding : CatalogSetting → CatalogHistory → Timed → Type 0
-HasStanding c V t = StandsAsked c V t.task_line.line.thread t.op t.asked
+HasStanding c V t = StandsAsked c V t.task_line.line.thread t.op t.asked t.stamp
 
 -- a place is from one number on, and below another
 pub record IsWithin (low high p : ℕ) : Type 0 where
@@ -183,6 +194,7 @@ IsAskedInRound ts t = All (IsWithin (length (asked_back (in_rounds_before t.task
 -- what the lines of all threads have asked are the entries of this history of the catalogs
 pub record AreAsked (c : CatalogSetting) (V : CatalogHistory) (ts : List Timed) : Type 0 where
   pub legal : catalog_answers.IsLegal c V
+  pub rising : IsRising V
   pub callers : catalog_answers.AreThreads c.threads V
   pub standing : All (HasStanding c V) ts
   pub places : (thread : ℕ) → thread < c.threads → catalog_places_by thread V ≡ asked_back (own_lines thread ts)

@@ -10,7 +10,7 @@ use Rattle.lc_base.specs.declared.handle.Named.TheVariants.{Of}
 use Rattle.handle_table.specs.declared.op.Refusal.{Refusal}
 use Rattle.handle_table.specs.Entry.{Op, New, Dup, Free, Use, Hold, Release, SetGlobal, Install, Post, Fetch, Pins, End, Reply, Held, Released, Refused, Entry, History, Setting, is_accepted}
 use Rattle.handle_table.specs.History.{sets, global, global_at}
-use Rattle.handle_table.specs.Answer.{answer, own, IsLegal}
+use Rattle.handle_table.specs.Answer.{answer, IsLegal}
 use Rattle.thread_current.specs.Mine.{HeldData}
 use Rattle.thread_current.specs.Thread.{Thread, IsThreadOf, IsInOrder, entries_by, without_newest, before, Answered, SawMore, IsSameThread, holds}
 use Rattle.script_lines.specs.declared.holds.OpenHold.{OpenHold}
@@ -212,7 +212,7 @@ asking_kept gate old new same number M at = record {
   number = ap (λ (r : ReaderData). r.number) same ∙ at.number ∙ sym number;
 }
 
-asks_kept : (gate : Gate CatalogSetting) (n : ℕ) (old new : Seated) → new.reader ≡ old.reader → new.number ≡ old.number → HasAsks n gate old → HasAsks n gate new
+pub asks_kept : (gate : Gate CatalogSetting) (n : ℕ) (old new : Seated) → new.reader ≡ old.reader → new.number ≡ old.number → HasAsks n gate old → HasAsks n gate new
 asks_kept gate n old new same number may = record {
   seated = asking_kept gate old new same number new.reader.seen
       (subst (IsAskingAt gate old) (sym (ap (λ (r : ReaderData). r.seen) same)) may.seated);

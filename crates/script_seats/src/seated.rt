@@ -172,7 +172,10 @@ impl<'a, R: Wait, G: OneTable> Board for Beside<'a, R, G> {
         side: &mut Seated,
         op: CatalogOp<BookShare>,
     ) -> (u64, CatalogReply<BookShare>) {
-        self.catalogs.turn(self.rt, &mut side.reader, op)
+        let seen = self.shared.reach(self.rt, &mut side.mine, 0);
+        let (place, stamp, reply) = self.catalogs.turn(self.rt, &mut side.reader, op, seen);
+        self.shared.reach(self.rt, &mut side.mine, stamp);
+        (place, reply)
     }
 
     ghost known = { λ _ s H. seated_known G.gate s H };

@@ -1,19 +1,17 @@
 -- The lines of the commands of catalogs: whose they are, that they make no entry of the table, and one of the catalogs where one is asked for.
-use Rattle.std.proofs.Common.{◌≡◌, ℕ, List, [], ◌∷◌, ◌++◌, length, Option, Some, None, Result, Ok, Err, refl, sym, ap, ◌∙◌, append_assoc, append-nil}
-use Rattle.std.specs.Prelude.{option_map}
+use Rattle.std.proofs.Common.{◌≡◌, ℕ, List, [], ◌∷◌, ◌++◌, Option, Some, None, refl, sym, ap, ◌∙◌, append_assoc}
 use Rattle.mask_compose.specs.Parts.{Parts}
 use Rattle.catalog_handles.specs.declared.setting.CatalogSetting.{CatalogSetting}
 use Rattle.catalog_handles.specs.Entry as catalog
 use Rattle.catalog_handles.specs.Entry.{Entry, History as CatalogHistory}
-use Rattle.catalog_handles.specs.Answer.{entry, IsLegal, AreThreads}
+use Rattle.catalog_handles.specs.Answer.{entry, IsLegal}
 use Rattle.category_store.specs.Catalog.{Catalog}
 use Rattle.handle_table.specs.Entry.{History, Setting}
 use Rattle.handle_table.specs.History.{global}
-use Rattle.script_out.specs.declared.output.OutLine.{OutLine}
-use Rattle.script_lines.specs.Catalogs.{Books, Asked, book_for, asked_after, catalogs_after, object_used, open_line}
+use Rattle.script_lines.specs.Catalogs.{Books, Asked, book_for, catalogs_after, open_line}
 use Rattle.script_lines.specs.Lines.{Caller}
 use Rattle.script_lines.specs.Outcome.{opens_line}
-use Rattle.script_plan.specs.Prints.{places_in, catalog_places_in, caller_of}
+use Rattle.script_plan.specs.Prints.{places_in, caller_of}
 
 -- ---- the line of a catopen
 
@@ -52,10 +50,10 @@ go_on M N F first second = record {
   is = second.is ∙ ap (λ (K : CatalogHistory). second.more ++ K) first.is ∙ sym (append_assoc second.more first.more M);
 }
 
-pub op_on : (c : CatalogSetting) (M : CatalogHistory) (thread : ℕ) (op : Option catalog.Op) → GoOnFrom M (catalogs_after c M thread op)
-op_on c M thread None = go_nowhere M
-op_on c M thread (Some op) = record { more = entry c M thread op ∷ []; is = refl }
+pub op_on : (c : CatalogSetting) (M : CatalogHistory) (thread stamp : ℕ) (op : Option catalog.Op) → GoOnFrom M (catalogs_after c M thread stamp op)
+op_on c M thread stamp None = go_nowhere M
+op_on c M thread stamp (Some op) = record { more = entry c M thread op stamp ∷ []; is = refl }
 
-pub op_legal : (c : CatalogSetting) (M : CatalogHistory) (thread : ℕ) (op : Option catalog.Op) → IsLegal c M → IsLegal c (catalogs_after c M thread op)
-op_legal c M thread None legal = legal
-op_legal c M thread (Some op) legal = (refl, legal)
+pub op_legal : (c : CatalogSetting) (M : CatalogHistory) (thread stamp : ℕ) (op : Option catalog.Op) → IsLegal c M → IsLegal c (catalogs_after c M thread stamp op)
+op_legal c M thread stamp None legal = legal
+op_legal c M thread stamp (Some op) legal = (refl, legal)

@@ -11,6 +11,8 @@ pub mod SerialCalls
 pub mod SerialCatalogs
 pub mod SerialLines
 pub mod SerialNewest
+pub mod SerialOrder
 pub mod SerialPrints
 pub mod SerialSeen
 pub mod TurnLemmas
+pub mod Unstamped

@@ -15,7 +15,7 @@ use Rattle.lc_base.specs.declared.handle.Named.{Named}
 use Rattle.handle_table.specs.Entry as table
 use Rattle.handle_table.specs.Entry.{Entry, History, Setting}
 use Rattle.handle_table.specs.History.{sets, global, selection}
-use Rattle.handle_table.specs.Answer.{answer, entry, own, IsLegal}
+use Rattle.handle_table.specs.Answer.{answer, own, IsLegal}
 use Rattle.script_words.specs.declared.categories.CategoryArgument.TheVariants.{All as AllCategories}
 use Rattle.script_commands.specs.declared.command.Read.{Read}
 use Rattle.script_out.specs.declared.output.OutLine.{OutLine}
@@ -33,6 +33,7 @@ use Rattle.script_lines.specs.Outcome.{reads_between, reads_of, read_line, grant
 use Rattle.script_plan.specs.Serial.{Run, next_caller, outcome, with_outcome, played, begun, commands_played, serial_lines, setting, TurnOutcome}
 use Rattle.script_plan.specs.Prints.{TaskLine, with_tasks, bound_by, places_in, all_places, PlacedCall, calls_after, with_placed, history_below, Around, around, past, next_place, seen, global_of, IsReadBetween, IsHoldRefused, IsReadOf, IsRead, IsGranted, AreAnswered, caller_of, caller_after, callers_after, command_calls, all_turns, AreNewest, PrintsInOrder, catalog_places_in, all_catalog_places, IsCatalogCall, IsOpenOf, IsOpen}
 use Rattle.script_plan.proofs.LineLists.{GoUp, is_this, bit_of, count_more}
+use Rattle.script_serial.proofs.Unstamped.{unstamped, unstamped_append, unstamped_length, answer_same}
 use Rattle.script_serial.proofs.SerialLines.{granted_caller, next_is, first_places, IsCounted, one_turn, granted_places, added, added_append}
 use Rattle.script_serial.proofs.SerialCalls.{call_at, calls_from, calls_length, find_newest, legal_before, same_entry, past_is, granted_legal, granted_gains, wish_in, task_line_of, line_thread, bound_next, calls_here, calls_played, with_tasks_first}
 use Rattle.script_serial.proofs.SerialSeen.{own_past, next_of, own_seen, selection_seen, holds_seen, own_back, granted_next}
@@ -156,7 +157,7 @@ pub record Comes (x : Around) (H : History) (M : CatalogHistory) (at : Caller) (
   pub rest : List ℕ
   pub many : ℕ
   pub at_next : places_in l.places ++ rest ≡ range_with_len (length H) many
-  pub catalogs : GoOnFrom M x.catalogs
+  pub catalogs : GoOnFrom (unstamped M) (unstamped x.catalogs)
   pub catalogs_rest : List ℕ
   pub catalogs_many : ℕ
   pub catalogs_at_next : catalog_places_in l.places ++ catalogs_rest ≡ range_with_len (length M) catalogs_many
@@ -215,10 +216,10 @@ read_same x H M at l read None k r =
     ∙ ap (λ (v : ℕ). global_read_line x.plan.library at read v (global_of x v)) version
     ∙ ap (global_read_line x.plan.library at read (sets H)) (global_is k)
 
--- the line is this one, and the catalogs go on from this history of theirs
+-- the line is this one, and the catalogs go on from this history of theirs, but for stamps
 pub record IsNext (x : Around) (printed : OutLine) (M : CatalogHistory) (l : OutLine) : Type 0 where
   pub line : l ≡ printed
-  pub catalogs : GoOnFrom M x.catalogs
+  pub catalogs : GoOnFrom (unstamped M) (unstamped x.catalogs)
 
 -- two ways to cut a list at one length from its end are one
 same_end : (es bs M N : CatalogHistory) → es ++ M ≡ bs ++ N → length M ≡ length N → (M ≡ N) × (es ≡ bs)
@@ -239,7 +240,7 @@ same_end (a ∷ es) (b ∷ bs) M N is same =
 -- the line of a call of the catalogs has their next place, and prints the answer to what they were asked before
 call_same : (x : Around) (H : History) (M : CatalogHistory) (at : Caller) (l : OutLine) (op : catalog.Op) (printed : Asked → OutLine)
     → ((a : Asked) → catalog_places_in (printed a).places ≡ a.place ∷ []) → Comes x H M at l → IsCatalogCall x at l op printed
-    → IsNext x (printed (asked_after (catalog_setting x.setting) M at.thread (Some op))) (catalogs_after (catalog_setting x.setting) M at.thread (Some op)) l
+    → IsNext x (printed (asked_after (catalog_setting x.setting) M at.thread (Some op))) (catalogs_after (catalog_setting x.setting) M at.thread (length H) (Some op)) l
 call_same x H M at l op printed placed k r =
     let c : CatalogSetting = catalog_setting x.setting in
     let t : ℕ = at.thread in
@@ -247,23 +248,31 @@ call_same x H M at l op printed placed k r =
     let here : catalog_places_in l.places ≡ a.place ∷ [] = ap (λ (m : OutLine). catalog_places_in m.places) r.is ∙ placed a in
     let place : a.place ≡ length M = first_is a.place k.catalogs_rest (length M) k.catalogs_many (ap (λ (ps : List ℕ). ps ++ k.catalogs_rest) (sym here) ∙ k.catalogs_at_next) in
     let N : CatalogHistory = r.stands.before in
-    let e : catalog.Entry = catalog_answers.entry c N t op in
-    let long : length M ≡ length N = sym place ∙ r.stands.place in
-    let cut : (M ≡ N) × (k.catalogs.more ≡ r.stands.behind ++ e ∷ []) =
-    same_end k.catalogs.more (r.stands.behind ++ e ∷ []) M N (sym k.catalogs.is ∙ r.stands.whole ∙ sym (append_assoc r.stands.behind (e ∷ []) N)) long
+    let reply : CatalogHistory → catalog.Reply = λ (K : CatalogHistory). catalog_answers.answer c K t op in
+    let behind : CatalogHistory = unstamped r.stands.behind in
+    let e : catalog.Entry = record { who = t; op = op; reply = reply N; stamp = 0 } in
+    let whole : unstamped x.catalogs ≡ behind ++ e ∷ unstamped N = ap unstamped r.stands.whole ∙ unstamped_append r.stands.behind (catalog_answers.entry c N t op r.stands.stamp ∷ N) in
+    let long : length (unstamped M) ≡ length (unstamped N) = unstamped_length M ∙ sym place ∙ r.stands.place ∙ sym (unstamped_length N) in
+    let cut : (unstamped M ≡ unstamped N) × (k.catalogs.more ≡ behind ++ e ∷ []) =
+    same_end k.catalogs.more (behind ++ e ∷ []) (unstamped M) (unstamped N) (sym k.catalogs.is ∙ whole ∙ sym (append_assoc behind (e ∷ []) (unstamped N))) long
     in
+    let answers : reply N ≡ reply M = sym (answer_same c N t op) ∙ ap reply (sym cut.0) ∙ answer_same c M t op in
     let asked : a ≡ asked_after c M t (Some op) =
     ap (λ (p : ℕ). record { place = p; reply = a.reply }) place
-    ∙ ap (λ (q : catalog.Reply). record { place = length M; reply = q }) (r.stands.reply ∙ ap (λ (K : CatalogHistory). catalog_answers.answer c K t op) (sym cut.0))
+    ∙ ap (λ (q : catalog.Reply). record { place = length M; reply = q }) (r.stands.reply ∙ answers)
     in
     record {
       line = r.is ∙ ap printed asked;
-      catalogs = record { more = r.stands.behind; is = r.stands.whole ∙ ap (λ (K : CatalogHistory). r.stands.behind ++ catalog_answers.entry c K t op ∷ K) (sym cut.0) };
+      catalogs = record {
+        more = behind;
+        is = whole ∙ ap (λ (q : catalog.Reply). behind ++ record { who = t; op = op; reply = q; stamp = 0 } ∷ unstamped N) answers
+            ∙ ap (λ (K : CatalogHistory). behind ++ record { who = t; op = op; reply = reply M; stamp = 0 } ∷ K) (sym cut.0);
+      };
     }
 
 open_same : (x : Around) (H : History) (M : CatalogHistory) (at : Caller) (l : OutLine) (version n : Option ℕ) → Comes x H M at l → IsOpenOf x at l version n
     → let op = option_map catalog.Open n in
-    IsNext x (open_line at version (asked_after (catalog_setting x.setting) M at.thread op) n) (catalogs_after (catalog_setting x.setting) M at.thread op) l
+    IsNext x (open_line at version (asked_after (catalog_setting x.setting) M at.thread op) n) (catalogs_after (catalog_setting x.setting) M at.thread (length H) op) l
 open_same x H M at l version None k is = record { line = is; catalogs = k.catalogs }
 open_same x H M at l version (Some n) k r = call_same x H M at l (catalog.Open n) (λ (a : Asked). open_line at version a (Some n)) (λ a. refl) k r
 
@@ -274,7 +283,7 @@ open_printed x at l version (Some n) r = (ap (λ (m : OutLine). places_in m.plac
 
 opens_same : (x : Around) (H : History) (M : CatalogHistory) (at : Caller) (l : OutLine) (name : List ℕ) (object : Option Parts) → Comes x H M at l → IsOpen x at l name object
     → let op = option_map catalog.Open (book_for x.plan.library (books_of x.plan) (object_used object (global x.setting H)) name) in
-    IsNext x (opens_line x.setting x.plan.library (books_of x.plan) H at name (asked_after (catalog_setting x.setting) M at.thread op) object) (catalogs_after (catalog_setting x.setting) M at.thread op) l
+    IsNext x (opens_line x.setting x.plan.library (books_of x.plan) H at name (asked_after (catalog_setting x.setting) M at.thread op) object) (catalogs_after (catalog_setting x.setting) M at.thread (length H) op) l
 opens_same x H M at l name (Some object) k is = open_same x H M at l None (book_for x.plan.library (books_of x.plan) object name) k is
 opens_same x H M at l name None k r =
     let n : Parts → Option ℕ = λ (o : Parts). book_for x.plan.library (books_of x.plan) o name in
@@ -338,7 +347,7 @@ pub record AreLeft (c : Setting) (plan : PlanData) (all : List OutLine) (V : Cat
   pub counted : IsCounted run
   pub callers : map caller_of lines ≡ callers_after (map caller_of run.lines) turns
   pub placed : Left (length run.history) (all_places lines)
-  pub catalogs : GoOnFrom run.catalogs V
+  pub catalogs : GoOnFrom (unstamped run.catalogs) (unstamped V)
   pub catalogs_placed : Left (length run.catalogs) (all_catalog_places lines)
   pub are_answered : AreAnswered c plan all V calls before (with_tasks turns lines)
   pub newest : AreNewest c calls run.lines lines
@@ -397,7 +406,7 @@ line_is c plan all V calls run before turn turns l lines w =
 -- the lines that are left after one more turn, where its line is the one that it leaves
 one_left : (c : Setting) (plan : PlanData) (all : List OutLine) (V : CatalogHistory) (calls : List PlacedCall) (run : Run) (before : List TaskLine) (turn : Turn) (turns : List Turn) (lines : List OutLine)
     → let done = outcome c plan.library (books_of plan) run turn in
-    AreLeft c plan all V calls run before (turn ∷ turns) (done.line ∷ lines) → GoOnFrom done.catalogs V → AreLeft c plan all V calls (with_outcome run turn done) (task_line_of turn done.line ∷ before) turns lines
+    AreLeft c plan all V calls run before (turn ∷ turns) (done.line ∷ lines) → GoOnFrom (unstamped done.catalogs) (unstamped V) → AreLeft c plan all V calls (with_outcome run turn done) (task_line_of turn done.line ∷ before) turns lines
 one_left c plan all V calls run before turn turns lines w on =
     let done : TurnOutcome = outcome c plan.library (books_of plan) run turn in
     let l : OutLine = done.line in
@@ -506,7 +515,7 @@ only_serial rows generations plan lines w =
       counted = refl;
       callers = w.prints.callers;
       placed = record { many = length (all_places lines); is = range_is 0 (all_places lines) up (λ k d lt. omega arith) (λ p low high. w.prints.placed.once p (omega (arith, high))) };
-      catalogs = record { more = V; is = sym (append-nil V) };
+      catalogs = record { more = unstamped V; is = sym (append-nil (unstamped V)) };
       catalogs_placed = record {
         many = length (all_catalog_places lines);
         is = range_is 0 (all_catalog_places lines) catalogs_up (λ k d lt. omega arith) (λ p low high. w.prints.catalogs_placed.once p (omega (arith, high)));

@@ -104,31 +104,31 @@ of_judged x H F at n read (Some object) j on = refl
 of_judged x H F at n read None j on = between_judged x H F at n read (object_held (answer x.setting H at.thread (table.Hold n))) j refl on
 
 -- what the catalogs have answered stands in their history
-call_judged : (x : Around) (M : CatalogHistory) (at : Caller) (op : catalog.Op) (printed : Asked → OutLine) → GoOnFrom (catalogs_after (catalog_setting x.setting) M at.thread (Some op)) x.catalogs
+call_judged : (x : Around) (M : CatalogHistory) (stamp : ℕ) (at : Caller) (op : catalog.Op) (printed : Asked → OutLine) → GoOnFrom (catalogs_after (catalog_setting x.setting) M at.thread stamp (Some op)) x.catalogs
     → IsCatalogCall x at (printed (asked_after (catalog_setting x.setting) M at.thread (Some op))) op printed
-call_judged x M at op printed on = record {
+call_judged x M stamp at op printed on = record {
   asked = asked_after (catalog_setting x.setting) M at.thread (Some op);
-  stands = record { before = M; behind = on.more; whole = on.is; place = refl; reply = refl };
+  stands = record { before = M; behind = on.more; stamp = stamp; whole = on.is; place = refl; reply = refl };
   is = refl;
 }
 
-open_judged : (x : Around) (M : CatalogHistory) (at : Caller) (version n : Option ℕ) → GoOnFrom (catalogs_after (catalog_setting x.setting) M at.thread (option_map catalog.Open n)) x.catalogs
+open_judged : (x : Around) (M : CatalogHistory) (stamp : ℕ) (at : Caller) (version n : Option ℕ) → GoOnFrom (catalogs_after (catalog_setting x.setting) M at.thread stamp (option_map catalog.Open n)) x.catalogs
     → IsOpenOf x at (open_line at version (asked_after (catalog_setting x.setting) M at.thread (option_map catalog.Open n)) n) version n
-open_judged x M at version None on = refl
-open_judged x M at version (Some n) on = call_judged x M at (catalog.Open n) (λ (a : Asked). open_line at version a (Some n)) on
+open_judged x M stamp at version None on = refl
+open_judged x M stamp at version (Some n) on = call_judged x M stamp at (catalog.Open n) (λ (a : Asked). open_line at version a (Some n)) on
 
 opens_judged : (x : Around) (H F : History) (M : CatalogHistory) (at : Caller) (name : List ℕ) (object : Option Parts) → Judges x H F at → GoesOnFrom H F
     → let op = option_map catalog.Open (book_for x.plan.library (books_of x.plan) (object_used object (global x.setting H)) name) in
-    GoOnFrom (catalogs_after (catalog_setting x.setting) M at.thread op) x.catalogs
+    GoOnFrom (catalogs_after (catalog_setting x.setting) M at.thread (length H) op) x.catalogs
     → IsOpen x at (opens_line x.setting x.plan.library (books_of x.plan) H at name (asked_after (catalog_setting x.setting) M at.thread op) object) name object
-opens_judged x H F M at name (Some object) j on asked = open_judged x M at None (book_for x.plan.library (books_of x.plan) object name) asked
+opens_judged x H F M at name (Some object) j on asked = open_judged x M (length H) at None (book_for x.plan.library (books_of x.plan) object name) asked
 opens_judged x H F M at name None j on asked =
     let n : Parts → Option ℕ = λ (o : Parts). book_for x.plan.library (books_of x.plan) o name in
     let line : OutLine = open_line at (Some (sets H)) (asked_after (catalog_setting x.setting) M at.thread (option_map catalog.Open (n (global x.setting H)))) (n (global x.setting H)) in
     record {
       version = sets H;
       bounds = j.version;
-      opens = subst (λ (o : Parts). IsOpenOf x at line (Some (sets H)) (n o)) (sym (global_is x H F at j on)) (open_judged x M at (Some (sets H)) (n (global x.setting H)) asked);
+      opens = subst (λ (o : Parts). IsOpenOf x at line (Some (sets H)) (n o)) (sym (global_is x H F at j on)) (open_judged x M (length H) at (Some (sets H)) (n (global x.setting H)) asked);
     }
 
 -- the line of a wish is as the relation says
@@ -170,8 +170,8 @@ granted_judged x H F M at (Ok (OpensCatalog name)) j on asked =
     let same : own H t ≡ own (seen x t) t = sym (ap (λ (G : History). own G t) (seen_is x H F at j on) ∙ own_seen H t) in
     subst (IsOpen x at (opens_line x.setting x.plan.library (books_of x.plan) H at name (asked_after (catalog_setting x.setting) M t (own_op (own H t))) (own H t)) name) same
     (opens_judged x H F M at name (own H t) j on asked)
-granted_judged x H F M at (Ok (GetsMessage h set message default)) j on asked = call_judged x M at (catalog.Get (handle_meant h)) (λ (a : Asked). message_line (books_of x.plan) at set message default a) asked
-granted_judged x H F M at (Ok (ClosesCatalog h)) j on asked = call_judged x M at (catalog.Close (handle_meant h)) (λ (a : Asked). close_line at a) asked
+granted_judged x H F M at (Ok (GetsMessage h set message default)) j on asked = call_judged x M (length H) at (catalog.Get (handle_meant h)) (λ (a : Asked). message_line (books_of x.plan) at set message default a) asked
+granted_judged x H F M at (Ok (ClosesCatalog h)) j on asked = call_judged x M (length H) at (catalog.Close (handle_meant h)) (λ (a : Asked). close_line at a) asked
 
 -- ---- the bounds of a version
 
@@ -188,7 +188,7 @@ added_rounds c library books round run (turn ∷ turns) from =
     (subst (λ (r : ℕ). round ≤ r) (sym (line_round c library books run turn)) (All-head (λ (u : Turn). round ≤ u.round) turn turns from))
     (added_rounds c library books round (with_outcome run turn done) turns (All-tail (λ (u : Turn). round ≤ u.round) turn turns from))
 
-grown : (c : Setting) (library : Catalog) (books : Books) (run : Run) (turn : Turn) → length run.history ≤ length (outcome c library books run turn).history
+pub grown : (c : Setting) (library : Catalog) (books : Books) (run : Run) (turn : Turn) → length run.history ≤ length (outcome c library books run turn).history
 grown c library books run turn =
     let on = turn_on c library books run turn in
     let long = length-append on.more run.history in
@@ -214,7 +214,7 @@ read_places_from : (c : Setting) (library : Catalog) (H : History) (at : Caller)
 read_places_from c library H at read (Some object) = none_below (length H)
 read_places_from c library H at read None = none_below (length H)
 
-granted_places_from : (c : Setting) (library : Catalog) (books : Books) (H : History) (M : CatalogHistory) (at : Caller) (w : Result Wish Why) → All (λ (p : ℕ). length H ≤ p) (places_in (granted c library books H M at w).line.places)
+pub granted_places_from : (c : Setting) (library : Catalog) (books : Books) (H : History) (M : CatalogHistory) (at : Caller) (w : Result Wish Why) → All (λ (p : ℕ). length H ≤ p) (places_in (granted c library books H M at w).line.places)
 granted_places_from c library books H M at (Err why) = none_below (length H)
 granted_places_from c library books H M at (Ok (Calls categories op)) = one_below (length H) (length H) (le_refl (length H))
 granted_places_from c library books H M at (Ok (ReadsOf n read)) = of_places_from c library H at n read (held_as (open_holds H at.thread) n)

@@ -1,5 +1,5 @@
 -- The history of the catalogs of `serial`: it goes on from turn to turn, is a legal one of the script's threads, and each line has the places of its entries.
-use Rattle.std.proofs.Common.{◌≡◌, ℕ, ◌<◌, List, [], ◌∷◌, ◌++◌, length, Option, Some, None, Result, Ok, Err, refl, sym, ap, subst, ◌∙◌}
+use Rattle.std.proofs.Common.{◌≡◌, ℕ, ◌<◌, List, [], ◌∷◌, ◌++◌, length, Option, Some, None, Result, Ok, Err, ap, ◌∙◌}
 use Rattle.std.specs.Prelude.{option_map, All}
 use Rattle.std.proofs.lemmas.List.{append-nil}
 use Rattle.std.proofs.lemmas.List.Elements.{All-head, All-tail}
@@ -37,7 +37,7 @@ abbrev pub turn_op : Setting → Catalog → Books → Run → Turn → Option c
 turn_op c library books run turn = catalog_op_of c library books run.history turn.thread (wish_of library (bindings_of turn.thread run.bindings) turn.task)
 
 pub turn_catalogs_on : (c : Setting) (library : Catalog) (books : Books) (run : Run) (turn : Turn) → GoOnFrom run.catalogs (outcome c library books run turn).catalogs
-turn_catalogs_on c library books run turn = op_on (catalog_setting c) run.catalogs turn.thread (turn_op c library books run turn)
+turn_catalogs_on c library books run turn = op_on (catalog_setting c) run.catalogs turn.thread (length run.history) (turn_op c library books run turn)
 
 pub played_catalogs_on : (c : Setting) (library : Catalog) (books : Books) (run : Run) (turns : List Turn) → GoOnFrom run.catalogs (played c library books run turns).catalogs
 played_catalogs_on c library books run [] = go_nowhere run.catalogs
@@ -49,18 +49,18 @@ pub played_catalogs_legal : (c : Setting) (library : Catalog) (books : Books) (r
 played_catalogs_legal c library books run [] legal = legal
 played_catalogs_legal c library books run (turn ∷ turns) legal =
     played_catalogs_legal c library books (with_outcome run turn (outcome c library books run turn)) turns
-    (op_legal (catalog_setting c) run.catalogs turn.thread (turn_op c library books run turn) legal)
+    (op_legal (catalog_setting c) run.catalogs turn.thread (length run.history) (turn_op c library books run turn) legal)
 
-op_threads : (n : ℕ) (c : CatalogSetting) (M : CatalogHistory) (thread : ℕ) (op : Option catalog.Op) → thread < n → AreThreads n M → AreThreads n (catalogs_after c M thread op)
-op_threads n c M thread None lt of = of
-op_threads n c M thread (Some op) lt of = (lt, of)
+op_threads : (n : ℕ) (c : CatalogSetting) (M : CatalogHistory) (thread stamp : ℕ) (op : Option catalog.Op) → thread < n → AreThreads n M → AreThreads n (catalogs_after c M thread stamp op)
+op_threads n c M thread stamp None lt of = of
+op_threads n c M thread stamp (Some op) lt of = (lt, of)
 
 pub played_catalogs_threads : (n : ℕ) (c : Setting) (library : Catalog) (books : Books) (run : Run) (turns : List Turn) → All (λ (t : Turn). t.thread < n) turns → AreThreads n run.catalogs
     → AreThreads n (played c library books run turns).catalogs
 played_catalogs_threads n c library books run [] all of = of
 played_catalogs_threads n c library books run (turn ∷ turns) all of =
     played_catalogs_threads n c library books (with_outcome run turn (outcome c library books run turn)) turns (All-tail (λ (t : Turn). t.thread < n) turn turns all)
-    (op_threads n (catalog_setting c) run.catalogs turn.thread (turn_op c library books run turn) (All-head (λ (t : Turn). t.thread < n) turn turns all) of)
+    (op_threads n (catalog_setting c) run.catalogs turn.thread (length run.history) (turn_op c library books run turn) (All-head (λ (t : Turn). t.thread < n) turn turns all) of)
 
 -- ---- the places of its entries
 
@@ -68,16 +68,16 @@ played_catalogs_threads n c library books run (turn ∷ turns) all of =
 abbrev Enters : CatalogHistory → OutLine → CatalogHistory → Type 0
 Enters M l N = first_places (length M) ++ catalog_places_in l.places ≡ first_places (length N)
 
-open_enters : (c : CatalogSetting) (M : CatalogHistory) (at : Caller) (version : Option ℕ) (n : Option ℕ)
-    → Enters M (open_line at version (asked_after c M at.thread (option_map catalog.Open n)) n) (catalogs_after c M at.thread (option_map catalog.Open n))
-open_enters c M at version None = no_place (length M)
-open_enters c M at version (Some n) = one_place (length M)
+open_enters : (c : CatalogSetting) (M : CatalogHistory) (stamp : ℕ) (at : Caller) (version : Option ℕ) (n : Option ℕ)
+    → Enters M (open_line at version (asked_after c M at.thread (option_map catalog.Open n)) n) (catalogs_after c M at.thread stamp (option_map catalog.Open n))
+open_enters c M stamp at version None = no_place (length M)
+open_enters c M stamp at version (Some n) = one_place (length M)
 
 opens_enters : (c : Setting) (library : Catalog) (books : Books) (H : History) (M : CatalogHistory) (at : Caller) (name : List ℕ) (object : Option Parts)
     → let op = option_map catalog.Open (book_for library books (object_used object (global c H)) name) in
-    Enters M (opens_line c library books H at name (asked_after (catalog_setting c) M at.thread op) object) (catalogs_after (catalog_setting c) M at.thread op)
-opens_enters c library books H M at name (Some object) = open_enters (catalog_setting c) M at None (book_for library books object name)
-opens_enters c library books H M at name None = open_enters (catalog_setting c) M at (Some (sets H)) (book_for library books (global c H) name)
+    Enters M (opens_line c library books H at name (asked_after (catalog_setting c) M at.thread op) object) (catalogs_after (catalog_setting c) M at.thread (length H) op)
+opens_enters c library books H M at name (Some object) = open_enters (catalog_setting c) M (length H) at None (book_for library books object name)
+opens_enters c library books H M at name None = open_enters (catalog_setting c) M (length H) at (Some (sets H)) (book_for library books (global c H) name)
 
 between_enters : (c : Setting) (library : Catalog) (H : History) (M : CatalogHistory) (at : Caller) (n : Named) (read : Read) (object : Option Parts) → Enters M (reads_between c library H at n read object).line M
 between_enters c library H M at n read None = no_place (length M)

@@ -2,7 +2,7 @@
 use Rattle.std.proofs.Common.{◌≡◌, ℕ, zero, suc, ◌+◌, ◌<◌, ◌≤◌, Bool, true, false, cond, List, [], ◌∷◌, ◌++◌, length, map, flat_map, refl, sym, ap, subst, ◌∙◌, arith, inl, inr}
 use Rattle.std.specs.Prelude.{◌==◌, nat_lt, nat_le, count_by, All}
 use Rattle.std.specs.List.{range_with_len}
-use Rattle.std.proofs.lemmas.Bool.{cases_lt, lt-ltb, le-ltb, lt-leb, eqb-true}
+use Rattle.std.proofs.lemmas.Bool.{cases_lt, lt-ltb, le-ltb, lt-leb, le-leb, eqb-true}
 use Rattle.std.proofs.lemmas.List.Elements.{All-nil, All-cons, All-head, All-tail, All-append, All-weaker, All-map}
 use Rattle.std.proofs.lemmas.List.FromFn.{length-range_with_len}
 use Rattle.category_store.specs.Catalog.{Catalog}
@@ -15,16 +15,19 @@ use Rattle.script_plan.specs.Plan.{PlanData, books_of}
 use Rattle.script_lines.specs.Holds.{open_holds}
 use Rattle.script_lines.specs.Turns.{Turn, first_numbers, in_round, in_thread, turn_of, thread_turns, round_turns, command_turns, closing_turn, releases, closing, closing_turns, Releases, Ends}
 use Rattle.script_plan.specs.Serial.{Run, outcome, with_outcome, played, begun, commands_played, serial_lines, setting}
-use Rattle.script_plan.specs.Prints.{TaskLine, with_tasks, places_in, all_places, of_thread, before_round, from_round, PlacedCall, calls_after, history_below, caller_of, callers_after, command_calls, all_turns, AreAnswered, ArePlaced, Prints, AreInOrder, catalog_places_in, all_catalog_places, AreCatalogsPlaced, AreCatalogsInOrder}
-use Rattle.script_plan.proofs.LineLists.{filter_true, filter_none, all_kept, GoUp, AreBelow, increasing, range_up, up_right, up_below, up_kept, count_once}
+use Rattle.script_plan.specs.Prints.{TaskLine, with_tasks, places_in, all_places, of_thread, before_round, from_round, PlacedCall, calls_after, history_below, caller_of, callers_after, command_calls, all_turns, AreAnswered, ArePlaced, Prints, AreInOrder, catalog_places_in, all_catalog_places, AreCatalogsPlaced, AreCatalogsInOrder, HaveOneOrder}
+use Rattle.script_plan.proofs.LineLists.{filter_all, filter_true, filter_none, all_kept, GoUp, AreBelow, increasing, range_up, up_right, up_below, up_kept, count_once}
 use Rattle.script_serial.proofs.SerialLines.{first_places, all_turns_counted, callers_played, played_append, added, played_lines, added_append}
 use Rattle.script_serial.proofs.SerialCalls.{calls_from, calls_length, past_is, played_legal, calls_played, with_tasks_first, line_round}
 use Rattle.script_serial.proofs.SerialAnswered.{AreByRound, added_rounds, IsOnItsWay, are_answered}
 use Rattle.script_plan.proofs.GoingOn.{goes_nowhere}
 use Rattle.script_plan.proofs.RoundTurns.{flat_all, AreOf, round_is, rounds_within, closing_round}
 use Rattle.script_lines.specs.Catalogs.{Books, catalog_setting}
+use Rattle.script_plan.proofs.Orders.{Follow, follow_kept, cut_stands}
+use Rattle.script_serial.proofs.SerialOrder.{played_rises, lines_follow}
 use Rattle.script_serial.proofs.SerialCatalogs.{played_catalogs_legal, played_catalogs_threads, all_turns_entered}
 use Rattle.catalog_handles.specs.Answer.{AreThreads, IsLegal as CatalogLegal}
+use Rattle.catalog_handles.specs.Stamps.{IsRising, stamp_at}
 use Rattle.catalog_handles.specs.declared.setting.CatalogSetting.{CatalogSetting}
 use Rattle.catalog_handles.specs.Entry.{History as CatalogHistory}
 
@@ -138,6 +141,33 @@ are_catalogs_placed c M lines by entered legal of =
       threads = λ thread. increasing (all_catalog_places (of_thread thread lines)) (up_kept at_catalogs (λ (l : OutLine). l.thread == thread) lines up);
       rounds = λ round. rounds_apart at_catalogs round lines by up;
     }
+
+-- ---- one order of all calls
+
+-- what is before a round, and what is not, are two parts of the lines
+round_cut : (round : ℕ) (lines : List OutLine) → AreLinesByRound lines → lines ≡ before_round round lines ++ from_round round lines
+round_cut round [] by = refl
+round_cut round (l ∷ lines) by =
+    elim (cases_lt l.round round) [
+      | inl lt ↦
+          ap (λ (ls : List OutLine). l ∷ ls) (round_cut round lines by.1)
+          ∙ ap (λ (ls : List OutLine). ls ++ from_round round lines) (sym (before_here round l lines lt))
+          ∙ ap (λ (ls : List OutLine). before_round round (l ∷ lines) ++ ls) (sym (from_later round l lines lt))
+      | inr le ↦
+          let Late : OutLine → Type 0 = λ (m : OutLine). nat_le round m.round ≡ true in
+          let all : from_round round (l ∷ lines) ≡ l ∷ lines =
+          filter_all (λ (m : OutLine). nat_le round m.round) (l ∷ lines)
+          (All-cons Late l lines (le-leb round l.round le) (All-weaker (λ (m : OutLine). l.round ≤ m.round) Late (λ m h. le-leb round m.round (omega (arith, h, le))) lines by.0))
+          in
+          sym all ∙ ap (λ (ls : List OutLine). ls ++ from_round round (l ∷ lines)) (sym (before_none round l lines le by.0))
+    ]
+
+have_one_order : (M : CatalogHistory) (high : ℕ) (lines : List OutLine) → IsRising M → AreLinesByRound lines → Follow (stamp_at M) 0 lines high → HaveOneOrder M lines
+have_one_order M high lines rising by follow = record {
+  rising = rising;
+  threads = λ thread before after is. cut_stands (stamp_at M) 0 high (of_thread thread lines) before after (follow_kept (stamp_at M) (λ (l : OutLine). l.thread == thread) 0 high lines follow) is;
+  rounds = λ round. cut_stands (stamp_at M) 0 high lines (before_round round lines) (from_round round lines) follow (round_cut round lines by);
+}
 
 -- ---- turns are of the threads
 
@@ -265,6 +295,8 @@ module _ (rows generations : ℕ) (plan : PlanData) where
     callers = callers_are;
     catalogs_placed = are_catalogs_placed (catalog_setting c) catalogs lines (lines_by_round c plan.library (books_of plan) begun turns (turns_by_round plan.bundle commanded)) catalog_places_are
         (played_catalogs_legal c plan.library (books_of plan) begun turns tt) (played_catalogs_threads (length plan.bundle.threads) c plan.library (books_of plan) begun turns (turns_of_threads plan.bundle commanded) tt);
+    one_order = have_one_order catalogs (length whole) lines (played_rises c plan.library (books_of plan) begun turns tt (omega arith)) (lines_by_round c plan.library (books_of plan) begun turns (turns_by_round plan.bundle commanded))
+        (lines_follow c plan.library (books_of plan) begun turns);
     placed = are_placed plan.bundle.rounds (length whole) lines (lines_by_round c plan.library (books_of plan) begun turns (turns_by_round plan.bundle commanded)) places_are;
     answered = subst (λ (ts : List Turn). let ds = with_tasks ts lines in AreAnswered c plan lines catalogs (calls_after plan.library [] ds) [] ds) (sym turns_are) all_answered;
   }

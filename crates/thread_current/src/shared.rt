@@ -574,6 +574,19 @@ impl<P: Part> Shared<P> {
         self.turns.meet(ended, &mut mine.seat);
     }
 
+    /// Looks until the history has so many entries, or more, and gives how many it has: the thread has then seen them. No
+    /// turn is taken, and what is kept of the global locale stays.
+    pub fn reach<R: Wait>(&self, rt: &R, mine: &mut Mine<P>, least: u64) -> u64
+        requires { IsThreadOf self.now mine.old }
+        ensures saw { SawMore mine.old mine.new }
+        ensures keeps { Keeps mine.old mine.new }
+        ensures in_order { IsInOrder self.now.terms mine.new }
+        ensures count { result ≡ length mine.new.seen }
+        ensures least { least ≤ result }
+    {
+        self.turns.reach(rt, &mut mine.seat, least)
+    }
+
     /// The global object that the thread read last, with its version. `None` exactly where the version
     /// is another by now. It is one load of a word.
     pub fn cached(&self, mine: &mut Mine<P>) -> Option<(u32, Object<P>)>

@@ -1,5 +1,5 @@
 -- What a seat knows while it waits for the turn.
-use Rattle.std.proofs.Common.{◌≡◌, ℕ, ◌%◌, ◌≤◌, length, List, [], ◌∷◌, ◌++◌, Option, Some, true, false, refl, sym, ap, ◌∙◌, subst, append_assoc}
+use Rattle.std.proofs.Common.{◌≡◌, ℕ, ◌%◌, ◌≤◌, length, List, [], ◌∷◌, ◌++◌, Option, Some, true, false, refl, sym, ap, ◌∙◌, subst, append_assoc, append-nil}
 use Rattle.atomic_table.specs.Table.{Me, Step}
 use Rattle.atomic_table.specs.declared.shared.Seat.{Seat}
 use Rattle.turn_gate.specs.declared.entry.Terms.{Terms}
@@ -40,6 +40,21 @@ module _ {M S O R : Type 0} where
           seen = subst (λ (X : History O R). Extends X s.me.0.seen) (sym now) (extends_both H t.me.0.seen s.me.0.seen look.2.seen later.seen);
           me = look.1 ∙ (ap (λ (m : Me (Option M) (View S O R)). (record m.0 { seen = H; told = [] }, m.1)) later.me ∙ ap (λ (X : History O R). (record s.me.0 { seen = X; told = [] }, [])) (sym now));
         }
+
+    -- a look of a seat that has seen more is one of the seat as it was
+    pub look_later : (s t : Place M S O R) (n : ℕ) (m : Me (Option M) (View S O R)) → IsLater s t → s.me.1 ≡ [] → s.me.0.told ≡ [] → Looks legal version t.me n m → Looks legal version s.me n m
+    look_later s t n m later bare quiet look =
+        let H : History O R = look.0 in (
+          H,
+          look.1 ∙ ap (λ (k : Me (Option M) (View S O R)). (record k.0 { seen = H; told = [] }, k.1)) later.me ∙ ap (λ (X : List (ℕ × Option M)). (record s.me.0 { seen = H; told = [] }, X)) (sym bare),
+          record {
+            seen = extends_both H t.me.0.seen s.me.0.seen look.2.seen later.seen;
+            told = subst (λ (X : History O R). Extends H X) (sym quiet) (H, sym (append-nil H));
+            counted = look.2.counted;
+            versions = look.2.versions;
+            orderly = λ terms known. subst (λ (ts : List (Ticket O R)). Orderly legal terms ts H) (ap (λ k. k.0.tickets) later.me) (look.2.orderly terms (ap (λ k. k.0.terms) later.me ∙ known));
+          },
+        )
 
     module _ (stands : M → History O R → Type 0) (setting : M → S) (terms : Terms S) where
       pub later_take : (s t u : Place M S O R) (st : Step (Option M)) (n : ℕ) → IsLater s t → s.me.0.terms ≡ Some terms → st.first % 2 ≡ 0 → n ≡ st.first

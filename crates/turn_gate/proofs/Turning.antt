@@ -55,6 +55,12 @@ module _ {M S O R : Type 0} (legal : S → History O R → Type 0) where
         let fits = quotas_bound terms.seats terms.quota look.0 o.below o.quotas in
         version_of_word look.2.counted.0 (length look.0) (version look.0) n look.2.counted.1 (omega arith) ∙ ap (λ (m : Me (Option M) (View S O R)). version m.0.seen) (sym look.1)
 
+    pub look_count : (n : ℕ) (terms : Terms S) (me me' : Me (Option M) (View S O R)) → me.0.terms ≡ Some terms → terms.seats * terms.quota < 2147483648 → Looks legal version me n me' → n % 4294967296 / 2 ≡ length me'.0.seen
+    look_count n terms me me' known small look =
+        let o = look.2.orderly terms known in
+        let fits = quotas_bound terms.seats terms.quota look.0 o.below o.quotas in
+        count_of_word look.2.counted.0 (length look.0) (version look.0) n look.2.counted.1 (omega arith) ∙ ap (λ (m : Me (Option M) (View S O R)). length m.0.seen) (sym look.1)
+
     pub seated_order : (number : ℕ) (terms : Terms S) (me : Me (Option M) (View S O R)) → me.0.terms ≡ Some terms → Seated legal number me → InOrder legal terms number me.0.seen (own_of me.0.tickets)
     seated_order number terms me known s = s.in_order terms known
 

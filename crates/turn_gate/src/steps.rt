@@ -1,5 +1,5 @@
 //! The steps on the words and the slot, by one seat each.
-ghost use Rattle.std.specs.Prelude.{◌≡◌, ℕ, ◌+◌, ◌*◌, ◌/◌, ◌%◌, ◌^◌, ◌<◌, [], false};
+ghost use Rattle.std.specs.Prelude.{◌≡◌, ℕ, ◌+◌, ◌*◌, ◌/◌, ◌%◌, ◌^◌, ◌<◌, ◌≤◌, [], false};
 ghost use Rattle.atomic_table.specs.Table.{step};
 ghost use mathlib.Core.Option.{none};
 ghost use Rattle.std.specs.Prelude.{Some, ◌∷◌, ◌++◌};
@@ -51,6 +51,30 @@ pub(crate) fn look<M: Machine>(board: &Board<M>, place: &mut Place<M>) -> u64
     ensures looks { Looks M.legal M.version_of place.old.me result place.new.me }
 {
     board.load::<Look>(place, 0)
+}
+
+/// Loads the first word until it counts so many entries, or more, and gives it.
+pub(crate) fn reach<M: Machine, R: Wait>(
+    rt: &R,
+    board: &Board<M>,
+    place: &mut Place<M>,
+    least: u64,
+) -> u64
+    requires table { (place.old.table_id ≡ board.now.table_id) × (board.now.table_id.words ≡ 2) }
+    requires bare { place.old.me.1 ≡ [] }
+    requires quiet { place.old.me.0.told ≡ [] }
+    ensures seat { (place.new.table_id ≡ place.old.table_id) × (place.new.id ≡ place.old.id) }
+    ensures looks { Looks M.legal M.version_of place.old.me result place.new.me }
+    ensures least { least ≤ result % 4294967296 / 2 }
+{
+    for _ in rt.forever() {
+        let word = board.load::<Look>(place, 0);
+        if count_in(word) >= least {
+            return word;
+        }
+        thread::yield_now();
+    }
+    unreachable!()
 }
 
 // Waits while another seat has the turn: it lets other threads run at first, and then sleeps until a release.

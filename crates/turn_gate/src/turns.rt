@@ -11,7 +11,7 @@ use crate::machine::Machine;
 use crate::open::{Room, lay, seat};
 use crate::rule::Nothing;
 use crate::seat::Seat;
-use crate::steps::{clear_word, count_in, enter, look, release, take, tell, version_in};
+use crate::steps::{clear_word, count_in, enter, look, reach, release, take, tell, version_in};
 use lc_base::List;
 use std::alloc::{AllocError, Global};
 use std::marker::{Brand, Model};
@@ -77,6 +77,20 @@ impl<M: Machine> Turns<M> {
     {
         let board = &self.table.shared;
         version_in(look(board, &mut seat.place))
+    }
+
+    /// Looks until the history has so many entries, or more, and gives how many it has. Each look is one load of a word:
+    /// no turn is taken.
+    pub fn reach<R: Wait>(&self, rt: &R, seat: &mut Seat<M>, least: u64) -> u64
+        requires { IsSeatOf self.now seat.old }
+        ensures same { IsSameCaller seat.old seat.new × (seat.new.own ≡ seat.old.own) }
+        ensures later { Extends seat.new.seen seat.old.seen }
+        ensures count { result ≡ length seat.new.seen }
+        ensures least { least ≤ result }
+        ensures in_order { InOrder M.legal self.now.terms seat.new.number seat.new.seen seat.new.own }
+    {
+        let board = &self.table.shared;
+        count_in(reach(rt, board, &mut seat.place, least))
     }
 
     /// Makes one step of the machine as the caller that the seat is, and gives the place of the one new entry and its reply.

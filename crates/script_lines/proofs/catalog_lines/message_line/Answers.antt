@@ -6,4 +6,4 @@ use Rattle.script_lines.proofs.catalog_lines.message_line.Goals as goal
 
 pub returns-clause-leaves : goal.returns-clause-leaves
 returns-clause-leaves g c =
-    λ library H M here there. message_leaves (g.B.Board.setting_of c.args.board.now) library c.args.books.now (g.B.Board.later (g.B.Board.setting_of c.args.board.now) (g.B.Side.Side.number_of c.args.side.now)) (g.B.Board.catalogs_later (g.B.Board.setting_of c.args.board.now) (g.B.Side.Side.number_of c.args.side.now)) (g.B.Board.at c.catalog-place.new.self c.catalog-place.new.side) (g.B.Board.catalogs_at c.catalog-place.new.self c.catalog-place.new.side) H M (caller c.args.at) c.args.handle c.handle_meant-h.result c.args.wanted.set c.args.wanted.message c.args.wanted.default.now (g.B.Side.Side.number_of c.args.side.now) c.catalog-place.result.0 (reply_of number_of c.catalog-place.result.1) c.in_ok-said.said c.line.result c.requires.caller (c.catalog-place.ensures.table H here) (g.met.B.Board.stays c.args.board.now c.args.side.now H here) c.handle_meant-h.ensures (c.catalog-place.ensures.answers M there) c.in_ok-said.ensures c.line.ensures
+    λ library H M here there. message_leaves (g.B.Board.setting_of c.args.board.now) library c.args.books.now (g.B.Board.later (g.B.Board.setting_of c.args.board.now) (g.B.Side.Side.number_of c.args.side.now)) (g.B.Board.catalogs_later (g.B.Board.setting_of c.args.board.now) (g.B.Side.Side.number_of c.args.side.now)) (g.B.Board.at c.catalog-place.new.self c.catalog-place.new.side) (g.B.Board.catalogs_at c.catalog-place.new.self c.catalog-place.new.side) H M (caller c.args.at) c.args.handle c.handle_meant-h.result c.args.wanted.set c.args.wanted.message c.args.wanted.default.now (g.B.Side.Side.number_of c.args.side.now) c.catalog-place.result.0 (reply_of number_of c.catalog-place.result.1) c.in_ok-said.said c.line.result c.requires.caller (g.met.B.Board.stays c.args.board.now c.args.side.now H here) c.handle_meant-h.ensures (c.catalog-place.ensures.answers H M here there) c.in_ok-said.ensures c.line.ensures

@@ -1,4 +1,4 @@
-use Rattle.std.proofs.Common.{◌≡◌, List, ◌++◌, map, sym, ap, ◌∙◌}
+use Rattle.std.proofs.Common.{List, ◌++◌, map, sym, ap, ◌∙◌}
 use Rattle.catalog_handles.specs.Reader.{ReaderData, reader_of}
 use Rattle.catalog_handles.proofs.Calls.{all_unused, first_readers}
 use Rattle.catalog_handles.proofs.shared.SharedCatalogs.new.Goals as goal

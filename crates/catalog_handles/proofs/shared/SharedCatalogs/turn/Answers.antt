@@ -4,10 +4,10 @@ use Rattle.catalog_handles.proofs.Calls.{Turned, turned}
 use Rattle.catalog_handles.proofs.shared.SharedCatalogs.turn.Given as given
 use Rattle.catalog_handles.proofs.shared.SharedCatalogs.turn.Goals as goal
 
-whole : (g : given.Over) (c : goal.After-turn g) → Turned c.args.self.now c.args.reader.now (reader_of g.B.Part.number c.turn.new.seat) (op_of g.B.Part.number c.args.op) c.turn.result.0 (reply_of g.B.Part.number c.turn.result.1)
+whole : (g : given.Over) (c : goal.After-turn-place g) → Turned c.args.self.now c.args.reader.now (reader_of g.B.Part.number c.turn-place.new.seat) (op_of g.B.Part.number c.args.op) c.args.least c.turn-place.result.0 c.turn-place.result.1.stamp (reply_of g.B.Part.number c.turn-place.result.1.reply)
 whole g c =
-    let e = c.turn.ensures in
-    turned g.B.Part.number c.self.inside.turns c.args.self.now c.reader.inside.seat c.turn.new.seat c.args.reader.now c.args.op c.turn.result.0 c.turn.result.1
+    let e = c.turn-place.ensures in
+    turned g.B.Part.number c.self.inside.turns c.args.self.now c.reader.inside.seat c.turn-place.new.seat c.args.reader.now (record { op = c.args.op; least = c.args.least }) c.turn-place.result.0 c.turn-place.result.1
     c.self.view_is c.reader.view_is c.requires.thread e.same e.entry e.own e.in_order
 
 pub invariant_of-reader : goal.invariant_of-reader

@@ -1,0 +1,30 @@
+-- The stamps of entries (our own): logical time, by which a history is put in order with another one.
+use Rattle.std.specs.Prelude.{ℕ, ◌≤◌, ◌==◌, if◌then◌else◌, [], ◌∷◌, length}
+use Rattle.turn_gate.specs.History as turns
+use Rattle.catalog_handles.specs.declared.stamped.StampedOp.{StampedOp}
+use Rattle.catalog_handles.specs.declared.stamped.StampedReply.{StampedReply}
+use Rattle.catalog_handles.specs.Entry.{History}
+
+-- the stamp of the newest entry, and 0 before the first
+abbrev pub last_stamp : History → ℕ
+last_stamp [] = 0
+last_stamp (e ∷ H) = e.stamp
+
+-- along a history stamps never fall
+abbrev pub IsRising : History → Type 0
+IsRising [] = Unit {0}
+IsRising (e ∷ H) = (last_stamp H ≤ e.stamp) × IsRising H
+
+-- the stamp of the entry at a place
+abbrev pub stamp_at : History → ℕ → ℕ
+stamp_at [] place = 0
+stamp_at (e ∷ H) place = if length H == place then e.stamp else stamp_at H place
+
+-- the same of calls on the turns, of which each asks for a stamp that is not below a number
+abbrev pub last_given : {B : Type 0} → turns.History (StampedOp B) (StampedReply B) → ℕ
+last_given [] = 0
+last_given (e ∷ H) = e.reply.stamp
+
+abbrev pub AreGiven : {B : Type 0} → turns.History (StampedOp B) (StampedReply B) → Type 0
+AreGiven [] = Unit {0}
+AreGiven (e ∷ H) = (e.op.least ≤ e.reply.stamp) × (last_given H ≤ e.reply.stamp) × AreGiven H
