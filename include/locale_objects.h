@@ -19,11 +19,17 @@
  * LOBJ_TOO_SMALL. Under any code but LOBJ_OK a buffer for a text is as it was; that of lobj_read is for the
  * line of a fault.
  *
- * No pointer may be null, even for a text or a buffer of 0 bytes, but the one that is given to
- * lobj_library_free. No call checks this, but LOBJ_NONNULL below lets compilers warn of a null constant
- * (-Wall), and the sanitizer of undefined behavior stop at any null. What a call writes through two pointers
- * may not overlap, nor the other arguments; each points to as many bytes or elements as its size says; a
- * `bool` is true or false; no size is over PTRDIFF_MAX. Nothing checks these.
+ * A pointer to a text, to a buffer, or to amounts or numbers may be null where its size is 0, and
+ * lobj_library_free takes a null. No other pointer may be null. No call checks this, but LOBJ_NONNULL below lets
+ * compilers warn of a null constant (-Wall), and the sanitizer of undefined behavior stop at any null. What a call
+ * writes through two pointers may not overlap, nor the other arguments; each points to as many bytes or elements
+ * as its size says; a `bool` is true or false; no size is over PTRDIFF_MAX. Nothing checks these.
+ *
+ * The promise of nulls is kept by macros at the end of this header, which have the names of the calls and hand
+ * each null of a size on as a pointer to what is not looked at. What takes a call's address, or calls it without
+ * this header, passes no null.
+ *
+ * Each call is content with 64 KiB of stack.
  */
 #ifndef LOCALE_OBJECTS_H
 #define LOCALE_OBJECTS_H
@@ -34,8 +40,9 @@
 #include <stdio.h>
 #include <time.h>
 
-/* The version of the library. */
+/* The version of the library, as a text and as a number: 100 of a major version and 1 of a minor one. */
 #define LOBJ_VERSION "1.0"
+#define LOBJ_VERSION_NUMBER 100
 
 #ifdef __cplusplus
 extern "C" {
@@ -44,8 +51,17 @@ extern "C" {
 /* Says of a call that none of its pointers is null. */
 #if defined __GNUC__
 #define LOBJ_NONNULL __attribute__((nonnull))
+#define LOBJ_NONNULL_AT(...) __attribute__((nonnull(__VA_ARGS__)))
 #else
 #define LOBJ_NONNULL
+#define LOBJ_NONNULL_AT(...)
+#endif
+
+/* Says of a call that its answer is to be looked at. */
+#if defined __GNUC__
+#define LOBJ_ANSWERS __attribute__((warn_unused_result))
+#else
+#define LOBJ_ANSWERS
 #endif
 
 /* A library of compiled locales. */
@@ -81,7 +97,11 @@ enum {
     /* The locale has no class with the name or the number. */
     LOBJ_NO_CLASS = 13,
     /* The text does not meet the format at byte `n` of the text. */
-    LOBJ_MISMATCH = 14
+    LOBJ_MISMATCH = 14,
+    /* The charset of the locale's LC_CTYPE is not UTF-8. */
+    LOBJ_NOT_UTF8 = 15,
+    /* The text is not UTF-8: its first `n` bytes are, and no more. */
+    LOBJ_BAD_CHARACTER = 16
 };
 
 typedef struct lobj_answer {
@@ -198,9 +218,26 @@ enum {
     LOBJ_NEGATIVE_SIGN
 };
 
+/* The number of items and of texts of localeconv. */
+enum {
+    LOBJ_ITEMS = LOBJ_CRNCYSTR + 1,
+    LOBJ_CONV_TEXTS = LOBJ_NEGATIVE_SIGN + 1,
+    LOBJ_TEXTS = LOBJ_ITEMS + LOBJ_CONV_TEXTS
+};
+
+/*
+ * Where the texts of lobj_texts begin in their buffer: first each item by its number, then each text of
+ * localeconv by its number; and last where the last one ends, with its NUL.
+ */
+typedef struct lobj_table {
+    size_t starts[LOBJ_TEXTS + 1];
+} lobj_table;
+
 /*
  * Reads charmaps and locale sources, in the form of a bundle (docs/BUNDLE.md), and gives the library that
- * they make. Commands in the text are read, too, and ignored. What `*out` was before is not looked at.
+ * they make. Commands in the text are read, too, and ignored: a wrong one is a fault of the text. Message
+ * catalogs are passed over: a wrong line `.catalog` is a fault, but what stands between it and its `.end` is not
+ * looked at, and no call reads it. What `*out` was before is not looked at.
  *
  * LOBJ_BAD_TEXT: the text breaks a rule; `place` is where, and the buffer has the line `refused: L:C REASON`
  * that names it (docs/REFUSALS.md), a newline at its end. LOBJ_TOO_SMALL: it does, and the line does not fit;
@@ -208,7 +245,10 @@ enum {
  * and only a refusal writes `place` and the buffer. Once the call has returned, nothing refers to the text.
  */
 lobj_answer lobj_read(const char *text, size_t length, lobj_library **out, lobj_place *place, char *buffer,
-                      size_t size) LOBJ_NONNULL;
+                      size_t size) LOBJ_NONNULL LOBJ_ANSWERS;
+
+/* The version of the library that is linked: LOBJ_VERSION_NUMBER of the header that belongs to it. */
+uint32_t lobj_version(void);
 
 /* Frees a library that is no null pointer. Its locales are then those of no library. */
 void lobj_library_end(lobj_library *library) LOBJ_NONNULL;
@@ -227,7 +267,24 @@ void lobj_posix_locale(const lobj_library *library, lobj_locale *out) LOBJ_NONNU
  * LOBJ_NO_LOCALE (the base), LOBJ_BAD_MASK, LOBJ_NO_DATA: `out` is as it was.
  */
 lobj_answer lobj_newlocale(const lobj_library *library, uint32_t mask, const char *name, size_t length,
-                           lobj_locale base, lobj_locale *out) LOBJ_NONNULL;
+                           lobj_locale base, lobj_locale *out) LOBJ_NONNULL LOBJ_ANSWERS;
+
+/*
+ * The name of the locale that has the category of a mask with one bit: the one that was named, also where its source
+ * copies the category of another (getlocalename_l of later versions of POSIX). With LOBJ_ALL_MASK the name that all
+ * five categories have, or where they have several, the mixed name with the part of each, which lobj_newlocale reads
+ * again. That of the POSIX locale is `C`. LOBJ_NO_LOCALE, LOBJ_BAD_MASK (any other mask), LOBJ_TOO_SMALL.
+ */
+lobj_answer lobj_locale_name(char *buffer, size_t size, const lobj_library *library, lobj_locale locale,
+                             uint32_t mask) LOBJ_NONNULL LOBJ_ANSWERS;
+
+/*
+ * The name of the compiled locale with a number: `C` of 0, and of i that of the i-th `.locale` or `.later` block of
+ * the text by place. LOBJ_NO_ITEM: there is none with the number, nor with a larger one. So the names of a library
+ * are those from 1 up to there; a name with later versions comes once with each. LOBJ_TOO_SMALL.
+ */
+lobj_answer lobj_library_name(char *buffer, size_t size, const lobj_library *library, uint32_t number)
+                              LOBJ_NONNULL LOBJ_ANSWERS;
 
 /*
  * The text of amounts by a format (XSH strfmon_l), each of units / 10^scale in the currency of the locale's
@@ -236,15 +293,16 @@ lobj_answer lobj_newlocale(const lobj_library *library, uint32_t mask, const cha
  * LOBJ_NO_LOCALE, LOBJ_BAD_AMOUNT, LOBJ_BAD_FORMAT, LOBJ_MISSING, LOBJ_TOO_SMALL.
  */
 lobj_answer lobj_strfmon(char *buffer, size_t size, const lobj_library *library, lobj_locale locale,
-                         const char *format, size_t length, const lobj_amount *amounts, size_t count) LOBJ_NONNULL;
+                         const char *format, size_t length, const lobj_amount *amounts, size_t count)
+                         LOBJ_NONNULL LOBJ_ANSWERS;
 
 /*
  * The text of a time by a format, with the name of its time zone (XSH strftime_l).
  * LOBJ_NO_LOCALE, LOBJ_TM_RANGE, LOBJ_BAD_FORMAT, LOBJ_TOO_SMALL.
  */
 lobj_answer lobj_strftime(char *buffer, size_t size, const lobj_library *library, lobj_locale locale,
-                          const char *format, size_t length, const lobj_tm *tm, const char *zone,
-                          size_t zone_length) LOBJ_NONNULL;
+                          const char *format, size_t length, const lobj_tm *tm, const char *zone, size_t zone_length)
+                          LOBJ_NONNULL LOBJ_ANSWERS;
 
 /*
  * The text of whole numbers by a format with `d`, `i` and `u` (XSH fprintf). Extra numbers are ignored, and so
@@ -252,49 +310,87 @@ lobj_answer lobj_strftime(char *buffer, size_t size, const lobj_library *library
  * LOBJ_NO_LOCALE, LOBJ_BAD_FORMAT, LOBJ_MISSING, LOBJ_TOO_SMALL.
  */
 lobj_answer lobj_int_format(char *buffer, size_t size, const lobj_library *library, lobj_locale locale,
-                            const char *format, size_t length, const int64_t *numbers, size_t count) LOBJ_NONNULL;
+                            const char *format, size_t length, const int64_t *numbers, size_t count)
+                            LOBJ_NONNULL LOBJ_ANSWERS;
+
+/*
+ * The whole number that a text spells as `%'d` prints it in this locale, with its groups and `-`. What `%'d` prints
+ * of any int64_t is read back. Under another code `out` is as it was. LOBJ_NO_LOCALE; LOBJ_MISMATCH: the text spells
+ * no number of an int64_t so.
+ */
+lobj_answer lobj_int_read(const lobj_library *library, lobj_locale locale, const char *text, size_t length,
+                          int64_t *out) LOBJ_NONNULL LOBJ_ANSWERS;
 
 /* The text of an item (XSH nl_langinfo_l). LOBJ_NO_LOCALE, LOBJ_NO_ITEM, LOBJ_TOO_SMALL. */
 lobj_answer lobj_nl_langinfo(char *buffer, size_t size, const lobj_library *library, lobj_locale locale,
-                             uint32_t item) LOBJ_NONNULL;
+                             uint32_t item) LOBJ_NONNULL LOBJ_ANSWERS;
+
+/*
+ * All items and all texts of localeconv at once, each with a NUL behind it, in one buffer, with their places; `n`
+ * is the size of all. A program that makes such a table of a locale reads each text from then on without a call, by
+ * lobj_item_in and lobj_conv_text_in, for as long as it keeps the buffer. LOBJ_TOO_SMALL: `n` is the size that all
+ * need; buffer and table are as they were, as under LOBJ_NO_LOCALE.
+ */
+lobj_answer lobj_texts(char *buffer, size_t size, const lobj_library *library, lobj_locale locale, lobj_table *table)
+                       LOBJ_NONNULL LOBJ_ANSWERS;
 
 /* A text of localeconv by its number (XSH localeconv). LOBJ_NO_LOCALE, LOBJ_NO_ITEM, LOBJ_TOO_SMALL. */
 lobj_answer lobj_conv_text(char *buffer, size_t size, const lobj_library *library, lobj_locale locale,
-                           uint32_t number) LOBJ_NONNULL;
+                           uint32_t number) LOBJ_NONNULL LOBJ_ANSWERS;
 
 /* The numbers of localeconv (XSH localeconv). LOBJ_NO_LOCALE, where the fields are as they were. */
-lobj_answer lobj_localeconv(const lobj_library *library, lobj_locale locale, lobj_lconv *fields) LOBJ_NONNULL;
+lobj_answer lobj_localeconv(const lobj_library *library, lobj_locale locale, lobj_lconv *fields)
+                            LOBJ_NONNULL LOBJ_ANSWERS;
 
 /*
  * Whether a wide character is of the class with a name (XSH iswctype_l): `n` is 1 or 0.
  * LOBJ_NO_LOCALE, LOBJ_NO_CLASS.
  */
 lobj_answer lobj_iswctype(const lobj_library *library, lobj_locale locale, uint32_t value, const char *class_name,
-                          size_t length) LOBJ_NONNULL;
+                          size_t length) LOBJ_NONNULL LOBJ_ANSWERS;
 
 /*
  * The number of the class with a name (XSH wctype_l) as `n`, for lobj_isclass, which need not look for the
  * name. It is of the locale's LC_CTYPE. LOBJ_NO_LOCALE, LOBJ_NO_CLASS.
  */
-lobj_answer lobj_wctype(const lobj_library *library, lobj_locale locale, const char *class_name, size_t length) LOBJ_NONNULL;
+lobj_answer lobj_wctype(const lobj_library *library, lobj_locale locale, const char *class_name, size_t length)
+                        LOBJ_NONNULL LOBJ_ANSWERS;
 
 /*
  * Whether a wide character is of the class with a number: as lobj_iswctype answers by the name. A number
  * that another locale gave is one of this locale: that of a class that may have another name, or of none,
  * which is LOBJ_NO_CLASS. LOBJ_NO_LOCALE, LOBJ_NO_CLASS.
  */
-lobj_answer lobj_isclass(const lobj_library *library, lobj_locale locale, uint32_t value, size_t class_number) LOBJ_NONNULL;
+lobj_answer lobj_isclass(const lobj_library *library, lobj_locale locale, uint32_t value, size_t class_number)
+                         LOBJ_NONNULL LOBJ_ANSWERS;
+
+/*
+ * The first 64 classes of the locale that have a wide character, as the bits of `n`: bit i of the class with number i.
+ * A class has no bit if its number is over 63. LOBJ_NO_LOCALE.
+ */
+lobj_answer lobj_classes_of(const lobj_library *library, lobj_locale locale, uint32_t value)
+                            LOBJ_NONNULL LOBJ_ANSWERS;
 
 /* The upper and the lower case of a wide character as `n` (XSH towupper_l, towlower_l). LOBJ_NO_LOCALE. */
-lobj_answer lobj_towupper(const lobj_library *library, lobj_locale locale, uint32_t value) LOBJ_NONNULL;
-lobj_answer lobj_towlower(const lobj_library *library, lobj_locale locale, uint32_t value) LOBJ_NONNULL;
+lobj_answer lobj_towupper(const lobj_library *library, lobj_locale locale, uint32_t value) LOBJ_NONNULL LOBJ_ANSWERS;
+lobj_answer lobj_towlower(const lobj_library *library, lobj_locale locale, uint32_t value) LOBJ_NONNULL LOBJ_ANSWERS;
+
+/*
+ * A text in UTF-8 with each character in upper or in lower case, as lobj_towupper and lobj_towlower map it, one by
+ * one; a character whose image is none of Unicode stays. The buffer may not overlap the text.
+ * LOBJ_NO_LOCALE, LOBJ_NOT_UTF8, LOBJ_BAD_CHARACTER, LOBJ_TOO_SMALL.
+ */
+lobj_answer lobj_upper_text(char *buffer, size_t size, const lobj_library *library, lobj_locale locale,
+                            const char *text, size_t length) LOBJ_NONNULL LOBJ_ANSWERS;
+lobj_answer lobj_lower_text(char *buffer, size_t size, const lobj_library *library, lobj_locale locale,
+                            const char *text, size_t length) LOBJ_NONNULL LOBJ_ANSWERS;
 
 /*
  * The fields of a time that a text has by a format (XSH strptime); `n` is the first byte that is not read.
  * Under another code the fields are as they were. LOBJ_NO_LOCALE, LOBJ_BAD_FORMAT, LOBJ_MISMATCH.
  */
 lobj_answer lobj_strptime(const lobj_library *library, lobj_locale locale, const char *text, size_t length,
-                          const char *format, size_t format_length, lobj_parsed *fields) LOBJ_NONNULL;
+                          const char *format, size_t format_length, lobj_parsed *fields) LOBJ_NONNULL LOBJ_ANSWERS;
 
 /*
  * The functions below are no calls of the library: a compiler takes them from here.
@@ -318,8 +414,22 @@ static inline const char *lobj_strerror(uint32_t code) {
     case LOBJ_NO_ITEM: return "there is no such item";
     case LOBJ_NO_CLASS: return "there is no such class";
     case LOBJ_MISMATCH: return "the text does not meet the format";
+    case LOBJ_NOT_UTF8: return "the charset of the locale is not UTF-8";
+    case LOBJ_BAD_CHARACTER: return "the text is not UTF-8";
     default: return "unknown code";
     }
+}
+
+/*
+ * The text of an item, or of localeconv, in the buffer and by the table that lobj_texts wrote; it ends with a NUL. Null
+ * where there is none with the number.
+ */
+static inline const char *lobj_item_in(const char *buffer, const lobj_table *table, uint32_t item) {
+    return item < LOBJ_ITEMS ? buffer + table->starts[item] : NULL;
+}
+
+static inline const char *lobj_conv_text_in(const char *buffer, const lobj_table *table, uint32_t number) {
+    return number < LOBJ_CONV_TEXTS ? buffer + table->starts[LOBJ_ITEMS + number] : NULL;
 }
 
 /*
@@ -400,8 +510,135 @@ static inline bool lobj_amount_of_double(double value, int digits, lobj_amount *
     return true;
 }
 
+/* What stands for a null text, buffer, or list, of which nothing is looked at. */
+static inline const char *lobj_text_or_none(const char *text) {
+    return text != NULL ? text : "";
+}
+
+static inline char *lobj_buffer_or_none(char *buffer) {
+    static char none[1];
+    return buffer != NULL ? buffer : none;
+}
+
+static inline const lobj_amount *lobj_amounts_or_none(const lobj_amount *amounts) {
+    static const lobj_amount none = { 0, 0 };
+    return amounts != NULL ? amounts : &none;
+}
+
+static inline const int64_t *lobj_numbers_or_none(const int64_t *numbers) {
+    static const int64_t none = 0;
+    return numbers != NULL ? numbers : &none;
+}
+
+/* The calls with a null handed on where a size is 0. */
+static inline LOBJ_ANSWERS LOBJ_NONNULL_AT(3, 4) lobj_answer lobj_read_given(
+    const char *text, size_t length, lobj_library **out, lobj_place *place, char *buffer, size_t size) {
+    return lobj_read(lobj_text_or_none(text), length, out, place, lobj_buffer_or_none(buffer), size);
+}
+
+static inline LOBJ_ANSWERS LOBJ_NONNULL_AT(1, 6) lobj_answer lobj_newlocale_given(
+    const lobj_library *library, uint32_t mask, const char *name, size_t length, lobj_locale base,
+    lobj_locale *out) {
+    return lobj_newlocale(library, mask, lobj_text_or_none(name), length, base, out);
+}
+
+static inline LOBJ_ANSWERS LOBJ_NONNULL_AT(3) lobj_answer lobj_locale_name_given(
+    char *buffer, size_t size, const lobj_library *library, lobj_locale locale, uint32_t mask) {
+    return lobj_locale_name(lobj_buffer_or_none(buffer), size, library, locale, mask);
+}
+
+static inline LOBJ_ANSWERS LOBJ_NONNULL_AT(3) lobj_answer lobj_library_name_given(
+    char *buffer, size_t size, const lobj_library *library, uint32_t number) {
+    return lobj_library_name(lobj_buffer_or_none(buffer), size, library, number);
+}
+
+static inline LOBJ_ANSWERS LOBJ_NONNULL_AT(3) lobj_answer lobj_strfmon_given(
+    char *buffer, size_t size, const lobj_library *library, lobj_locale locale, const char *format, size_t length,
+    const lobj_amount *amounts, size_t count) {
+    return lobj_strfmon(lobj_buffer_or_none(buffer), size, library, locale, lobj_text_or_none(format), length,
+        lobj_amounts_or_none(amounts), count);
+}
+
+static inline LOBJ_ANSWERS LOBJ_NONNULL_AT(3, 7) lobj_answer lobj_strftime_given(
+    char *buffer, size_t size, const lobj_library *library, lobj_locale locale, const char *format, size_t length,
+    const lobj_tm *tm, const char *zone, size_t zone_length) {
+    return lobj_strftime(lobj_buffer_or_none(buffer), size, library, locale, lobj_text_or_none(format), length, tm,
+        lobj_text_or_none(zone), zone_length);
+}
+
+static inline LOBJ_ANSWERS LOBJ_NONNULL_AT(3) lobj_answer lobj_int_format_given(
+    char *buffer, size_t size, const lobj_library *library, lobj_locale locale, const char *format, size_t length,
+    const int64_t *numbers, size_t count) {
+    return lobj_int_format(lobj_buffer_or_none(buffer), size, library, locale, lobj_text_or_none(format), length,
+        lobj_numbers_or_none(numbers), count);
+}
+
+static inline LOBJ_ANSWERS LOBJ_NONNULL_AT(1, 5) lobj_answer lobj_int_read_given(
+    const lobj_library *library, lobj_locale locale, const char *text, size_t length, int64_t *out) {
+    return lobj_int_read(library, locale, lobj_text_or_none(text), length, out);
+}
+
+static inline LOBJ_ANSWERS LOBJ_NONNULL_AT(3) lobj_answer lobj_nl_langinfo_given(
+    char *buffer, size_t size, const lobj_library *library, lobj_locale locale, uint32_t item) {
+    return lobj_nl_langinfo(lobj_buffer_or_none(buffer), size, library, locale, item);
+}
+
+static inline LOBJ_ANSWERS LOBJ_NONNULL_AT(3, 5) lobj_answer lobj_texts_given(
+    char *buffer, size_t size, const lobj_library *library, lobj_locale locale, lobj_table *table) {
+    return lobj_texts(lobj_buffer_or_none(buffer), size, library, locale, table);
+}
+
+static inline LOBJ_ANSWERS LOBJ_NONNULL_AT(3) lobj_answer lobj_conv_text_given(
+    char *buffer, size_t size, const lobj_library *library, lobj_locale locale, uint32_t number) {
+    return lobj_conv_text(lobj_buffer_or_none(buffer), size, library, locale, number);
+}
+
+static inline LOBJ_ANSWERS LOBJ_NONNULL_AT(1) lobj_answer lobj_iswctype_given(
+    const lobj_library *library, lobj_locale locale, uint32_t value, const char *class_name, size_t length) {
+    return lobj_iswctype(library, locale, value, lobj_text_or_none(class_name), length);
+}
+
+static inline LOBJ_ANSWERS LOBJ_NONNULL_AT(1) lobj_answer lobj_wctype_given(
+    const lobj_library *library, lobj_locale locale, const char *class_name, size_t length) {
+    return lobj_wctype(library, locale, lobj_text_or_none(class_name), length);
+}
+
+static inline LOBJ_ANSWERS LOBJ_NONNULL_AT(3) lobj_answer lobj_upper_text_given(
+    char *buffer, size_t size, const lobj_library *library, lobj_locale locale, const char *text, size_t length) {
+    return lobj_upper_text(lobj_buffer_or_none(buffer), size, library, locale, lobj_text_or_none(text), length);
+}
+
+static inline LOBJ_ANSWERS LOBJ_NONNULL_AT(3) lobj_answer lobj_lower_text_given(
+    char *buffer, size_t size, const lobj_library *library, lobj_locale locale, const char *text, size_t length) {
+    return lobj_lower_text(lobj_buffer_or_none(buffer), size, library, locale, lobj_text_or_none(text), length);
+}
+
+static inline LOBJ_ANSWERS LOBJ_NONNULL_AT(1, 7) lobj_answer lobj_strptime_given(
+    const lobj_library *library, lobj_locale locale, const char *text, size_t length, const char *format,
+    size_t format_length, lobj_parsed *fields) {
+    return lobj_strptime(library, locale, lobj_text_or_none(text), length, lobj_text_or_none(format),
+        format_length, fields);
+}
+
 #ifdef __cplusplus
 }
 #endif
+
+#define lobj_read(...) lobj_read_given(__VA_ARGS__)
+#define lobj_newlocale(...) lobj_newlocale_given(__VA_ARGS__)
+#define lobj_locale_name(...) lobj_locale_name_given(__VA_ARGS__)
+#define lobj_library_name(...) lobj_library_name_given(__VA_ARGS__)
+#define lobj_strfmon(...) lobj_strfmon_given(__VA_ARGS__)
+#define lobj_strftime(...) lobj_strftime_given(__VA_ARGS__)
+#define lobj_int_format(...) lobj_int_format_given(__VA_ARGS__)
+#define lobj_int_read(...) lobj_int_read_given(__VA_ARGS__)
+#define lobj_nl_langinfo(...) lobj_nl_langinfo_given(__VA_ARGS__)
+#define lobj_texts(...) lobj_texts_given(__VA_ARGS__)
+#define lobj_conv_text(...) lobj_conv_text_given(__VA_ARGS__)
+#define lobj_iswctype(...) lobj_iswctype_given(__VA_ARGS__)
+#define lobj_wctype(...) lobj_wctype_given(__VA_ARGS__)
+#define lobj_upper_text(...) lobj_upper_text_given(__VA_ARGS__)
+#define lobj_lower_text(...) lobj_lower_text_given(__VA_ARGS__)
+#define lobj_strptime(...) lobj_strptime_given(__VA_ARGS__)
 
 #endif

@@ -32,6 +32,8 @@ typedef struct side {
     lobj_locale own;
     locale_t locale;
     size_t our_alpha;
+    lobj_table table;
+    char texts[8192];
     wctype_t alpha;
 } side;
 
@@ -92,11 +94,11 @@ static size_t their_number(side *s, char *text, int times) {
 /* The numbers of localeconv, and its first text. */
 static size_t our_conv(side *s, char *text, int times) {
     lobj_lconv fields;
+    size_t n = 0;
     while (times-- > 0) {
-        lobj_localeconv(s->library, s->own, &fields);
-        lobj_conv_text(text, 128, s->library, s->own, LOBJ_DECIMAL_POINT);
+        n = lobj_localeconv(s->library, s->own, &fields).code + lobj_conv_text(text, 128, s->library, s->own, LOBJ_DECIMAL_POINT).code;
     }
-    return fields.frac_digits;
+    return n == LOBJ_OK ? fields.frac_digits : n;
 }
 
 static size_t their_conv(side *s, char *text, int times) {
@@ -136,6 +138,16 @@ static size_t their_langinfo(side *s, char *text, int times) {
     return strlen(text);
 }
 
+/* The same item of a table that was made of the locale once, and what is called beside it. */
+static size_t our_table(side *s, char *text, int times) {
+    while (times-- > 0) strcpy(text, lobj_item_in(s->texts, &s->table, LOBJ_D_T_FMT));
+    return strlen(text);
+}
+
+static size_t their_table(side *s, char *text, int times) {
+    return their_langinfo(s, text, times);
+}
+
 static size_t our_class(side *s, char *text, int times) {
     size_t n = 0;
     *text = 0;
@@ -165,12 +177,13 @@ static size_t their_named_class(side *s, char *text, int times) {
 }
 
 static size_t our_new(side *s, char *text, int times) {
+    size_t n = 0;
     *text = 0;
     while (times-- > 0) {
         lobj_locale made;
-        lobj_newlocale(s->library, LOBJ_ALL_MASK, "us", 2, s->own, &made);
+        n += lobj_newlocale(s->library, LOBJ_ALL_MASK, "us", 2, s->own, &made).code;
     }
-    return 0;
+    return n;
 }
 
 static size_t their_new(side *s, char *text, int times) {
@@ -192,6 +205,7 @@ static const struct row {
     { "strftime " STAMP_FORMAT, our_stamp, their_stamp, 50000 },
     { "printf %'d", our_number, their_number, 50000 },
     { "nl_langinfo D_T_FMT", our_langinfo, their_langinfo, 200000 },
+    { "the same, by a table", our_table, their_table, 200000 },
     { "localeconv", our_conv, their_conv, 100000 },
     { "iswctype alpha", our_class, their_class, 200000 },
     { "iswctype, wctype alpha", our_named_class, their_named_class, 200000 },
@@ -290,6 +304,9 @@ int main(int count, char **words) {
         sides[i].locale = newlocale(LC_ALL_MASK, "us", (locale_t)0);
         if (sides[i].locale == (locale_t)0 || lobj_newlocale(library, LOBJ_ALL_MASK, "us", 2, posix, &sides[i].own).code != LOBJ_OK) {
             fputs("no locale us: run this by bench/c/run\n", stderr);
+            return 1;
+        }
+        if (lobj_texts(sides[i].texts, sizeof sides[i].texts, library, sides[i].own, &sides[i].table).code != LOBJ_OK) {
             return 1;
         }
         sides[i].our_alpha = lobj_wctype(library, sides[i].own, "alpha", 5).n;

@@ -48,6 +48,9 @@ static const char sources[] =
     ".locale half UTF-8\nLC_NUMERIC\ndecimal_point \",\"\nEND LC_NUMERIC\n.end\n"
     ".locale eras UTF-8\nLC_TIME\nera \"+:1:2000/01/01:+*:E:%EC\"\nera_d_fmt \"era d\"\nera_d_t_fmt \"era d t\"\n"
     "era_t_fmt \"era t\"\nalt_digits \"zero\"\nEND LC_TIME\n.end\n"
+    ".locale cased UTF-8\nLC_CTYPE\nupper <U00C9>;<U2C6F>\nlower <U00E9>;<U0250>;<U0131>\n"
+    "toupper (<U00E9>,<U00C9>);(<U0131>,I);(<U0250>,<U2C6F>);(q,Q)\ntolower (<U00C9>,<U00E9>);(Q,q)\nEND LC_CTYPE\n.end\n"
+    ".catalog words half\nthis is no message\n.end\n"
     ".native half\n";
 
 /* How many blocks of memory are given before none is; below 0 as many as are asked for. */
@@ -133,7 +136,7 @@ static void make_locales(const lobj_library *library) {
         wrong_one = posix;
         *fields[i] = 2;
         CHECK(is(lobj_towupper(library, wrong_one, 'q'), LOBJ_OK, 'Q'));
-        *fields[i] = 4;
+        *fields[i] = 5;
         CHECK(is(lobj_towupper(library, wrong_one, 'q'), LOBJ_NO_LOCALE, 0));
         CHECK(is(lobj_newlocale(library, LOBJ_NUMERIC_MASK, "us", 2, wrong_one, &us), LOBJ_NO_LOCALE, 0));
     }
@@ -143,6 +146,127 @@ static void make_locales(const lobj_library *library) {
     CHECK(is(lobj_read(sources, strlen(sources), &twin, &place, text, sizeof text), LOBJ_OK, 0));
     CHECK(is(lobj_towupper(twin, posix, 'q'), LOBJ_OK, 'Q'));
     lobj_library_free(twin);
+}
+
+static bool is_name(const lobj_library *library, lobj_locale locale, uint32_t mask, const char *name) {
+    char text[128];
+    return is(lobj_locale_name(text, sizeof text, library, locale, mask), LOBJ_OK, strlen(name)) && strcmp(text, name) == 0;
+}
+
+/* The name of each category by its own mask, and of all: the common one or the mixed one, which newlocale reads again. */
+static void name_locales(const lobj_library *library, lobj_locale us) {
+    static const char mixed[] = "LC_CTYPE=us;LC_NUMERIC=half;LC_MONETARY=us;LC_TIME=eras;LC_MESSAGES=C";
+    static const char *const names[] = { "C", "us", "half", "eras", "cased" };
+    lobj_locale posix, several, again, nothing = us;
+    char text[128];
+    nothing.mark++;
+    lobj_posix_locale(library, &posix);
+    several = us;
+    several.numeric = 2;
+    several.time = 3;
+    CHECK(is_name(library, several, LOBJ_CTYPE_MASK, "us") && is_name(library, several, LOBJ_NUMERIC_MASK, "half"));
+    CHECK(is_name(library, several, LOBJ_MONETARY_MASK, "us") && is_name(library, several, LOBJ_TIME_MASK, "eras"));
+    CHECK(is_name(library, several, LOBJ_MESSAGES_MASK, "C"));
+    CHECK(is_name(library, posix, LOBJ_ALL_MASK, "C") && is_name(library, several, LOBJ_ALL_MASK, mixed));
+    CHECK(is(lobj_newlocale(library, LOBJ_ALL_MASK, mixed, strlen(mixed), posix, &again), LOBJ_OK, 0) && is_same(again, several));
+    for (uint32_t mask = 0; mask < 64; mask++) {
+        if (mask == 1 || mask == 2 || mask == 4 || mask == 8 || mask == 16 || mask == 31) continue;
+        CHECK(is(lobj_locale_name(text, sizeof text, library, us, mask), LOBJ_BAD_MASK, 0));
+    }
+    CHECK(is(lobj_locale_name(text, sizeof text, library, nothing, LOBJ_ALL_MASK), LOBJ_NO_LOCALE, 0));
+    memset(text, 'x', sizeof text);
+    for (size_t size = 0; size < sizeof mixed; size++) {
+        CHECK(is_small(lobj_locale_name(text, size, library, several, LOBJ_ALL_MASK), sizeof mixed));
+    }
+    CHECK(text[0] == 'x');
+    CHECK(is(lobj_locale_name(text, sizeof mixed, library, several, LOBJ_ALL_MASK), LOBJ_OK, strlen(mixed)));
+    CHECK(text[sizeof mixed] == 'x');
+    for (uint32_t i = 0; i < sizeof names / sizeof *names; i++) {
+        CHECK(is(lobj_library_name(text, sizeof text, library, i), LOBJ_OK, strlen(names[i])) && strcmp(text, names[i]) == 0);
+    }
+    CHECK(is(lobj_library_name(text, sizeof text, library, 5), LOBJ_NO_ITEM, 0));
+    CHECK(is(lobj_library_name(text, sizeof text, library, UINT32_MAX), LOBJ_NO_ITEM, 0));
+    CHECK(is_small(lobj_library_name(text, 2, library, 1), 3));
+}
+
+/* Numbers that were printed are read back, and what is no number of an int64_t leaves the place for it. */
+static void read_numbers(const lobj_library *library, lobj_locale us) {
+    static const int64_t numbers[] = { 0, 7, -7, 999, 1000, 1234567, -1234567, INT64_MAX, INT64_MIN };
+    static const char *const others[] = { "", "-", "-0", "1000", "1,00", "01", "+1", " 1", "1 ", "9,223,372,036,854,775,808",
+                                          "-9,223,372,036,854,775,809", "18,446,744,073,709,551,615", "1.5", "x" };
+    lobj_locale nothing = us;
+    char text[64];
+    int64_t number = 5;
+    nothing.mark++;
+    for (size_t i = 0; i < sizeof others / sizeof *others; i++) {
+        CHECK(is(lobj_int_read(library, us, others[i], strlen(others[i]), &number), LOBJ_MISMATCH, 0) && number == 5);
+    }
+    CHECK(is(lobj_int_read(library, nothing, "1", 1, &number), LOBJ_NO_LOCALE, 0) && number == 5);
+    for (size_t i = 0; i < sizeof numbers / sizeof *numbers; i++) {
+        lobj_answer printed = lobj_int_format(text, sizeof text, library, us, "%'d", 3, &numbers[i], 1);
+        CHECK(is(lobj_int_read(library, us, text, printed.n, &number), LOBJ_OK, 0) && number == numbers[i]);
+    }
+}
+
+static bool is_cased(lobj_answer answer, const char *text, const char *wanted) {
+    return is(answer, LOBJ_OK, strlen(wanted)) && strcmp(text, wanted) == 0;
+}
+
+/* Characters that get shorter and longer, that stay, and texts that are not UTF-8. */
+static void map_texts(const lobj_library *library, lobj_locale us) {
+    static const char lower[] = "q\xc3\xa9\xc4\xb1\xc9\x90" "a-\xe2\x82\xac\xf0\x9f\x99\x82";
+    static const char upper[] = "Q\xc3\x89I\xe2\xb1\xaf" "a-\xe2\x82\xac\xf0\x9f\x99\x82";
+    static const struct {
+        const char *text;
+        size_t good;
+    } wrong[] = { { "ab\x80", 2 }, { "\xc3", 0 }, { "q\xed\xa0\x80", 1 }, { "\xc3\xa9\xff", 2 }, { "\xf4\x90\x80\x80", 0 } };
+    lobj_locale cased = us, posix, nothing = us;
+    char text[64];
+    cased.ctype = 4;
+    nothing.mark++;
+    lobj_posix_locale(library, &posix);
+    CHECK(is_cased(lobj_upper_text(text, sizeof text, library, cased, lower, strlen(lower)), text, upper));
+    CHECK(is_cased(lobj_lower_text(text, sizeof text, library, cased, "Q\xc3\x89QA", 5), text, "q\xc3\xa9qA"));
+    CHECK(is_cased(lobj_upper_text(text, sizeof text, library, us, "straw!", 6), text, "STRAW!"));
+    CHECK(is_cased(lobj_upper_text(text, 1, library, us, "", 0), text, ""));
+    CHECK(is_small(lobj_upper_text(text, 0, library, us, "", 0), 1));
+    memset(text, 'x', sizeof text);
+    for (size_t size = 0; size < sizeof upper; size++) {
+        CHECK(is_small(lobj_upper_text(text, size, library, cased, lower, strlen(lower)), sizeof upper));
+    }
+    CHECK(text[0] == 'x');
+    for (size_t i = 0; i < sizeof wrong / sizeof *wrong; i++) {
+        CHECK(is(lobj_upper_text(text, sizeof text, library, us, wrong[i].text, strlen(wrong[i].text)), LOBJ_BAD_CHARACTER, wrong[i].good));
+        CHECK(is(lobj_lower_text(text, 0, library, us, wrong[i].text, strlen(wrong[i].text)), LOBJ_BAD_CHARACTER, wrong[i].good));
+    }
+    CHECK(text[0] == 'x');
+    CHECK(is(lobj_upper_text(text, sizeof text, library, posix, "q", 1), LOBJ_NOT_UTF8, 0));
+    CHECK(is(lobj_lower_text(text, sizeof text, library, nothing, "q", 1), LOBJ_NO_LOCALE, 0));
+}
+
+/* A null stands for a text, a buffer or a list of size 0. */
+static void hand_nulls(const lobj_library *library, lobj_locale us) {
+    lobj_library *empty = NULL;
+    lobj_place place;
+    lobj_locale made;
+    lobj_parsed fields;
+    int64_t number = 5;
+    CHECK(is(lobj_read(NULL, 0, &empty, &place, NULL, 0), LOBJ_OK, 0) && empty != NULL);
+    lobj_library_free(empty);
+    CHECK(is(lobj_newlocale(library, LOBJ_NUMERIC_MASK, NULL, 0, us, &made), LOBJ_OK, 0) && made.numeric == 2);
+    CHECK(is_small(lobj_locale_name(NULL, 0, library, us, LOBJ_CTYPE_MASK), 3));
+    CHECK(is_small(lobj_library_name(NULL, 0, library, 0), 2));
+    CHECK(is_small(lobj_strfmon(NULL, 0, library, us, NULL, 0, NULL, 0), 1));
+    CHECK(is_small(lobj_strftime(NULL, 0, library, us, NULL, 0, &sunday, NULL, 0), 1));
+    CHECK(is_small(lobj_int_format(NULL, 0, library, us, NULL, 0, NULL, 0), 1));
+    CHECK(is(lobj_int_read(library, us, NULL, 0, &number), LOBJ_MISMATCH, 0));
+    CHECK(is_small(lobj_nl_langinfo(NULL, 0, library, us, LOBJ_CODESET), 6));
+    CHECK(is_small(lobj_conv_text(NULL, 0, library, us, LOBJ_GROUPING), 2));
+    CHECK(is(lobj_iswctype(library, us, 'e', NULL, 0), LOBJ_NO_CLASS, 0));
+    CHECK(is(lobj_wctype(library, us, NULL, 0), LOBJ_NO_CLASS, 0));
+    CHECK(is_small(lobj_upper_text(NULL, 0, library, us, NULL, 0), 1));
+    CHECK(is_small(lobj_lower_text(NULL, 0, library, us, NULL, 0), 1));
+    CHECK(is(lobj_strptime(library, us, NULL, 0, NULL, 0, &fields), LOBJ_OK, 0));
 }
 
 static void format_amounts(const lobj_library *library, lobj_locale us) {
@@ -217,6 +341,12 @@ static void ask_class_numbers(const lobj_library *library, lobj_locale us) {
             CHECK(is(lobj_isclass(library, us, value, number.n), LOBJ_OK, named.n));
         }
     }
+    for (uint32_t value = 0; value < 0x180; value++) {
+        size_t bits = 0;
+        for (size_t number = 0; number < COUNT; number++) bits |= lobj_isclass(library, us, value, number).n << number;
+        CHECK(is(lobj_classes_of(library, us, value), LOBJ_OK, bits));
+    }
+    CHECK(is(lobj_classes_of(library, nothing, 'e'), LOBJ_NO_LOCALE, 0));
     size_t vowel = lobj_wctype(library, us, "vowel", 5).n;
     CHECK(is(lobj_isclass(library, us, 'e', vowel), LOBJ_OK, 1));
     CHECK(is(lobj_isclass(library, us, 'f', vowel), LOBJ_OK, 0));
@@ -345,6 +475,38 @@ static void ask_items(const lobj_library *library) {
     }
 }
 
+/* All texts at once are those that are given one by one, and a buffer that is too small and the table stay. */
+static void make_tables(const lobj_library *library, lobj_locale us) {
+    static char buffer[4096], untouched[4096];
+    lobj_table table, before;
+    lobj_locale nothing = us, several = us;
+    char text[64];
+    nothing.mark++;
+    several.time = 3;
+    several.numeric = 2;
+    memset(buffer, 'x', sizeof buffer);
+    memset(untouched, 'x', sizeof untouched);
+    memset(&table, 7, sizeof table);
+    before = table;
+    CHECK(is(lobj_texts(buffer, sizeof buffer, library, nothing, &table), LOBJ_NO_LOCALE, 0));
+    const size_t size = lobj_texts(NULL, 0, library, several, &table).n;
+    CHECK(size > LOBJ_TEXTS && size < sizeof buffer);
+    CHECK(is_small(lobj_texts(buffer, size - 1, library, several, &table), size));
+    CHECK(memcmp(buffer, untouched, sizeof buffer) == 0 && memcmp(&table, &before, sizeof table) == 0);
+    CHECK(is(lobj_texts(buffer, size, library, several, &table), LOBJ_OK, size));
+    CHECK(memcmp(buffer + size, untouched, sizeof buffer - size) == 0 && table.starts[LOBJ_TEXTS] == size);
+    for (uint32_t i = 0; i < LOBJ_ITEMS; i++) {
+        const lobj_answer one = lobj_nl_langinfo(text, sizeof text, library, several, i);
+        CHECK(one.code == LOBJ_OK && memcmp(lobj_item_in(buffer, &table, i), text, one.n + 1) == 0);
+        CHECK(table.starts[i + 1] - table.starts[i] == one.n + 1);
+    }
+    for (uint32_t i = 0; i < LOBJ_CONV_TEXTS; i++) {
+        const lobj_answer one = lobj_conv_text(text, sizeof text, library, several, i);
+        CHECK(one.code == LOBJ_OK && memcmp(lobj_conv_text_in(buffer, &table, i), text, one.n + 1) == 0);
+    }
+    CHECK(lobj_item_in(buffer, &table, LOBJ_ITEMS) == NULL && lobj_conv_text_in(buffer, &table, LOBJ_CONV_TEXTS) == NULL);
+}
+
 static void scan_times(const lobj_library *library, lobj_locale us) {
     lobj_parsed fields = { 5, 5, 5, 5, 5, 5, 5, 5 };
     lobj_locale nothing = us;
@@ -388,7 +550,16 @@ static lobj_answer conventions_text(char *buffer, size_t size, const lobj_librar
     return lobj_conv_text(buffer, size, library, locale, (uint32_t)number % 10);
 }
 
-static text_call *const text_calls[] = { money_text, time_text, item_text, number_text, conventions_text };
+static lobj_answer name_text(char *buffer, size_t size, const lobj_library *library, lobj_locale locale, int number) {
+    return lobj_locale_name(buffer, size, library, locale, 1u << number % 5);
+}
+
+static lobj_answer upper_text(char *buffer, size_t size, const lobj_library *library, lobj_locale locale, int number) {
+    static const char text[] = "the quick brown fox jumps over the lazy dog";
+    return lobj_upper_text(buffer, size, library, locale, text, (size_t)number % sizeof text);
+}
+
+static text_call *const text_calls[] = { money_text, time_text, item_text, number_text, conventions_text, name_text, upper_text };
 enum { TEXT_CALLS = sizeof text_calls / sizeof *text_calls };
 
 static bool is_untouched(const char *buffer, const char *end) {
@@ -434,7 +605,6 @@ static void run_out_of_memory(void) {
     }
 }
 
-/* A text that there is no memory for leaves the buffer as it was. */
 /* No text asks for memory: each is given where none is left. */
 static void run_out_in_texts(const lobj_library *library, lobj_locale us) {
     for (int i = 0; i < TEXT_CALLS; i++) {
@@ -498,6 +668,41 @@ static void run_threads(const lobj_library *library, lobj_locale us, int count) 
     }
 }
 
+/* Reads a library, makes each kind of call on it, and frees it. */
+static void *use_small_stack(void *done) {
+    lobj_library *own = NULL;
+    lobj_locale posix, us;
+    lobj_parsed fields;
+    lobj_table table;
+    lobj_lconv numbers;
+    char text[4096];
+    int64_t number;
+    read_library(&own);
+    lobj_posix_locale(own, &posix);
+    CHECK(is(lobj_newlocale(own, LOBJ_CTYPE_MASK | LOBJ_NUMERIC_MASK | LOBJ_MONETARY_MASK, "us", 2, posix, &us), LOBJ_OK, 0));
+    for (int i = 0; i < TEXT_CALLS; i++) CHECK(text_calls[i](text, sizeof text, own, us, 99).code == LOBJ_OK);
+    CHECK(lobj_strptime(own, us, "7", 1, "%d", 2, &fields).code == LOBJ_OK);
+    CHECK(lobj_int_read(own, us, "7", 1, &number).code == LOBJ_OK && lobj_texts(text, sizeof text, own, us, &table).code == LOBJ_OK);
+    CHECK(lobj_localeconv(own, us, &numbers).code == LOBJ_OK && lobj_classes_of(own, us, 'q').code == LOBJ_OK);
+    CHECK(lobj_iswctype(own, us, 'q', "alpha", 5).n == 1 && lobj_towlower(own, us, 'Q').n == 'q');
+    lobj_library_free(own);
+    *(bool *)done = true;
+    return NULL;
+}
+
+/* Each call is content with 64 KiB of stack, of which this test itself takes 5. (A sanitizer needs more.) */
+static void use_64_kib(void) {
+    pthread_attr_t attributes;
+    pthread_t thread;
+    bool done = false;
+    CHECK(pthread_attr_init(&attributes) == 0);
+#if !defined __SANITIZE_ADDRESS__ && !defined __SANITIZE_THREAD__
+    CHECK(pthread_attr_setstacksize(&attributes, 1 << 16) == 0);
+#endif
+    CHECK(pthread_create(&thread, &attributes, use_small_stack, &done) == 0 && pthread_join(thread, NULL) == 0 && done);
+    pthread_attr_destroy(&attributes);
+}
+
 int main(int count, char **words) {
     if (count > 1) calls = atoi(words[1]);
     lobj_library *own = NULL;
@@ -509,16 +714,23 @@ int main(int count, char **words) {
     make_locales(library);
     lobj_posix_locale(library, &posix);
     CHECK(is(lobj_newlocale(library, LOBJ_CTYPE_MASK | LOBJ_NUMERIC_MASK | LOBJ_MONETARY_MASK, "us", 2, posix, &us), LOBJ_OK, 0));
+    CHECK(lobj_version() == LOBJ_VERSION_NUMBER);
+    name_locales(library, us);
+    hand_nulls(library, us);
+    read_numbers(library, us);
+    map_texts(library, us);
     format_amounts(library, us);
     format_times(library, us);
     format_numbers(library, us);
     ask_items_and_classes(library, us);
     ask_items(library);
     ask_conventions(library, us);
+    make_tables(library, us);
     scan_times(library, us);
     for (int i = 0; i < TEXT_CALLS; i++) try_each_size(text_calls[i], library, us);
     run_out_of_memory();
     run_out_in_texts(library, us);
+    use_64_kib();
     run_threads(library, us, 2);
     run_threads(library, us, 16);
     run_threads(library, us, MOST_THREADS);

@@ -1,7 +1,8 @@
 -- Answers, buffers, handles, items and fields, by their definitions.
-use Rattle.std.specs.Prelude.{◌≡◌, ℕ, pos, neg_ℤ, true, false, [], ◌∷◌, ◌++◌, replicate, codes, Some, None, Ok, Err, refl}
+use Rattle.std.specs.Prelude.{◌≡◌, ℕ, pos, neg_ℤ, true, false, [], ◌∷◌, ◌++◌, length, map, replicate, codes, Some, None, Ok, Err, refl}
 use Rattle.std.specs.Fmt.{digits}
 use Rattle.lc_base.specs.declared.item.Item.TheVariants as items
+use Rattle.lc_base.specs.declared.category.Category.TheVariants.{Ctype, Numeric, Monetary, Time, Messages}
 use Rattle.lc_base.specs.declared.place.Place.{Place}
 use Rattle.lc_base.specs.declared.reason.LinePart.TheVariants.{Directive}
 use Rattle.lc_base.specs.declared.reason.Reason.TheVariants.{BadLine}
@@ -15,7 +16,9 @@ use Rattle.locale_objects.specs.declared.answer.TheConstants.{OK, BAD_TEXT, NO_L
 use Rattle.locale_objects.specs.declared.times.LobjTm.{LobjTm}
 use Rattle.locale_objects.specs.declared.parsed.LobjParsed.{LobjParsed}
 use Rattle.locale_objects.specs.Items.{item_of}
-use Rattle.locale_objects.specs.Answers.{answered, told, conv_told, of_object, by_object, fault_told, IsRead, new_told, number_told, class_told, item_told, text_told, amounts_told, offset_of, tm_given, tm_told, fields_of, scan_told, scan_by}
+use Rattle.locale_objects.specs.Cased.{cased_char}
+use Rattle.locale_objects.specs.Table.{all_texts, laid}
+use Rattle.locale_objects.specs.Answers.{answered, told, joint_name, category_with, conv_told, of_object, by_object, fault_told, IsRead, new_told, number_told, class_told, item_told, text_told, amounts_told, offset_of, tm_given, tm_told, fields_of, scan_told, scan_by}
 
 -- a library without locales, and its POSIX object
 abbrev stock : Stock
@@ -142,3 +145,32 @@ scan_without_object = refl
 
 conv_texts : conv_told (codes "xx") (Some (codes ",")) ∷ conv_told (codes "xx") None ∷ [] ≡ (answered OK 1, codes "," ++ 0 ∷ []) ∷ (answered NO_ITEM 0, codes "xx") ∷ []
 conv_texts = refl
+
+-- ---- names
+
+-- five names that are alike are one, and others stand by their categories
+common : joint_name (codes "us" ∷ codes "us" ∷ codes "us" ∷ codes "us" ∷ codes "us" ∷ []) ≡ codes "us"
+common = refl
+
+mixed : joint_name (codes "us" ∷ codes "us" ∷ codes "us" ∷ codes "us" ∷ codes "C" ∷ []) ≡ codes "LC_CTYPE=us;LC_NUMERIC=us;LC_MONETARY=us;LC_TIME=us;LC_MESSAGES=C"
+mixed = refl
+
+-- each bit has its category, and no other mask has one
+bits : map category_with (0 ∷ 1 ∷ 2 ∷ 4 ∷ 8 ∷ 16 ∷ 3 ∷ 32 ∷ []) ≡ None ∷ Some Ctype ∷ Some Numeric ∷ Some Monetary ∷ Some Time ∷ Some Messages ∷ None ∷ None ∷ []
+bits = refl
+
+-- ---- texts in a case
+
+-- an e with an acute is mapped, and a euro sign stays, as does a q with a surrogate as its image
+in_upper : map (cased_char ((233, 201) ∷ (113, 55296) ∷ [])) (233 ∷ 8364 ∷ 113 ∷ []) ≡ 201 ∷ 8364 ∷ 113 ∷ []
+in_upper = refl
+
+-- ---- all texts at once
+
+-- two texts, each with a NUL, and an empty one
+laid_texts : laid (codes "ab" ∷ [] ∷ codes "c" ∷ []) ≡ codes "ab" ++ 0 ∷ 0 ∷ codes "c" ++ 0 ∷ []
+laid_texts = refl
+
+-- as many as there are items and texts of localeconv
+all_of_posix : length (all_texts posix) ∷ [] ≡ 65 ∷ []
+all_of_posix = refl

@@ -1,6 +1,9 @@
 mod AsBox
 mod BufferLemmas
+mod CasedLemmas
 mod Examples
+mod NameLemmas
 mod NumberLemmas
 mod PeekSteps
+mod TableLemmas
 mod TextLemmas

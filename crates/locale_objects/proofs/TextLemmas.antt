@@ -1,21 +1,16 @@
 -- What calls answer by their arguments: the mask of newlocale, texts of localeconv, amounts and numbers.
-use Rattle.std.proofs.Common.{◌≡◌, ℕ, ◌<◌, Bool, true, List, length, take, map, Some, sym, ap, ◌∙◌}
+use Rattle.std.proofs.Common.{◌≡◌, ℕ, ◌<◌, Bool, List, length, take, map, Some, sym, ap, ◌∙◌}
 use Rattle.std.specs.Prelude.{min, slice_get, option_map, if◌then◌else◌}
-use Rattle.std.specs.List.{list_all}
 use Rattle.std.proofs.lemmas.Bool.{lt-ltb}
 use Rattle.std.proofs.lemmas.List.{take_min}
 use Rattle.std.proofs.lemmas.Option.{slice_get-map}
 use Rattle.std.proofs.Math.Nat.{min_comm}
-use Rattle.lc_base.specs.Amounts.{MoneyAmount}
-use Rattle.strfmon.specs.Money.{money_text}
 use Rattle.shared_objects.specs.declared.locale.LocaleParts.{LocaleParts}
-use Rattle.shared_objects.specs.Shared.{Shared, Stock}
+use Rattle.shared_objects.specs.Shared.{Stock}
 use Rattle.shared_objects.specs.Locales.{new_locale}
-use Rattle.shared_objects.specs.Objects.{monetary_in}
-use Rattle.locale_objects.specs.declared.amounts.LobjAmount.{LobjAmount}
 use Rattle.locale_objects.specs.declared.answer.LobjAnswer.{LobjAnswer}
-use Rattle.locale_objects.specs.declared.answer.TheConstants.{BAD_MASK, BAD_AMOUNT}
-use Rattle.locale_objects.specs.Answers.{answered, refused, locale_told, new_told, is_scaled, amount_of, most, text_told, amounts_told}
+use Rattle.locale_objects.specs.declared.answer.TheConstants.{BAD_MASK}
+use Rattle.locale_objects.specs.Answers.{answered, locale_told, new_told, most}
 
 -- newlocale by a mask whose bits are known
 pub new_known : (old : LocaleParts) (stock : Stock) (bits mask : ℕ) (name : List ℕ) (base : LocaleParts) → bits < 32 → mask ≡ bits → locale_told old (new_locale stock mask name base) ≡ new_told old stock bits name base

@@ -1,7 +1,12 @@
 -- What each call answers (XSH newlocale, strfmon, strftime, nl_langinfo, localeconv, wctype, iswctype, towupper, towlower,
 -- fprintf and strptime; the codes are our own).
-use Rattle.std.specs.Prelude.{◌≡◌, ◌⊎◌, ℕ, ◌+◌, ◌-◌, ◌^◌, ℤ, pos, neg_ℤ, Bool, true, false, nat_lt, nat_eq, min, List, [], ◌∷◌, ◌++◌, length, set, take, drop, map, Option, None, Some, Result, Ok, Err, if◌then◌else◌}
-use Rattle.std.specs.List.{list_all}
+use Rattle.std.specs.Prelude.{◌≡◌, ◌⊎◌, ℕ, ◌+◌, ◌-◌, ◌^◌, ℤ, pos, negsuc, neg_ℤ, Bool, true, false, nat_lt, nat_eq, min, List, [], ◌∷◌, ◌++◌, length, set, take, drop, map, codes, Option, None, Some, Result, Ok, Err, if◌then◌else◌}
+use Rattle.std.specs.List.{list_all, find}
+use Rattle.std.specs.Str.{bytes_eq}
+use Rattle.lc_base.specs.declared.category.Category.{Category}
+use Rattle.lc_base.specs.Categories.{categories}
+use Rattle.mask_compose.specs.Names.{mixed_name}
+use Rattle.ctype_classes.specs.Classes.{AreClassBits}
 use Rattle.lc_base.specs.declared.item.Item.{Item}
 use Rattle.lc_base.specs.declared.place.Place.{Place}
 use Rattle.lc_base.specs.declared.reason.Reason.{Reason}
@@ -19,7 +24,7 @@ use Rattle.time_cat.specs.declared.tm.TmField.TheVariants as fields
 use Rattle.time_cat.specs.declared.tm.TmRange.{TmRange}
 use Rattle.strftime_fields.specs.Answers.{whole_answer}
 use Rattle.strftime_fields.specs.Zones.{in_zone}
-use Rattle.int_format.specs.Ints.{ints}
+use Rattle.int_format.specs.Ints.{ints, IsTextOf}
 use Rattle.time_cat.specs.declared.parsed.Parsed.{Parsed}
 use Rattle.strptime_fields.specs.Scans.{Scanned, scan}
 use Rattle.langinfo.specs.Items.{info}
@@ -29,7 +34,7 @@ use Rattle.shared_objects.specs.declared.fault.NewFault.TheVariants.{NoLocale, N
 use Rattle.shared_objects.specs.declared.locale.LocaleParts.{LocaleParts}
 use Rattle.shared_objects.specs.Shared.{Shared, Stock}
 use Rattle.shared_objects.specs.Locales.{new_locale}
-use Rattle.shared_objects.specs.Objects.{ctype_in, numeric_in, monetary_in, time_in, messages_in}
+use Rattle.shared_objects.specs.Objects.{ctype_in, numeric_in, monetary_in, time_in, messages_in, name_in, names_in}
 use Rattle.locale_objects.specs.declared.answer.LobjAnswer.{LobjAnswer}
 use Rattle.locale_objects.specs.declared.answer.TheConstants.{OK, NO_MEMORY, BAD_TEXT, NO_LOCALE, BAD_MASK, NO_DATA, TOO_SMALL, BAD_FORMAT, MISSING, BAD_AMOUNT, TM_RANGE, NO_ITEM, NO_CLASS, MISMATCH}
 use Rattle.locale_objects.specs.declared.fault.LobjPlace.{LobjPlace}
@@ -131,6 +136,31 @@ locale_told old (Err (NoData category)) = (answered NO_DATA (category_bit catego
 abbrev pub new_told : LocaleParts → Stock → ℕ → List ℕ → LocaleParts → LobjAnswer × LocaleParts
 new_told old stock mask name base = if nat_lt mask 32 then locale_told old (new_locale stock mask name base) else (answered BAD_MASK 0, old)
 
+-- ---- names
+
+-- the common name where all are equal, else the mixed name
+abbrev pub joint_name : List (List ℕ) → List ℕ
+joint_name [] = mixed_name []
+joint_name (name ∷ names) = if list_all (bytes_eq name) names then name else mixed_name (name ∷ names)
+
+-- the category with this bit
+abbrev pub category_with : ℕ → Option Category
+category_with bit = find (λ c. nat_eq (category_bit c) bit) categories
+
+-- the name for the category of a bit
+abbrev pub one_told : List ℕ → Shared → Option Category → LobjAnswer × List ℕ
+one_told buffer o None = refused buffer BAD_MASK 0
+one_told buffer o (Some category) = told buffer (name_in o category)
+
+-- the name of an object for a category, or for all of them
+abbrev pub name_told : List ℕ → Shared → ℕ → LobjAnswer × List ℕ
+name_told buffer o mask = if nat_eq mask 31 then told buffer (joint_name (names_in o)) else one_told buffer o (category_with mask)
+
+-- a name of a library by its number
+abbrev pub own_name_told : List ℕ → Option (List ℕ) → LobjAnswer × List ℕ
+own_name_told buffer None = refused buffer NO_ITEM 0
+own_name_told buffer (Some name) = told buffer name
+
 -- ---- characters
 
 abbrev pub flag : Bool → ℕ
@@ -151,6 +181,11 @@ class_told (Some is) = answered OK (flag is)
 abbrev pub by_object : Option Shared → (Shared → LobjAnswer) → LobjAnswer
 by_object None f = answered NO_LOCALE 0
 by_object (Some o) f = f o
+
+-- which of the first 64 classes have a value, as bits
+abbrev pub AreClassesTold : Option Shared → ℕ → LobjAnswer → Type 0
+AreClassesTold None value a = a ≡ answered NO_LOCALE 0
+AreClassesTold (Some o) value a = (a.code ≡ OK) × AreClassBits (ctype_in o).classes value a.n
 
 -- ---- items
 
@@ -242,3 +277,20 @@ scan_told old (Err refusal) = (refusal_told refusal, old)
 abbrev pub scan_by : LobjParsed → Option Shared → List ℕ → List ℕ → LobjAnswer × LobjParsed
 scan_by old None format text = (answered NO_LOCALE 0, old)
 scan_by old (Some o) format text = scan_told old (scan (time_in o) format text)
+
+-- ---- whole numbers that are read
+
+-- whether a number is one of an int64_t
+abbrev pub is_int64 : ℤ → Bool
+is_int64 (pos n) = nat_lt n (2 ^ 63)
+is_int64 (negsuc n) = nat_lt n (2 ^ 63)
+
+-- the number of a text, at the place for it; where there is none, it stays
+abbrev pub IsNumberTold : Option Shared → List ℕ → LobjAnswer → ℤ → ℤ → Type 0
+IsNumberTold None text a old new = (a ≡ answered NO_LOCALE 0) × (new ≡ old)
+IsNumberTold (Some o) text a old new = (a ≡ answered OK 0) × IsTextOf (numeric_in o) new text ⊎ (a ≡ answered MISMATCH 0) × (new ≡ old)
+
+-- what `%'d` prints of a number is read back
+abbrev pub IsReadBack : Option Shared → List ℕ → LobjAnswer → ℤ → Type 0
+IsReadBack None text a new = Unit {0}
+IsReadBack (Some o) text a new = (v : ℤ) → is_int64 v ≡ true → ints (numeric_in o) (codes "%'d") (v ∷ []) ≡ Ok text → (a ≡ answered OK 0) × (new ≡ v)

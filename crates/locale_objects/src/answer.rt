@@ -5,6 +5,9 @@ ghost use Rattle.locale_objects.specs.Answers.{answered, refusal_told};
 
 use lc_base::FormatRefusal;
 
+/// The version of the library: 100 of a major version and 1 of a minor one.
+pub const VERSION: u32 = 100;
+
 /// The call did what it says.
 pub const OK: u32 = 0;
 
@@ -50,6 +53,12 @@ pub const NO_CLASS: u32 = 13;
 /// The text does not meet the format.
 pub const MISMATCH: u32 = 14;
 
+/// The charset of the locale is not UTF-8.
+pub const NOT_UTF8: u32 = 15;
+
+/// The text is not UTF-8 at a byte.
+pub const BAD_CHARACTER: u32 = 16;
+
 /// What a call answers: a code, and a number whose meaning the call says. C has `lobj_answer` for it.
 #[repr(C)]
 #[derive(Clone, Copy)]
@@ -59,6 +68,7 @@ pub struct LobjAnswer {
 }
 
 /// An answer.
+#[inline(always)]
 pub fn answered(code: u32, n: usize) -> LobjAnswer
     ensures { result ≡ answered code n }
 {

@@ -7,6 +7,7 @@ use crate::answer::{LobjAnswer, OK, TOO_SMALL, answered, refusal_told};
 use text_buffer::Unwritten;
 
 /// Puts a text with a NUL behind it to the front of a buffer, if it has room for both.
+#[inline(always)]
 pub fn put_text(buffer: &mut [u8], text: &[u8]) -> LobjAnswer
     ensures told { (result, buffer.new) ≡ told buffer.old text.now }
     ensures untouched { UnlessOk result (buffer.new ≡ buffer.old) }
@@ -21,6 +22,7 @@ pub fn put_text(buffer: &mut [u8], text: &[u8]) -> LobjAnswer
 
 /// Puts a text with a NUL behind it to the front of a buffer.
 #[tactic(auto, using(crate::proofs::BufferLemmas::ended_by))]
+#[inline(always)]
 fn put_front(buffer: &mut [u8], text: &[u8])
     requires { length text.now < length buffer.old }
     ensures { buffer.new ≡ filled buffer.old text.now }

@@ -15,10 +15,11 @@ pub struct LobjLconv {
 }
 
 /// The numbers of a locale.
+#[inline(always)]
 pub fn lconv_of(view: &View<'_>) -> LobjLconv
     ensures { result ≡ lconv_of view.now }
 {
     LobjLconv {
-        numbers: view.conv().numbers,
+        numbers: view.conv_numbers(),
     }
 }

@@ -7,20 +7,26 @@ ghost use Rattle.lc_base.specs.Named.{place_of};
 ghost use Rattle.ctype_classes.specs.Classes.{class_answer, numbered_answer};
 ghost use Rattle.ctype_classes.specs.Case.{image};
 ghost use Rattle.shared_objects.specs.Objects.{ctype_in};
-ghost use Rattle.shared_objects.specs.Locales.{posix_of, shared_of, stock_in};
-ghost use Rattle.locale_objects.specs.declared.answer.TheConstants.{NO_MEMORY, OK, TOO_LONG};
+ghost use Rattle.shared_objects.specs.Locales.{name_with, posix_of, shared_of, stock_in};
+ghost use Rattle.locale_objects.specs.declared.answer.TheConstants.{NO_MEMORY, OK, TOO_LONG, VERSION};
+ghost use Rattle.locale_objects.specs.declared.cased.Case.TheVariants.{Upper, Lower};
+ghost use Rattle.locale_objects.specs.Cased.{cased_told};
 ghost use Rattle.locale_objects.specs.Conv.{conv_text, lconv_by};
 ghost use Rattle.locale_objects.specs.Items.{item_of};
-ghost use Rattle.locale_objects.specs.Answers.{answered, of_object, by_object, IsReadUnlessMemory, new_told, number_told, class_told, item_told, conv_told, amounts_told, tm_given, tm_told, numbers_told, scan_by};
+ghost use Rattle.locale_objects.specs.Table.{HasTexts, IsTabled};
+ghost use Rattle.locale_objects.specs.Answers.{answered, of_object, by_object, IsReadUnlessMemory, IsNumberTold, IsReadBack, AreClassesTold, name_told, own_name_told, new_told, number_told, class_told, item_told, conv_told, amounts_told, tm_given, tm_told, numbers_told, scan_by};
 
 use crate::amounts::LobjAmount;
-use crate::answer::{LobjAnswer, NO_LOCALE, NO_MEMORY, OK, TOO_LONG, answered};
+use crate::answer::{LobjAnswer, NO_LOCALE, NO_MEMORY, OK, TOO_LONG, VERSION, answered};
+use crate::cased::{Case, put_cased};
 use crate::conv::{LobjLconv, lconv_of};
 use crate::fault::LobjPlace;
 use crate::hold::Hold;
 use crate::lent::LentLibrary;
+use crate::names::{put_name, put_own_name};
 use crate::parsed::{LobjParsed, put_fields};
-use crate::reads::{class_told, number_told, put_new, read_into};
+use crate::reads::{class_told, number_told, put_new, put_number, read_into};
+use crate::table::{LobjTable, put_table};
 use crate::texts::{put_amounts, put_conv_text, put_item, put_numbers, put_tm};
 use crate::times::LobjTm;
 use shared_objects::LocaleParts;
@@ -49,6 +55,14 @@ pub extern "C" fn lobj_read(
             Err(_) => answered(NO_MEMORY, 0),
         }
     }
+}
+
+/// The version of the library.
+#[unsafe(no_mangle)]
+pub extern "C" fn lobj_version() -> u32
+    ensures { result ≡ VERSION }
+{
+    VERSION
 }
 
 /// Frees a library that no call reads any more.
@@ -82,6 +96,37 @@ pub extern "C" fn lobj_newlocale(
 {
     let peek = library.peek();
     put_new(out, peek.get(), mask, name, &base)
+}
+
+/// Gives the name of a locale for a category or for all (getlocalename_l).
+#[unsafe(no_mangle)]
+pub extern "C" fn lobj_locale_name(
+    buffer: &mut [u8],
+    library: LentLibrary,
+    locale: LocaleParts,
+    mask: u32,
+) -> LobjAnswer
+    ensures { (result, buffer.new) ≡ of_object buffer.old (shared_of library.value locale) (λ o. name_told buffer.old o mask) }
+{
+    let peek = library.peek();
+    let view = peek.get().view(&locale);
+    match view {
+        None => answered(NO_LOCALE, 0),
+        Some(view) => put_name(buffer, &view, mask),
+    }
+}
+
+/// Gives the name of the compiled locale with a number.
+#[unsafe(no_mangle)]
+pub extern "C" fn lobj_library_name(
+    buffer: &mut [u8],
+    library: LentLibrary,
+    number: u32,
+) -> LobjAnswer
+    ensures { (result, buffer.new) ≡ own_name_told buffer.old (name_with library.value number) }
+{
+    let peek = library.peek();
+    put_own_name(buffer, peek.get().name_at(number))
 }
 
 /// Gives the text of amounts of money (XSH strfmon_l).
@@ -143,6 +188,25 @@ pub extern "C" fn lobj_int_format(
     }
 }
 
+/// Gives the whole number that a text spells.
+#[unsafe(no_mangle)]
+pub extern "C" fn lobj_int_read(
+    library: LentLibrary,
+    locale: LocaleParts,
+    text: &[u8],
+    out: &mut i64,
+) -> LobjAnswer
+    ensures told { IsNumberTold (shared_of library.value locale) text.now result out.old out.new }
+    ensures back { IsReadBack (shared_of library.value locale) text.now result out.new }
+{
+    let peek = library.peek();
+    let view = peek.get().view(&locale);
+    match view {
+        None => answered(NO_LOCALE, 0),
+        Some(view) => put_number(out, &view, text),
+    }
+}
+
 /// Gives the text of an item (XSH nl_langinfo_l).
 #[unsafe(no_mangle)]
 pub extern "C" fn lobj_nl_langinfo(
@@ -176,6 +240,25 @@ pub extern "C" fn lobj_conv_text(
     match view {
         None => answered(NO_LOCALE, 0),
         Some(view) => put_conv_text(buffer, &view, number),
+    }
+}
+
+/// Gives all items and all texts of localeconv, and where each begins.
+#[unsafe(no_mangle)]
+pub extern "C" fn lobj_texts(
+    buffer: &mut [u8],
+    library: LentLibrary,
+    locale: LocaleParts,
+    table: &mut LobjTable,
+) -> LobjAnswer
+    ensures table { IsTabled (shared_of library.value locale) result buffer.old buffer.new table.old.starts table.new.starts }
+    ensures texts { HasTexts (shared_of library.value locale) result buffer.new table.new.starts }
+{
+    let peek = library.peek();
+    let view = peek.get().view(&locale);
+    match view {
+        None => answered(NO_LOCALE, 0),
+        Some(view) => put_table(buffer, table, &view),
     }
 }
 
@@ -249,6 +332,23 @@ pub extern "C" fn lobj_isclass(
     }
 }
 
+/// Gives the first 64 classes that have a character, as bits.
+#[unsafe(no_mangle)]
+pub extern "C" fn lobj_classes_of(
+    library: LentLibrary,
+    locale: LocaleParts,
+    value: u32,
+) -> LobjAnswer
+    ensures { AreClassesTold (shared_of library.value locale) value result }
+{
+    let peek = library.peek();
+    let view = peek.get().view(&locale);
+    match view {
+        None => answered(NO_LOCALE, 0),
+        Some(view) => answered(OK, view.classes_of(value) as usize),
+    }
+}
+
 /// Gives the upper case of a character (XSH towupper_l).
 #[unsafe(no_mangle)]
 pub extern "C" fn lobj_towupper(library: LentLibrary, locale: LocaleParts, value: u32) -> LobjAnswer
@@ -272,6 +372,42 @@ pub extern "C" fn lobj_towlower(library: LentLibrary, locale: LocaleParts, value
     match view {
         None => answered(NO_LOCALE, 0),
         Some(view) => answered(OK, view.lower(value) as usize),
+    }
+}
+
+/// Gives a text in UTF-8 with each character in upper case.
+#[unsafe(no_mangle)]
+pub extern "C" fn lobj_upper_text(
+    buffer: &mut [u8],
+    library: LentLibrary,
+    locale: LocaleParts,
+    text: &[u8],
+) -> LobjAnswer
+    ensures { (result, buffer.new) ≡ of_object buffer.old (shared_of library.value locale) (λ o. cased_told buffer.old o Upper text.now) }
+{
+    let peek = library.peek();
+    let view = peek.get().view(&locale);
+    match view {
+        None => answered(NO_LOCALE, 0),
+        Some(view) => put_cased(buffer, &view, Case::Upper, text),
+    }
+}
+
+/// Gives a text in UTF-8 with each character in lower case.
+#[unsafe(no_mangle)]
+pub extern "C" fn lobj_lower_text(
+    buffer: &mut [u8],
+    library: LentLibrary,
+    locale: LocaleParts,
+    text: &[u8],
+) -> LobjAnswer
+    ensures { (result, buffer.new) ≡ of_object buffer.old (shared_of library.value locale) (λ o. cased_told buffer.old o Lower text.now) }
+{
+    let peek = library.peek();
+    let view = peek.get().view(&locale);
+    match view {
+        None => answered(NO_LOCALE, 0),
+        Some(view) => put_cased(buffer, &view, Case::Lower, text),
     }
 }
 

@@ -65,6 +65,7 @@ const ITEMS: [Item; 55] = [
 ];
 
 /// An item of a list.
+#[inline(always)]
 fn item_at(items: &[Item], place: usize) -> Option<Item>
     ensures { result ≡ slice_get items.now place }
 {
@@ -73,6 +74,7 @@ fn item_at(items: &[Item], place: usize) -> Option<Item>
 
 /// The item with a number.
 #[tactic(auto, unfolding(crate::specs::Items::item_of))]
+#[inline(always)]
 pub fn item_of(number: u32) -> Option<Item>
     ensures { result ≡ item_of number }
 {

@@ -26,6 +26,7 @@ impl Model for LentLibrary {
 
 impl LentLibrary {
     /// The library, to be read.
+    #[inline(always)]
     pub fn peek(self) -> Peek<Shelf>
         ensures { result.value ≡ self.value }
     {

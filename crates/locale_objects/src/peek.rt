@@ -23,6 +23,7 @@ impl<T> Model for Peek<T> {
 
 impl<T> Peek<T> {
     /// The value.
+    #[inline(always)]
     pub fn get(&self) -> &T
         ensures { result.now ≡ self.now.value }
     {

@@ -1,14 +1,14 @@
 //! Libraries that are read, locales that are made, and what is asked of one without a buffer.
 
-ghost use Rattle.std.specs.Prelude.{◌≡◌, ◌<◌, ◌^◌, length, IfOk, OnErr};
+ghost use Rattle.std.specs.Prelude.{◌≡◌, ◌<◌, ◌^◌, length, Some, IfOk, OnErr};
 ghost use Rattle.shared_objects.specs.Locales.{stock_in};
-ghost use Rattle.locale_objects.specs.Answers.{IsRead, locale_told, new_told, number_told, class_told};
+ghost use Rattle.locale_objects.specs.Answers.{IsRead, IsNumberTold, IsReadBack, locale_told, new_told, number_told, class_told};
 
-use crate::answer::{BAD_MASK, LobjAnswer, NO_CLASS, NO_DATA, NO_LOCALE, OK, answered};
+use crate::answer::{BAD_MASK, LobjAnswer, MISMATCH, NO_CLASS, NO_DATA, NO_LOCALE, OK, answered};
 use crate::fault::{LobjPlace, place_of, put_fault};
 use crate::hold::Hold;
 use lc_base::{Mask, TextFault};
-use shared_objects::{LocaleParts, NewFault, Shelf};
+use shared_objects::{LocaleParts, NewFault, Shelf, View};
 use std::alloc::{AllocError, Global};
 
 /// Reads a text, and puts its library behind a pointer, or the line of its refusal into a buffer.
@@ -74,6 +74,7 @@ pub fn put_new(
 }
 
 /// The number of a class.
+#[inline(always)]
 pub fn number_told(number: Option<usize>) -> LobjAnswer
     ensures { result ≡ number_told number }
 {
@@ -84,6 +85,7 @@ pub fn number_told(number: Option<usize>) -> LobjAnswer
 }
 
 /// Whether a character is of a class: 1 or 0.
+#[inline(always)]
 pub fn class_told(is: Option<bool>) -> LobjAnswer
     ensures { result ≡ class_told is }
 {
@@ -91,5 +93,22 @@ pub fn class_told(is: Option<bool>) -> LobjAnswer
         None => answered(NO_CLASS, 0),
         Some(true) => answered(OK, 1),
         Some(false) => answered(OK, 0),
+    }
+}
+
+/// Writes the whole number that a text spells, if it is one of an `i64`.
+pub fn put_number(out: &mut i64, view: &View<'_>, text: &[u8]) -> LobjAnswer
+    ensures told { IsNumberTold (Some view.now) text.now result out.old out.new }
+    ensures back { IsReadBack (Some view.now) text.now result out.new }
+{
+    let Some(read) = view.read_number(text) else {
+        return answered(MISMATCH, 0);
+    };
+    match i64::try_from(read) {
+        Ok(number) => {
+            *out = number;
+            answered(OK, 0)
+        }
+        Err(_) => answered(MISMATCH, 0),
     }
 }

@@ -23,6 +23,7 @@ use strfmon::Amount;
 use strftime_fields::Tm;
 
 /// Puts the text of an item into a buffer.
+#[inline(always)]
 pub fn put_item(buffer: &mut [u8], view: &View<'_>, number: u32) -> LobjAnswer
     ensures { (result, buffer.new) ≡ item_told buffer.old view.now (item_of number) }
 {
@@ -36,7 +37,7 @@ pub fn put_item(buffer: &mut [u8], view: &View<'_>, number: u32) -> LobjAnswer
 pub fn put_conv_text(buffer: &mut [u8], view: &View<'_>, number: u32) -> LobjAnswer
     ensures { (result, buffer.new) ≡ conv_told buffer.old (conv_text view.now number) }
 {
-    match view.conv().texts.get(number as usize) {
+    match view.conv_text(number) {
         None => answered(NO_ITEM, 0),
         Some(text) => put_text(buffer, text),
     }

@@ -15,8 +15,8 @@ use Rattle.script_lang.specs.Accepted.{bundle_of}
 use Rattle.shared_objects.specs.Shared.{Shared, Stock}
 use Rattle.shared_objects.specs.declared.fault.NewFault.TheVariants.{NoLocale, NoData}
 use Rattle.shared_objects.specs.declared.locale.LocaleParts.{LocaleParts}
-use Rattle.shared_objects.specs.Objects.{catalog_of, first_object, new_parts, ctype_in, numeric_in, monetary_in, time_in, messages_in}
-use Rattle.shared_objects.specs.Locales.{mark_of, stock_of, stock_in, posix_of, locale_of, shared_of, new_locale}
+use Rattle.shared_objects.specs.Objects.{ctype_in, numeric_in, monetary_in, time_in, messages_in, names_in}
+use Rattle.shared_objects.specs.Locales.{mark_of, stock_of, stock_in, posix_of, locale_of, name_with, shared_of, new_locale}
 
 -- a locale with the categories of a mask
 abbrev locale : List ℕ → ℕ → Locale
@@ -76,6 +76,14 @@ foreign : shared_of stock (locale_of 8 (parts 0 0 0 0 0)) ∷ shared_of stock (m
     ∷ shared_of stock (made (parts 0 0 0 3 0)) ∷ shared_of stock (made (parts 0 0 0 0 3)) ∷ []
     ≡ None ∷ None ∷ None ∷ None ∷ None ∷ None ∷ []
 foreign = refl
+
+-- each number of a locale has its name, and there is none above the last
+own_names : name_with stock 0 ∷ name_with stock 1 ∷ name_with stock 2 ∷ name_with stock 3 ∷ [] ≡ Some (codes "C") ∷ Some (codes "us") ∷ Some (codes "half") ∷ None ∷ []
+own_names = refl
+
+-- the name of each category
+category_names : names_in (object (parts 1 2 0 0 1)) ≡ codes "us" ∷ codes "half" ∷ codes "C" ∷ codes "C" ∷ codes "us" ∷ []
+category_names = refl
 
 -- ---- newlocale
 

@@ -3,6 +3,7 @@ use Rattle.std.specs.Prelude.{ℕ, ◌+◌, ◌*◌, ◌%◌, Bool, ◌&&◌, na
 use Rattle.lc_base.specs.declared.category.Category.{Category}
 use Rattle.lc_base.specs.Reading.{Reads, ◌>>=◌}
 use Rattle.mask_compose.specs.Parts.{Parts}
+use Rattle.category_store.specs.Library.{locale_at}
 use Rattle.script_lang.specs.declared.bundle.Bundle.{Bundle}
 use Rattle.script_lang.specs.Accepted.{bundle_of}
 use Rattle.shared_objects.specs.declared.fault.NewFault.{NewFault}
@@ -56,6 +57,10 @@ posix_of stock = record { mark = stock.mark; ctype = 0; numeric = 0; monetary = 
 -- the POSIX locale, and the locales and later versions by place, from 1
 abbrev pub has_number : Stock → ℕ → Bool
 has_number stock n = nat_lt n (stock.count + 1)
+
+-- the name of the compiled locale with a number, if the library has one
+abbrev pub name_with : Stock → ℕ → Option (List ℕ)
+name_with stock n = if has_number stock n then Some (locale_at stock.library n).name else None
 
 -- a locale is of a library whose mark it has, if the library has each of its numbers
 abbrev pub has_locale : Stock → LocaleParts → Bool

@@ -1,5 +1,5 @@
 -- Objects over one library: what they are composed of, and the categories of each (XSH newlocale).
-use Rattle.std.specs.Prelude.{◌≡◌, ℕ, Bool, not, ◌&&◌, List, slice_get, Option, None, Some, unwrap_or, Result, Ok, Err}
+use Rattle.std.specs.Prelude.{ℕ, Bool, not, ◌&&◌, List, map, slice_get, Option, None, Some, unwrap_or, Result, Ok, Err}
 use Rattle.std.specs.List.{find}
 use Rattle.lc_base.specs.declared.category.Category.{Category}
 use Rattle.lc_base.specs.declared.category.Category.TheVariants.{Ctype, Numeric, Monetary, Time, Messages}
@@ -99,3 +99,11 @@ time_in o = (compiled_in o Time).time
 
 abbrev pub messages_in : Shared → MessagesValues
 messages_in o = (compiled_in o Messages).messages
+
+-- the name of the locale that has a category: the one that was named, also where it copies
+abbrev pub name_in : Shared → Category → List ℕ
+name_in o category = (compiled_in o category).name
+
+-- the names of the categories, in order
+abbrev pub names_in : Shared → List (List ℕ)
+names_in o = map (name_in o) categories

@@ -1,6 +1,7 @@
 //! Locales as plain values.
 
 ghost use Rattle.std.specs.Prelude.{◌≡◌};
+ghost use Rattle.mask_compose.specs.Parts.{part_of};
 ghost use Rattle.shared_objects.specs.Locales.{locale_of, parts_of};
 
 use category_store::Share;
@@ -18,6 +19,22 @@ pub struct LocaleParts {
     pub monetary: u32,
     pub time: u32,
     pub messages: u32,
+}
+
+impl LocaleParts {
+    /// The number of the compiled locale that has a category.
+    #[inline(always)]
+    pub(crate) fn number(&self, category: Category) -> u32
+        ensures { result ≡ part_of (parts_of self.now) category }
+    {
+        match category {
+            Category::Ctype => self.ctype,
+            Category::Numeric => self.numeric,
+            Category::Monetary => self.monetary,
+            Category::Time => self.time,
+            Category::Messages => self.messages,
+        }
+    }
 }
 
 /// The locale of an object over the library with a mark.

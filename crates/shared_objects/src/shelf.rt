@@ -1,10 +1,11 @@
 //! A library that was read, with its mark.
 
 ghost use Rattle.std.specs.Prelude.{◌≡◌, ◌<◌, ◌+◌, ◌^◌, length, Some, None};
+ghost use Rattle.std.specs.Option.{option_copied};
 ghost use Rattle.lc_base.specs.Reading.{Gives};
 ghost use Rattle.script_lang.specs.Accepted.{IsAccepted};
 ghost use Rattle.shared_objects.specs.Objects.{catalog_of};
-ghost use Rattle.shared_objects.specs.Locales.{block_count, stock_in, stock_of, has_number, has_locale, shared_of, posix_of, located, new_locale};
+ghost use Rattle.shared_objects.specs.Locales.{block_count, stock_in, stock_of, has_number, name_with, has_locale, shared_of, posix_of, located, new_locale};
 
 use crate::fault::NewFault;
 use crate::locale::{LocaleParts, locale_of, object_of};
@@ -85,6 +86,7 @@ impl Shelf {
     }
 
     /// Whether the library has a compiled locale with a number.
+    #[inline(always)]
     fn has_number(&self, number: u32) -> bool
         ensures { result ≡ has_number self.now number }
     {
@@ -92,6 +94,7 @@ impl Shelf {
     }
 
     /// Whether a locale is of this library.
+    #[inline(always)]
     fn has(&self, locale: &LocaleParts) -> bool
         ensures { result ≡ has_locale self.now locale.now }
     {
@@ -103,12 +106,25 @@ impl Shelf {
             && self.has_number(locale.messages)
     }
 
+    /// The name of the compiled locale with a number: `C` of 0, and that of the i-th locale or later
+    /// version by place of i. `None` exactly where the library has no such number.
+    pub fn name_at(&self, number: u32) -> Option<&[u8]>
+        ensures { option_copied result ≡ name_with self.now number }
+    {
+        if self.has_number(number) {
+            Some(self.shelved.compiled(Share { number }).name())
+        } else {
+            None
+        }
+    }
+
     /// What a locale of this library is.
-    pub fn view(&self, locale: &LocaleParts) -> Option<View<'_>>
+    #[inline(always)]
+    pub fn view<'a>(&'a self, locale: &'a LocaleParts) -> Option<View<'a>>
         ensures { result ≡ shared_of self.now locale.now }
     {
         if self.has(locale) {
-            Some(View::of(&self.shelved, object_of(locale)))
+            Some(View::of(&self.shelved, locale))
         } else {
             None
         }
