@@ -1,7 +1,7 @@
 # Completion of locale_tool for bash.
 _locale_tool() {
   local word=${COMP_WORDS[COMP_CWORD]} previous=${COMP_WORDS[COMP_CWORD - 1]} command=${COMP_WORDS[1]}
-  local commands='money time number info conv parse class upper lower check import explain run serial help'
+  local commands='money time number info conv parse class upper lower check import explain run serial compare preview help'
   local classes='upper lower alpha digit space cntrl punct graph print xdigit blank alnum'
   local options='' words=''
   COMPREPLY=()
@@ -20,6 +20,10 @@ _locale_tool() {
       mapfile -t COMPREPLY < <(compgen -f -- "$word")
       return
       ;;
+    --color)
+      mapfile -t COMPREPLY < <(compgen -W 'always auto never' -- "$word")
+      return
+      ;;
     --path | -o | --output)
       compopt -o filenames 2> /dev/null
       mapfile -t COMPREPLY < <(compgen -d -- "$word")
@@ -27,10 +31,16 @@ _locale_tool() {
       ;;
   esac
   case $command in
-    money | time | number | info | conv | parse | class | upper | lower) options='-l --locale --charmap --path --gnu' ;;
+    number) options='-l --locale --charmap --path --gnu --strict --read' ;;
+    money | time | info | conv | parse | class | upper | lower) options='-l --locale --charmap --path --gnu --strict' ;;
+    compare) options='--charmap --path --gnu' ;;
+    preview) options='--charmap --path --gnu --html' ;;
     check) options='--charmap --path --summary' ;;
     import) options='--path -o --output --notes' ;;
     run | serial) options='--explain --strict' ;;
+  esac
+  case $command in
+    info | conv | parse | check | import | explain | compare) options="$options --json" ;;
   esac
   case $command in
     time) [ "$previous" = time ] || words=now ;;
@@ -40,8 +50,8 @@ _locale_tool() {
     help) words=$commands ;;
   esac
   case $word:$command in
-    -*) words="$options -h --help" ;;
-    *:check | *:import | *:run | *:serial)
+    -*) words="$options --color -h --help" ;;
+    *:check | *:import | *:run | *:serial | *:compare | *:preview)
       compopt -o filenames 2> /dev/null
       mapfile -t COMPREPLY < <(compgen -f -- "$word")
       return

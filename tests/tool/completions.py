@@ -40,8 +40,17 @@ CASES = [
     (["check", "so"], ["source"]),
     (["import", "so"], ["source"]),
     (["import", "--n"], ["--notes"]),
+    (["parse", "--j"], ["--json"]),
+    (["number", "--str"], ["--strict"]),
+    (["upper", "--co"], ["--color"]),
+    (["check", "--color", "n"], ["never"]),
     (["import", "-o", "fo"], ["folder"]),
     (["run", "so"], ["source"]),
+    (["number", "--re"], ["--read"]),
+    (["compare", "so"], ["source"]),
+    (["compare", "--j"], ["--json"]),
+    (["preview", "so"], ["source"]),
+    (["preview", "--h"], ["--html", "--help"]),
     (["check", "--summary", "a b"], ["a bundle"]),
 ]
 
@@ -54,7 +63,7 @@ def lacking():
     """What a completion does not name."""
     commands = quoted(r'name: "(\w+)",\n\s+about: ')
     abouts = quoted(r'about: "([^"]*)"')
-    options = quoted(r'name: "([a-z]+)",\n\s+takes: Takes::(?:File|Folders?|Flag)')
+    options = quoted(r'name: "([a-z]+)",\n\s+takes: Takes::(?:File|Folders?|Flag|When|Text)')
     told = []
     for name, path in FILES.items():
         text = open(path).read()
@@ -64,7 +73,7 @@ def lacking():
         if not name.endswith("bash"):
             forms += [re.escape(it) for it in abouts]
         told += [f"{path} lacks {it}" for it in forms if not re.search(it, text)]
-    if not (len(commands) == 14 and len(options) >= 5):
+    if not (len(commands) == 16 and len(options) >= 5):
         told.append(f"the table of {TABLE} is not read")
     return told
 

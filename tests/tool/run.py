@@ -1,8 +1,8 @@
 #!/usr/bin/env python3
 """run.py WORK [PROGRAM]: runs the tool on the cases of the file `cases`, in a folder WORK, and compares both
 streams and the status. With PROGRAM, a built one, it also runs what a try does not: streams that are full or
-closed, words that are no text, time zones, and the count on a terminal. Without it the tool is built once, unproved.
-Prints what differs, and a line of counts; the status is 1 where one differs."""
+closed, words that are no text, time zones, and the count on a terminal. Without it the tool is built once, unproved,
+and runs each fifth of the cases. Prints what differs, and a line of counts; the status is 1 where one differs."""
 import os
 import pty
 import re
@@ -200,6 +200,8 @@ def told_of_slow_files(program, work, is_terminal):
 def run_streams(program, work):
     """The names of what differs where a stream is full or closed, words are no text, or work is long."""
     wrong = []
+    of_format = ["number", "%d %d", "1"]
+    told_of_format = "FORMAT:1:4: MissingNumber: each conversion of the format has a number\n%d %d\n   ^\n"
     unwritten = 3, b"locale_tool: standard output could not be written\n"
     wanted = {
         "full_device": (status_on_full_device(program, work, ["conv"]), unwritten),
@@ -226,6 +228,21 @@ def run_streams(program, work):
         "zone_that_moves_a_terminal": (came_in_zone(program, work, TZ="\x1b[m"), (0, b"UTC\n", unknown_zone("\\x1b[m"))),
         "zone_of_no_text": (came_in_zone(program, work, TZ=b"\xff"), (0, b"UTC\n", unknown_zone("TZ"))),
         "piped_source": (told_of_piped_source(program, work), (1, [b"On", b"^"])),
+        "colours_on_a_terminal": (told_on_terminal(program, work, *of_format, TERM="xterm"), (1, coloured(told_of_format))),
+        "colours_with_an_empty_variable": (
+            told_on_terminal(program, work, *of_format, TERM="xterm", NO_COLOR=""),
+            (1, coloured(told_of_format)),
+        ),
+        "no_colours_wanted": (told_on_terminal(program, work, *of_format, TERM="xterm", NO_COLOR="1"), (1, told_of_format)),
+        "no_colours_on_a_dumb_terminal": (told_on_terminal(program, work, *of_format, TERM="dumb"), (1, told_of_format)),
+        "colours_never_on_a_terminal": (
+            told_on_terminal(program, work, *of_format, "--color=never", TERM="xterm"),
+            (1, told_of_format),
+        ),
+        "colours_always_on_a_dumb_terminal": (
+            told_on_terminal(program, work, *of_format, "--color=always", TERM="dumb"),
+            (1, coloured(told_of_format)),
+        ),
         "no_terminal": (told_of_slow_files(program, work, False), (0, b"")),
     }
     for name, (came, want) in wanted.items():
@@ -260,6 +277,50 @@ def control_bytes():
     return cases
 
 
+def coloured(text):
+    """Places and marks of a message, in colours."""
+    text = re.sub(r"^(\S+:\d+:\d+:) ", "\x1b[1m\\1\x1b[0m ", text, flags=re.M)
+    return re.sub(r"^(\s*)\^$", "\\1\x1b[1;32m^\x1b[0m", text, flags=re.M)
+
+
+def colours():
+    """Messages with colours, of faults in a file, of a format, and of an import."""
+    faults = [
+        "files/twice:2:1: WrongCount: `abday` has 1 text; it takes 7 texts in quotes, Sunday first",
+        'abday "a"',
+        "^",
+    ]
+    told = {
+        "file": (1, ["check", "--color=always", "files/twice"], faults),
+        "format": (1, ["money", "--color", "always", "%n %n", "1"], ["FORMAT:1:4: MissingAmount: each conversion of the format has an amount", "%n %n", "   ^"]),
+        "no_place": (1, ["check", "--color=always", "files/none"], ["locale_tool: files/none: there is no such file"]),
+    }
+    cases = [Case(f"colours_of_{name}", status, words) for name, (status, words, _) in told.items()]
+    for case, (_, _, wanted) in zip(cases, told.values()):
+        case.message_parts = [coloured("\n".join(wanted))]
+    cases.append(Case("colours_of_notes", 0, ["import", "--color=always", "--notes", "files/gnu_notes"]))
+    cases[-1].output_parts = ['d_fmt "%Od"']
+    cases[-1].message_parts = [f"\x1b[1mfiles/gnu_notes:{it}:\x1b[0m " for it in ("3:1", "7:1", "10:1", "21:12")]
+    return cases
+
+
+def told_on_terminal(program, work, *words, **variables):
+    """What goes to a terminal that is standard error, the newlines as they were written."""
+    here, there = pty.openpty()
+    run = subprocess.Popen([program, *words], cwd=work, stderr=there, stdout=subprocess.DEVNULL, env=variables)
+    os.close(there)
+    told = b""
+    while True:
+        try:
+            read = os.read(here, 4096)
+        except OSError:
+            break
+        if not read:
+            break
+        told += read
+    return run.wait(), told.replace(b"\r\n", b"\n").decode()
+
+
 def main(work, program=None):
     cases = cases_of(f"{HERE}/cases")
     os.makedirs(work, exist_ok=True)
@@ -280,7 +341,12 @@ def main(work, program=None):
     ]
     cases.append(Case("chain_of_files", 0, ["check", "files/chain_1", "--path", "files"]))
     cases.append(Case("too_long_chain_of_files", 1, ["check", "files/chain_0", "--path", "files"], too_long))
+    too_big = "locale_tool: TooBig: the text has at most as many bytes as were asked for, here 1048576"
+    cases.append(Case("number_too_big", 1, ["number", "%255f" * 4113, *["1"] * 4113], [too_big]))
     cases += control_bytes()
+    cases += colours()
+    # (unproved a case takes a second)
+    cases = cases if program else cases[::5]
     count, wrong = len(cases), []
     if program:
         wrong, more = run_streams(program, work)
@@ -290,4 +356,6 @@ def main(work, program=None):
     return 1 if wrong else 0
 
 
+if len(sys.argv) not in (2, 3) or sys.argv[1].startswith("-"):
+    sys.exit(__doc__)
 sys.exit(main(*sys.argv[1:]))

@@ -2,6 +2,7 @@
 
 use crate::bundles::{is_bundle_file, push_bundle};
 use crate::gathered::Gathered;
+use crate::json::checked_json;
 use crate::progress::Progress;
 use crate::standard_input::{path_given, path_of};
 use crate::strs;
@@ -24,9 +25,14 @@ pub fn check_files<R: Files + Clock + Eprint>(
         folders: strs(given, "path"),
         summary: given.get_flag("summary"),
     };
-    let mut gathered = Gathered::new(alloc);
     let mut progress = Progress::begin(rt, is_watched);
     let paths = checked_paths(given);
+    if given.get_flag("json") {
+        let answer = checked_json(rt, alloc, &how, paths, &mut progress);
+        progress.end(rt);
+        return answer;
+    }
+    let mut gathered = Gathered::new(alloc);
     let worked = add_checked(rt, alloc, &how, paths, &mut progress, &mut gathered);
     progress.end(rt);
     gathered.answer(worked)

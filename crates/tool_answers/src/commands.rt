@@ -1,6 +1,6 @@
 //! The commands as the parser of words takes them.
 
-use crate::rows::{ArgRow, COMMANDS, CommandRow, LOCALE_ARGS, Takes, ToolCommand};
+use crate::rows::{ArgRow, COLOR, COMMANDS, CommandRow, LOCALE_ARGS, Takes, ToolCommand};
 use clap::{Arg, ArgAction, Command};
 use std::alloc::{AllocError, Global};
 
@@ -35,7 +35,7 @@ fn command_of<'a>(alloc: Global, row: &CommandRow) -> Result<Command<'a>, AllocE
     } else {
         command
     };
-    with_args(alloc, command, row.args)
+    with_args(alloc, command, row.args)?.arg(arg_of(alloc, &COLOR)?)
 }
 
 /// Whether a command reads a locale, and so has the options that say which.
@@ -46,7 +46,9 @@ fn reads_locale(command: ToolCommand) -> bool {
         | ToolCommand::Import
         | ToolCommand::Explain
         | ToolCommand::Run
-        | ToolCommand::Serial => false,
+        | ToolCommand::Serial
+        | ToolCommand::Compare
+        | ToolCommand::Preview => false,
     }
 }
 
@@ -68,6 +70,7 @@ fn arg_of<'a>(alloc: Global, row: &ArgRow) -> Result<Arg<'a>, AllocError> {
     let arg = Arg::new(alloc, row.name).help(row.help);
     match row.takes {
         Takes::Word => Ok(arg.value_name(row.name).required(true)),
+        Takes::WordUnless(other) => word_unless(arg.value_name(row.name), other),
         Takes::MaybeWord => Ok(arg.value_name(row.name)),
         Takes::Words => Ok(words_arg(arg, row).num_args(0..)),
         Takes::SomeWords => Ok(words_arg(arg, row).required(true)),
@@ -80,8 +83,19 @@ fn arg_of<'a>(alloc: Global, row: &ArgRow) -> Result<Arg<'a>, AllocError> {
                 .value_name("DIR")
                 .action(ArgAction::Append),
         ),
+        Takes::When => Ok(arg.long(row.name).value_name("WHEN")),
+        Takes::Text => Ok(
+            arg.long(row.name)
+                .value_name("TEXT")
+                .allow_hyphen_values(true),
+        ),
         Takes::Flag => Ok(arg.long(row.name).action(ArgAction::SetTrue)),
     }
+}
+
+/// An argument for a word that is not there beside another argument.
+fn word_unless<'a>(arg: Arg<'a>, other: &'static str) -> Result<Arg<'a>, AllocError> {
+    arg.required_unless_present(other)?.conflicts_with(other)
 }
 
 /// An argument for at least one word.

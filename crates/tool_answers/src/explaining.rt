@@ -1,13 +1,34 @@
 //! The rules of reasons.
 
+use crate::json::rows_json;
 use crate::near::{as_written, first_word, near_names};
+use crate::strs;
+use clap::ArgMatches;
 use lc_base::ByteText;
 use std::alloc::{AllocError, Global};
 use tool_messages::{Problem, explained};
 use tool_reads::usage_problem;
 
+/// What `explain` prints: the rows that words name, or the names of all, or the same as JSON text.
+pub fn explain_given(alloc: Global, given: &ArgMatches<'_>) -> Result<ByteText, Problem> {
+    let words = strs(given, "REASON");
+    if !given.get_flag("json") {
+        return explain(alloc, words);
+    }
+    let name = joined(alloc, words)?;
+    let name = name.as_bytes();
+    let found = match rows_json(alloc, as_written(name))? {
+        Some(text) => Some(text),
+        None => rows_json(alloc, as_written(first_word(name)))?,
+    };
+    match found {
+        Some(text) => Ok(text),
+        None => Err(unknown_reason(alloc, name)),
+    }
+}
+
 /// The rows of the table of reasons that words name, whatever the case of their letters.
-pub fn explain(alloc: Global, words: &[&str]) -> Result<ByteText, Problem> {
+fn explain(alloc: Global, words: &[&str]) -> Result<ByteText, Problem> {
     let name = joined(alloc, words)?;
     let name = name.as_bytes();
     let found = match explained(alloc, as_written(name))? {

@@ -4,6 +4,7 @@ use crate::rows::{COMMANDS, CommandRow, ToolCommand};
 use crate::standard_input::is_read_once;
 use clap::ArgMatches;
 use std::alloc::Global;
+use tool_colours::{When, when_of};
 use tool_messages::Problem;
 use tool_reads::usage_problem;
 
@@ -17,10 +18,26 @@ pub fn command_given<'a, 'b>(
             return Err(usage_problem(alloc, b"-", b"standard input can be read once"));
         }
         if let Some(command) = command_named(&COMMANDS, name) {
+            let _colours = colours_given(alloc, given)?;
             return Ok((command, given));
         }
     }
     Err(usage_problem(alloc, b"COMMAND", b"a command is wanted"))
+}
+
+/// When messages have colours, as words say.
+pub fn colours_given(alloc: Global, given: &ArgMatches<'_>) -> Result<When, Problem> {
+    match given.get_str("color") {
+        None => Ok(When::Auto),
+        Some(word) => match when_of(word) {
+            Some(when) => Ok(when),
+            None => Err(usage_problem(
+                alloc,
+                word.as_bytes(),
+                b"`--color` takes always, auto or never",
+            )),
+        },
+    }
 }
 
 /// The command with a name among rows.

@@ -1,6 +1,7 @@
 //! Files that are imported one after another.
 
 use crate::gathered::Gathered;
+use crate::json::imported_json;
 use crate::standard_input::path_of;
 use crate::strs;
 use clap::ArgMatches;
@@ -20,6 +21,9 @@ pub fn import_files<R: Files>(
         directory: given.get_str("output"),
         has_notes: given.get_flag("notes"),
     };
+    if given.get_flag("json") {
+        return imported_json(rt, alloc, &how, strs(given, "FILE"));
+    }
     let mut gathered = Gathered::new(alloc);
     let worked = add_imported(rt, alloc, &how, strs(given, "FILE"), &mut gathered);
     gathered.answer(worked)

@@ -1,15 +1,19 @@
 //! What the commands print that read a locale.
 
+use crate::lacking::tell_lacking;
 use crate::rows::LocaleCommand;
 use crate::standard_input::path_given;
 use crate::{strs, tm_of, word};
 use category_store::{Compiled, Share};
 use clap::ArgMatches;
+use json_reads::{conv_json, info_json, parsed_json};
 use lc_base::{ByteText, Category};
-use std::alloc::Global;
+use numeric_cat::Numeric;
+use std::alloc::{AllocError, Global};
 use std::rt::{Env, Files};
 use std::time::Clock;
 use time_cat::Time;
+use tool_decimals::{decimals_line, read_line};
 use tool_files::{Loaded, Wanted, fault_problem, library_of, load, load_text};
 use tool_import::{source_path, standard_text};
 use tool_messages::{Answer, Problem};
@@ -44,34 +48,35 @@ fn printed<R: Files + Env + Clock + AllocGlobal + Clone + Drop>(
     given: &ArgMatches<'_>,
     messages: &mut Vec<u8>,
 ) -> Result<ByteText, Problem> {
-    match loaded_for(rt, alloc, command, given) {
-        Ok(loaded) => by_files(rt, alloc, command, given, &loaded, messages),
+    let categories = categories_of(alloc, command, given)?;
+    let categories = categories.as_slice();
+    match loaded(rt, alloc, given, categories) {
+        Ok(loaded) => by_files(rt, alloc, command, given, &loaded, categories, messages),
         Err(problem) => Err(problem),
     }
 }
 
-/// Reads the files of a command, and of its locale the categories that the command asks for.
-fn loaded_for<R: Files>(
-    rt: &R,
+/// The categories that a command reads of its locale.
+fn categories_of(
     alloc: Global,
     command: LocaleCommand,
     given: &ArgMatches<'_>,
-) -> Result<Loaded, Problem> {
+) -> Result<Vec<Category>, AllocError> {
+    let mut categories = Vec::new(alloc);
     match command {
-        LocaleCommand::Money => loaded(rt, alloc, given, &[Category::Monetary]),
-        LocaleCommand::Number => loaded(rt, alloc, given, &[Category::Numeric]),
-        LocaleCommand::Time | LocaleCommand::Parse => loaded(rt, alloc, given, &[Category::Time]),
+        LocaleCommand::Info => return item_categories(alloc, strs(given, "ITEM")),
+        LocaleCommand::Money => categories.push(Category::Monetary)?,
+        LocaleCommand::Number => categories.push(Category::Numeric)?,
+        LocaleCommand::Time | LocaleCommand::Parse => categories.push(Category::Time)?,
         LocaleCommand::Conv => {
-            loaded(rt, alloc, given, &[Category::Numeric, Category::Monetary])
+            categories.push(Category::Numeric)?;
+            categories.push(Category::Monetary)?;
         }
         LocaleCommand::Class | LocaleCommand::Upper | LocaleCommand::Lower => {
-            loaded(rt, alloc, given, &[Category::Ctype])
-        }
-        LocaleCommand::Info => {
-            let categories = item_categories(alloc, strs(given, "ITEM"))?;
-            loaded(rt, alloc, given, categories.as_slice())
+            categories.push(Category::Ctype)?
         }
     }
+    Ok(categories)
 }
 
 /// Reads the files of a command, and of its locale these categories.
@@ -88,7 +93,7 @@ fn loaded<R: Files>(
 }
 
 /// The same where the words name a locale: by its path, or by its name in a folder.
-fn loaded_locale<R: Files>(
+pub fn loaded_locale<R: Files>(
     rt: &R,
     alloc: Global,
     given: &ArgMatches<'_>,
@@ -106,7 +111,7 @@ fn loaded_locale<R: Files>(
 }
 
 /// The files that the words of a command name, with the path of its locale.
-fn wanted_files<'a>(given: &'a ArgMatches<'_>, locale: Option<&'a str>) -> Wanted<'a> {
+pub fn wanted_files<'a>(given: &'a ArgMatches<'_>, locale: Option<&'a str>) -> Wanted<'a> {
     Wanted {
         locale,
         charmap: path_given(given, "charmap"),
@@ -121,10 +126,12 @@ fn by_files<R: Files + Env + Clock + AllocGlobal + Clone + Drop>(
     command: LocaleCommand,
     given: &ArgMatches<'_>,
     loaded: &Loaded,
+    categories: &[Category],
     messages: &mut Vec<u8>,
 ) -> Result<ByteText, Problem> {
     match library_of(alloc, &loaded.sources) {
         Ok(library) => {
+            tell_lacking(alloc, given, loaded, categories, messages)?;
             let locale = library.compiled(Share {
                 number: number_of(loaded),
             });
@@ -138,7 +145,7 @@ fn by_files<R: Files + Env + Clock + AllocGlobal + Clone + Drop>(
 }
 
 /// The number of the locale that is read: that of the first source, or of the POSIX locale.
-fn number_of(loaded: &Loaded) -> u32 {
+pub fn number_of(loaded: &Loaded) -> u32 {
     if loaded.sources.locales.is_empty() {
         0
     } else {
@@ -164,19 +171,31 @@ fn by_locale<R: Files + Env + Clock + AllocGlobal + Clone + Drop>(
         LocaleCommand::Money => {
             money_line(alloc, locale.monetary(), format, strs(given, "AMOUNT"))
         }
-        LocaleCommand::Number => {
-            number_line(alloc, locale.numeric(), format, strs(given, "NUMBER"))
-        }
+        LocaleCommand::Number => { numbers(alloc, locale.numeric(), given) }
         LocaleCommand::Time => {
             let when = given.get_str("WHEN").unwrap_or("now");
             timed(rt, alloc, locale.time(), format, when, messages)
         }
-        LocaleCommand::Parse => parsed_lines(alloc, locale.time(), format, word(given, "TEXT")),
-        LocaleCommand::Info => items(alloc, strs(given, "ITEM"), locale),
-        LocaleCommand::Conv => Ok(conv_lines(alloc, locale.numeric(), locale.monetary())?),
+        LocaleCommand::Parse => parsed(alloc, given, locale.time(), format),
+        LocaleCommand::Info => items(alloc, given, locale),
+        LocaleCommand::Conv => fields(alloc, given, locale),
         LocaleCommand::Class => class_lines(alloc, ctype, charset, word(given, "NAME"), characters),
         LocaleCommand::Upper => upper_lines(alloc, ctype, charset, characters),
         LocaleCommand::Lower => lower_lines(alloc, ctype, charset, characters),
+    }
+}
+
+/// The text of numbers, or the number that is read. Without the letter `f` a format has no decimals.
+fn numbers(alloc: Global, numeric: &Numeric, given: &ArgMatches<'_>) -> Result<ByteText, Problem> {
+    if let Some(text) = given.get_str("read") {
+        return read_line(alloc, numeric, text);
+    }
+    let format = word(given, "FORMAT");
+    let words = strs(given, "NUMBER");
+    if format.as_bytes().contains(&b'f') {
+        decimals_line(alloc, numeric, format, words)
+    } else {
+        number_line(alloc, numeric, format, words)
     }
 }
 
@@ -193,14 +212,53 @@ fn timed<R: Files + Env + Clock + AllocGlobal + Clone + Drop>(
     time_line(alloc, time, format, &tm)
 }
 
-/// The items with these names.
-fn items(alloc: Global, names: &[&str], locale: Compiled<'_>) -> Result<ByteText, Problem> {
-    let categories = LentCategories {
+/// The fields of a time that a text has.
+fn parsed(
+    alloc: Global,
+    given: &ArgMatches<'_>,
+    time: &Time,
+    format: &str,
+) -> Result<ByteText, Problem> {
+    let text = word(given, "TEXT");
+    if given.get_flag("json") {
+        parsed_json(alloc, time, format, text)
+    } else {
+        parsed_lines(alloc, time, format, text)
+    }
+}
+
+/// The fields of localeconv.
+fn fields(
+    alloc: Global,
+    given: &ArgMatches<'_>,
+    locale: Compiled<'_>,
+) -> Result<ByteText, Problem> {
+    let (numeric, monetary) = (locale.numeric(), locale.monetary());
+    if given.get_flag("json") {
+        Ok(conv_json(alloc, numeric, monetary)?)
+    } else {
+        Ok(conv_lines(alloc, numeric, monetary)?)
+    }
+}
+
+/// The items that words name.
+fn items(alloc: Global, given: &ArgMatches<'_>, locale: Compiled<'_>) -> Result<ByteText, Problem> {
+    let categories = lent(&locale);
+    let names = strs(given, "ITEM");
+    if given.get_flag("json") {
+        info_json(alloc, &categories, names)
+    } else {
+        info_lines(alloc, &categories, names)
+    }
+}
+
+/// The categories of a locale.
+pub fn lent<'a>(locale: &Compiled<'a>) -> LentCategories<'a> {
+    LentCategories {
         ctype: locale.ctype(),
         numeric: locale.numeric(),
         monetary: locale.monetary(),
         time: locale.time(),
         messages: locale.messages(),
-    };
-    info_lines(alloc, &categories, names)
+    }
 }

@@ -10,6 +10,8 @@ pub enum ToolCommand {
     Explain,
     Run,
     Serial,
+    Compare,
+    Preview,
 }
 
 /// A command that reads a locale.
@@ -49,6 +51,8 @@ pub struct ArgRow {
 pub enum Takes {
     /// A word that has to be there.
     Word,
+    /// The same, unless the argument with this name is given, beside which it may not stand.
+    WordUnless(&'static str),
     /// A word that may be there.
     MaybeWord,
     /// Words, of which there may be any number.
@@ -63,6 +67,10 @@ pub enum Takes {
     Folder(char),
     /// A folder behind the argument's name, which may be given again.
     Folders,
+    /// `always`, `auto` or `never` behind the argument's name.
+    When,
+    /// Any text behind the argument's name.
+    Text,
     /// Nothing.
     Flag,
 }
@@ -83,6 +91,19 @@ const GNU: ArgRow = ArgRow {
     name: "gnu",
     takes: Takes::Flag,
     help: "Takes a source of the system's own kind, which is imported on the way",
+};
+
+const JSON: ArgRow = ArgRow {
+    name: "json",
+    takes: Takes::Flag,
+    help: "Prints one JSON object",
+};
+
+/// The option that each command has.
+pub const COLOR: ArgRow = ArgRow {
+    name: "color",
+    takes: Takes::When,
+    help: "Whether places and marks in messages have colours: always, never, or auto, which is on a terminal",
 };
 
 const CHARACTERS: ArgRow = ArgRow {
@@ -110,7 +131,7 @@ const STRICT: ArgRow = ArgRow {
 };
 
 /// The options that say which locale is read.
-pub const LOCALE_ARGS: [ArgRow; 4] = [
+pub const LOCALE_ARGS: [ArgRow; 5] = [
     ArgRow {
         name: "locale",
         takes: Takes::File(Some('l')),
@@ -119,10 +140,15 @@ pub const LOCALE_ARGS: [ArgRow; 4] = [
     CHARMAP,
     PATH,
     GNU,
+    ArgRow {
+        name: "strict",
+        takes: Takes::Flag,
+        help: "Refuses a source that lacks a category which is read",
+    },
 ];
 
 /// The rows of the commands, in the order in which help has them.
-pub const COMMANDS: [CommandRow; 14] = [
+pub const COMMANDS: [CommandRow; 16] = [
     CommandRow {
         command: ToolCommand::Locale(LocaleCommand::Money),
         name: "money",
@@ -160,17 +186,22 @@ pub const COMMANDS: [CommandRow; 14] = [
     CommandRow {
         command: ToolCommand::Locale(LocaleCommand::Number),
         name: "number",
-        about: "Prints whole numbers by a format of printf",
+        about: "Prints whole numbers and decimals by a format of printf, or reads one back",
         args: &[
             ArgRow {
                 name: "FORMAT",
-                takes: Takes::Word,
-                help: "A format, as `%'d`",
+                takes: Takes::WordUnless("read"),
+                help: "A format, as `%'d` or `%'.2f`",
             },
             ArgRow {
                 name: "NUMBER",
                 takes: Takes::Words,
-                help: "A whole number",
+                help: "A whole number, or for `%f` a decimal, as 1234.5",
+            },
+            ArgRow {
+                name: "read",
+                takes: Takes::Text,
+                help: "Prints the number that this text is in the locale, with a point and without groups",
             },
         ],
     },
@@ -178,17 +209,20 @@ pub const COMMANDS: [CommandRow; 14] = [
         command: ToolCommand::Locale(LocaleCommand::Info),
         name: "info",
         about: "Prints items of nl_langinfo",
-        args: &[ArgRow {
-            name: "ITEM",
-            takes: Takes::Words,
-            help: "An item, as D_FMT; without one, all of them with their names",
-        }],
+        args: &[
+            ArgRow {
+                name: "ITEM",
+                takes: Takes::Words,
+                help: "An item, as D_FMT; without one, all of them with their names",
+            },
+            JSON,
+        ],
     },
     CommandRow {
         command: ToolCommand::Locale(LocaleCommand::Conv),
         name: "conv",
         about: "Prints how numbers and amounts are written, a field a line",
-        args: &[],
+        args: &[JSON],
     },
     CommandRow {
         command: ToolCommand::Locale(LocaleCommand::Parse),
@@ -205,6 +239,7 @@ pub const COMMANDS: [CommandRow; 14] = [
                 takes: Takes::Word,
                 help: "The text",
             },
+            JSON,
         ],
     },
     CommandRow {
@@ -249,6 +284,7 @@ pub const COMMANDS: [CommandRow; 14] = [
                 takes: Takes::Flag,
                 help: "Prints what each file has that is accepted",
             },
+            JSON,
         ],
     },
     CommandRow {
@@ -272,17 +308,21 @@ pub const COMMANDS: [CommandRow; 14] = [
                 takes: Takes::Flag,
                 help: "Tells of each line that is left out or changed, and not of each kind once",
             },
+            JSON,
         ],
     },
     CommandRow {
         command: ToolCommand::Explain,
         name: "explain",
         about: "Prints the rule of a reason, what breaks it and what keeps it",
-        args: &[ArgRow {
-            name: "REASON",
-            takes: Takes::Words,
-            help: "A reason or a refusal, as BadNumber or OverLimit list, in any case of letters; without one, the names of all",
-        }],
+        args: &[
+            ArgRow {
+                name: "REASON",
+                takes: Takes::Words,
+                help: "A reason or a refusal, as BadNumber or OverLimit list, in any case of letters; without one, the names of all",
+            },
+            JSON,
+        ],
     },
     CommandRow {
         command: ToolCommand::Run,
@@ -295,5 +335,46 @@ pub const COMMANDS: [CommandRow; 14] = [
         name: "serial",
         about: "Runs the scripts of bundles on one thread",
         args: &[BUNDLES, EXPLAIN, STRICT],
+    },
+    CommandRow {
+        command: ToolCommand::Compare,
+        name: "compare",
+        about: "Prints what two locales define differently; the status is 1 where they do",
+        args: &[
+            ArgRow {
+                name: "A",
+                takes: Takes::Word,
+                help: "The source of a locale, the name of a system's, POSIX, or - for standard input",
+            },
+            ArgRow {
+                name: "B",
+                takes: Takes::Word,
+                help: "That of the other",
+            },
+            CHARMAP,
+            PATH,
+            GNU,
+            JSON,
+        ],
+    },
+    CommandRow {
+        command: ToolCommand::Preview,
+        name: "preview",
+        about: "Prints locales at a glance, side by side",
+        args: &[
+            ArgRow {
+                name: "NAME",
+                takes: Takes::SomeWords,
+                help: "The source of a locale, the name of a system's, POSIX, or - for standard input",
+            },
+            CHARMAP,
+            PATH,
+            GNU,
+            ArgRow {
+                name: "html",
+                takes: Takes::Flag,
+                help: "Writes a page of HTML that stands alone",
+            },
+        ],
     },
 ];

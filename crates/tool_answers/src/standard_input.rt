@@ -29,14 +29,26 @@ pub fn path_given<'a>(given: &'a ArgMatches<'_>, name: &str) -> Option<&'a str> 
 /// Whether the files of a command read standard input at most once. A charmap is read for each source.
 pub fn is_read_once(given: &ArgMatches<'_>) -> bool {
     let files = strs(given, "FILE");
+    let names = strs(given, "NAME");
     let mut count = count_in(files).saturating_add(count_in(strs(given, "BUNDLE")));
-    if is_given(given, "locale") {
-        count = count.saturating_add(1);
+    count = count.saturating_add(count_in(names));
+    for name in ["locale", "A", "B"] {
+        if is_given(given, name) {
+            count = count.saturating_add(1);
+        }
     }
     if is_given(given, "charmap") {
-        count = count.saturating_add(files.len().max(1));
+        count = count.saturating_add(files.len().max(names.len()).max(pair_of(given)));
     }
     count <= 1
+}
+
+/// How many locales are compared; 1 where none are.
+fn pair_of(given: &ArgMatches<'_>) -> usize {
+    match given.get_str("B") {
+        Some(_) => 2,
+        None => 1,
+    }
 }
 
 /// How many words are that for standard input.

@@ -1,5 +1,6 @@
 //! Times as they are written.
 
+use crate::calendar::wrong_date;
 use crate::clock::{NOW, now_tm};
 use crate::fields::{civil_tm, zoned_tm};
 use jiff::Zoned;
@@ -189,9 +190,9 @@ fn is_sign(byte: u8) -> bool {
     byte == b'+' || byte == b'-'
 }
 
-/// The problem of a word that is no time.
+/// The problem of a word that is no time, or has a date that no calendar has.
 pub fn when_problem(alloc: Global, word: &[u8]) -> Problem {
-    word_problem(alloc, word, WANTED)
+    word_problem(alloc, word, wrong_date(word).unwrap_or(WANTED))
 }
 
 /// The problem of a word, with what is wrong.

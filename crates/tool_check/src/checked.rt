@@ -148,7 +148,7 @@ fn refused(messages: Result<ByteText, AllocError>) -> Result<Checked, AllocError
 }
 
 /// The summary of a charmap, if it is asked for.
-fn charmap_summary(
+pub fn charmap_summary(
     alloc: Global,
     is_asked: bool,
     path: &str,
@@ -246,7 +246,7 @@ fn all_messages(
 }
 
 /// The summary of a locale, if it is asked for.
-fn locale_summary(
+pub fn locale_summary(
     alloc: Global,
     is_asked: bool,
     path: &str,

@@ -6,6 +6,7 @@ mod copied;
 mod declared;
 mod faults;
 mod found;
+mod json;
 mod looks;
 mod odd;
 mod summary;
@@ -13,4 +14,5 @@ mod texts;
 mod told;
 
 pub use checked::{Checked, Checking, charmap_checked, check_file, sources_checked};
+pub use json::{push_file_json, push_problem_json};
 pub use told::Told;

@@ -84,7 +84,7 @@ fn first_text(locales: &[Block]) -> &[u8] {
 }
 
 /// The name of an oddity, which stands for the reason.
-fn oddity_name(oddity: Oddity) -> &'static [u8]
+pub fn oddity_name(oddity: Oddity) -> &'static [u8]
     ensures { result.now ≡ oddity_name oddity }
 {
     match oddity {
@@ -95,7 +95,7 @@ fn oddity_name(oddity: Oddity) -> &'static [u8]
 }
 
 /// What is wrong of a line, or of a source.
-fn finding_words(alloc: Global, oddity: Oddity, line: &[u8]) -> Result<Vec<u8>, AllocError> {
+pub fn finding_words(alloc: Global, oddity: Oddity, line: &[u8]) -> Result<Vec<u8>, AllocError> {
     let mut words = Vec::new(alloc);
     match oddity {
         Oddity::Return => words.extend_from_slice(

@@ -79,6 +79,15 @@ fn push_once(out: &mut Vec<u8>, told: &mut Told, message: &[u8]) -> Result<(), A
     out.extend_from_slice(message)
 }
 
+/// Whether what tells a fault from others is not told yet; it is then told.
+pub fn is_new(told: &mut Told, key: Vec<u8>) -> Result<bool, AllocError> {
+    if told.messages.contains(key.as_slice()) {
+        return Ok(false);
+    }
+    told.messages.insert(key)?;
+    Ok(true)
+}
+
 /// What stands behind the first message: behind three lines, the place with the reason, the line and the mark, and
 /// its hints.
 fn behind_message(messages: &[u8]) -> &[u8] {

@@ -1,3 +1,4 @@
+pub mod Lacking
 pub mod Library
 pub mod Parts
 pub mod Told

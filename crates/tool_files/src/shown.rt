@@ -71,6 +71,59 @@ pub fn fault_message(
     message_of(alloc, file.path, spot, &shown, hints.as_slice())
 }
 
+/// A fault as it is told, in parts.
+#[derive(Drop)]
+pub struct FaultParts {
+    pub file: ByteText,
+    /// Where it is shown in the file.
+    pub place: Place,
+    /// The reason, with what it names.
+    pub reason: ByteText,
+    /// What is wrong, and the rule.
+    pub told: ByteText,
+    /// The line.
+    pub source: ByteText,
+    /// The hints, a line each.
+    pub hints: ByteText,
+}
+
+/// The parts of what is told of a fault in files.
+pub fn fault_parts(
+    alloc: Global,
+    sources: &Sources,
+    charset: Option<&Charset>,
+    place: Place,
+    reason: Reason,
+) -> Result<FaultParts, AllocError>
+    ensures file { IfOk result (λ parts. parts.file ≡ (file_of sources.now.paths.items place.line).0) }
+    ensures place { IfOk result (λ parts. is_format reason ≡ false → parts.place ≡ place_in (file_of sources.now.paths.items place.line).1 place) }
+    ensures reason { IfOk result (λ parts. parts.reason ≡ reason_text reason) }
+{
+    let file = file_of(&sources.paths, place.line);
+    let text = text_of(sources, file);
+    let spot = shown_place(text, charset, place_in(file, place), reason);
+    let source = line_of(text, spot.line);
+    let shown = Shown {
+        text,
+        line: spot.line,
+        source,
+        column: spot.column,
+        reason,
+        copied: copied_path(sources, text, spot),
+        folders: sources.folders.as_slice(),
+    };
+    let mut told = Vec::new(alloc);
+    push_told(&mut told, &shown)?;
+    Ok(FaultParts {
+        file: ByteText::of(alloc, file.path)?,
+        place: spot,
+        reason: reason_words(alloc, reason)?,
+        told: ByteText::from_vec(told),
+        source: ByteText::of(alloc, source)?,
+        hints: ByteText::from_vec(file_hints(alloc, sources, &shown)?),
+    })
+}
+
 /// The hints beside a fault in files.
 fn file_hints(alloc: Global, sources: &Sources, shown: &Shown<'_>) -> Result<Vec<u8>, AllocError> {
     let mut hints = Vec::new(alloc);

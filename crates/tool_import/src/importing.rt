@@ -84,7 +84,7 @@ fn kept<R: Files>(
 }
 
 /// Writes a source into a file. Whether it could be written; if not, the messages say so.
-fn written<R: Files>(
+pub fn written<R: Files>(
     rt: &R,
     path: &str,
     text: &ByteText,

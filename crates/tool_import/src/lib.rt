@@ -4,9 +4,11 @@
 mod found;
 mod gathered;
 mod importing;
+mod json;
 mod notes;
 mod system;
 
 pub use found::source_path;
 pub use importing::{Importing, import_file};
+pub use json::push_import_json;
 pub use system::standard_text;

@@ -7,9 +7,9 @@ use tool_messages::{push_number, push_word};
 
 /// How many notes have a code, and the first of them.
 #[derive(Clone, Copy)]
-struct Tally {
-    first: Note,
-    count: u64,
+pub struct Tally {
+    pub first: Note,
+    pub count: u64,
 }
 
 /// Adds a line for each note: `FILE:LINE:COLUMN: CODE: SENTENCE`.
@@ -41,7 +41,7 @@ pub fn push_summary(
 }
 
 /// The notes by their codes, in the order of the first of each.
-fn tallies_of(alloc: Global, notes: &[Note]) -> Result<Vec<Tally>, AllocError> {
+pub fn tallies_of(alloc: Global, notes: &[Note]) -> Result<Vec<Tally>, AllocError> {
     let mut tallies = Vec::new(alloc);
     for note in notes {
         if !is_counted(tallies.as_mut_slice(), note) {
@@ -50,6 +50,18 @@ fn tallies_of(alloc: Global, notes: &[Note]) -> Result<Vec<Tally>, AllocError> {
                 count: 1,
             })?;
         }
+    }
+    Ok(tallies)
+}
+
+/// Each note by itself.
+pub fn each_note(alloc: Global, notes: &[Note]) -> Result<Vec<Tally>, AllocError> {
+    let mut tallies = Vec::new(alloc);
+    for note in notes {
+        tallies.push(Tally {
+            first: *note,
+            count: 1,
+        })?;
     }
     Ok(tallies)
 }

@@ -13,10 +13,10 @@ pub struct ReasonRow {
 }
 
 /// How many rows there are.
-pub const ROW_COUNT: u32 = 73;
+pub const ROW_COUNT: u32 = 77;
 
-/// The row with a number from 0, for each reason of a bundle, a charmap or a source and for each
-/// refusal of a command.
+/// The row with a number from 0, for each reason of a bundle, a charmap or a source, for each refusal of a
+/// command, and for what the tool refuses of a source beyond its reader.
 pub fn row_at(number: u32) -> Option<ReasonRow> {
     match number {
         0..=7 => first_rows(number),
@@ -29,6 +29,7 @@ pub fn row_at(number: u32) -> Option<ReasonRow> {
         55..=61 => eighth_rows(number),
         62..=67 => ninth_rows(number),
         68..=72 => tenth_rows(number),
+        73..=76 => eleventh_rows(number),
         _ => None,
     }
 }
@@ -391,7 +392,7 @@ fn seventh_rows(number: u32) -> Option<ReasonRow> {
         },
         52 => ReasonRow {
             name: "BadFormat",
-            rule: "a `%` of a format begins a conversion: of a time one of aAbBcCdDeFgGhHIjmMnprRStTuUVwWxXyYzZ%, or E and one of cCxXyY, or O and one of deHImMSuUVwWy; of an amount i, n or %; of a number d, i, u or %",
+            rule: "a `%` of a format begins a conversion: of a time one of aAbBcCdDeFgGhHIjmMnprRStTuUVwWxXyYzZ%, or E and one of cCxXyY, or O and one of deHImMSuUVwWy; of an amount i, n or %; of a number d, i, u or %, and for `locale_tool number` f",
             breaks: "t_fmt \"a%Q\"",
             keeps: "t_fmt \"a%%Q\"",
         },
@@ -535,6 +536,37 @@ fn tenth_rows(number: u32) -> Option<ReasonRow> {
             rule: "the text has at most as many bytes as were asked for",
             breaks: "money max=3 \"%n\" 5",
             keeps: "money max=4 \"%n\" 5",
+        },
+        _ => return None,
+    };
+    Some(row)
+}
+
+fn eleventh_rows(number: u32) -> Option<ReasonRow> {
+    let row = match number {
+        73 => ReasonRow {
+            name: "CarriageReturn",
+            rule: "a line of a source ends with LF alone; a CR is a byte of its last word",
+            breaks: "a line `LC_TIME` that ends with CR LF",
+            keeps: "LC_TIME\nEND LC_TIME",
+        },
+        74 => ReasonRow {
+            name: "UnknownSection",
+            rule: "a section is LC_CTYPE, LC_COLLATE, LC_MESSAGES, LC_MONETARY, LC_NUMERIC or LC_TIME; nothing is read of any other",
+            breaks: "LC_MONETRY\nfrac_digits 2\nEND LC_MONETRY",
+            keeps: "LC_MONETARY\nfrac_digits 2\nEND LC_MONETARY",
+        },
+        75 => ReasonRow {
+            name: "NoSection",
+            rule: "a source has a section",
+            breaks: "a file that has comments and blank lines alone",
+            keeps: "LC_TIME\nEND LC_TIME",
+        },
+        76 => ReasonRow {
+            name: "NoCategory",
+            rule: "with `--strict` a source has each category that is read of it",
+            breaks: "a source without LC_MONETARY, for `money --strict`",
+            keeps: "LC_MONETARY\nEND LC_MONETARY",
         },
         _ => return None,
     };

@@ -5,7 +5,7 @@ ghost use Rattle.langinfo.specs.Items.{info};
 ghost use Rattle.script_out.specs.Output.{quoted};
 ghost use Rattle.lc_base.specs.Tables.{first_named};
 ghost use Rattle.script_words.specs.Tables.{items_table};
-ghost use Rattle.tool_reads.specs.Answers.{Answers, Tells, beside, each_of, value_or_wrong};
+ghost use Rattle.tool_reads.specs.Answers.{Answers, IsOf, Tells, WrongWord, beside, each_of, value_or_wrong};
 ghost use Rattle.tool_reads.specs.Printed.{field, info_lines, item_names, named_line, plain_line};
 
 use crate::wrong_word::usage_problem;
@@ -21,7 +21,7 @@ const WANTED: &[u8] =
     b"there is no such item; `locale_tool info` prints all of them with their names";
 
 /// The names of all items.
-const NAMES: [&str; 55] = [
+pub const ITEM_NAMES: [&str; 55] = [
     "CODESET",
     "RADIXCHAR",
     "THOUSEP",
@@ -98,7 +98,7 @@ pub fn info_lines(
 fn all_named(alloc: Global, locale: &LentCategories<'_>) -> Result<ByteText, Problem>
     ensures { Answers (λ lines. lines) result (each_of (named_line (λ item. info locale.entry.now.ctype.now locale.entry.now.numeric.now locale.entry.now.monetary.now locale.entry.now.time.now locale.entry.now.messages.now item)) item_names) }
 {
-    named_lines(alloc, locale, &NAMES)
+    named_lines(alloc, locale, &ITEM_NAMES)
 }
 
 #[tactic(auto, using(crate::proofs::AnswerLemmas::one_more_line, crate::proofs::AnswerLemmas::no_line, crate::proofs::AnswerLemmas::last_line))]
@@ -177,16 +177,28 @@ pub fn push_quoted_field(lines: &mut Vec<u8>, name: &[u8], text: &[u8]) -> Resul
 
 /// The item that a word names.
 #[tactic(auto, using(crate::proofs::AnswerLemmas::told))]
-fn item_of(alloc: Global, name: &str) -> Result<Item, Problem>
+pub fn item_of(alloc: Global, name: &str) -> Result<Item, Problem>
     ensures { Answers (λ item. item) result (value_or_wrong (first_named items_table name.now)) }
 {
     match item_named(name.as_bytes()) {
         Some(item) => Ok(item),
-        None => Err(usage_problem(alloc, name.as_bytes(), WANTED)),
+        None => Err(no_item(alloc, name)),
     }
 }
 
-fn text_of(alloc: Global, locale: &LentCategories<'_>, item: Item) -> Result<ByteText, AllocError>
+/// The problem of a word that names no item.
+pub fn no_item(alloc: Global, name: &str) -> Problem
+    ensures { IsOf result WrongWord }
+{
+    usage_problem(alloc, name.as_bytes(), WANTED)
+}
+
+/// The text of an item.
+pub fn text_of(
+    alloc: Global,
+    locale: &LentCategories<'_>,
+    item: Item,
+) -> Result<ByteText, AllocError>
     ensures { IfOk result (λ text. text ≡ info locale.entry.now.ctype.now locale.entry.now.numeric.now locale.entry.now.monetary.now locale.entry.now.time.now locale.entry.now.messages.now item) }
 {
     nl_langinfo(

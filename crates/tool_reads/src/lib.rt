@@ -14,7 +14,8 @@ mod wrong_word;
 
 pub use characters::{class_lines, lower_lines, upper_lines};
 pub use conv::conv_lines;
-pub use info::info_lines;
+pub use format_fault::problem_of;
+pub use info::{ITEM_NAMES, info_lines, item_of, no_item, text_of};
 pub use langinfo::LentCategories;
 pub use money::money_line;
 pub use needs::item_categories;

@@ -2,6 +2,7 @@
 #![tactic(auto)]
 
 mod copies;
+mod counts;
 mod eras;
 mod gnu;
 mod operands;

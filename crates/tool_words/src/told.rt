@@ -1,13 +1,14 @@
 //! What is told of a fault.
 
 use crate::copies::push_missing_copy;
+use crate::counts::operand_count;
 use crate::eras::push_era;
 use crate::operands::{push_takes, push_wrong_operand};
 use crate::parts::{first_operand, from_column, push_named, word_at};
 use crate::phrases::{Phrase, phrase_of};
 use lc_base::{ByteText, Reason, next_line};
 use std::alloc::AllocError;
-use tool_messages::{name_of, rule_of};
+use tool_messages::{name_of, push_number, rule_of};
 
 /// A fault at its place.
 #[derive(Clone, Copy)]
@@ -32,7 +33,7 @@ pub fn push_told(out: &mut Vec<u8>, shown: &Shown<'_>) -> Result<(), AllocError>
     match shown.reason {
         Reason::WrongOperand => push_wrong_operand(out, shown.source, shown.column, keyword),
         Reason::BadNumber => push_value(out, keyword, part),
-        Reason::WrongCount => push_count(out, keyword),
+        Reason::WrongCount => push_count(out, keyword, operand_count(shown.text, shown.line)),
         Reason::BadEra => push_era(out, first_operand(part)),
         Reason::EmptyRadix => push_rule(
             out,
@@ -83,8 +84,11 @@ fn push_value(out: &mut Vec<u8>, keyword: &[u8], part: &[u8]) -> Result<(), Allo
     push_takes(out, keyword)
 }
 
-fn push_count(out: &mut Vec<u8>, keyword: &[u8]) -> Result<(), AllocError> {
-    push_rule(out, keyword, b" has too few texts, or too many")?;
+/// Adds how many texts a keyword has, and what it takes.
+fn push_count(out: &mut Vec<u8>, keyword: &[u8], count: u64) -> Result<(), AllocError> {
+    push_rule(out, keyword, b" has ")?;
+    push_number(out, count)?;
+    out.extend_from_slice(if count == 1 { b" text" } else { b" texts" })?;
     push_takes(out, keyword)
 }
 

@@ -1,0 +1,3 @@
+mod Examples
+pub mod FormatLemmas
+pub mod RoundingLaw

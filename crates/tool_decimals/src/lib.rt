@@ -1,0 +1,14 @@
+//! Whole numbers and exact decimals as text, by one format, and read back.
+#![tactic(auto)]
+
+mod conversion;
+mod decimal;
+mod fault;
+mod format;
+mod layout;
+mod read;
+mod rounding;
+mod told;
+mod wrong;
+
+pub use told::{decimals_line, read_line};
