@@ -16,6 +16,7 @@ from ._faults import (
     ImportFault,
     LibraryMissing,
     LocaleError,
+    NumberFault,
     SourceFault,
     TimeFault,
     UnknownLocale,
@@ -23,6 +24,7 @@ from ._faults import (
 )
 from ._library import Library, Locale
 from ._values import ParsedTime
+from ._version import __version__
 
 __all__ = [
     "AmountFault",
@@ -32,11 +34,11 @@ __all__ = [
     "LibraryMissing",
     "Locale",
     "LocaleError",
+    "NumberFault",
     "ParsedTime",
     "SourceFault",
     "TimeFault",
     "UnknownLocale",
     "UnknownName",
+    "__version__",
 ]
-
-__version__ = "1.0"

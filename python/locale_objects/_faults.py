@@ -10,6 +10,7 @@ __all__ = [
     "UnknownLocale",
     "FormatFault",
     "AmountFault",
+    "NumberFault",
     "TimeFault",
     "UnknownName",
     "ImportFault",
@@ -22,7 +23,7 @@ class LocaleError(Exception):
 
 
 class LibraryMissing(LocaleError, OSError):
-    """The shared library, or the tool that imports sources, was not found."""
+    """The shared library, or the tool that imports sources, was not found, or the library has another version."""
 
 
 class SourceFault(LocaleError, ValueError):
@@ -80,12 +81,16 @@ class AmountFault(LocaleError, ValueError):
     """An amount is not finite, or has more than 18 fraction digits, or needs more than 64 bits."""
 
 
+class NumberFault(LocaleError, ValueError):
+    """A text is no whole number of 64 bits as the locale writes it."""
+
+
 class TimeFault(LocaleError, ValueError):
     """A time has a field out of its range, or a text does not meet the format."""
 
 
 class UnknownName(LocaleError, LookupError):
-    """There is no such item, class, or message catalog."""
+    """There is no such item, class, category, or message catalog."""
 
 
 class ImportFault(LocaleError, ValueError):

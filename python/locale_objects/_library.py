@@ -6,9 +6,13 @@ import os
 from typing import Dict, Iterable, List, Mapping, Optional, Tuple, Union
 
 from . import _native as native
-from ._faults import FormatFault, TimeFault, UnknownLocale, UnknownName
+from ._faults import FormatFault, NumberFault, TimeFault, UnknownLocale, UnknownName
+from ._quick import (
+    AMOUNTS, FORMS, NUMBERS, ONE, SIZE, TIMES, Buffers, amount_buffers, int_format, keep, number_buffers, pointer, strfmon,
+    strftime, time_buffers,
+)
 from ._sources import Source, as_bytes, bundle_of, imported, name_of_file, named
-from ._values import Amount, Moment, ParsedTime, amount_parts, time_fields
+from ._values import LEAST, MOST, Amount, Moment, ParsedTime, amount_parts, put_time, shown
 
 CATEGORIES = ("ctype", "numeric", "monetary", "time", "messages")
 MASKS = {name: 1 << bit for bit, name in enumerate(CATEGORIES)}
@@ -19,6 +23,8 @@ Text = Union[str, bytes]
 
 def encoded(text: str) -> bytes:
     """The bytes of a text; what was no UTF-8 comes back as it was."""
+    if not isinstance(text, str):
+        raise TypeError(f"a text is a str, and not a {type(text).__name__}")
     return text.encode("utf-8", "surrogateescape")
 
 
@@ -138,13 +144,14 @@ class Library:
 class Locale:
     """A locale: a value that any thread may use. Two are equal if they have the same five categories of one library."""
 
-    __slots__ = ("library", "_value", "_key")
+    __slots__ = ("library", "_value", "_key", "_at")
 
     def __init__(self, library: Library, value: "native.LocaleValue"):
         self.library = library
         """The library that it is of."""
         self._value = value
         self._key = bytes(value)
+        self._at = pointer(library._handle._at)
 
     def __eq__(self, other: object) -> bool:
         return isinstance(other, Locale) and self.library is other.library and self._key == other._key
@@ -152,28 +159,79 @@ class Locale:
     def __hash__(self) -> int:
         return hash((id(self.library), self._key))
 
+    def name(self, category: Optional[str] = None) -> str:
+        """The name of the locale that a category is of, as `monetary`; else the one that all are of, or a mixed name
+        with the part of each, which `Library.locale` takes. That of the POSIX locale is `C`.
+        """
+        mask = ALL if category is None else MASKS.get(category)
+        if mask is None:
+            raise UnknownName(f"there is no category {category!r}: these are {', '.join(CATEGORIES)}")
+        return decoded(self.library._handle.name(self._value, mask))
+
     def money(self, *amounts: Amount, format: str = "%n") -> str:
         """Amounts of money by a format of strfmon (XSH strfmon), exactly: `Decimal` or `int`, and no `float`."""
-        text = encoded(format)
-        given = [amount_parts(it) for it in amounts]
-        with _formats(format, text):
+        form = FORMS.get(format)
+        if form is None or len(amounts) != 1:
+            return self._money(format, [amount_parts(it) for it in amounts])
+        units, scale = amount_parts(amounts[0])
+        try:
+            kept = AMOUNTS.pop()
+        except IndexError:
+            kept = amount_buffers()
+        text, out, amount, at = kept
+        amount.units = units
+        amount.scale = scale
+        answer = strfmon(out, SIZE, self._at, self._value, form[0], form[1], at, ONE)
+        if answer.code:
+            AMOUNTS.append(kept)
+            return self._money(format, [(units, scale)])
+        told = text[: answer.n].decode("utf-8", "surrogateescape")
+        AMOUNTS.append(kept)
+        return told
+
+    def _money(self, format: str, given: List[Tuple[int, int]]) -> str:
+        text = _kept(format)
+        try:
             return decoded(self.library._handle.money(self._value, text, given))
+        except native.Numbered as at:
+            raise _format_fault(format, text, at) from None
 
     def time(self, when: Moment, format: str = "%c") -> str:
         """A time by a format of strftime (XSH strftime). An aware datetime has its own offset and zone."""
-        text = encoded(format)
-        fields = time_fields(when)
-        with _formats(format, text):
-            return decoded(self.library._handle.time(self._value, text, fields))
+        try:
+            kept = TIMES.pop()
+        except IndexError:
+            kept = time_buffers()
+        text, out, tm, at = kept
+        zone = put_time(when, tm)
+        form, by = FORMS.get(format), FORMS.get(zone)
+        if form is None or by is None:
+            return self._time(format, kept, zone)
+        answer = strftime(out, SIZE, self._at, self._value, form[0], form[1], at, by[0], by[1])
+        if answer.code:
+            return self._time(format, kept, zone)
+        told = text[: answer.n].decode("utf-8", "surrogateescape")
+        TIMES.append(kept)
+        return told
+
+    def _time(self, format: str, kept: Buffers, zone: str) -> str:
+        text = _kept(format)
+        try:
+            told = decoded(self.library._handle.time(self._value, text, kept[2], _kept(zone)))
+        except native.Numbered as at:
+            raise _format_fault(format, text, at) from None
+        TIMES.append(kept)
+        return told
 
     def parse_time(self, text: str, format: str) -> ParsedTime:
         """What a text tells of a time by a format of strptime (XSH strptime)."""
         given, by = encoded(text), encoded(format)
-        with _formats(format, by):
-            try:
-                fields, end = self.library._handle.parse(self._value, given, by)
-            except native.Mismatch as at:
-                raise TimeFault(f"{text!r} does not meet {format!r} at index {_index(given, at.n)}") from None
+        try:
+            fields, end = self.library._handle.parse(self._value, given, by)
+        except native.Mismatch as at:
+            raise TimeFault(f"{text!r} does not meet {format!r} at index {_index(given, at.n)}") from None
+        except native.Numbered as at:
+            raise _format_fault(format, by, at) from None
         year, mon, mday, hour, minute, second, wday, yday = (it if it >= 0 else None for it in fields)
         return ParsedTime(
             year, mon, mday, hour, minute, second,
@@ -182,14 +240,44 @@ class Locale:
 
     def number(self, *numbers: int, format: str = "%'d") -> str:
         """Whole numbers by a format of printf with `d`, `i` and `u` (XSH fprintf), grouped by default."""
+        form = FORMS.get(format)
+        if form is None or len(numbers) != 1:
+            return self._number(format, numbers)
+        given = numbers[0]
+        if type(given) is not int or not LEAST <= given <= MOST:
+            return self._number(format, numbers)
+        try:
+            kept = NUMBERS.pop()
+        except IndexError:
+            kept = number_buffers()
+        text, out, number, at = kept
+        number.value = given
+        answer = int_format(out, SIZE, self._at, self._value, form[0], form[1], at, ONE)
+        if answer.code:
+            NUMBERS.append(kept)
+            return self._number(format, numbers)
+        told = text[: answer.n].decode("utf-8", "surrogateescape")
+        NUMBERS.append(kept)
+        return told
+
+    def _number(self, format: str, numbers: Tuple[int, ...]) -> str:
         for it in numbers:
             if isinstance(it, bool) or not isinstance(it, int):
                 raise TypeError(f"a number is an int, and not a {type(it).__name__}")
-            if not -(2**63) <= it < 2**63:
-                raise OverflowError(f"{it} does not fit 64 bits")
-        text = encoded(format)
-        with _formats(format, text):
+            if not LEAST <= it <= MOST:
+                raise OverflowError(f"{shown(it)} does not fit 64 bits")
+        text = _kept(format)
+        try:
             return decoded(self.library._handle.number(self._value, text, numbers))
+        except native.Numbered as at:
+            raise _format_fault(format, text, at) from None
+
+    def read_number(self, text: str) -> int:
+        """The whole number of 64 bits that `number` writes so: with the locale's groups, and without leading zeros."""
+        try:
+            return self.library._handle.read_number(self._value, encoded(text))
+        except (native.Mismatch, UnicodeEncodeError):
+            raise NumberFault(f"{text!r} is no whole number of 64 bits as the locale writes it") from None
 
     def item(self, name: str) -> str:
         """The text of an item of nl_langinfo (XSH nl_langinfo), as `D_FMT` or `DAY_1`."""
@@ -211,14 +299,22 @@ class Locale:
 
     def upper(self, text: str) -> str:
         """A text in upper case, character by character (XSH towupper)."""
-        return "".join(chr(self.library._handle.upper(self._value, ord(it))) for it in text)
+        handle = self.library._handle
+        try:
+            return decoded(handle.upper_text(self._value, text.encode("utf-8")))
+        except (native.NoText, UnicodeEncodeError):
+            return "".join(chr(handle.upper(self._value, ord(it))) for it in text)
 
     def lower(self, text: str) -> str:
         """A text in lower case, character by character (XSH towlower)."""
-        return "".join(chr(self.library._handle.lower(self._value, ord(it))) for it in text)
+        handle = self.library._handle
+        try:
+            return decoded(handle.lower_text(self._value, text.encode("utf-8")))
+        except (native.NoText, UnicodeEncodeError):
+            return "".join(chr(handle.lower(self._value, ord(it))) for it in text)
 
     def __repr__(self) -> str:
-        return f"<Locale of {self.library!r}>"
+        return f"<Locale {self.name()} of {self.library!r}>"
 
 
 def _value(char: str) -> int:
@@ -227,20 +323,17 @@ def _value(char: str) -> int:
     return ord(char)
 
 
-class _formats:
-    """Tells a fault of a format by its index in the `str`."""
+def _kept(format: str) -> bytes:
+    """The bytes of a format, which is kept for the next call with it."""
+    text = encoded(format)
+    keep(format, text)
+    return text
 
-    __slots__ = ("format", "text")
 
-    def __init__(self, format: str, text: bytes):
-        self.format, self.text = format, text
-
-    def __enter__(self) -> None:
-        return None
-
-    def __exit__(self, kind, fault, trace) -> bool:
-        if kind is native.BadFormat:
-            raise FormatFault(self.format, _index(self.text, fault.n), "a `%` begins no conversion") from None
-        if kind is native.Missing:
-            raise FormatFault(self.format, _index(self.text, fault.n), "a `%` has no value") from None
-        return False
+def _format_fault(format: str, text: bytes, fault: "native.Numbered") -> Exception:
+    """What a fault says of a format, by its index in the `str`."""
+    if isinstance(fault, native.BadFormat):
+        return FormatFault(format, _index(text, fault.n), "a `%` begins no conversion")
+    if isinstance(fault, native.Missing):
+        return FormatFault(format, _index(text, fault.n), "a `%` has no value")
+    return fault

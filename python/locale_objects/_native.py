@@ -12,14 +12,13 @@ from typing import Callable, Dict, List, Sequence, Tuple
 from ._faults import LibraryMissing, LocaleError, SourceFault, TimeFault
 from ._rules import RULES
 from ._sources import Source, place_of
-from ._values import Fields
+from ._values import TM_FIELDS
+from ._version import __version__
 
 NAME = "liblocale_objects.so.1"
 
 OK, NO_MEMORY, TOO_LONG, BAD_TEXT, NO_LOCALE, BAD_MASK, NO_DATA, TOO_SMALL = range(8)
-BAD_FORMAT, MISSING, BAD_AMOUNT, TM_RANGE, NO_ITEM, NO_CLASS, MISMATCH = range(8, 15)
-
-TM_FIELDS = ("year", "month", "day", "hour", "minute", "second", "day of the week", "day of the year", "offset")
+BAD_FORMAT, MISSING, BAD_AMOUNT, TM_RANGE, NO_ITEM, NO_CLASS, MISMATCH, NOT_UTF8, BAD_CHARACTER = range(8, 17)
 
 
 class Answer(ctypes.Structure):
@@ -102,6 +101,10 @@ class NoClass(Numbered):
     pass
 
 
+class NoText(Numbered):
+    """The text is not in UTF-8, or the locale is not."""
+
+
 class NoData(Numbered):
     @property
     def mask(self) -> int:
@@ -121,8 +124,23 @@ def _loaded() -> ctypes.CDLL:
             raise LibraryMissing(
                 f"{path} cannot be loaded: {fault}; ./install puts it in PREFIX/lib, and LOCALE_OBJECTS_LIBRARY names it"
             ) from fault
+        _check_version(library, path)
         return library
     raise AssertionError
+
+
+def _check_version(library: ctypes.CDLL, path: str) -> None:
+    wanted = __version__.split(".")[0]
+    try:
+        library.lobj_version.restype, library.lobj_version.argtypes = c_uint32, []
+        version = library.lobj_version()
+    except AttributeError:
+        raise LibraryMissing(f"{path} does not tell its version: this package wants version {wanted} of the library") from None
+    if str(version // 100) != wanted:
+        raise LibraryMissing(
+            f"{path} is version {version // 100}.{version % 100} of the library: this package wants version {wanted}; "
+            "./install puts both in place"
+        )
 
 
 _TEXT = [c_char_p, c_size_t]
@@ -136,22 +154,32 @@ _PROTOTYPES: Dict[str, Tuple[list, type]] = {
     "lobj_strfmon": ([*_BUFFER, *_READ, *_TEXT, POINTER(AmountValue), c_size_t], Answer),
     "lobj_strftime": ([*_BUFFER, *_READ, *_TEXT, POINTER(TmValue), *_TEXT], Answer),
     "lobj_int_format": ([*_BUFFER, *_READ, *_TEXT, POINTER(c_int64), c_size_t], Answer),
+    "lobj_int_read": ([*_READ, *_TEXT, POINTER(c_int64)], Answer),
+    "lobj_locale_name": ([*_BUFFER, *_READ, c_uint32], Answer),
     "lobj_nl_langinfo": ([*_BUFFER, *_READ, c_uint32], Answer),
     "lobj_conv_text": ([*_BUFFER, *_READ, c_uint32], Answer),
     "lobj_localeconv": ([*_READ, POINTER(ConvValue)], Answer),
     "lobj_iswctype": ([*_READ, c_uint32, *_TEXT], Answer),
     "lobj_towupper": ([*_READ, c_uint32], Answer),
     "lobj_towlower": ([*_READ, c_uint32], Answer),
+    "lobj_upper_text": ([*_BUFFER, *_READ, *_TEXT], Answer),
+    "lobj_lower_text": ([*_BUFFER, *_READ, *_TEXT], Answer),
     "lobj_strptime": ([*_READ, *_TEXT, *_TEXT, POINTER(ParsedValue)], Answer),
 }
 
 _C = _loaded()
 for _name, (_arguments, _result) in _PROTOTYPES.items():
-    _call = getattr(_C, _name)
+    try:
+        _call = getattr(_C, _name)
+    except AttributeError:
+        raise LibraryMissing(f"{_C._name} has no {_name}: it is older than this package, of version {__version__}") from None
     _call.argtypes, _call.restype = _arguments, _result
 
 _FIRST_SIZE = 256
-_FORMATS = {BAD_FORMAT: BadFormat, MISSING: Missing, MISMATCH: Mismatch, NO_CLASS: NoClass, NO_DATA: NoData}
+_FORMATS = {
+    BAD_FORMAT: BadFormat, MISSING: Missing, MISMATCH: Mismatch, NO_CLASS: NoClass, NO_DATA: NoData,
+    NOT_UTF8: NoText, BAD_CHARACTER: NoText,
+}
 
 
 def _fault(answer: Answer) -> Exception:
@@ -166,9 +194,8 @@ def _fault(answer: Answer) -> Exception:
     return LocaleError(f"the library answered {answer.code}, {answer.n}")
 
 
-def _text(call: Callable, *arguments) -> bytes:
+def _text(call: Callable, *arguments, size: int = _FIRST_SIZE) -> bytes:
     """The text that a call gives, in a buffer that is made as long as it needs."""
-    size = _FIRST_SIZE
     while True:
         buffer = ctypes.create_string_buffer(size)
         answer = call(buffer, size, *arguments)
@@ -217,13 +244,22 @@ class Handle:
         given = (AmountValue * len(amounts))(*amounts)
         return _text(_C.lobj_strfmon, self._at, by, format, len(format), given, len(amounts))
 
-    def time(self, by: LocaleValue, format: bytes, fields: Fields) -> bytes:
-        zone = fields.zone.encode("utf-8", "surrogateescape")
-        return _text(_C.lobj_strftime, self._at, by, format, len(format), byref(TmValue(*fields[:10])), zone, len(zone))
+    def time(self, by: LocaleValue, format: bytes, tm: TmValue, zone: bytes) -> bytes:
+        return _text(_C.lobj_strftime, self._at, by, format, len(format), byref(tm), zone, len(zone))
 
     def number(self, by: LocaleValue, format: bytes, numbers: Sequence[int]) -> bytes:
         given = (c_int64 * len(numbers))(*numbers)
         return _text(_C.lobj_int_format, self._at, by, format, len(format), given, len(numbers))
+
+    def read_number(self, by: LocaleValue, text: bytes) -> int:
+        out = c_int64()
+        answer = _C.lobj_int_read(self._at, by, text, len(text), byref(out))
+        if answer.code != OK:
+            raise _fault(answer)
+        return out.value
+
+    def name(self, by: LocaleValue, mask: int) -> bytes:
+        return _text(_C.lobj_locale_name, self._at, by, mask)
 
     def item(self, by: LocaleValue, item: int) -> bytes:
         return _text(_C.lobj_nl_langinfo, self._at, by, item)
@@ -251,6 +287,12 @@ class Handle:
 
     def lower(self, by: LocaleValue, value: int) -> int:
         return _C.lobj_towlower(self._at, by, value).n
+
+    def upper_text(self, by: LocaleValue, text: bytes) -> bytes:
+        return _text(_C.lobj_upper_text, self._at, by, text, len(text), size=len(text) + 64)
+
+    def lower_text(self, by: LocaleValue, text: bytes) -> bytes:
+        return _text(_C.lobj_lower_text, self._at, by, text, len(text), size=len(text) + 64)
 
     def parse(self, by: LocaleValue, text: bytes, format: bytes) -> Tuple[List[int], int]:
         fields = ParsedValue()

@@ -53,7 +53,7 @@ RULES = {
     'BadNumber': 'a number is from -1 to 126 in a grouping, to 18 for digits behind the point, to 1 for `cs_precedes`, to 2 for `sep_by_space` and to 4 for `sign_posn`',
     'WrongCount': '`day` and `abday` have 7 texts, `mon` and `abmon` 12, `am_pm` 2, and each other keyword of LC_TIME 1, but for `era` and `alt_digits`',
     'BadEra': 'a text of `era` is direction:offset:start:end:name:format',
-    'BadFormat': 'a `%` of a format begins a conversion: of a time one of aAbBcCdDeFgGhHIjmMnprRStTuUVwWxXyYzZ%, or E and one of cCxXyY, or O and one of deHImMSuUVwWy; of an amount i, n or %; of a number d, i, u or %',
+    'BadFormat': 'a `%` of a format begins a conversion: of a time one of aAbBcCdDeFgGhHIjmMnprRStTuUVwWxXyYzZ%, or E and one of cCxXyY, or O and one of deHImMSuUVwWy; of an amount i, n or %; of a number d, i, u or %, and for `locale_tool number` f',
     'FormatRank': 'a format of a locale has only conversions of a lower rank than its own',
     'TooManyDigits': 'there are at most 100 alternative digits',
     'BadMessage': 'a line of a message catalog is a comment, a directive or a number and a text; numbers have no leading 0, and an octal escape is at most 377',
@@ -74,4 +74,8 @@ RULES = {
     'MissingNumber': 'each conversion of the format has a number',
     'Mismatch': 'the text meets the format',
     'TooBig': 'the text has at most as many bytes as were asked for',
+    'CarriageReturn': 'a line of a source ends with LF alone; a CR is a byte of its last word',
+    'UnknownSection': 'a section is LC_CTYPE, LC_COLLATE, LC_MESSAGES, LC_MONETARY, LC_NUMERIC or LC_TIME; nothing is read of any other',
+    'NoSection': 'a source has a section',
+    'NoCategory': 'with `--strict` a source has each category that is read of it',
 }

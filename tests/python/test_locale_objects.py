@@ -1,5 +1,6 @@
 """Tests of the package over the built library: `tests/python/run` says where it is."""
 
+import ctypes.util
 import datetime
 import gc
 import locale as system
@@ -7,11 +8,19 @@ import multiprocessing
 import pickle
 import os
 import resource
+import signal
+import struct
+import subprocess
+import sys
 import threading
+import time
 import unittest
 from decimal import Decimal
 
-from locale_objects import AmountFault, FormatFault, Library, SourceFault, TimeFault, UnknownLocale, UnknownName
+from locale_objects import (
+    AmountFault, FormatFault, Library, LibraryMissing, NumberFault, SourceFault, TimeFault, UnknownLocale, UnknownName,
+    __version__, _native, _quick,
+)
 
 US = """LC_CTYPE
 END LC_CTYPE
@@ -143,6 +152,53 @@ class Texts(unittest.TestCase):
         self.assertEqual(self.de.number(-1234567), "-1.234.567")
         self.assertEqual(self.us.number(7, 8, format="%03d/%+d"), "007/+8")
 
+    def test_long_texts(self):
+        self.assertEqual(self.us.money(1, format="%255n"), " " * 250 + "$1.00")
+        for _ in range(3):
+            self.assertEqual(self.us.money(1, 2, format="%250n%250n"), " " * 245 + "$1.00" + " " * 245 + "$2.00")
+            self.assertEqual(self.us.money(1, format="x" * 300 + "%n"), "x" * 300 + "$1.00")
+            self.assertEqual(self.us.time(MOMENT, "%A" * 40), "Tuesday" * 40)
+            self.assertEqual(self.us.time(MOMENT, "ä" * 4000 + "%d"), "ä" * 4000 + "14")
+            self.assertEqual(self.us.number(7, format="%255d!"), " " * 254 + "7!")
+            self.assertEqual(self.us.number(7, format="%255d%%" + "\0"), " " * 254 + "7%\0")
+            self.assertEqual(self.us.time(MOMENT, "\0%d\0"), "\x0014\0")
+            self.assertEqual(self.us.time(MOMENT, "\udcff%d"), "\udcff14")
+            self.assertEqual(self.us.time(MOMENT, ""), "")
+
+    def test_many_formats(self):
+        """Formats are kept, and not without end."""
+        for number in range(3000):
+            self.assertEqual(self.us.number(number, format=f"{number} %d"), f"{number} {number}")
+            self.assertEqual(self.us.time(MOMENT, f"%d {number}"), f"14 {number}")
+        self.assertLess(len(_quick.FORMS), 1000)
+        self.assertLess(sum(len(it) for it in _quick.FORMS), 100_000)
+
+    def test_days(self):
+        """The days of the week and of the year are those of `datetime`."""
+
+        class Own(datetime.datetime):
+            pass
+
+        self.assertEqual(struct.calcsize("@8i?i"), ctypes.sizeof(_native.TmValue))
+        for year in (1, 1900, 2000, 2023, 2024, 9999):
+            for number in range(366 if year in (2000, 2024) else 365):
+                day = datetime.date(year, 1, 1) + datetime.timedelta(days=number)
+                wanted = f"{day.month} {day.day} {number + 1:03} {day.isoweekday()}"
+                self.assertEqual(day.year, year)
+                for when in (day, datetime.datetime(*day.timetuple()[:3], 23, 59, 59), Own(*day.timetuple()[:3])):
+                    told = self.us.time(when, "%m %d %j %u").split()
+                    self.assertEqual(" ".join([str(int(told[0])), str(int(told[1])), *told[2:]]), wanted)
+
+    def test_read_numbers(self):
+        for by in (self.us, self.de, self.library.locale()):
+            for number in (0, 7, -7, 999, 1000, -1000, 1234567, 2**63 - 1, -(2**63)):
+                self.assertEqual(by.read_number(by.number(number)), number)
+        self.assertEqual(self.us.read_number("1,234,567"), 1234567)
+        self.assertEqual(self.de.read_number("-1.234.567"), -1234567)
+        for wrong in ("", "1.234.567", "1234567", "-0", "01", " 1", "1 ", "+1", "1,23", "9,223,372,036,854,775,808", "x", "\ud800"):
+            with self.subTest(text=wrong), self.assertRaises(NumberFault):
+                self.us.read_number(wrong)
+
     def test_items(self):
         self.assertEqual(self.de.item("DAY_2"), "Montag")
         self.assertEqual(self.de.item("CODESET"), "UTF-8")
@@ -158,6 +214,20 @@ class Texts(unittest.TestCase):
         self.assertFalse(self.de.is_class("7", "alpha"))
         self.assertEqual(self.de.upper("straße 7"), "STRAßE 7")
         self.assertEqual(self.de.lower("ABC"), "abc")
+
+    def test_cases(self):
+        posix = Library.from_texts({"us": US}, charsets={"us": "POSIX"}).locale("us")
+        for text in ("", "abc", "straße", "a" * 5000, "a\0b", "\U0001F600x", "a\ud800\udcffb"):
+            wanted = "".join(it.upper() if it in "abcdefghijklmnopqrstuvwxyz" else it for it in text)
+            with self.subTest(text=text):
+                self.assertEqual(self.de.upper(text), wanted)
+                lower = "".join(it.lower() if it in "ABCDEFGHIJKLMNOPQRSTUVWXYZ" else it for it in wanted)
+                self.assertEqual(self.de.lower(wanted), lower)
+        self.assertEqual((posix.upper("ab1"), posix.lower("AB1")), ("AB1", "ab1"))
+        wide = Library.from_texts({
+            "xx": "LC_CTYPE\nupper <U20AC>;<U00C9>\nlower <U00E9>\ntoupper (<U0061>,<U20AC>);(<U00E9>,<U00C9>)\nEND LC_CTYPE\n"
+        })
+        self.assertEqual(wide.locale(ctype="xx").upper("aé" * 300), "€É" * 300)
 
     def test_parsed(self):
         told = self.de.parse_time("14. Juli 2026, 9 Uhr", "%d. %B %Y")
@@ -185,6 +255,16 @@ class Values(unittest.TestCase):
         self.assertEqual(mixed.number(1000), "1,000")
         self.assertEqual(library.locale(base=mixed, numeric="de").number(1000), "1.000")
         self.assertEqual(library.locale().number(1000), "1000")
+
+    def test_names(self):
+        library = made()
+        mixed = library.locale("us", monetary="de")
+        self.assertEqual((library.locale("us").name(), library.locale().name()), ("us", "C"))
+        self.assertEqual((mixed.name("monetary"), mixed.name("time")), ("de", "us"))
+        self.assertEqual(library.locale(mixed.name()), mixed)
+        self.assertIn("<Locale us of", repr(library.locale("us")))
+        with self.assertRaises(UnknownName):
+            mixed.name("collate")
 
     def test_library_outlives(self):
         kept = made().locale("us")
@@ -231,13 +311,68 @@ class Faults(unittest.TestCase):
     def test_amounts(self):
         with self.assertRaisesRegex(TypeError, "a float holds most decimal fractions only nearly"):
             self.us.money(0.1)
-        for wrong in ("NaN", "Infinity", "1E+30", "1E-19", "9223372036854775808"):
-            with self.subTest(amount=wrong), self.assertRaises(AmountFault):
+        many = "1" * 100_000
+        for wrong in (
+            "NaN", "sNaN", "-Infinity", "Infinity", "1E+30", "1E-19", "9223372036854775808", "-9223372036854775809", "1E+999999999999999",
+            "0.1234567890123456789", "1E-999999999999999", many, f"0.{many}",
+        ):
+            with self.subTest(amount=wrong[:30]), self.assertRaises(AmountFault):
                 self.us.money(Decimal(wrong))
+        for wrong in (2**63, -(2**63) - 1, 10**5000):
+            with self.assertRaises(AmountFault):
+                self.us.money(wrong)
+        rows = [
+            ("9223372036854775807", "$9,223,372,036,854,775,807.00"), ("-9223372036854775808", "-$9,223,372,036,854,775,808.00"),
+            ("1.5" + "0" * 50_000, "$1.50"), ("0E+50", "$0.00"), ("0E-50", "$0.00"), ("12E+2", "$1,200.00"),
+            ("1.2345E+2", "$123.45"), ("92233720368547758.07", "$92,233,720,368,547,758.07"),
+        ]
+        for amount, text in rows:
+            self.assertEqual(self.us.money(Decimal(amount)), text)
         with self.assertRaises(TypeError):
             self.us.money("1")
-        with self.assertRaises(OverflowError):
-            self.us.number(2**63)
+        for wrong in (2**63, -(2**63) - 1, 10**5000):
+            with self.assertRaises(OverflowError):
+                self.us.number(wrong)
+        for wrong in (True, 1.0, "1", None):
+            with self.assertRaises(TypeError):
+                self.us.number(wrong)
+
+    def test_times(self):
+        fields = list(MOMENT.timetuple())
+        for at, wrong in ((0, 10000), (0, 2**32 + 2026), (1, 13), (2, 0), (3, 24), (5, 61), (7, 367), (7, -(2**40))):
+            with self.subTest(field=at), self.assertRaises(TimeFault):
+                self.us.time(time.struct_time((*fields[:at], wrong, *fields[at + 1:])))
+        for wrong in (0, "2026", None, datetime.time(1)):
+            with self.assertRaises(TypeError):
+                self.us.time(wrong)
+        with self.assertRaises(TypeError):
+            self.us.time(time.struct_time((*fields[:3], "9", *fields[4:])))
+
+    def test_types(self):
+        for call in (
+            lambda: self.us.money(1, format=b"%n"), lambda: self.us.time(MOMENT, 5), lambda: self.us.number(1, format=None),
+            lambda: self.us.read_number(b"1"), lambda: self.us.parse_time(b"1", "%d"), lambda: self.library.locale(5),
+        ):
+            with self.assertRaises(TypeError):
+                call()
+
+    def test_version(self):
+        class Other:
+            lobj_version = staticmethod(lambda: 0)
+
+        major = int(__version__.split(".")[0])
+        for number in (100 * major + 99, 100 * major):
+            Other.lobj_version = lambda number=number: number
+            _native._check_version(Other, "other.so")
+        Other.lobj_version = lambda: 100 * major + 203
+        with self.assertRaisesRegex(LibraryMissing, f"other.so is version {major + 2}.3 of the library"):
+            _native._check_version(Other, "other.so")
+        libc = ctypes.util.find_library("c") or "libc.so.6"
+        ran = subprocess.run(
+            [sys.executable, "-c", "import locale_objects"], env={**os.environ, "LOCALE_OBJECTS_LIBRARY": libc},
+            capture_output=True, text=True,
+        )
+        self.assertIn("does not tell its version", ran.stderr)
 
     def test_names(self):
         for wrong in ("", "C", "POSIX", "a b", "x" * 65):
@@ -267,6 +402,8 @@ class Threads(unittest.TestCase):
             for _ in range(100_000 // 16):
                 if by.money(Decimal("1234.5")) != wanted[name]:
                     wrong.append(name)
+                if by.number(len(name) * 1000, format="%d " + name) != f"2000 {name}" or by.time(MOMENT, name + "%d") != f"{name}14":
+                    wrong.append(name)
 
         threads = [threading.Thread(target=work, args=(("us", "de")[n % 2],)) for n in range(16)]
         for it in threads:
@@ -274,6 +411,38 @@ class Threads(unittest.TestCase):
         for it in threads:
             it.join()
         self.assertEqual(wrong, [])
+
+    def test_within(self):
+        """A call that a time zone or a signal handler makes within another leaves that one's text as it is."""
+        us = made().locale("us")
+
+        class Zone(datetime.tzinfo):
+            def utcoffset(self, when):
+                return datetime.timedelta(minutes=int(us.number(90)))
+
+            def dst(self, when):
+                return None
+
+            def tzname(self, when):
+                return us.time(datetime.datetime(1999, 1, 2), "%F") + us.money(5)
+
+        for _ in range(3):
+            self.assertEqual(us.time(MOMENT.replace(tzinfo=Zone()), "%F %z %Z"), "2026-07-14 +0130 1999-01-02$5.00")
+
+        met = []
+        before = signal.signal(signal.SIGALRM, lambda *_: met.append((us.money(-77), us.time(MOMENT, "%H"), us.number(-8))))
+        signal.setitimer(signal.ITIMER_REAL, 0.0005, 0.0005)
+        try:
+            for number in range(20_000):
+                self.assertEqual(us.money(number % 1000), f"${number % 1000}.00")
+                self.assertEqual(us.number(number % 1000), str(number % 1000))
+                self.assertEqual(us.time(MOMENT, "%d.%m"), "14.07")
+        finally:
+            signal.setitimer(signal.ITIMER_REAL, 0)
+            signal.signal(signal.SIGALRM, before)
+        self.assertGreater(len(met), 0)
+        self.assertEqual(set(met), {("-$77.00", "09", "-8")})
+        self.assertLess(len(_quick.AMOUNTS), 50)
 
     def test_fork(self):
         with multiprocessing.get_context("fork").Pool(4) as pool:
@@ -289,6 +458,12 @@ class Threads(unittest.TestCase):
         before = resource.getrusage(resource.RUSAGE_SELF).ru_maxrss
         for _ in range(MANY):
             by.money(amount)
+        for _ in range(MANY // 20):
+            by.time(MOMENT, "%c")
+            by.number(1234567)
+            by.read_number("1.234.567")
+            by.upper("straße")
+            by.name()
         self.assertLess(resource.getrusage(resource.RUSAGE_SELF).ru_maxrss - before, 1024)
 
     def test_libraries_are_freed(self):
