@@ -58,7 +58,7 @@ mark != "" { text = text $0 "\n"; next }
   excerpt = $2
   text = ""
   if (mark == "") mark = "text"
-  if (mark !~ /^(bundle|output|locale|charmap|lines|rust|python|sh|text)$/) problem("no such mark")
+  if (mark !~ /^(bundle|output|locale|charmap|lines|rust|c|python|sh|text)$/) problem("no such mark")
   if ((bundle != "") != (mark == "output")) problem("an output stands behind each bundle, and nowhere else")
   if (mark == "lines") read_lines(excerpt)
   next

@@ -14,8 +14,17 @@ PLACES = [
     ("include/locale_objects.h", rf'^#define LOBJ_VERSION "{VERSION}"$'),
     ("docs/man/locale_cli.1", rf'^\.TH \S+ 1 \S+ "locale objects {VERSION}"$'),
     ("docs/man/locale_tool.1", rf'^\.TH \S+ 1 \S+ "locale objects {VERSION}"$'),
+    ("docs/man/locale_objects.3", rf'^\.TH \S+ 3 \S+ "locale objects {VERSION}"$'),
+    ("python/pyproject.toml", rf'^version = "{VERSION}"$'),
+    ("python/locale_objects/_version.py", rf'^__version__ = "{VERSION}"$'),
     ("README.md", rf"^Version {VERSION};"),
     ("CHANGELOG.md", rf"^## {VERSION} "),
+]
+
+
+NUMBERS = [
+    ("include/locale_objects.h", r"^#define LOBJ_VERSION_NUMBER (\d+)$"),
+    ("crates/locale_objects/src/answer.rt", r"^pub const VERSION: u32 = (\d+);$"),
 ]
 
 
@@ -30,6 +39,9 @@ def main():
     wanted = told(*PLACES[0])
     versions = [(path, told(path, form)) for path, form in PLACES]
     wrong = [f"{path}: {version or 'no version'}, not {wanted}" for path, version in versions if version != wanted or not version]
+    major, minor = wanted.split(".")[:2]
+    number = str(100 * int(major) + int(minor))
+    wrong += [f"{path}: the number is not {number}" for path, form in NUMBERS if told(path, form) != number]
     print("\n".join(wrong), end="\n" if wrong else "")
     return 1 if wrong else 0
 
