@@ -326,7 +326,7 @@ lobj_answer lobj_nl_langinfo(char *buffer, size_t size, const lobj_library *libr
                              uint32_t item) LOBJ_NONNULL LOBJ_ANSWERS;
 
 /*
- * All items and all texts of localeconv at once, each with a NUL behind it, in one buffer, with their places; `n`
+ * All items and all texts of localeconv at once, each followed by a NUL, in one buffer, with their places; `n`
  * is the size of all. A program that makes such a table of a locale reads each text from then on without a call, by
  * lobj_item_in and lobj_conv_text_in, for as long as it keeps the buffer. LOBJ_TOO_SMALL: `n` is the size that all
  * need; buffer and table are as they were, as under LOBJ_NO_LOCALE.
@@ -462,7 +462,7 @@ static inline void lobj_parsed_to_tm(const lobj_parsed *fields, struct tm *out) 
 }
 
 /*
- * The amount of a decimal text: an optional `-`, digits, and optionally a `.` with at most 18 digits behind it.
+ * The amount of a decimal text: an optional `-`, digits, and optionally a `.` followed by at most 18 digits.
  * Says whether the text is one and its units are those of an int64_t above INT64_MIN; else the amount is as it was.
  */
 static inline bool lobj_amount_of_text(const char *text, size_t length, lobj_amount *out) {

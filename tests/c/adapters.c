@@ -2,22 +2,12 @@
  * The functions that include/locale_objects.h defines itself: codes by name, times, amounts. Needs no library.
  * Ends with status 0 where all is as wanted.
  */
+#include "check.h"
 #include "locale_objects.h"
 #include <locale.h>
 #include <math.h>
 #include <stdlib.h>
 #include <string.h>
-
-static int wrong = 0;
-
-static void check(bool holds, const char *what, int line) {
-    if (!holds) {
-        printf("line %d: not so: %s\n", line, what);
-        wrong = 1;
-    }
-}
-
-#define CHECK(fact) check((fact), #fact, __LINE__)
 
 static void name_codes(void) {
     for (uint32_t code = 0; code <= LOBJ_BAD_CHARACTER; code++) {

@@ -6,6 +6,7 @@
  * To be linked with -Wl,--wrap=malloc,--wrap=realloc.
  */
 #define _POSIX_C_SOURCE 200809L
+#include "check.h"
 #include "locale_objects.h"
 #include <pthread.h>
 #include <stdio.h>
@@ -13,17 +14,6 @@
 #include <string.h>
 #include <sys/wait.h>
 #include <unistd.h>
-
-static int wrong = 0;
-
-static void check(bool holds, const char *what, int line) {
-    if (!holds) {
-        printf("line %d: not so: %s\n", line, what);
-        wrong = 1;
-    }
-}
-
-#define CHECK(fact) check((fact), #fact, __LINE__)
 
 /* A text and its NUL do not fit: the size that they need is told. */
 static bool is_small(lobj_answer answer, size_t size) {

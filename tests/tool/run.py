@@ -176,6 +176,19 @@ def feed(path, text):
         time.sleep(1)
 
 
+def read_to_end(here):
+    """What comes until the other end is closed, which a terminal tells by an error."""
+    told = b""
+    while True:
+        try:
+            read = os.read(here, 4096)
+        except OSError:
+            return told
+        if not read:
+            return told
+        told += read
+
+
 def told_of_slow_files(program, work, is_terminal):
     """What goes to standard error while two files are checked that take more than a second."""
     slow = f"{work}/slow_{is_terminal}"
@@ -185,15 +198,7 @@ def told_of_slow_files(program, work, is_terminal):
     here, there = pty.openpty() if is_terminal else os.pipe()
     run = subprocess.Popen([program, "check", slow, slow, "files/base"], cwd=work, stderr=there)
     os.close(there)
-    told = b""
-    while True:
-        try:
-            read = os.read(here, 4096)
-        except OSError:
-            break
-        if not read:
-            break
-        told += read
+    told = read_to_end(here)
     return run.wait(), told
 
 
@@ -309,15 +314,7 @@ def told_on_terminal(program, work, *words, **variables):
     here, there = pty.openpty()
     run = subprocess.Popen([program, *words], cwd=work, stderr=there, stdout=subprocess.DEVNULL, env=variables)
     os.close(there)
-    told = b""
-    while True:
-        try:
-            read = os.read(here, 4096)
-        except OSError:
-            break
-        if not read:
-            break
-        told += read
+    told = read_to_end(here)
     return run.wait(), told.replace(b"\r\n", b"\n").decode()
 
 
