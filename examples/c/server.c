@@ -184,7 +184,10 @@ int main(int count, char **words) {
         fprintf(stderr, "server: %s", line);
         return 1;
     }
-    if (bind(listening, (struct sockaddr *)&address, sizeof address) != 0 || listen(listening, 64) != 0) {
+    /* the socket has its name once the service listens, so that nobody who sees it is refused */
+    snprintf(address.sun_path, sizeof address.sun_path, "%s.new", words[2]);
+    if (bind(listening, (struct sockaddr *)&address, sizeof address) != 0 || listen(listening, 64) != 0 ||
+        rename(address.sun_path, words[2]) != 0) {
         perror("server: listen");
         return 1;
     }
