@@ -9,7 +9,7 @@ import subprocess
 import sys
 import tempfile
 
-TABLE = "crates/tool_answers/src/rows.rt"
+TABLE = "crates/tool_commands/src/rows.rt"
 FILES = {it: f"completions/{it}" for it in ("locale_tool.bash", "_locale_tool", "locale_tool.fish")}
 # Stands for the tool, whose items and reasons the completions ask for.
 STUB = """#!/bin/sh

@@ -1,6 +1,6 @@
 #!/usr/bin/env python3
-"""rows.py [PROGRAM]: whether the table of reasons of tool_messages has a row for each reason of lc_base, with each
-part and limit, and for each refusal of a command; whether each command of tool_answers has one row; and whether the
+"""rows.py [PROGRAM]: whether the table of reasons of reason_rules has a row for each reason of lc_base, with each
+part and limit, and for each refusal of a command; whether each command of tool_commands has one row; and whether the
 man page names each command and each of its arguments. With PROGRAM, a built tool, also whether each example that
 breaks a rule is refused for it, and each that keeps it is accepted. Prints what is lacking or wrong; the status is 1
 where something is."""
@@ -20,23 +20,25 @@ def variants(file, name):
     return re.findall(r"^    ([A-Z]\w*)", body, re.M)
 
 
-names = open("crates/tool_messages/src/names.rt").read()
-table = open("crates/tool_messages/src/table.rt").read()
+names = open("crates/reason_rules/src/names.rt").read()
+table = open("crates/reason_rules/src/table.rt").read()
 rows = re.findall(r'^ +name: "([^"]+)",', table, re.M)
 wanted, of_commands = {}, set()
 for enum in ("Reason", "LinePart", "Limit"):
     for it in variants("crates/lc_base/src/reason.rt", enum):
-        arm = re.search(rf"{enum}::{it}(?:\([^)]*\))? => (?:\"([^\"]+)\"|\w+\()", names)
-        wanted[f"{enum}::{it}"] = arm and (arm[1] or "BadLine directive")
+        arm = re.search(rf"{enum}::{it}(?:\([^)]*\))? => (?:(\d+)|\w+\()", names)
+        row = arm and rows[int(arm[1] or 0)]
+        begins = {"LinePart": f"BadLine {it.lower()}", "Limit": "OverLimit "}.get(enum, it)
+        wanted[f"{enum}::{it}"] = row if row and (not arm[1] or row.startswith(begins)) else None
 for file, enum in (("crates/script_out/src/output.rt", "Why"), ("crates/handle_table/src/op.rt", "Refusal")):
     for it in variants(file, enum):
         wanted[f"{enum}::{it}"] = "NoData" if it == "Table" else it
         of_commands.add(it)
 lacking = [it for it, row in wanted.items() if row not in rows]
 for it in lacking:
-    print(f"tool_messages has no row for {it}")
+    print(f"reason_rules has no row for {it}")
 if len(set(rows)) != len(rows):
-    print("tool_messages has a row twice")
+    print("reason_rules has a row twice")
     lacking.append("")
 
 
@@ -44,11 +46,11 @@ def quoted(file, form):
     return re.findall(form, open(file).read())
 
 
-COMMANDS = "crates/tool_answers/src/rows.rt"
+COMMANDS = "crates/tool_commands/src/rows.rt"
 for enum in ("LocaleCommand", "ToolCommand"):
     for it in variants(COMMANDS, enum):
         if it != "Locale" and len(quoted(COMMANDS, rf"command: .*\b{enum}::{it}\b")) != 1:
-            print(f"tool_answers has not one row for {enum}::{it}")
+            print(f"tool_commands has not one row for {enum}::{it}")
             lacking.append(it)
 page = open("docs/man/locale_tool.1").read().replace("\\-", "-")
 for it in quoted(COMMANDS, r'name: "(\w+)"'):
@@ -108,14 +110,14 @@ def wrong_examples(program):
     wrong, count = [], 0
     if len(list(examples())) != len(rows):
         wrong.append("examples")
-        print("the examples of a row of tool_messages are not read")
+        print("the examples of a row of reason_rules are not read")
     with tempfile.TemporaryDirectory() as folder:
         for name, breaks, keeps in examples():
             for example, is_right in ((breaks, is_refused), (keeps, is_accepted)):
                 tried = forms(name, example)
                 count += bool(tried)
                 if tried and not any(is_right(name, came_of(program, folder, *it)) for it in tried):
-                    print(f"tool_messages has an example of {name} that is not so: {example!r}")
+                    print(f"reason_rules has an example of {name} that is not so: {example!r}")
                     wrong.append(name)
     print(f"examples of reasons: {count - len(wrong)} of {count}")
     return wrong

@@ -9,7 +9,8 @@ use Rattle.lc_base.specs.declared.reason.LinePart.TheVariants as parts
 use Rattle.lc_base.specs.declared.reason.Limit.TheVariants as limits
 use Rattle.lc_base.specs.declared.reason.Class.TheVariants as classes
 use Rattle.script_out.specs.Output.{newline}
-use Rattle.script_out.specs.Refusal.{reason_text, refusal_line}
+use Rattle.reason_rules.specs.Words.{reason_text}
+use Rattle.script_out.specs.Refusal.{refusal_line}
 
 abbrev refused : ℕ → ℕ → Reason → List ℕ
 refused line column reason = refusal_line (record { line = line; column = column }) reason

@@ -11,8 +11,9 @@ use crate::read::{ReadFault, read_number};
 use crate::wrong::{number_cause, spot_problem, whole_cause};
 use lc_base::ByteText;
 use numeric_cat::Numeric;
+use reason_rules::rule_of;
 use std::alloc::{AllocError, Global};
-use tool_messages::{Problem, rule_of};
+use tool_messages::Problem;
 
 /// The rule of a conversion.
 const CONVERSIONS: &str = "a `%` of a format begins a conversion: of a number d, i, u, f or %";

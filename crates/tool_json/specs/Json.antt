@@ -5,7 +5,7 @@ use Rattle.std.specs.Str.{is_utf8}
 use Rattle.hex.specs.Hex.{encode_lower}
 use Rattle.json.specs.Token.{Token, begin_object, end_object, key, string, number}
 use Rattle.json.specs.Print.{print}
-use Rattle.tool_messages.specs.declared.table.ReasonRow.{ReasonRow}
+use Rattle.reason_rules.specs.declared.table.ReasonRow.{ReasonRow}
 
 -- bytes that are no UTF-8 text: an object with their hexadecimal digits
 abbrev pub bytes_tokens : List ℕ → List Token

@@ -5,8 +5,8 @@ ghost use Rattle.tool_json.specs.Json.{row_tokens};
 
 use crate::members::push_member;
 use json::Writer;
+use reason_rules::ReasonRow;
 use std::alloc::{AllocError, Global};
-use tool_messages::ReasonRow;
 
 /// Adds what a row says: its name, its rule, lines that break it and lines that keep it.
 pub fn push_row(alloc: Global, json: &mut Writer, row: &ReasonRow) -> Result<(), AllocError>

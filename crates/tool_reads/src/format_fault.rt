@@ -5,8 +5,9 @@ ghost use Rattle.lc_base.specs.declared.refusal.FormatRefusal.{FormatRefusal};
 ghost use Rattle.tool_reads.specs.Answers.{Answers, IsOf, NoAnswer, Tells, line_of};
 
 use lc_base::{ByteText, FormatRefusal};
+use reason_rules::rule_of;
 use std::alloc::{AllocError, Global};
-use tool_messages::{Problem, Spot, push_fault, rule_of};
+use tool_messages::{Problem, Spot, push_fault};
 
 /// The most bytes that a command prints of a format.
 pub const TEXT_MOST: usize = 1_048_576;

@@ -4,8 +4,9 @@ ghost use Rattle.std.specs.Prelude.{◌≡◌};
 ghost use Rattle.tool_reads.specs.Answers.{IsOf, WrongWord, NoAnswer};
 
 use lc_base::ByteText;
+use reason_rules::rule_of;
 use std::alloc::{AllocError, Global};
-use tool_messages::{Problem, push_word, rule_of};
+use tool_messages::{Problem, push_word};
 
 /// The problem of a word, with what is wanted.
 pub fn usage_problem(alloc: Global, word: &[u8], wanted: &[u8]) -> Problem

@@ -7,8 +7,9 @@ use crate::operands::{push_takes, push_wrong_operand};
 use crate::parts::{first_operand, from_column, push_named, word_at};
 use crate::phrases::{Phrase, phrase_of};
 use lc_base::{ByteText, Reason, next_line};
+use reason_rules::{name_of, rule_of};
 use std::alloc::AllocError;
-use tool_messages::{name_of, push_number, rule_of};
+use tool_messages::push_number;
 
 /// A fault at its place.
 #[derive(Clone, Copy)]

@@ -1,5 +1,8 @@
 //! The rows of the table of reasons and refusals.
 
+ghost use Rattle.std.specs.Prelude.{◌≡◌, ◌<◌, ◌≤◌, IsSome, None};
+ghost use Rattle.reason_rules.specs.declared.table.TheConstants.{ROW_COUNT};
+
 /// A rule: what breaks it is refused for the reason with this name.
 #[derive(Clone, Copy)]
 pub struct ReasonRow {
@@ -17,7 +20,10 @@ pub const ROW_COUNT: u32 = 77;
 
 /// The row with a number from 0, for each reason of a bundle, a charmap or a source, for each refusal of a
 /// command, and for what the tool refuses of a source beyond its reader.
-pub fn row_at(number: u32) -> Option<ReasonRow> {
+pub fn row_at(number: u32) -> Option<ReasonRow>
+    ensures there { number < ROW_COUNT → IsSome result }
+    ensures none { ROW_COUNT ≤ number → result ≡ None }
+{
     match number {
         0..=7 => first_rows(number),
         8..=15 => second_rows(number),
@@ -34,7 +40,10 @@ pub fn row_at(number: u32) -> Option<ReasonRow> {
     }
 }
 
-fn first_rows(number: u32) -> Option<ReasonRow> {
+fn first_rows(number: u32) -> Option<ReasonRow>
+    requires below { number ≤ 7 }
+    ensures { IsSome result }
+{
     let row = match number {
         0 => ReasonRow {
             name: "BadLine directive",
@@ -89,7 +98,11 @@ fn first_rows(number: u32) -> Option<ReasonRow> {
     Some(row)
 }
 
-fn second_rows(number: u32) -> Option<ReasonRow> {
+fn second_rows(number: u32) -> Option<ReasonRow>
+    requires below { number ≤ 15 }
+    requires above { 8 ≤ number }
+    ensures { IsSome result }
+{
     let row = match number {
         8 => ReasonRow {
             name: "OverLimit threads",
@@ -144,7 +157,11 @@ fn second_rows(number: u32) -> Option<ReasonRow> {
     Some(row)
 }
 
-fn third_rows(number: u32) -> Option<ReasonRow> {
+fn third_rows(number: u32) -> Option<ReasonRow>
+    requires below { number ≤ 22 }
+    requires above { 16 ≤ number }
+    ensures { IsSome result }
+{
     let row = match number {
         16 => ReasonRow {
             name: "OverLimit names",
@@ -193,7 +210,11 @@ fn third_rows(number: u32) -> Option<ReasonRow> {
     Some(row)
 }
 
-fn fourth_rows(number: u32) -> Option<ReasonRow> {
+fn fourth_rows(number: u32) -> Option<ReasonRow>
+    requires below { number ≤ 30 }
+    requires above { 23 ≤ number }
+    ensures { IsSome result }
+{
     let row = match number {
         23 => ReasonRow {
             name: "NameTwice",
@@ -248,7 +269,11 @@ fn fourth_rows(number: u32) -> Option<ReasonRow> {
     Some(row)
 }
 
-fn fifth_rows(number: u32) -> Option<ReasonRow> {
+fn fifth_rows(number: u32) -> Option<ReasonRow>
+    requires below { number ≤ 38 }
+    requires above { 31 ≤ number }
+    ensures { IsSome result }
+{
     let row = match number {
         31 => ReasonRow {
             name: "PortableMoved",
@@ -303,7 +328,11 @@ fn fifth_rows(number: u32) -> Option<ReasonRow> {
     Some(row)
 }
 
-fn sixth_rows(number: u32) -> Option<ReasonRow> {
+fn sixth_rows(number: u32) -> Option<ReasonRow>
+    requires below { number ≤ 46 }
+    requires above { 39 ≤ number }
+    ensures { IsSome result }
+{
     let row = match number {
         39 => ReasonRow {
             name: "CopyNotAlone",
@@ -358,7 +387,11 @@ fn sixth_rows(number: u32) -> Option<ReasonRow> {
     Some(row)
 }
 
-fn seventh_rows(number: u32) -> Option<ReasonRow> {
+fn seventh_rows(number: u32) -> Option<ReasonRow>
+    requires below { number ≤ 54 }
+    requires above { 47 ≤ number }
+    ensures { IsSome result }
+{
     let row = match number {
         47 => ReasonRow {
             name: "EmptyRadix",
@@ -413,7 +446,11 @@ fn seventh_rows(number: u32) -> Option<ReasonRow> {
     Some(row)
 }
 
-fn eighth_rows(number: u32) -> Option<ReasonRow> {
+fn eighth_rows(number: u32) -> Option<ReasonRow>
+    requires below { number ≤ 61 }
+    requires above { 55 ≤ number }
+    ensures { IsSome result }
+{
     let row = match number {
         55 => ReasonRow {
             name: "BadMessage",
@@ -462,7 +499,11 @@ fn eighth_rows(number: u32) -> Option<ReasonRow> {
     Some(row)
 }
 
-fn ninth_rows(number: u32) -> Option<ReasonRow> {
+fn ninth_rows(number: u32) -> Option<ReasonRow>
+    requires below { number ≤ 67 }
+    requires above { 62 ≤ number }
+    ensures { IsSome result }
+{
     let row = match number {
         62 => ReasonRow {
             name: "Stale",
@@ -505,7 +546,11 @@ fn ninth_rows(number: u32) -> Option<ReasonRow> {
     Some(row)
 }
 
-fn tenth_rows(number: u32) -> Option<ReasonRow> {
+fn tenth_rows(number: u32) -> Option<ReasonRow>
+    requires below { number ≤ 72 }
+    requires above { 68 ≤ number }
+    ensures { IsSome result }
+{
     let row = match number {
         68 => ReasonRow {
             name: "TmRange",
@@ -542,7 +587,11 @@ fn tenth_rows(number: u32) -> Option<ReasonRow> {
     Some(row)
 }
 
-fn eleventh_rows(number: u32) -> Option<ReasonRow> {
+fn eleventh_rows(number: u32) -> Option<ReasonRow>
+    requires below { number ≤ 76 }
+    requires above { 73 ≤ number }
+    ensures { IsSome result }
+{
     let row = match number {
         73 => ReasonRow {
             name: "CarriageReturn",
