@@ -1,5 +1,5 @@
 -- What a turn and a meet say of a thread.
-use Rattle.std.proofs.Common.{◌≡◌, ℕ, zero, suc, ◌+◌, ◌<◌, ◌≤◌, Bool, true, false, cond, List, [], ◌∷◌, length, map, Some, refl, ap, sym, ◌∙◌, subst, arith, inl, inr, eq-eqb}
+use Rattle.std.proofs.Common.{◌≡◌, ℕ, zero, suc, ◌+◌, ◌<◌, ◌≤◌, max, Bool, true, false, cond, List, [], ◌∷◌, length, map, Some, refl, ap, sym, ◌∙◌, subst, arith, inl, inr, eq-eqb}
 use Rattle.std.specs.Prelude.{◌==◌, All}
 use Rattle.std.specs.List.{range_with_len}
 use Rattle.std.proofs.lemmas.Simd.{map-map}
@@ -18,7 +18,7 @@ use Rattle.catalog_handles.specs.Stamps.{last_stamp, IsRising, last_given, AreGi
 use Rattle.catalog_handles.specs.Seen.{op_of, reply_of, entry_of, entries_of}
 use Rattle.catalog_handles.specs.Reader.{ReaderData, reader_of, IsReaderOf, first_reader, GoesOnFrom, entries_by, IsSameReader, Answered, SawMore, IsInOrder, IsOrderly, IsUnused}
 
-abbrev without_newest : History → History
+abbrev pub without_newest : History → History
 without_newest [] = []
 without_newest (e ∷ H) = H
 
@@ -40,10 +40,10 @@ module _ {B : Type 0} (number : B → ℕ) where
   last_entry [] = refl
   last_entry (e ∷ H) = refl
 
-  -- stamps that are given as they were asked for never fall
+  -- stamps that are the larger ones of two never fall
   pub given_rise : (H : Calls) → AreGiven H → IsRising (entries_of number H)
   given_rise [] given = tt
-  given_rise (e ∷ H) given = (subst (λ (n : ℕ). n ≤ e.reply.stamp) (sym (last_entry H)) given.1, given_rise H given.2)
+  given_rise (e ∷ H) given = (omega (arith, given.0, last_entry H), given_rise H given.1)
 
   pub extends_entries : (later earlier : Calls) → turns.Extends later earlier → GoesOnFrom (entries_of number later) (entries_of number earlier)
   extends_entries later earlier x = (entries_of number x.0, ap (entries_of number) x.1 ∙ map-append (entry_of number) x.0 earlier)
@@ -111,8 +111,7 @@ module _ {B : Type 0} (number : B → ℕ) where
         others = ap without_newest ours;
         place_is = made.3 ∙ sym (length-map made.0 (entry_of number));
         reply_is = good.0;
-        least_is = new.0;
-        rises = subst (λ (n : ℕ). n ≤ reply.stamp) (sym (last_entry made.0)) new.1;
+        stamp_is = new.0 ∙ ap (λ (n : ℕ). max n op.least) (sym (last_entry made.0));
         seen = seen;
         calls = calls;
       }

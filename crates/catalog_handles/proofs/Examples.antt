@@ -1,18 +1,24 @@
 -- The definitions at worked examples: sessions of a few calls with the replies that are wanted.
-use Rattle.std.proofs.Common.{◌≡◌, ℕ, true, false, List, [], ◌∷◌, None, Some, refl}
+use Rattle.std.proofs.Common.{◌≡◌, ℕ, max, true, false, List, [], ◌∷◌, None, Some, refl, ap, sym, ◌∙◌}
+use Rattle.std.proofs.lemmas.Bool.{eqb-false}
+use Rattle.atomic_table.specs.Seated.{TableId}
 use Rattle.generations.specs.Grid.{GridData}
+use Rattle.turn_gate.specs.Callers.{Gate}
 use Rattle.catalog_handles.specs.declared.handle.CatalogHandle.{CatalogHandle}
 use Rattle.catalog_handles.specs.declared.setting.CatalogSetting.{CatalogSetting}
 use Rattle.catalog_handles.specs.declared.op.CatalogRefusal.TheVariants.{NeverMade, Stale, TooMany}
-use Rattle.catalog_handles.specs.Entry.{Op, Open, Get, Close, Reply, Opened, Book, Closed, Refused, History}
+use Rattle.catalog_handles.specs.Entry.{Op, Open, Get, Close, Reply, Opened, Book, Closed, Refused, Entry, History}
 use Rattle.catalog_handles.specs.History.{book, free_row}
 use Rattle.catalog_handles.specs.Answer.{answer, entry}
 use Rattle.catalog_handles.specs.Causes.{IsOfUnmade, IsOfClosed, IsWithoutRow}
 use Rattle.catalog_handles.specs.Isolation.{keeps_apart, IsClosed, part_of}
+use Rattle.catalog_handles.specs.Stamps.{last_stamp}
+use Rattle.catalog_handles.specs.Reader.{first_reader, Answered}
 use Rattle.catalog_handles.specs.Rows.{RowData, no_row, says_made, says_book, after_open, after_close}
 use Rattle.catalog_handles.specs.Kept.{live_book}
 use Rattle.catalog_handles.specs.Table.{SaysTheSame}
 use Rattle.catalog_handles.proofs.Refused.{refused_changes_nothing}
+use Rattle.catalog_handles.proofs.Calls.{without_newest}
 
 -- the history after some calls, given oldest first
 abbrev played : CatalogSetting → History → List (ℕ × Op) → History
@@ -130,6 +136,49 @@ refused_open = refused_changes_nothing narrow (entry narrow reopened 0 (Open 9) 
 
 accepted_close : SaysTheSame narrow (entry narrow reopened 0 (Close (handle 0 0 2)) 0 ∷ reopened) reopened → ⊥
 accepted_close same = let alive = same.live (handle 0 0 2) in cc alive
+
+-- ---- stamps
+
+-- thread 0 opened catalog 7 with stamp 3
+abbrev stamped : History
+stamped = entry usual [] 0 (Open 7) 3 ∷ []
+
+module _ (table : TableId) where
+  abbrev gate : Gate CatalogSetting
+  gate = record { table = table; terms = record { setting = usual; seats = 2; quota = 9 } }
+
+  -- thread 1, which had made no call, opens catalog 8 behind that, hands in a number, and its entry has a stamp
+  abbrev OpensWith : (least stamp : ℕ) → Type 0
+  OpensWith least stamp =
+      let e : Entry = entry usual stamped 1 (Open 8) stamp in
+      Answered gate (first_reader gate 1) (record { table = table; terms = Some gate.terms; number = 1; seen = e ∷ stamped; calls = e ∷ [] })
+      (Open 8) least 1 stamp (Opened (handle 1 0 1))
+
+  opens_with : (least stamp : ℕ) → stamp ≡ max 3 least → OpensWith least stamp
+  opens_with least stamp is = record {
+    same = record { table = refl; terms = refl; number = refl };
+    before = stamped;
+    later = (stamped, refl);
+    legal = (refl, tt);
+    others = refl;
+    place_is = refl;
+    reply_is = refl;
+    stamp_is = is;
+    seen = refl;
+    calls = refl;
+  }
+
+  larger_number : OpensWith 5 5
+  larger_number = opens_with 5 5 refl
+
+  larger_stamp_before : OpensWith 2 3
+  larger_stamp_before = opens_with 2 3 refl
+
+  -- no stamp is larger than both
+  not_their_sum : OpensWith 5 8 → ⊥
+  not_their_sum made =
+      let before : stamped ≡ made.before = ap without_newest made.seen in
+      eqb-false 8 5 refl (made.stamp_is ∙ ap (λ (H : History). max (last_stamp H) 5) (sym before))
 
 -- ---- rows
 

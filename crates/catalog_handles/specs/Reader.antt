@@ -1,5 +1,5 @@
 -- What a thread at shared catalogs is seen as, and what its calls say of it (our own).
-use Rattle.std.specs.Prelude.{◌≡◌, ℕ, ◌<◌, ◌≤◌, ◌==◌, if◌then◌else◌, [], ◌∷◌, ◌++◌, length, Option, Some}
+use Rattle.std.specs.Prelude.{◌≡◌, ℕ, ◌<◌, max, ◌==◌, if◌then◌else◌, [], ◌∷◌, ◌++◌, length, Option, Some}
 use Rattle.atomic_table.specs.Seated.{TableId}
 use Rattle.turn_gate.specs.declared.entry.Terms.{Terms}
 use Rattle.turn_gate.specs.Callers.{Gate, Caller}
@@ -54,8 +54,8 @@ pub record IsSameReader (old new : ReaderData) : Type 0 where
 
 -- The thread made one call, and gave a number with it. Its entry is the newest that the thread has seen, and the newest of its own
 -- calls. What stood before it goes on from what the thread had seen, by calls of others alone; it is a legal history; the place is
--- the number of its entries, the reply is the answer to the call there, and the stamp is not below the given number, nor below the
--- stamps before it
+-- the number of its entries, the reply is the answer to the call there, and the stamp is the larger one of the given number and the
+-- stamp before it
 pub record Answered (gate : Gate CatalogSetting) (old new : ReaderData) (op : Op) (least place stamp : ℕ) (reply : Reply) : Type 0 where
   pub same : IsSameReader old new
   pub before : History
@@ -64,8 +64,7 @@ pub record Answered (gate : Gate CatalogSetting) (old new : ReaderData) (op : Op
   pub others : entries_by old.number before ≡ old.calls
   pub place_is : place ≡ length before
   pub reply_is : reply ≡ answer gate.terms.setting before old.number op
-  pub least_is : least ≤ stamp
-  pub rises : last_stamp before ≤ stamp
+  pub stamp_is : stamp ≡ max (last_stamp before) least
   pub seen : new.seen ≡ record { who = old.number; op = op; reply = reply; stamp = stamp } ∷ before
   pub calls : new.calls ≡ record { who = old.number; op = op; reply = reply; stamp = stamp } ∷ old.calls
 

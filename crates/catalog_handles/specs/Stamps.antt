@@ -1,5 +1,5 @@
 -- The stamps of entries (our own): logical time, by which a history is put in order with another one.
-use Rattle.std.specs.Prelude.{ℕ, ◌≤◌, ◌==◌, if◌then◌else◌, [], ◌∷◌, length}
+use Rattle.std.specs.Prelude.{◌≡◌, ℕ, ◌≤◌, max, ◌==◌, if◌then◌else◌, [], ◌∷◌, length}
 use Rattle.turn_gate.specs.History as turns
 use Rattle.catalog_handles.specs.declared.stamped.StampedOp.{StampedOp}
 use Rattle.catalog_handles.specs.declared.stamped.StampedReply.{StampedReply}
@@ -20,11 +20,12 @@ abbrev pub stamp_at : History → ℕ → ℕ
 stamp_at [] place = 0
 stamp_at (e ∷ H) place = if length H == place then e.stamp else stamp_at H place
 
--- the same of calls on the turns, of which each asks for a stamp that is not below a number
+-- the same of calls on the turns
 abbrev pub last_given : {B : Type 0} → turns.History (StampedOp B) (StampedReply B) → ℕ
 last_given [] = 0
 last_given (e ∷ H) = e.reply.stamp
 
+-- each call hands in a number: its stamp is the larger one of that and the stamp before
 abbrev pub AreGiven : {B : Type 0} → turns.History (StampedOp B) (StampedReply B) → Type 0
 AreGiven [] = Unit {0}
-AreGiven (e ∷ H) = (e.op.least ≤ e.reply.stamp) × (last_given H ≤ e.reply.stamp) × AreGiven H
+AreGiven (e ∷ H) = (e.reply.stamp ≡ max (last_given H) e.op.least) × AreGiven H

@@ -94,8 +94,8 @@ impl<B: Part> SharedCatalogs<B> {
     }
 
     /// Makes one entry as the thread, and gives its place, its stamp and its reply. The place is the
-    /// number of entries before it. The stamp is not below `least`, nor below the stamp of any entry
-    /// before it.
+    /// number of entries before it. The stamp is the larger one of `least` and the stamp of the entry
+    /// before it, which is 0 where there is none.
     pub fn turn<R: Wait>(
         &self,
         rt: &R,

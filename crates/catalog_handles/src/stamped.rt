@@ -1,6 +1,6 @@
 //! Catalogs whose entries have stamps, as a machine that threads take turns at.
 
-ghost use Rattle.std.specs.Prelude.{◌≡◌, ◌≤◌};
+ghost use Rattle.std.specs.Prelude.{◌≡◌};
 
 use crate::op::{CatalogOp, CatalogReply};
 use crate::{CatalogSetting, Catalogs};
@@ -25,7 +25,8 @@ pub struct StampedReply<B: Part> {
     pub stamp: u64,
 }
 
-/// The catalogs, with the stamp of the newest entry: none is below an earlier one.
+/// The catalogs, with the stamp of the newest entry, which is 0 before the first: a new stamp is the
+/// larger one of it and the number that comes with the op.
 pub struct Stamped<B: Part> {
     catalogs: Catalogs<B>,
     stamp: u64,
@@ -47,13 +48,6 @@ impl<B: Part> Stamped<B> {
     {
         Stamped { catalogs, stamp: 0 }
     }
-}
-
-/// The larger of two stamps.
-fn later(a: u64, b: u64) -> u64
-    ensures { (a ≤ result) × (b ≤ result) }
-{
-    if a < b { b } else { a }
 }
 
 impl<B: Part> Machine for Stamped<B> {
@@ -89,7 +83,7 @@ impl<B: Part> Machine for Stamped<B> {
 
     fn step(&mut self, who: u32, op: StampedOp<B>) -> StampedReply<B> {
         let StampedOp { op, least } = op;
-        self.stamp = later(self.stamp, least);
+        self.stamp = self.stamp.max(least);
         StampedReply {
             reply: self.catalogs.step(who, op),
             stamp: self.stamp,

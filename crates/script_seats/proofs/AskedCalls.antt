@@ -32,7 +32,7 @@ answers_asked g old new op least place stamp reply low high may a is number from
     let reply_is : reply ≡ catalog_answers.answer (catalog_setting c) a.before old.number op =
     a.reply_is ∙ ap (λ (n : ℕ). catalog_answers.answer cs a.before n op) own ∙ ap (λ (s : CatalogSetting). catalog_answers.answer s a.before old.number op) may.agree
     in
-    let given : least ≤ stamp = a.least_is in
+    let given : least ≤ stamp = omega (arith, a.stamp_is) in
     record {
       before = a.before;
       is_later = record {
