@@ -9,7 +9,7 @@ TOP = os.path.dirname(os.path.dirname(os.path.realpath(__file__)))
 VERSION = r"(\d+\.\d+(?:\.\d+)?)"
 PLACES = [
     ("VERSION", rf"\A{VERSION}\n\Z"),
-    ("crates/tool_answers/src/commands.rt", rf'\.version\("{VERSION}"\)'),
+    ("crates/tool_commands/src/commands.rt", rf'\.version\("{VERSION}"\)'),
     ("tests/tool/cases", rf"^>locale_tool {VERSION}$"),
     ("include/locale_objects.h", rf'^#define LOBJ_VERSION "{VERSION}"$'),
     ("docs/man/locale_cli.1", rf'^\.TH \S+ 1 \S+ "locale objects {VERSION}"$'),
@@ -24,7 +24,7 @@ PLACES = [
 
 NUMBERS = [
     ("include/locale_objects.h", r"^#define LOBJ_VERSION_NUMBER (\d+)$"),
-    ("crates/locale_objects/src/answer.rt", r"^pub const VERSION: u32 = (\d+);$"),
+    ("crates/c_values/src/answer.rt", r"^pub const VERSION: u32 = (\d+);$"),
 ]
 
 

@@ -10,6 +10,7 @@ use crate::header::read_header;
 use charset::{CharacterNames, Charset};
 use lc_base::{ByteText, Place, Reason, TextFault};
 use src_lines::{Kind, Lines, ends_head, next_word, split_front};
+use src_operands::fields;
 use std::alloc::Global;
 
 /// Whether a line is the one before the body.
@@ -63,7 +64,7 @@ fn read_line(
     requires { i < length lines.now }
     ensures { Gives (λ _. names.new) result (mapping names.old (line_at lines.now i)) }
 {
-    let (name, code) = lines.fields(alloc, i)?;
+    let (name, code) = fields(alloc, lines, i)?;
     add_line(alloc, names, &name, &code)
 }
 

@@ -6,7 +6,8 @@ ghost use Rattle.src_lines.specs.Places.{line_at};
 ghost use Rattle.charmap_reader.specs.Charmap.{header_bytes, line_bytes, is_count, named_by, counted_by, gives_name, gives_count, header};
 
 use lc_base::{ByteText, Place, Reason, TextFault};
-use src_lines::{Lines, Operand};
+use src_lines::Lines;
+use src_operands::{Operand, tokens};
 use std::alloc::Global;
 
 const CODE_SET_NAME: &[u8] = b"<code_set_name>";
@@ -30,7 +31,7 @@ fn operand_bytes(alloc: Global, lines: &Lines, i: usize) -> Result<Option<ByteTe
     requires { i < length lines.now }
     ensures { Gives (λ o. o) result (line_bytes (line_at lines.now i)) }
 {
-    let line = lines.tokens(alloc, i)?;
+    let line = tokens(alloc, lines, i)?;
     match header_bytes(line.operands.as_slice()) {
         Some(bytes) => Ok(Some(ByteText::of(alloc, bytes)?)),
         None => Ok(None),

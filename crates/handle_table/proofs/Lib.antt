@@ -5,7 +5,6 @@ pub mod Gone
 pub mod Pinned
 pub mod Newest
 pub mod Changes
-pub mod Places
 pub mod Changed
 pub mod RowsOf
 pub mod Same

@@ -1,12 +1,12 @@
 -- One entry of a history: who called, what was asked and what was replied, as plain data.
-use Rattle.std.specs.Prelude.{ℕ, List, Option, Bool, true, false, refl}
-use Rattle.generations.specs.Kind.{Kind}
+use Rattle.std.specs.Prelude.{ℕ, List, Option, Bool, true, false}
 use Rattle.generations.specs.Kind as generations
 use Rattle.mask_compose.specs.Parts.{Parts}
 use Rattle.mask_compose.specs.Offer.{Offered}
 use Rattle.lc_base.specs.declared.handle.Handle.{Handle}
 use Rattle.lc_base.specs.declared.handle.Named.{Named}
 use Rattle.lc_base.specs.declared.handle.Named.TheVariants.{Global, Of}
+use Rattle.table_rows.specs.Numbers.{object_handles}
 use Rattle.handle_table.specs.declared.op.Refusal.{Refusal}
 
 -- what a thread asks of the table; masks are bits, and the five numbers of a New or a SetGlobal are
@@ -58,15 +58,6 @@ pub record Setting : Type 0 where
   pub rows : ℕ
   pub generations : ℕ
   pub opening : List Offered
-
--- handles of locale objects by their numbers
-abbrev pub object_handles : Kind Handle
-object_handles = record {
-  numbers = λ h. record { owner = h.owner; row = h.row; generation = h.generation };
-  handle_of = λ n. record { owner = n.owner; row = n.row; generation = n.generation };
-  same_handle = λ h. refl;
-  same_numbers = λ n. refl;
-}
 
 -- whether two handles are one
 abbrev pub same_handle : Handle → Handle → Bool

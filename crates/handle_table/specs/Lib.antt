@@ -6,8 +6,6 @@ pub mod Isolation
 pub mod Seen
 pub mod Table
 pub mod Lasting
-pub mod Row
-pub mod Rows
 pub mod Kept
 pub mod Effects
 pub mod Accepted

@@ -14,10 +14,11 @@ ghost use Rattle.handle_table.specs.Accepted.{Accepts, SameShape};
 use crate::checks::first_reason;
 use crate::kept::Kept;
 use crate::op::{Op, Refusal, Reply};
-use crate::setting::{MAX_THREADS, Setting};
+use crate::setting::Setting;
 use crate::shelf::from_shelf;
 use lc_base::{CELLS, Handle, Mask, Named};
 use mask_compose::{Object, Offer, Part, compose};
+use table_rows::MAX_THREADS;
 
 /// Answers the thread's op: refuses it for the first reason against it, else does what it asks for.
 pub fn answer<P: Part>(setting: &Setting<P>, kept: &mut Kept<P>, who: u32, op: Op<P>) -> Reply<P>

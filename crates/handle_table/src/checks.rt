@@ -12,10 +12,11 @@ ghost use Rattle.handle_table.specs.Kept.{Keeps};
 
 use crate::kept::Kept;
 use crate::op::{Op, Refusal};
-use crate::setting::{MAX_THREADS, Setting};
+use crate::setting::Setting;
 use crate::shelf::lacking;
 use lc_base::{CELLS, Mask, Named};
 use mask_compose::Part;
+use table_rows::MAX_THREADS;
 
 /// Whether the named locales have the categories of the mask.
 fn has_data<P: Part>(

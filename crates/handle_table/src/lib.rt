@@ -6,14 +6,12 @@ mod accept;
 mod checks;
 mod kept;
 pub mod laws;
-mod numbers;
 mod op;
-mod row;
-mod rows;
 mod setting;
 mod shelf;
 mod table;
 
 pub use op::{Op, Refusal, Reply};
-pub use setting::{MAX_THREADS, Setting};
+pub use setting::Setting;
 pub use table::Table;
+pub use table_rows::MAX_THREADS;

@@ -7,9 +7,6 @@ use lc_base::List;
 use mask_compose::{Offer, Part};
 use std::marker::Model;
 
-/// The most threads that a table is made for.
-pub const MAX_THREADS: usize = 16;
-
 /// The setting of a table, which no step changes.
 pub struct Setting<P: Part> {
     /// The number of threads.
@@ -36,7 +33,7 @@ impl<P: Part> Drop for Setting<P> {
 impl<P: Part> Model for Setting<P> {
     ghost use Rattle.std.specs.Prelude.{◌≤◌, length};
     ghost use Rattle.handle_table.specs.Entry.{Setting as SettingData};
-    ghost use Rattle.handle_table.specs.declared.setting.TheConstants.{MAX_THREADS};
+    ghost use Rattle.table_rows.specs.declared.row.TheConstants.{MAX_THREADS};
 
     ghost Value = { SettingData };
 

@@ -5,12 +5,13 @@ ghost use Rattle.std.specs.Prelude.{◌≡◌, ℕ, ◌+◌, ◌<◌, ◌≤◌,
 use crate::accept::answer;
 use crate::kept::Kept;
 use crate::op::{Op, Reply};
-use crate::setting::{MAX_THREADS, Setting};
+use crate::setting::Setting;
 use global_locale::Global as GlobalLocale;
 use lc_base::List;
 use mask_compose::{Offer, Part};
 use std::alloc::{AllocError, Global};
 use std::marker::Model;
+use table_rows::MAX_THREADS;
 
 /// The objects, selections, holds and cells of some threads, the shelf of locale names, and the
 /// global locale.

@@ -13,7 +13,8 @@ use crate::value::{copied_name, one, several};
 use charset::Charset;
 use keywords::{Body, Operands, Values, takes_of};
 use lc_base::{Category, Reason, TextFault};
-use src_lines::{Line, Lines};
+use src_lines::Lines;
+use src_operands::{Line, tokens};
 use std::alloc::Global;
 
 /// What a keyword takes: that of the table, or for a declared class characters.
@@ -117,7 +118,7 @@ fn keyword_line(
     if is_passed_over(operands) {
         return Ok(opened);
     }
-    let line = lines.tokens(alloc, i)?;
+    let line = tokens(alloc, lines, i)?;
     allowed(alloc, charset, copies, opened, operands, line)
 }
 

@@ -11,6 +11,7 @@ use charset::Charset;
 use keywords::{LocaleSource, Section};
 use lc_base::{CATEGORIES, Category, List, Place, Reason, TextFault};
 use src_lines::{Kind, Lines, ends_head, split_front};
+use src_operands::tokens;
 use std::alloc::Global;
 
 /// The category of a name.
@@ -122,7 +123,7 @@ fn after_line(
     if opens_section(lines, i) {
         return read_section(alloc, charset, sections, lines, i);
     }
-    let line = lines.tokens(alloc, i)?;
+    let line = tokens(alloc, lines, i)?;
     Err(TextFault::At(line.place, Reason::UnknownKeyword))
 }
 

@@ -9,10 +9,10 @@ use std::sync::Wait;
 use std::thread::Threads;
 use std::time::Clock;
 use tool_answers::{
-    ToolCommand, check_files, colours_given, command_given, compare_locales, explain_given,
-    import_files, preview_locales, read_locale,
+    check_files, compare_locales, explain_given, import_files, preview_locales, read_locale,
 };
 use tool_colours::{is_coloured, painted};
+use tool_commands::{ToolCommand, colours_given, command_given};
 use tool_messages::{Answer, Problem};
 
 /// What the command answers that words give.

@@ -10,7 +10,7 @@ use std::rt::{Env, Files};
 use std::sync::Wait;
 use std::thread::Threads;
 use std::time::Clock;
-use tool_answers::tool_command;
+use tool_commands::tool_command;
 use tool_messages::{Answer, Problem};
 
 /// How a run of the program comes out.

@@ -19,8 +19,8 @@ use Rattle.script_out.specs.declared.output.Places.TheVariants as places
 use Rattle.script_out.specs.declared.output.Why.{Why}
 use Rattle.script_out.specs.declared.output.Why.TheVariants as whys
 use Rattle.script_out.specs.declared.output.Said.TheVariants as said
-use Rattle.script_lines.specs.Variables.{Bindings, bound, locale_variable, catalog_variable}
-use Rattle.script_lines.specs.Wishes.{Wish, Calls, OpensCatalog, GetsMessage, ClosesCatalog}
+use Rattle.script_wishes.specs.Variables.{Bindings, bound, locale_variable, catalog_variable}
+use Rattle.script_wishes.specs.Wishes.{Wish, Calls, OpensCatalog, GetsMessage, ClosesCatalog}
 use Rattle.script_lines.specs.Lines.{Caller, line}
 use Rattle.script_lines.specs.Catalogs.{Books, book_named, message_at, catalog_op_by, message_shown, handle_reply_shown}
 use Rattle.script_lines.specs.Outcome.{Outcome, without_entry, granted, catalogs_left}

@@ -1,11 +1,2 @@
 pub mod CatalogExamples
-pub mod HoldLaws
-pub mod Joined
 pub mod LineLemmas
-pub mod NumberExamples
-pub mod NumberLemmas
-pub mod ReadExamples
-pub mod SpaceLemmas
-pub mod TurnLists
-pub mod VariableLemmas
-pub mod WishLemmas

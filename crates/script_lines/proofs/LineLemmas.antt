@@ -16,12 +16,12 @@ use Rattle.script_out.specs.declared.output.Places.TheVariants as places
 use Rattle.script_out.specs.declared.output.Said.{Said}
 use Rattle.script_out.specs.declared.output.Said.TheVariants as said
 use Rattle.script_out.specs.declared.output.Why.{Why}
-use Rattle.script_lines.specs.Names.{object_name}
-use Rattle.script_lines.specs.Reads.{local}
-use Rattle.script_lines.specs.Holds.{object_held, open_holds, held_as}
-use Rattle.script_lines.specs.Turns.{Turn}
-use Rattle.script_lines.specs.Variables.{Bindings, bound, Bound, bindings_of}
-use Rattle.script_lines.specs.Wishes.{Wish, Calls, ReadsOf, Reads, AsksSelection, AsksName, OpensCatalog, GetsMessage, ClosesCatalog, wish_of}
+use Rattle.script_reads.specs.Names.{object_name}
+use Rattle.script_reads.specs.Reads.{local}
+use Rattle.script_wishes.specs.Holds.{object_held, open_holds, held_as}
+use Rattle.script_wishes.specs.Turns.{Turn}
+use Rattle.script_wishes.specs.Variables.{Bindings, bound, Bound, bindings_of}
+use Rattle.script_wishes.specs.Wishes.{Wish, Calls, ReadsOf, Reads, AsksSelection, AsksName, OpensCatalog, GetsMessage, ClosesCatalog, wish_of}
 use Rattle.script_lines.specs.Lines.{Caller, line, plain_line, placed_line, object_line}
 use Rattle.catalog_handles.specs.Entry as catalogs
 use Rattle.catalog_handles.specs.declared.handle.CatalogHandle.{CatalogHandle}
@@ -30,7 +30,7 @@ use Rattle.script_lines.specs.Catalogs.{Books, not_asked, book_for, catalog_sett
 use Rattle.script_lines.specs.Outcome.{with_call}
 use Rattle.script_lines.specs.Thread.{BindsAs}
 use Rattle.script_lines.specs.Board.{Answers, Finds, Asks, Moments, reads_between, reads_of, reads, opens, Left, LeftCatalogs, LeavesAsked, LeavesLine, Leaves, LeavesReadBetween, turn_caller, LeavesTurn}
-use Rattle.script_lines.proofs.WishLemmas.{wish_same}
+use Rattle.script_wishes.proofs.WishLemmas.{wish_same}
 
 -- ---- lines without a call
 

@@ -1,7 +1,7 @@
 -- What a line of a thread is, where others may have called since the thread's last call (our own).
 -- The history that the thread has seen, and what the history may have become before its next call, are given, of the table and of
 -- the catalogs. Where nobody else calls they are the same, and the lines are those of `serial`.
-use Rattle.std.specs.Prelude.{◌≡◌, ℕ, ◌+◌, ◌≤◌, List, ◌∷◌, length, Option, Some, None, Result, Ok, Err, IfOk}
+use Rattle.std.specs.Prelude.{◌≡◌, ℕ, ◌+◌, ◌≤◌, List, ◌∷◌, length, Option, Some, None, Result, Ok, Err}
 use Rattle.mask_compose.specs.Parts.{Parts}
 use Rattle.catalog_handles.specs.declared.setting.CatalogSetting.{CatalogSetting}
 use Rattle.catalog_handles.specs.Entry as catalogs
@@ -18,10 +18,10 @@ use Rattle.script_words.specs.declared.categories.CategoryArgument.TheVariants.{
 use Rattle.script_out.specs.declared.output.OutLine.{OutLine}
 use Rattle.script_out.specs.declared.output.Why.{Why}
 use Rattle.script_out.specs.declared.output.Said.TheVariants as said
-use Rattle.script_lines.specs.Holds.{object_held, open_holds, held_as}
-use Rattle.script_lines.specs.Turns.{Task, Turn}
-use Rattle.script_lines.specs.Variables.{Bindings, Bound, bindings_of}
-use Rattle.script_lines.specs.Wishes.{Wish, Calls, ReadsOf, Reads, AsksSelection, AsksName, OpensCatalog, GetsMessage, ClosesCatalog, wish_of}
+use Rattle.script_wishes.specs.Holds.{object_held, open_holds, held_as}
+use Rattle.script_wishes.specs.Turns.{Turn}
+use Rattle.script_wishes.specs.Variables.{Bound, bindings_of}
+use Rattle.script_wishes.specs.Wishes.{Wish, Calls, ReadsOf, Reads, AsksSelection, AsksName, OpensCatalog, GetsMessage, ClosesCatalog, wish_of}
 use Rattle.script_lines.specs.Lines.{Caller, plain_line, object_line, held_line}
 use Rattle.script_lines.specs.Catalogs.{Books, Asked, book_for, catalog_setting, object_used, catalog_op_by, open_line, message_line, close_line}
 use Rattle.script_lines.specs.Outcome.{Outcome, without_entry, with_call, calls, read_line, name_line}
@@ -197,20 +197,3 @@ abbrev pub LeavesTurn : Setting → Catalog → Books → (History → History �
     → History → catalogs.History → List Bound → ℕ → Turn → OutLine → Type 0
 LeavesTurn c library books later catalogs_later at catalogs_at H M bounds lines turn l =
     Leaves c library books later catalogs_later at catalogs_at H M (turn_caller lines turn) (wish_of library (bindings_of turn.thread bounds) turn.task) l
-
--- ---- ops that may be asked for
-
--- the op of a wish, if it has one, is one that may be asked for
-abbrev pub Fitting : (table.Op → Type 0) → Wish → Type 0
-Fitting may (Calls categories op) = may op
-Fitting may (ReadsOf n read) = may (table.Hold n) × may (table.Release n)
-Fitting may (Reads read) = Unit {0}
-Fitting may AsksSelection = Unit {0}
-Fitting may (AsksName categories) = Unit {0}
-Fitting may (OpensCatalog name) = Unit {0}
-Fitting may (GetsMessage h set message default) = Unit {0}
-Fitting may (ClosesCatalog h) = Unit {0}
-
--- what a task asks for, whatever its variables stand for, is such
-abbrev pub TaskMay : Catalog → (table.Op → Type 0) → Task → Type 0
-TaskMay library may task = (b : Bindings) → IfOk (wish_of library b task) (Fitting may)

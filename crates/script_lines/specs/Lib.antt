@@ -1,9 +1,3 @@
-pub mod Names
-pub mod Reads
-pub mod Holds
-pub mod Turns
-pub mod Variables
-pub mod Wishes
 pub mod Lines
 pub mod Catalogs
 pub mod Outcome

@@ -12,8 +12,8 @@ use Rattle.script_out.specs.declared.output.Places.TheVariants as places
 use Rattle.script_out.specs.declared.output.Why.TheVariants as whys
 use Rattle.script_out.specs.declared.output.Said.{Said}
 use Rattle.script_out.specs.declared.output.Said.TheVariants as said
-use Rattle.script_lines.specs.Names.{object_name}
-use Rattle.script_lines.specs.Reads.{local}
+use Rattle.script_reads.specs.Names.{object_name}
+use Rattle.script_reads.specs.Reads.{local}
 
 -- ---- replies
 

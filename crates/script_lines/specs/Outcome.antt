@@ -14,8 +14,8 @@ use Rattle.script_words.specs.declared.categories.CategoryArgument.TheVariants.{
 use Rattle.script_out.specs.declared.output.OutLine.{OutLine}
 use Rattle.script_out.specs.declared.output.Why.{Why}
 use Rattle.script_out.specs.declared.output.Said.TheVariants as said
-use Rattle.script_lines.specs.Holds.{object_held, open_holds, held_as}
-use Rattle.script_lines.specs.Wishes.{Wish, Calls, ReadsOf, Reads, AsksSelection, AsksName, OpensCatalog, GetsMessage, ClosesCatalog}
+use Rattle.script_wishes.specs.Holds.{object_held, open_holds, held_as}
+use Rattle.script_wishes.specs.Wishes.{Wish, Calls, ReadsOf, Reads, AsksSelection, AsksName, OpensCatalog, GetsMessage, ClosesCatalog}
 use Rattle.script_lines.specs.Lines.{Caller, plain_line, entry_line, object_line, held_line, global_read_line, global_name_line}
 use Rattle.script_lines.specs.Catalogs.{Books, Asked, book_for, catalog_setting, object_used, catalog_op_by, asked_after, catalogs_after, open_line, message_line, close_line}
 

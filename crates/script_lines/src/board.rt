@@ -14,7 +14,7 @@ pub trait Side: Drop {
     ghost use Rattle.handle_table.specs.Entry.{History};
     ghost use Rattle.handle_table.specs.History.{selection};
     ghost use Rattle.handle_table.specs.Answer.{own};
-    ghost use Rattle.script_lines.specs.Holds.{open_holds, held_as};
+    ghost use Rattle.script_wishes.specs.Holds.{open_holds, held_as};
 
     /// The thread's number.
     ghost number_of: { Self → ℕ };

@@ -8,15 +8,16 @@ ghost use Rattle.script_lines.specs.Board.{LeavesAsked, Leaves};
 ghost use Rattle.category_store.specs.Catalog.{Catalog};
 ghost use Rattle.script_lines.specs.Catalogs.{Books as CatalogBooks, number_of, handle_meant, open_line};
 ghost use Rattle.script_lines.specs.Seen.{caller};
-ghost use Rattle.script_lines.specs.Wishes.{OpensCatalog, GetsMessage, ClosesCatalog};
+ghost use Rattle.script_wishes.specs.Wishes.{OpensCatalog, GetsMessage, ClosesCatalog};
 
 use crate::board::{Board, Side};
-use crate::catalogs::{Books, Wanted, handle_meant, handle_reply_shown};
+use crate::catalogs::{Books, handle_meant, handle_reply_shown};
 use crate::lines::{Caller, line};
 use catalog_handles::{BookShare, CatalogOp};
 use category_store::Library;
 use lc_base::{ByteText, Handle};
 use script_out::{OutLine, Places, Said, Why};
+use script_wishes::wishes::Wanted;
 use std::alloc::{AllocError, Global};
 
 /// The line of a catopen: of the catalog that the name names for the thread's own object, or for the

@@ -5,7 +5,6 @@ ghost use Rattle.std.specs.Option.{option_copied, option_map};
 ghost use Rattle.catalog_handles.specs.Seen.{reply_of};
 ghost use Rattle.script_lines.specs.Catalogs.{number_of, is_for, book_named, message_at, book_for, handle_shown, handle_meant, handle_reply_shown, message_shown, text_or, refused_by};
 
-use crate::names::part_name;
 use catalog_handles::{BookShare, CatalogHandle, CatalogRefusal, CatalogReply};
 use category_store::{Library, Share};
 use handle_table::Refusal;
@@ -13,19 +12,10 @@ use lc_base::{Block, ByteText, Category, Handle, List};
 use mask_compose::Object;
 use msg_catalog::Book;
 use script_out::{Said, Why};
+use script_reads::names::part_name;
+use script_wishes::wishes::Wanted;
 use std::alloc::{AllocError, Global};
 use std::marker::Model;
-
-/// Which message is asked for, and what stands for it where the catalog has none (XSH catgets).
-#[derive(Clone, Copy)]
-pub struct Wanted<'a> {
-    /// The message's set.
-    pub set: u32,
-    /// Its number in the set.
-    pub message: u32,
-    /// The default.
-    pub default: &'a ByteText,
-}
 
 /// The catalogs of a bundle: their blocks, and the messages of each, in order of the text.
 #[derive(Drop)]

@@ -3,14 +3,14 @@
 ghost use Rattle.std.specs.Prelude.{◌≡◌, IfOk};
 ghost use Rattle.handle_table.specs.Seen.{reply_of};
 ghost use Rattle.script_lines.specs.Seen.{caller};
-ghost use Rattle.script_lines.specs.Variables.{handle_said};
+ghost use Rattle.script_wishes.specs.Variables.{handle_said};
 ghost use Rattle.script_lines.specs.Lines.{shown, version_made, line, plain_line, placed_line};
 
-use crate::names::object_name;
 use category_store::{Library, Share};
 use handle_table::Reply;
 use lc_base::Handle;
 use script_out::{OutLine, Places, Said, Why};
+use script_reads::names::object_name;
 use script_words::CategoryArgument;
 use std::alloc::{AllocError, Global};
 

@@ -1,13 +1,14 @@
 //! A thread of the script.
 
 ghost use Rattle.std.specs.Prelude.{◌≡◌, ◌∷◌, ◌+◌, ◌<◌, ◌^◌, [], OnOk};
-ghost use Rattle.script_lines.specs.Seen.{caller, variable_seen};
-ghost use Rattle.script_lines.specs.Variables.{bound};
+ghost use Rattle.script_lines.specs.Seen.{caller};
+ghost use Rattle.script_wishes.specs.Seen.{variable_seen};
+ghost use Rattle.script_wishes.specs.Variables.{bound};
 
 use crate::board::Side;
 use crate::lines::Caller;
-use crate::variables::{Variable, Variables};
 use lc_base::Handle;
+use script_wishes::variables::{Variable, Variables};
 use std::alloc::{AllocError, Global};
 
 /// A thread of the script.

@@ -20,9 +20,9 @@ use Rattle.script_out.specs.declared.output.Places.{Places}
 use Rattle.script_out.specs.declared.output.Places.TheVariants as places
 use Rattle.script_out.specs.declared.output.Said.TheVariants as said
 use Rattle.script_out.specs.declared.output.Why.{Why}
-use Rattle.script_lines.specs.Turns.{Task}
-use Rattle.script_lines.specs.Variables.{Bound, bindings_of, bindings_after, variable_bound}
-use Rattle.script_lines.specs.Wishes.{Wish, Calls, ReadsOf, Reads, AsksSelection, AsksName, OpensCatalog, GetsMessage, ClosesCatalog, wish_of, ops_of}
+use Rattle.script_wishes.specs.Turns.{Task}
+use Rattle.script_wishes.specs.Variables.{Bound, bindings_of, bindings_after, variable_bound}
+use Rattle.script_wishes.specs.Wishes.{Wish, Calls, ReadsOf, Reads, AsksSelection, AsksName, OpensCatalog, GetsMessage, ClosesCatalog, wish_of, ops_of}
 use Rattle.script_lines.specs.Lines.{Caller, plain_line, placed_line, object_line, global_read_line, global_name_line}
 use Rattle.script_plan.specs.Plan.{PlanData}
 use Rattle.script_plan.specs.Isolation.{SaysTheSameTo}

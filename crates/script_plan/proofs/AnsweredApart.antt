@@ -17,12 +17,12 @@ use Rattle.script_out.specs.declared.output.Places.TheVariants as places
 use Rattle.script_out.specs.declared.output.Said.TheVariants as said
 use Rattle.script_out.specs.declared.output.Why.{Why}
 use Rattle.script_plan.specs.Plan.{PlanData, books_of}
-use Rattle.script_lines.specs.Holds.{object_held, open_holds, held_as}
+use Rattle.script_wishes.specs.Holds.{object_held, open_holds, held_as}
 use Rattle.script_plan.specs.Isolation.{all_task_lines, all_calls, front, whole, SaysTheSameTo, apart, AreAnsweredApart, IsIsolated, AreCatalogsIsolated}
 use Rattle.script_lines.specs.Lines.{Caller, plain_line, placed_line, global_read_line, global_name_line}
 use Rattle.script_plan.specs.Prints.{TaskLine, bound_by, places_in, all_places, before_round, up_to_round, PlacedCall, call_of, calls_of, calls_after, with_placed, history_below, Around, around, past, next_place, seen, place_behind, IsUpToPlace, IsVersion, global_of, IsReadBetween, IsHoldRefused, IsReadOf, IsRead, IsGranted, AreAnswered, caller_of, Prints, IsOpenOf, IsOpenBy, IsOpen}
-use Rattle.script_lines.specs.Variables.{bindings_of}
-use Rattle.script_lines.specs.Wishes.{Wish, Calls, ReadsOf, Reads, AsksSelection, AsksName, wish_of, ops_of, OpensCatalog, GetsMessage, ClosesCatalog}
+use Rattle.script_wishes.specs.Variables.{bindings_of}
+use Rattle.script_wishes.specs.Wishes.{Wish, Calls, ReadsOf, Reads, AsksSelection, AsksName, wish_of, ops_of, OpensCatalog, GetsMessage, ClosesCatalog}
 use Rattle.handle_table.proofs.Isolated.{part_legal, answer_apart, says_part}
 use Rattle.catalog_handles.proofs.Apart.{part_legal as catalog_part_legal}
 use Rattle.script_plan.proofs.Fronts.{part_says_the_same}

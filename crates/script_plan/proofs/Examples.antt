@@ -29,8 +29,8 @@ use Rattle.script_out.specs.declared.output.Said.{Said}
 use Rattle.script_out.specs.declared.output.Said.TheVariants as said
 use Rattle.script_out.specs.declared.output.Why.TheVariants as whys
 use Rattle.script_plan.specs.Plan.{PlanData, counts}
-use Rattle.script_lines.specs.Names.{joint_name, object_name}
-use Rattle.script_lines.specs.Variables.{bound, locale_variable}
+use Rattle.script_reads.specs.Names.{joint_name, object_name}
+use Rattle.script_wishes.specs.Variables.{bound, locale_variable}
 use Rattle.script_lines.specs.Lines.{shown}
 use Rattle.script_plan.specs.Serial.{serial_lines}
 

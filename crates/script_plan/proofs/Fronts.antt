@@ -6,8 +6,8 @@ use Rattle.handle_table.specs.Entry.{Entry, History, Setting}
 use Rattle.handle_table.specs.Answer.{IsLegal}
 use Rattle.handle_table.specs.Isolation.{has_thread, is_for_all, is_in_part, part_of, IsClosed, SaysOfThreads}
 use Rattle.handle_table.proofs.Isolated.{says_part}
-use Rattle.script_lines.specs.declared.holds.OpenHold.{OpenHold}
-use Rattle.script_lines.specs.Holds.{open_holds, holds_after}
+use Rattle.script_wishes.specs.declared.holds.OpenHold.{OpenHold}
+use Rattle.script_wishes.specs.Holds.{open_holds, holds_after}
 use Rattle.script_plan.specs.Isolation.{SaysTheSameTo}
 
 -- an entry that is not of the part is of another thread

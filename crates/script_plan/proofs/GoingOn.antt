@@ -5,7 +5,7 @@ use Rattle.std.proofs.lemmas.Bool.{cases_lt}
 use Rattle.handle_table.specs.Entry.{Entry, History, Setting}
 use Rattle.handle_table.specs.Answer.{entry}
 use Rattle.script_out.specs.declared.output.Why.{Why}
-use Rattle.script_lines.specs.Wishes.{Wish, ops_of}
+use Rattle.script_wishes.specs.Wishes.{Wish, ops_of}
 use Rattle.script_plan.specs.Prints.{PlacedCall, call_of, with_placed, history_below}
 
 -- ---- histories that go on

@@ -10,8 +10,8 @@ use Rattle.handle_table.specs.Shelf.{posix}
 use Rattle.handle_table.specs.History.{sets_after, sets, global, global_at}
 use Rattle.handle_table.specs.Answer.{entry}
 use Rattle.handle_table.specs.Isolation.{has_thread, named_by, fetched_from, is_owned, is_own, is_own_cell, keeps_apart, IsClosed, is_for_all, part_of}
-use Rattle.script_lines.specs.declared.holds.OpenHold.{OpenHold}
-use Rattle.script_lines.specs.Holds.{object_held, hold_change, changed, holds_after, open_holds}
+use Rattle.script_wishes.specs.declared.holds.OpenHold.{OpenHold}
+use Rattle.script_wishes.specs.Holds.{object_held, hold_change, changed, holds_after, open_holds}
 use Rattle.script_plan.specs.Prints.{PlacedCall, with_placed, history_below}
 use Rattle.script_plan.proofs.GoingOn.{is_at}
 use Rattle.script_plan.proofs.Lists.{IsFound, found}

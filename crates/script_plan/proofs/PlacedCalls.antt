@@ -16,13 +16,13 @@ use Rattle.script_out.specs.declared.output.OutLine.{OutLine}
 use Rattle.script_out.specs.declared.output.Places.{Places}
 use Rattle.script_out.specs.declared.output.Why.{Why}
 use Rattle.script_plan.specs.Plan.{PlanData, books_of}
-use Rattle.script_lines.specs.Holds.{open_holds, held_as}
+use Rattle.script_wishes.specs.Holds.{open_holds, held_as}
 use Rattle.script_plan.specs.Isolation.{all_task_lines, all_calls}
 use Rattle.script_lines.specs.Lines.{Caller}
 use Rattle.script_plan.specs.Prints.{TaskLine, with_tasks, bound_by, places_in, all_places, PlacedCall, calls_of, calls_after, with_placed, history_below, Around, around, seen, lines_of, IsReadOf, IsRead, IsGranted, IsAnswered, AreAnswered, caller_of, caller_after, callers_after, all_turns, Prints, IsOpenOf, IsOpen, global_of}
-use Rattle.script_lines.specs.Turns.{Turn}
-use Rattle.script_lines.specs.Variables.{bindings_of}
-use Rattle.script_lines.specs.Wishes.{Wish, Calls, ReadsOf, Reads, AsksSelection, AsksName, wish_of, OpensCatalog, GetsMessage, ClosesCatalog}
+use Rattle.script_wishes.specs.Turns.{Turn}
+use Rattle.script_wishes.specs.Variables.{bindings_of}
+use Rattle.script_wishes.specs.Wishes.{Wish, Calls, ReadsOf, Reads, AsksSelection, AsksName, wish_of, OpensCatalog, GetsMessage, ClosesCatalog}
 use Rattle.script_plan.proofs.LineLists.{is_this}
 use Rattle.script_plan.proofs.GoingOn.{is_at, wished_calls}
 use Rattle.script_lines.specs.Catalogs.{book_for}

@@ -9,10 +9,10 @@ use Rattle.handle_table.specs.Entry as table
 use Rattle.handle_table.specs.Entry.{History, Setting}
 use Rattle.script_commands.specs.declared.command.Placed.{Placed}
 use Rattle.script_lang.specs.declared.bundle.Bundle.{Bundle}
-use Rattle.script_lines.specs.Holds.{open_holds}
-use Rattle.script_lines.specs.Turns.{Turn, Ends, first_numbers, in_round, in_thread, turn_of, thread_turns, round_turns, command_turns, closing, closing_turns}
-use Rattle.script_lines.specs.Variables.{bindings_of, variable_bound}
-use Rattle.script_lines.specs.Wishes.{Wish, wish_of, ops_of}
+use Rattle.script_wishes.specs.Holds.{open_holds}
+use Rattle.script_wishes.specs.Turns.{Turn, Ends, first_numbers, in_round, in_thread, turn_of, thread_turns, round_turns, command_turns, closing, closing_turns}
+use Rattle.script_wishes.specs.Variables.{bindings_of, variable_bound}
+use Rattle.script_wishes.specs.Wishes.{Wish, wish_of, ops_of}
 use Rattle.script_lines.specs.Lines.{Caller}
 use Rattle.script_out.specs.declared.output.OutLine.{OutLine}
 use Rattle.script_out.specs.declared.output.Why.{Why}

@@ -6,9 +6,9 @@ use Rattle.std.proofs.lemmas.List.Elements.{All-nil, All-append, All-filter, All
 use Rattle.handle_table.specs.Entry.{History}
 use Rattle.script_lang.specs.declared.bundle.Bundle.{Bundle}
 use Rattle.script_commands.specs.declared.command.Placed.{Placed}
-use Rattle.script_lines.specs.declared.holds.OpenHold.{OpenHold}
-use Rattle.script_lines.specs.Holds.{open_holds}
-use Rattle.script_lines.specs.Turns.{Turn, first_numbers, in_round, in_thread, turn_of, thread_turns, round_turns, command_turns, closing_turn, releases, closing, closing_turns, Releases, Ends}
+use Rattle.script_wishes.specs.declared.holds.OpenHold.{OpenHold}
+use Rattle.script_wishes.specs.Holds.{open_holds}
+use Rattle.script_wishes.specs.Turns.{Turn, first_numbers, in_round, in_thread, turn_of, thread_turns, round_turns, command_turns, closing_turn, releases, closing, closing_turns, Releases, Ends}
 use Rattle.std.proofs.lemmas.Bool.{eqb-true}
 use Rattle.script_plan.proofs.LineLists.{filter_true}
 

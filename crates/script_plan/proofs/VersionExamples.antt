@@ -27,9 +27,9 @@ use Rattle.script_out.specs.declared.output.Said.{Said}
 use Rattle.script_out.specs.declared.output.Said.TheVariants as said
 use Rattle.script_out.specs.declared.output.Why.TheVariants as whys
 use Rattle.script_plan.specs.Plan.{PlanData}
-use Rattle.script_lines.specs.Holds.{object_held}
+use Rattle.script_wishes.specs.Holds.{object_held}
 use Rattle.script_lines.specs.Lines.{Caller, shown}
-use Rattle.script_lines.specs.Reads.{local}
+use Rattle.script_reads.specs.Reads.{local}
 use Rattle.script_plan.specs.Serial.{setting}
 use Rattle.script_plan.specs.Prints.{with_tasks, calls_after, all_turns, caller_of, callers_after, Around, past, global_of, AreAnswered, IsGlobalRead, IsReadBetween, IsHoldRefused, AreCatalogsPlaced, ArePlaced}
 use Rattle.script_plan.proofs.Examples.{library, plan, placed, line_of, first_of}

@@ -18,7 +18,7 @@ use Rattle.handle_table.specs.Answer.{answer, entry, reasons, first_reason, repl
 use Rattle.handle_table.proofs.Changes.{holding_of_caller}
 use Rattle.handle_table.proofs.Unchanged.{version_stays, newest_version}
 use Rattle.handle_table.proofs.Numbering.{same_itself}
-use Rattle.script_lines.specs.Holds.{object_held}
+use Rattle.script_wishes.specs.Holds.{object_held}
 use Rattle.script_lines.specs.Lines.{version_made}
 use Rattle.script_lines.specs.Outcome.{with_call}
 use Rattle.script_plan.specs.Prints.{PlacedCall, with_placed, history_below}

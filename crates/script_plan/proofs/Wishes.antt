@@ -25,9 +25,9 @@ use Rattle.script_commands.specs.declared.command.Target.TheVariants as targets
 use Rattle.script_out.specs.declared.output.OutLine.{OutLine}
 use Rattle.script_out.specs.declared.output.Places.{Places}
 use Rattle.script_out.specs.declared.output.Why.{Why}
-use Rattle.script_lines.specs.Turns.{Task, Runs, Releases, Ends}
-use Rattle.script_lines.specs.Variables.{Variable, locale_variable, is_same_variable, Bindings, bound, Bound, bindings_of, variable_bound, handle_said, with_binding}
-use Rattle.script_lines.specs.Wishes.{handle_or_unset, named, base_named, mask_of, named_numbers, op_on, Wish, Calls, ReadsOf, Reads, AsksSelection, AsksName, OpensCatalog, GetsMessage, ClosesCatalog, called, wish, wish_of, ops_of}
+use Rattle.script_wishes.specs.Turns.{Task, Runs, Releases, Ends}
+use Rattle.script_wishes.specs.Variables.{Variable, locale_variable, is_same_variable, Bindings, bound, Bound, bindings_of, variable_bound, handle_said, with_binding}
+use Rattle.script_wishes.specs.Wishes.{handle_or_unset, named, base_named, mask_of, named_numbers, op_on, Wish, Calls, ReadsOf, Reads, AsksSelection, AsksName, OpensCatalog, GetsMessage, ClosesCatalog, called, wish, wish_of, ops_of}
 use Rattle.script_lines.specs.Lines.{Caller, shown}
 use Rattle.script_plan.specs.Prints.{places_in, call_of, Around, past, seen, IsRead, IsGranted}
 use Rattle.script_plan.proofs.PlacedCalls.{place_of}

@@ -9,7 +9,7 @@ use Rattle.catalog_handles.specs.Answer as catalog_answers
 use Rattle.catalog_handles.specs.Isolation as catalog_isolation
 use Rattle.script_out.specs.declared.output.OutLine.{OutLine}
 use Rattle.script_plan.specs.Plan.{PlanData}
-use Rattle.script_lines.specs.Holds.{open_holds}
+use Rattle.script_wishes.specs.Holds.{open_holds}
 use Rattle.script_lines.specs.Catalogs.{catalog_setting}
 use Rattle.script_plan.specs.Prints.{TaskLine, with_tasks, PlacedCall, calls_after, history_below, all_turns, Around, around, IsAnswered, Prints}
 

@@ -26,10 +26,10 @@ use Rattle.script_out.specs.declared.output.Places.TheVariants as places
 use Rattle.script_out.specs.declared.output.Why.{Why}
 use Rattle.script_out.specs.declared.output.Said.TheVariants as said
 use Rattle.script_plan.specs.Plan.{PlanData, books_of}
-use Rattle.script_lines.specs.Holds.{object_held, open_holds, held_as}
-use Rattle.script_lines.specs.Turns.{Task, Turn, command_turns, closing_turns}
-use Rattle.script_lines.specs.Variables.{Bound, bindings_of, bindings_after}
-use Rattle.script_lines.specs.Wishes.{Wish, Calls, ReadsOf, Reads, AsksSelection, AsksName, OpensCatalog, GetsMessage, ClosesCatalog, wish_of, ops_of}
+use Rattle.script_wishes.specs.Holds.{object_held, open_holds, held_as}
+use Rattle.script_wishes.specs.Turns.{Task, Turn, command_turns, closing_turns}
+use Rattle.script_wishes.specs.Variables.{Bound, bindings_of, bindings_after}
+use Rattle.script_wishes.specs.Wishes.{Wish, Calls, ReadsOf, Reads, AsksSelection, AsksName, OpensCatalog, GetsMessage, ClosesCatalog, wish_of, ops_of}
 use Rattle.script_lines.specs.Lines.{Caller, plain_line, placed_line, object_line, held_line, global_read_line, global_name_line}
 use Rattle.script_lines.specs.Catalogs.{Asked, not_asked, book_for, catalog_setting, handle_meant, open_line, message_line, close_line}
 use Rattle.script_lines.specs.Outcome.{with_call}

@@ -7,9 +7,9 @@ use Rattle.catalog_handles.specs.Entry.{History as CatalogHistory}
 use Rattle.script_out.specs.declared.output.OutLine.{OutLine}
 use Rattle.script_out.specs.declared.output.Why.{Why}
 use Rattle.script_plan.specs.Plan.{PlanData, books_of}
-use Rattle.script_lines.specs.Turns.{Turn, command_turns, closing_turns}
-use Rattle.script_lines.specs.Variables.{Bound, bindings_of, bindings_after}
-use Rattle.script_lines.specs.Wishes.{Wish, wish_of}
+use Rattle.script_wishes.specs.Turns.{Turn, command_turns, closing_turns}
+use Rattle.script_wishes.specs.Variables.{Bound, bindings_of, bindings_after}
+use Rattle.script_wishes.specs.Wishes.{Wish, wish_of}
 use Rattle.script_lines.specs.Lines.{Caller}
 use Rattle.script_lines.specs.Catalogs.{Books}
 use Rattle.script_lines.specs.Outcome.{granted, catalogs_left}

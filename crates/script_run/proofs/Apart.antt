@@ -10,8 +10,8 @@ use Rattle.thread_current.specs.Thread.{entries_by}
 use Rattle.script_out.specs.declared.output.OutLine.{OutLine}
 use Rattle.catalog_handles.specs.Entry as catalogs
 use Rattle.script_lines.specs.Board.{Moments, catalog_op, granted_at}
-use Rattle.script_lines.specs.Variables.{Variable, Bindings, Bound, bindings_of, with_binding, variable_bound, handle_said}
-use Rattle.script_lines.specs.Wishes.{wish_of, ops_of}
+use Rattle.script_wishes.specs.Variables.{Variable, Bindings, Bound, bindings_of, with_binding, variable_bound, handle_said}
+use Rattle.script_wishes.specs.Wishes.{wish_of, ops_of}
 use Rattle.script_plan.specs.Plan.{PlanData, books_of}
 use Rattle.script_plan.specs.Prints.{TaskLine, PlacedCall, call_of, bound_by, caller_of, places_in, behind_last, or_earlier, next_place}
 use Rattle.script_run.specs.Timed.{oldest, places_by, Timed, task_lines, own_lines, second_moment, IsEntryOf, IsRight, AreRight}

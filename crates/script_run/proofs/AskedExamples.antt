@@ -9,7 +9,7 @@ use Rattle.catalog_handles.specs.Answer as catalog_answers
 use Rattle.script_out.specs.declared.output.Places.TheVariants as places
 use Rattle.script_out.specs.declared.output.Said.TheVariants as said
 use Rattle.script_lines.specs.Lines.{line}
-use Rattle.script_lines.specs.Turns.{Ends}
+use Rattle.script_wishes.specs.Turns.{Ends}
 use Rattle.script_run.specs.Timed.{Timed, catalog_places_by, asked_back, StandsAsked, IsWithin, IsAskedInRound}
 
 abbrev c : CatalogSetting

@@ -25,14 +25,14 @@ use Rattle.script_out.specs.declared.output.OutLine.{OutLine}
 use Rattle.script_out.specs.declared.output.Places.{Places}
 use Rattle.script_out.specs.declared.output.Places.TheVariants as places
 use Rattle.script_out.specs.declared.output.Why.{Why}
-use Rattle.script_lines.specs.declared.holds.OpenHold.{OpenHold}
+use Rattle.script_wishes.specs.declared.holds.OpenHold.{OpenHold}
 use Rattle.script_lines.specs.Board.{Moments, catalog_op, reads_between, reads_of, reads, opens, granted_at}
 use Rattle.script_lines.specs.Catalogs.{Books, Asked, book_for, object_used, catalog_setting, open_line}
-use Rattle.script_lines.specs.Holds.{object_held, open_holds, held_as}
+use Rattle.script_wishes.specs.Holds.{object_held, open_holds, held_as}
 use Rattle.script_lines.specs.Lines.{Caller}
-use Rattle.script_lines.specs.Turns.{Task, Runs, Releases, Ends, Turn, first_numbers, closing_turn, releases, closing, closing_turns}
-use Rattle.script_lines.specs.Variables.{Bindings, bindings_of}
-use Rattle.script_lines.specs.Wishes.{Wish, Calls, ReadsOf, Reads, AsksSelection, AsksName, OpensCatalog, GetsMessage, ClosesCatalog, wish_of}
+use Rattle.script_wishes.specs.Turns.{Task, Runs, Releases, Ends, Turn, first_numbers, closing_turn, releases, closing, closing_turns}
+use Rattle.script_wishes.specs.Variables.{Bindings, bindings_of}
+use Rattle.script_wishes.specs.Wishes.{Wish, Calls, ReadsOf, Reads, AsksSelection, AsksName, OpensCatalog, GetsMessage, ClosesCatalog, wish_of}
 use Rattle.script_plan.specs.Plan.{PlanData, books_of}
 use Rattle.script_plan.specs.Prints.{TaskLine, bound_by, places_in, catalog_places_in, all_catalog_places, before_round, from_round, caller_of, AreCatalogsPlaced}
 use Rattle.script_plan.proofs.LineLists.{GoUp, increasing, bit_of, filter_none}

@@ -13,7 +13,7 @@ use Rattle.handle_table.specs.Entry.{Entry, History, Setting, is_accepted}
 use Rattle.handle_table.specs.History.{sets, global, global_at, holding, holding_after}
 use Rattle.handle_table.specs.Answer.{answer, unless, first_reason}
 use Rattle.handle_table.specs.Kept.{AreThreads}
-use Rattle.script_lines.specs.Holds.{object_held}
+use Rattle.script_wishes.specs.Holds.{object_held}
 use Rattle.script_lines.specs.Outcome.{with_call}
 use Rattle.script_plan.proofs.LineLists.{all_right}
 use Rattle.script_plan.proofs.GoingOn.{GoesOnFrom, goes_nowhere, one_entry, goes_on}

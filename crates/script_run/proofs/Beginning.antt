@@ -10,12 +10,12 @@ use Rattle.std.proofs.lemmas.List.FromFn.{length-range_with_len, get_or-map-rang
 use Rattle.turn_gate.specs.Callers.{Gate}
 use Rattle.handle_table.specs.Entry.{History, Setting}
 use Rattle.thread_current.specs.Thread.{Thread, IsInOrder, first_thread}
-use Rattle.script_lines.specs.Holds.{open_holds}
+use Rattle.script_wishes.specs.Holds.{open_holds}
 use Rattle.catalog_handles.specs.declared.setting.CatalogSetting.{CatalogSetting}
 use Rattle.catalog_handles.specs.Entry.{History as CatalogHistory}
 use Rattle.catalog_handles.specs.Reader as readers
 use Rattle.catalog_handles.specs.Reader.{ReaderData, first_reader}
-use Rattle.script_lines.specs.Variables.{Bindings, bound}
+use Rattle.script_wishes.specs.Variables.{Bindings, bound}
 use Rattle.script_plan.specs.Plan.{PlanData}
 use Rattle.script_seats.specs.declared.seated.Seated.{Seated}
 use Rattle.script_run.specs.declared.worker.Worker.{Worker}

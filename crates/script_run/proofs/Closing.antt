@@ -19,10 +19,10 @@ use Rattle.turn_gate.specs.Ends.{SomeCaller}
 use Rattle.thread_current.specs.Thread.{Thread, thread_of, IsInOrder, SawMore, GoesOnFrom, IsPart, entries_by}
 use Rattle.thread_current.specs.Mine.{HeldData}
 use Rattle.script_out.specs.declared.output.OutLine.{OutLine}
-use Rattle.script_lines.specs.declared.holds.OpenHold.{OpenHold}
+use Rattle.script_wishes.specs.declared.holds.OpenHold.{OpenHold}
 use Rattle.script_lines.specs.declared.thread.Thread.{Thread as ScriptThread}
-use Rattle.script_lines.specs.Holds.{open_holds, holds_after}
-use Rattle.script_lines.specs.Turns.{Turn, Ends, Releases, closing_turn, releases, closing, closing_turns}
+use Rattle.script_wishes.specs.Holds.{open_holds, holds_after}
+use Rattle.script_wishes.specs.Turns.{Turn, Ends, Releases, closing_turn, releases, closing, closing_turns}
 use Rattle.script_plan.specs.Plan.{PlanData, IsSound}
 use Rattle.script_plan.specs.Prints.{Prints}
 use Rattle.script_plan.proofs.LineLists.{all_left}

@@ -8,7 +8,7 @@ use Rattle.std.proofs.lemmas.List.{length-map, append-nil}
 use Rattle.std.proofs.lemmas.List.Sums.{length-filter, count_by-le-length}
 use Rattle.script_commands.specs.declared.command.Placed.{Placed}
 use Rattle.script_lang.specs.declared.bundle.Bundle.{Bundle}
-use Rattle.script_lines.specs.Turns.{Turn, in_round, in_thread, turn_of, thread_turns, round_turns}
+use Rattle.script_wishes.specs.Turns.{Turn, in_round, in_thread, turn_of, thread_turns, round_turns}
 use Rattle.script_run.specs.Rounds.{turns_to}
 use Rattle.script_run.proofs.Stacking.{range_more}
 

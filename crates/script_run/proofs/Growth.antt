@@ -8,8 +8,8 @@ use Rattle.thread_current.specs.Thread.{GoesOnFrom}
 use Rattle.script_lines.specs.Board.{Moments, catalog_op, granted_at}
 use Rattle.script_lines.specs.Catalogs.{Asked}
 use Rattle.script_lines.specs.Outcome.{with_call}
-use Rattle.script_lines.specs.Variables.{bindings_of}
-use Rattle.script_lines.specs.Wishes.{wish_of}
+use Rattle.script_wishes.specs.Variables.{bindings_of}
+use Rattle.script_wishes.specs.Wishes.{wish_of}
 use Rattle.script_plan.specs.Plan.{PlanData, books_of}
 use Rattle.script_plan.specs.Prints.{TaskLine, PlacedCall, bound_by, caller_of, places_in, behind_last, or_earlier, next_place, calls_of}
 use Rattle.script_run.specs.Timed.{oldest, Timed, end_of, task_lines, second_moment, moments_in, IsEntryOf, IsRight, AreRight}

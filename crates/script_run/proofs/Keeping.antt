@@ -4,9 +4,9 @@ use Rattle.handle_table.specs.Entry.{History}
 use Rattle.thread_current.specs.Thread.{Thread, IsInOrder, SawMore}
 use Rattle.catalog_handles.specs.Reader as readers
 use Rattle.catalog_handles.specs.Reader.{ReaderData}
-use Rattle.script_lines.specs.declared.holds.OpenHold.{OpenHold}
+use Rattle.script_wishes.specs.declared.holds.OpenHold.{OpenHold}
 use Rattle.script_lines.specs.declared.thread.Thread.{Thread as ScriptThread}
-use Rattle.script_lines.specs.Holds.{open_holds}
+use Rattle.script_wishes.specs.Holds.{open_holds}
 use Rattle.script_plan.specs.Plan.{PlanData}
 use Rattle.script_seats.specs.declared.seated.Seated.{Seated}
 use Rattle.script_seats.specs.Seated.{held_data, Gates}

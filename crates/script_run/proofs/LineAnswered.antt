@@ -17,10 +17,10 @@ use Rattle.script_out.specs.declared.output.Why.{Why}
 use Rattle.catalog_handles.specs.Entry as catalogs
 use Rattle.script_lines.specs.Catalogs.{object_used, book_for, catalog_setting, open_line}
 use Rattle.script_lines.specs.Board.{catalog_op, granted_at, reads_between, reads_of, reads, opens}
-use Rattle.script_lines.specs.Holds.{object_held, open_holds, held_as}
+use Rattle.script_wishes.specs.Holds.{object_held, open_holds, held_as}
 use Rattle.script_lines.specs.Lines.{plain_line, placed_line, entry_line, global_read_line, global_name_line}
-use Rattle.script_lines.specs.Variables.{bindings_of}
-use Rattle.script_lines.specs.Wishes.{Wish, Calls, ReadsOf, Reads, AsksSelection, AsksName, OpensCatalog, GetsMessage, ClosesCatalog, wish_of}
+use Rattle.script_wishes.specs.Variables.{bindings_of}
+use Rattle.script_wishes.specs.Wishes.{Wish, Calls, ReadsOf, Reads, AsksSelection, AsksName, OpensCatalog, GetsMessage, ClosesCatalog, wish_of}
 use Rattle.script_plan.specs.Prints.{bound_by, places_in, call_of, Around, past, next_place, IsVersion, global_of, IsCall, IsReadOf, IsRead, IsOpenOf, IsAsked, IsOpen, IsGranted, IsAnswered, caller_of}
 use Rattle.script_plan.specs.Plan.{books_of}
 use Rattle.script_plan.proofs.GoingOn.{wished_calls}

@@ -27,17 +27,17 @@ use Rattle.script_out.specs.declared.output.Said.{Said}
 use Rattle.script_out.specs.declared.output.Said.TheVariants as said
 use Rattle.script_out.specs.declared.output.Why.{Why}
 use Rattle.script_out.specs.declared.output.Why.TheVariants as whys
-use Rattle.script_lines.specs.declared.holds.OpenHold.{OpenHold}
-use Rattle.script_lines.specs.declared.holds.HoldChange.{HoldChange}
-use Rattle.script_lines.specs.declared.holds.HoldChange.TheVariants as changes
-use Rattle.script_lines.specs.Holds.{object_held, with_hold, without, hold_change, changed, holds_after, open_holds, held_as, is_of}
+use Rattle.script_wishes.specs.declared.holds.OpenHold.{OpenHold}
+use Rattle.script_wishes.specs.declared.holds.HoldChange.{HoldChange}
+use Rattle.script_wishes.specs.declared.holds.HoldChange.TheVariants as changes
+use Rattle.script_wishes.specs.Holds.{object_held, with_hold, without, hold_change, changed, holds_after, open_holds, held_as, is_of}
 use Rattle.catalog_handles.specs.declared.setting.CatalogSetting.{CatalogSetting}
 use Rattle.catalog_handles.specs.Entry as catalogs
 use Rattle.catalog_handles.specs.Entry.{History as CatalogHistory}
-use Rattle.script_lines.specs.Wishes.{Wish, Calls, ReadsOf, Reads, AsksSelection, AsksName, OpensCatalog, GetsMessage, ClosesCatalog, ops_of}
+use Rattle.script_wishes.specs.Wishes.{Wish, Calls, ReadsOf, Reads, AsksSelection, AsksName, OpensCatalog, GetsMessage, ClosesCatalog, ops_of}
 use Rattle.script_lines.specs.Lines.{Caller, version_made, shown, line, plain_line, entry_line, object_line, held_line}
-use Rattle.script_lines.specs.Names.{object_name}
-use Rattle.script_lines.specs.Reads.{local}
+use Rattle.script_reads.specs.Names.{object_name}
+use Rattle.script_reads.specs.Reads.{local}
 use Rattle.script_lines.specs.Outcome.{Outcome, without_entry, with_call, calls, read_line, name_line}
 use Rattle.script_lines.specs.Catalogs.{Books, Asked, object_used, book_for, open_line, handle_reply_shown, message_shown, handle_meant}
 use Rattle.script_lines.specs.Board.{Moments, reads_between, reads_of, reads, opens, catalog_op, granted_at, AreMomentsOf, LeftCatalogs}

@@ -9,11 +9,11 @@ use Rattle.script_out.specs.declared.output.OutLine.{OutLine}
 use Rattle.script_out.specs.declared.output.Places.{Places}
 use Rattle.script_out.specs.declared.output.Places.TheVariants as places
 use Rattle.script_out.specs.declared.output.Why.{Why}
-use Rattle.script_lines.specs.Turns.{Task}
+use Rattle.script_wishes.specs.Turns.{Task}
 use Rattle.script_lines.specs.Lines.{Caller}
 use Rattle.script_lines.specs.Outcome.{Outcome}
-use Rattle.script_lines.specs.Variables.{bindings_of}
-use Rattle.script_lines.specs.Wishes.{Wish, wish_of, ops_of}
+use Rattle.script_wishes.specs.Variables.{bindings_of}
+use Rattle.script_wishes.specs.Wishes.{Wish, wish_of, ops_of}
 use Rattle.catalog_handles.specs.Entry as catalogs
 use Rattle.script_lines.specs.Board.{catalog_op, granted_at}
 use Rattle.script_lines.specs.Catalogs.{Asked}

@@ -20,10 +20,10 @@ use Rattle.script_out.specs.declared.output.Places.TheVariants as places
 use Rattle.script_out.specs.declared.output.Why.{Why}
 use Rattle.script_lines.specs.Catalogs.{Books, Asked, book_for, open_line}
 use Rattle.script_lines.specs.Board.{Moments, reads_between, reads_of, reads, opens, granted_at}
-use Rattle.script_lines.specs.Holds.{object_held, open_holds, held_as}
+use Rattle.script_wishes.specs.Holds.{object_held, open_holds, held_as}
 use Rattle.script_lines.specs.Lines.{Caller}
-use Rattle.script_lines.specs.Variables.{bindings_of}
-use Rattle.script_lines.specs.Wishes.{Wish, Calls, ReadsOf, Reads, AsksSelection, AsksName, OpensCatalog, GetsMessage, ClosesCatalog, wish_of}
+use Rattle.script_wishes.specs.Variables.{bindings_of}
+use Rattle.script_wishes.specs.Wishes.{Wish, Calls, ReadsOf, Reads, AsksSelection, AsksName, OpensCatalog, GetsMessage, ClosesCatalog, wish_of}
 use Rattle.script_plan.specs.Plan.{PlanData, books_of}
 use Rattle.script_plan.specs.Prints.{TaskLine, bound_by, places_in, all_places, before_round, from_round, behind_last, caller_of, ArePlaced}
 use Rattle.script_plan.proofs.LineLists.{GoUp, increasing, bit_of, filter_all, filter_none}

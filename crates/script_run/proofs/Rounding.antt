@@ -18,7 +18,7 @@ use Rattle.thread_current.specs.Thread.{Thread, IsThreadOf, IsInOrder, GoesOnFro
 use Rattle.script_out.specs.declared.output.OutLine.{OutLine}
 use Rattle.script_commands.specs.declared.command.Placed.{Placed}
 use Rattle.script_lines.specs.declared.thread.Thread.{Thread as ScriptThread}
-use Rattle.script_lines.specs.Turns.{Turn, in_round, in_thread, turn_of, thread_turns, turns_of_threads, round_turns}
+use Rattle.script_wishes.specs.Turns.{Turn, in_round, in_thread, turn_of, thread_turns, turns_of_threads, round_turns}
 use Rattle.script_plan.specs.Plan.{PlanData}
 use Rattle.script_plan.proofs.LineLists.{all_left, filter_all, filter_none}
 use Rattle.script_seats.specs.declared.seated.Seated.{Seated}

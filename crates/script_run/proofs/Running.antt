@@ -12,7 +12,7 @@ use Rattle.turn_gate.specs.Callers.{Gate}
 use Rattle.catalog_handles.specs.declared.setting.CatalogSetting.{CatalogSetting}
 use Rattle.catalog_handles.specs.Reader.{ReaderData, first_reader}
 use Rattle.script_lines.specs.Catalogs.{Books, catalog_setting}
-use Rattle.script_lines.specs.Turns.{Turn, closing_turns}
+use Rattle.script_wishes.specs.Turns.{Turn, closing_turns}
 use Rattle.handle_table.specs.Entry.{History, Setting}
 use Rattle.handle_table.specs.Table.{TableData, StandsFor}
 use Rattle.thread_current.specs.Thread.{Thread, first_thread, IsPart}

@@ -16,14 +16,14 @@ use Rattle.thread_current.specs.Thread.{Thread, IsInOrder, GoesOnFrom, entries_b
 use Rattle.script_out.specs.declared.output.OutLine.{OutLine}
 use Rattle.script_out.specs.declared.output.Why.{Why}
 use Rattle.script_lines.specs.declared.thread.Thread.{Thread as ScriptThread}
-use Rattle.script_lines.specs.declared.holds.OpenHold.{OpenHold}
-use Rattle.script_lines.specs.Holds.{without, holds_after, open_holds, is_of}
+use Rattle.script_wishes.specs.declared.holds.OpenHold.{OpenHold}
+use Rattle.script_wishes.specs.Holds.{without, holds_after, open_holds, is_of}
 use Rattle.script_lines.specs.Lines.{Caller}
 use Rattle.script_lines.specs.Outcome.{Outcome, with_call}
 use Rattle.script_lines.specs.Thread.{BindsAs}
-use Rattle.script_lines.specs.Turns.{Releases, Turn, closing_turn}
-use Rattle.script_lines.specs.Variables.{Variable, Bindings, bound, Bound, bindings_of, bindings_after}
-use Rattle.script_lines.specs.Wishes.{Wish, Calls, ReadsOf, Reads, AsksSelection, AsksName, OpensCatalog, GetsMessage, ClosesCatalog, wish_of}
+use Rattle.script_wishes.specs.Turns.{Releases, Turn, closing_turn}
+use Rattle.script_wishes.specs.Variables.{Variable, Bindings, bound, Bound, bindings_of, bindings_after}
+use Rattle.script_wishes.specs.Wishes.{Wish, Calls, ReadsOf, Reads, AsksSelection, AsksName, OpensCatalog, GetsMessage, ClosesCatalog, wish_of}
 use Rattle.script_lines.specs.Board.{Moments, catalog_op, granted_at, AreMomentsOf, LeftCatalogs, LeavesTurn, turn_caller}
 use Rattle.catalog_handles.specs.Entry as catalogs
 use Rattle.catalog_handles.specs.Entry.{History as CatalogHistory}

@@ -6,7 +6,7 @@ use Rattle.turn_gate.specs.declared.entry.Terms.{Terms}
 use Rattle.handle_table.specs.Entry.{Entry, History, Setting}
 use Rattle.thread_current.specs.Thread.{Thread, IsInOrder, SawMore, GoesOnFrom, entries_by}
 use Rattle.script_lines.specs.declared.thread.Thread.{Thread as ScriptThread}
-use Rattle.script_lines.specs.Holds.{open_holds}
+use Rattle.script_wishes.specs.Holds.{open_holds}
 use Rattle.script_plan.specs.Plan.{PlanData}
 use Rattle.script_seats.specs.declared.seated.Seated.{Seated}
 use Rattle.script_run.specs.Timed.{Timed, places_by}

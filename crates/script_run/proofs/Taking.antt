@@ -14,9 +14,9 @@ use Rattle.script_commands.specs.declared.command.Command.{Command}
 use Rattle.script_commands.specs.declared.command.Placed.{Placed}
 use Rattle.script_lang.specs.Accepted.{IsPlaced}
 use Rattle.script_out.specs.declared.output.OutLine.{OutLine}
-use Rattle.script_lines.specs.Board.{TaskMay}
-use Rattle.script_lines.specs.Turns.{Runs, Turn, in_round, in_thread, turn_of, thread_turns, round_turns}
-use Rattle.script_lines.proofs.WishLemmas.{command_may}
+use Rattle.script_wishes.specs.Wishes.{TaskMay}
+use Rattle.script_wishes.specs.Turns.{Runs, Turn, in_round, in_thread, turn_of, thread_turns, round_turns}
+use Rattle.script_wishes.proofs.WishLemmas.{command_may}
 use Rattle.script_plan.specs.Plan.{PlanData, IsSound}
 use Rattle.script_run.specs.declared.worker.Worker.{Worker}
 use Rattle.script_seats.specs.Seated.{Gates, IsNoEnd, MayCall}

@@ -16,7 +16,7 @@ use Rattle.script_out.specs.declared.output.Said.{Said}
 use Rattle.script_out.specs.declared.output.Said.TheVariants as said
 use Rattle.script_lines.specs.Catalogs.{not_asked}
 use Rattle.script_lines.specs.Outcome.{with_call}
-use Rattle.script_lines.specs.Turns.{Task, Runs, Ends}
+use Rattle.script_wishes.specs.Turns.{Task, Runs, Ends}
 use Rattle.script_plan.specs.Prints.{PlacedCall}
 use Rattle.script_plan.specs.Serial.{setting}
 use Rattle.script_plan.proofs.Examples.{line_of, first_of}

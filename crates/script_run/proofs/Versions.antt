@@ -20,11 +20,11 @@ use Rattle.script_out.specs.declared.output.Why.{Why}
 use Rattle.catalog_handles.specs.Entry.{History as CatalogHistory}
 use Rattle.script_lines.specs.Catalogs.{Books, Asked, book_for, open_line}
 use Rattle.script_lines.specs.Board.{granted_at, reads_between, reads_of, reads, opens}
-use Rattle.script_lines.specs.Holds.{object_held, open_holds, held_as}
+use Rattle.script_wishes.specs.Holds.{object_held, open_holds, held_as}
 use Rattle.script_lines.specs.Lines.{Caller, entry_line, version_made}
 use Rattle.script_lines.specs.Outcome.{with_call}
-use Rattle.script_lines.specs.Variables.{bindings_of}
-use Rattle.script_lines.specs.Wishes.{Wish, Calls, ReadsOf, Reads, AsksSelection, AsksName, OpensCatalog, GetsMessage, ClosesCatalog, wish_of}
+use Rattle.script_wishes.specs.Variables.{bindings_of}
+use Rattle.script_wishes.specs.Wishes.{Wish, Calls, ReadsOf, Reads, AsksSelection, AsksName, OpensCatalog, GetsMessage, ClosesCatalog, wish_of}
 use Rattle.script_plan.specs.Plan.{PlanData, books_of}
 use Rattle.script_plan.specs.Prints.{TaskLine, PlacedCall, bound_by, places_in, call_of, all_places, of_thread, behind_last, next_place, history_below, Around, around, past, lines_of, first_of, place_behind, versions, IsUpToPlace, IsVersion, caller_of}
 use Rattle.script_plan.proofs.LineLists.{all_right}

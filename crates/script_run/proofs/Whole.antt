@@ -11,7 +11,7 @@ use Rattle.catalog_handles.specs.Entry.{History as CatalogHistory}
 use Rattle.script_lines.specs.Catalogs.{catalog_setting}
 use Rattle.script_out.specs.declared.output.OutLine.{OutLine}
 use Rattle.script_lines.specs.Lines.{Caller}
-use Rattle.script_lines.specs.Turns.{Turn, command_turns, closing_turns}
+use Rattle.script_wishes.specs.Turns.{Turn, command_turns, closing_turns}
 use Rattle.script_plan.specs.Plan.{PlanData}
 use Rattle.script_plan.specs.Prints.{TaskLine, with_tasks, PlacedCall, places_in, calls_after, history_below, caller_of, index_after, caller_after, callers_after, command_calls, all_turns, IsAnswered, AreAnswered, Prints}
 use Rattle.script_plan.proofs.LineLists.{all_right}

@@ -18,14 +18,15 @@ use Rattle.script_out.specs.declared.output.Places.TheVariants as places
 use Rattle.script_out.specs.declared.output.Said.TheVariants as said
 use Rattle.script_words.specs.declared.categories.CategoryArgument.TheVariants as categories
 use Rattle.script_lines.specs.declared.thread.Thread.{Thread as ScriptThread}
-use Rattle.script_lines.specs.declared.turns.Turn.{Turn as LentTurn}
-use Rattle.script_lines.specs.declared.holds.OpenHold.{OpenHold}
-use Rattle.script_lines.specs.Board.{Moments, TaskMay}
-use Rattle.script_lines.specs.Holds.{open_holds, is_of}
+use Rattle.script_wishes.specs.declared.turns.Turn.{Turn as LentTurn}
+use Rattle.script_wishes.specs.declared.holds.OpenHold.{OpenHold}
+use Rattle.script_wishes.specs.Wishes.{TaskMay}
+use Rattle.script_lines.specs.Board.{Moments}
+use Rattle.script_wishes.specs.Holds.{open_holds, is_of}
 use Rattle.script_lines.specs.Lines.{Caller as LineCaller, line}
 use Rattle.script_lines.specs.Outcome.{with_call, calls}
-use Rattle.script_lines.specs.Seen.{turn_seen}
-use Rattle.script_lines.specs.Turns.{Releases, Ends, Turn, closing_turn, releases}
+use Rattle.script_wishes.specs.Seen.{turn_seen}
+use Rattle.script_wishes.specs.Turns.{Releases, Ends, Turn, closing_turn, releases}
 use Rattle.script_lines.specs.Catalogs.{not_asked}
 use Rattle.script_plan.specs.Plan.{PlanData, books_of}
 use Rattle.script_seats.specs.declared.seated.Seated.{Seated}

@@ -15,11 +15,12 @@ use Rattle.script_out.specs.declared.output.Places.TheVariants as places
 use Rattle.script_out.specs.declared.output.Said.TheVariants as said
 use Rattle.script_lines.specs.Lines.{line}
 use Rattle.script_lines.specs.declared.thread.Thread.{Thread as ScriptThread}
-use Rattle.script_lines.specs.Board.{TaskMay, LeavesTurn}
-use Rattle.script_lines.specs.Holds.{open_holds}
+use Rattle.script_wishes.specs.Wishes.{TaskMay}
+use Rattle.script_lines.specs.Board.{LeavesTurn}
+use Rattle.script_wishes.specs.Holds.{open_holds}
 use Rattle.script_lines.specs.Thread.{BindsAs}
-use Rattle.script_lines.specs.Turns.{Turn, releases, closing}
-use Rattle.script_lines.specs.Variables.{Bound, bindings_after}
+use Rattle.script_wishes.specs.Turns.{Turn, releases, closing}
+use Rattle.script_wishes.specs.Variables.{Bound, bindings_after}
 use Rattle.script_plan.specs.Plan.{PlanData, books_of}
 use Rattle.script_plan.specs.Prints.{bound_by}
 use Rattle.script_seats.specs.declared.seated.Seated.{Seated}

@@ -13,9 +13,9 @@ use Rattle.handle_table.specs.Answer.{IsLegal}
 use Rattle.handle_table.specs.Kept.{AreThreads}
 use Rattle.thread_current.specs.Thread.{Thread, thread_of, SawMore, IsThreadOf, IsInOrder, GoesOnFrom}
 use Rattle.script_out.specs.declared.output.OutLine.{OutLine}
-use Rattle.script_lines.specs.Holds.{open_holds}
+use Rattle.script_wishes.specs.Holds.{open_holds}
 use Rattle.script_lang.specs.declared.bundle.Bundle.{Bundle}
-use Rattle.script_lines.specs.Turns.{Turn, round_turns, command_turns, closing}
+use Rattle.script_wishes.specs.Turns.{Turn, round_turns, command_turns, closing}
 use Rattle.script_plan.specs.Plan.{PlanData}
 use Rattle.catalog_handles.specs.declared.setting.CatalogSetting.{CatalogSetting}
 use Rattle.catalog_handles.specs.Entry.{History as CatalogHistory}

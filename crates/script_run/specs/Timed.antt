@@ -11,9 +11,9 @@ use Rattle.catalog_handles.specs.Entry.{History as CatalogHistory}
 use Rattle.catalog_handles.specs.Answer as catalog_answers
 use Rattle.catalog_handles.specs.Stamps.{IsRising}
 use Rattle.script_out.specs.declared.output.OutLine.{OutLine}
-use Rattle.script_lines.specs.Turns.{Turn}
-use Rattle.script_lines.specs.Variables.{bindings_of}
-use Rattle.script_lines.specs.Wishes.{wish_of}
+use Rattle.script_wishes.specs.Turns.{Turn}
+use Rattle.script_wishes.specs.Variables.{bindings_of}
+use Rattle.script_wishes.specs.Wishes.{wish_of}
 use Rattle.script_lines.specs.Outcome.{with_call}
 use Rattle.script_lines.specs.Board.{Moments, catalog_op, granted_at}
 use Rattle.script_lines.specs.Catalogs.{Asked}

@@ -2,7 +2,7 @@
 
 ghost use Rattle.std.specs.Prelude.{◌≡◌, [], map, IfOk, OnOk, List};
 ghost use Rattle.turn_gate.specs.Callers.{IsSeatOf};
-ghost use Rattle.script_lines.specs.Seen.{turn_seen};
+ghost use Rattle.script_wishes.specs.Seen.{turn_seen};
 ghost use Rattle.script_plan.specs.Plan.{PlanData};
 ghost use Rattle.script_run.specs.Timed.{Timed};
 ghost use Rattle.script_seats.specs.Seated.{gates};
@@ -14,9 +14,9 @@ use script_lines::catalogs::Books;
 use script_lines::granted::turn_line;
 use script_lines::lines::line;
 use script_lines::thread::Thread;
-use script_lines::turns::{Task, Turn};
 use script_out::{OutLine, Places, Said};
 use script_seats::{Beside, OneTable, Pause, Seated};
+use script_wishes::turns::{Task, Turn};
 use std::alloc::{AllocError, Global};
 use std::marker::Brand;
 use std::sync::Wait;

@@ -17,9 +17,9 @@ use Rattle.handle_table.specs.Answer.{answer, IsLegal, unless, first_reason, nev
 use Rattle.handle_table.proofs.Numbering.{same_handles, same_itself}
 use Rattle.thread_current.specs.Mine.{HeldData}
 use Rattle.mask_compose.specs.Parts.{Parts}
-use Rattle.script_lines.specs.declared.holds.OpenHold.{OpenHold}
-use Rattle.script_lines.specs.Holds.{object_held, with_hold, without, hold_change, changed, open_holds, is_of, held_as}
-use Rattle.script_lines.proofs.HoldLaws.{held_where_holding}
+use Rattle.script_wishes.specs.declared.holds.OpenHold.{OpenHold}
+use Rattle.script_wishes.specs.Holds.{object_held, with_hold, without, hold_change, changed, open_holds, is_of, held_as}
+use Rattle.script_wishes.proofs.HoldLaws.{held_where_holding}
 use Rattle.script_seats.specs.Seated.{held_data, handed_out, AreApart, is_held, IsTaken, IsUnheld}
 
 -- ---- handles

@@ -8,8 +8,8 @@ use Rattle.handle_table.specs.Entry.{History, is_accepted}
 use Rattle.handle_table.specs.History.{selection_after, selection}
 use Rattle.handle_table.specs.Answer.{own_after, own}
 use Rattle.thread_current.specs.Thread.{entries_by}
-use Rattle.script_lines.specs.declared.holds.OpenHold.{OpenHold}
-use Rattle.script_lines.specs.Holds.{holds_after, open_holds}
+use Rattle.script_wishes.specs.declared.holds.OpenHold.{OpenHold}
+use Rattle.script_wishes.specs.Holds.{holds_after, open_holds}
 
 own_by : (t : ℕ) (H : History) → own H t ≡ own (entries_by t H) t
 own_by t [] = refl

@@ -13,9 +13,9 @@ use Rattle.handle_table.specs.History.{sets, global, global_at}
 use Rattle.handle_table.specs.Answer.{answer, IsLegal}
 use Rattle.thread_current.specs.Mine.{HeldData}
 use Rattle.thread_current.specs.Thread.{Thread, IsThreadOf, IsInOrder, entries_by, without_newest, before, Answered, SawMore, IsSameThread, holds}
-use Rattle.script_lines.specs.declared.holds.OpenHold.{OpenHold}
-use Rattle.script_lines.specs.declared.holds.HoldChange.TheVariants as changes
-use Rattle.script_lines.specs.Holds.{object_held, with_hold, hold_change, changed, holds_after, open_holds, is_of, held_as}
+use Rattle.script_wishes.specs.declared.holds.OpenHold.{OpenHold}
+use Rattle.script_wishes.specs.declared.holds.HoldChange.TheVariants as changes
+use Rattle.script_wishes.specs.Holds.{object_held, with_hold, hold_change, changed, holds_after, open_holds, is_of, held_as}
 use Rattle.script_lines.specs.Outcome.{with_call}
 use Rattle.script_lines.specs.Board.{Answers, Finds}
 use Rattle.handle_table.proofs.Unchanged.{newest_version}

@@ -15,9 +15,9 @@ use Rattle.catalog_handles.specs.Entry.{History as CatalogHistory}
 use Rattle.catalog_handles.specs.Answer as catalog_answers
 use Rattle.catalog_handles.specs.Reader as readers
 use Rattle.script_lines.specs.Catalogs.{catalog_setting}
-use Rattle.script_lines.specs.declared.holds.OpenHold.{OpenHold}
+use Rattle.script_wishes.specs.declared.holds.OpenHold.{OpenHold}
 use Rattle.script_seats.specs.declared.seated.Seated.{Seated}
-use Rattle.script_lines.specs.Holds.{open_holds, is_of, without}
+use Rattle.script_wishes.specs.Holds.{open_holds, is_of, without}
 
 -- ---- what a thread keeps
 

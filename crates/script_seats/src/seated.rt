@@ -13,7 +13,7 @@ use handle_table::{Op, Refusal, Reply};
 use lc_base::{Handle, Named};
 use mask_compose::Object;
 use script_lines::board::{Board, Side};
-use script_lines::holds::is_named;
+use script_wishes::holds::is_named;
 use std::alloc::{AllocError, Global};
 use std::marker::{Brand, PhantomData};
 use std::sync::Wait;

@@ -16,8 +16,8 @@ use Rattle.script_commands.specs.declared.command.Read.{Read}
 use Rattle.script_out.specs.declared.output.OutLine.{OutLine}
 use Rattle.script_out.specs.declared.output.Said.TheVariants as said
 use Rattle.script_out.specs.declared.output.Why.{Why}
-use Rattle.script_lines.specs.Holds.{object_held, open_holds, held_as}
-use Rattle.script_lines.specs.Wishes.{Wish, Calls, ReadsOf, Reads, AsksSelection, AsksName, OpensCatalog, GetsMessage, ClosesCatalog}
+use Rattle.script_wishes.specs.Holds.{object_held, open_holds, held_as}
+use Rattle.script_wishes.specs.Wishes.{Wish, Calls, ReadsOf, Reads, AsksSelection, AsksName, OpensCatalog, GetsMessage, ClosesCatalog}
 use Rattle.script_lines.specs.Catalogs.{Books, Asked, book_for, catalog_setting, handle_meant, object_used, catalog_op_by, asked_after, catalogs_after, open_line, message_line, close_line}
 use Rattle.script_lines.specs.Lines.{Caller, plain_line, object_line, held_line}
 use Rattle.script_lines.specs.Outcome.{without_entry, with_call, calls, reads_between, reads_of, read_line, name_line, opens_line, catalog_op_of, granted, catalogs_left}

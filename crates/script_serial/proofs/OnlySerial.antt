@@ -24,11 +24,11 @@ use Rattle.script_out.specs.declared.output.Places.TheVariants as places
 use Rattle.script_out.specs.declared.output.Said.TheVariants as said
 use Rattle.script_out.specs.declared.output.Why.{Why}
 use Rattle.script_plan.specs.Plan.{PlanData, books_of}
-use Rattle.script_lines.specs.Holds.{object_held, open_holds, held_as}
-use Rattle.script_lines.specs.Turns.{Turn, command_turns, closing_turns}
+use Rattle.script_wishes.specs.Holds.{object_held, open_holds, held_as}
+use Rattle.script_wishes.specs.Turns.{Turn, command_turns, closing_turns}
 use Rattle.script_lines.specs.Lines.{Caller, plain_line, placed_line, held_line, global_read_line, global_name_line}
-use Rattle.script_lines.specs.Variables.{Bound, bindings_of}
-use Rattle.script_lines.specs.Wishes.{Wish, Calls, ReadsOf, Reads, AsksSelection, AsksName, wish_of, OpensCatalog, GetsMessage, ClosesCatalog}
+use Rattle.script_wishes.specs.Variables.{Bound, bindings_of}
+use Rattle.script_wishes.specs.Wishes.{Wish, Calls, ReadsOf, Reads, AsksSelection, AsksName, wish_of, OpensCatalog, GetsMessage, ClosesCatalog}
 use Rattle.script_lines.specs.Outcome.{reads_between, reads_of, read_line, granted, opens_line, catalogs_left}
 use Rattle.script_plan.specs.Serial.{Run, next_caller, outcome, with_outcome, played, begun, commands_played, serial_lines, setting, TurnOutcome}
 use Rattle.script_plan.specs.Prints.{TaskLine, with_tasks, bound_by, places_in, all_places, PlacedCall, calls_after, with_placed, history_below, Around, around, past, next_place, seen, global_of, IsReadBetween, IsHoldRefused, IsReadOf, IsRead, IsGranted, AreAnswered, caller_of, caller_after, callers_after, command_calls, all_turns, AreNewest, PrintsInOrder, catalog_places_in, all_catalog_places, IsCatalogCall, IsOpenOf, IsOpen}

@@ -13,12 +13,12 @@ use Rattle.handle_table.specs.Answer.{answer, own, own_after}
 use Rattle.script_commands.specs.declared.command.Read.{Read}
 use Rattle.script_out.specs.declared.output.OutLine.{OutLine}
 use Rattle.script_out.specs.declared.output.Why.{Why}
-use Rattle.script_lines.specs.Holds.{object_held, holds_after, open_holds, held_as}
+use Rattle.script_wishes.specs.Holds.{object_held, holds_after, open_holds, held_as}
 use Rattle.script_lines.specs.Lines.{Caller}
 use Rattle.script_lines.specs.Outcome.{with_call, reads_between, reads_of, read_line, granted, asked_of}
 use Rattle.script_plan.specs.Serial.{lines_of_thread}
 use Rattle.script_serial.specs.Alone.{AloneSideData, Knows}
-use Rattle.script_lines.specs.Wishes.{Wish, Calls, ReadsOf, Reads, AsksSelection, AsksName, OpensCatalog, GetsMessage, ClosesCatalog}
+use Rattle.script_wishes.specs.Wishes.{Wish, Calls, ReadsOf, Reads, AsksSelection, AsksName, OpensCatalog, GetsMessage, ClosesCatalog}
 use Rattle.script_lines.specs.Catalogs.{Books}
 use Rattle.script_serial.proofs.CatalogLines.{opens_caller}
 use Rattle.catalog_handles.specs.Entry.{History as CatalogHistory}

@@ -12,12 +12,12 @@ use Rattle.handle_table.specs.Entry.{History, Setting}
 use Rattle.script_serial.specs.Alone.{AloneData}
 use Rattle.script_lang.specs.declared.bundle.Bundle.{Bundle}
 use Rattle.script_out.specs.declared.output.OutLine.{OutLine}
-use Rattle.script_lines.specs.declared.turns.Turn.{Turn as LentTurn}
+use Rattle.script_wishes.specs.declared.turns.Turn.{Turn as LentTurn}
 use Rattle.script_plan.specs.Plan.{PlanData, IsSound, books_of}
-use Rattle.script_lines.specs.Seen.{turn_seen, TurnFits}
+use Rattle.script_wishes.specs.Seen.{turn_seen, TurnFits}
 use Rattle.script_plan.specs.Serial.{Run, setting, played, begun, commands_played, closed, serial_lines}
 use Rattle.script_serial.specs.Session.{ThreadData, AreAt, ops_answered, GoesOn, AreNumbered, CanPlay}
-use Rattle.script_lines.specs.Turns.{Turn, command_turns, closing, closing_turns}
+use Rattle.script_wishes.specs.Turns.{Turn, command_turns, closing, closing_turns}
 use Rattle.script_serial.proofs.TurnLemmas.{AreFrom, few_turns, turns_fit, few_closing, closing_is, closings_fit}
 use Rattle.script_plan.proofs.RoundTurns.{no_turns, no_closing_turns}
 use Rattle.script_plan.proofs.PlanParts.{made_plan, plan_is}

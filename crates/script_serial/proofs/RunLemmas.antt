@@ -12,11 +12,11 @@ use Rattle.handle_table.specs.Entry.{Setting, History}
 use Rattle.catalog_handles.specs.Entry.{History as CatalogHistory}
 use Rattle.script_out.specs.declared.output.OutLine.{OutLine}
 use Rattle.script_out.specs.declared.output.Why.{Why}
-use Rattle.script_lines.specs.declared.turns.Turn.{Turn as LentTurn}
-use Rattle.script_lines.specs.Seen.{turn_seen, TaskFits, TurnFits}
-use Rattle.script_lines.specs.Turns.{Turn}
-use Rattle.script_lines.specs.Variables.{Variable, Bindings, bound, Bound, bindings_of, variable_bound, handle_said, with_binding, bindings_after}
-use Rattle.script_lines.specs.Wishes.{Wish, wish_of}
+use Rattle.script_wishes.specs.declared.turns.Turn.{Turn as LentTurn}
+use Rattle.script_wishes.specs.Seen.{turn_seen, TaskFits, TurnFits}
+use Rattle.script_wishes.specs.Turns.{Turn}
+use Rattle.script_wishes.specs.Variables.{Variable, Bindings, bound, Bound, bindings_of, variable_bound, handle_said, with_binding, bindings_after}
+use Rattle.script_wishes.specs.Wishes.{Wish, wish_of}
 use Rattle.script_lines.specs.Lines.{Caller}
 use Rattle.script_lines.specs.Catalogs.{Books}
 use Rattle.script_lines.specs.Outcome.{granted}

@@ -13,11 +13,11 @@ use Rattle.handle_table.specs.Answer.{answer, entry, own, IsLegal}
 use Rattle.script_commands.specs.declared.command.Read.{Read}
 use Rattle.script_out.specs.declared.output.OutLine.{OutLine}
 use Rattle.script_out.specs.declared.output.Why.{Why}
-use Rattle.script_lines.specs.Holds.{object_held, open_holds, held_as}
+use Rattle.script_wishes.specs.Holds.{object_held, open_holds, held_as}
 use Rattle.script_lines.specs.Lines.{Caller}
-use Rattle.script_lines.specs.Turns.{Turn}
-use Rattle.script_lines.specs.Variables.{Bound, bindings_of, bindings_after}
-use Rattle.script_lines.specs.Wishes.{Wish, Calls, ReadsOf, Reads, AsksSelection, AsksName, wish_of, OpensCatalog, GetsMessage, ClosesCatalog}
+use Rattle.script_wishes.specs.Turns.{Turn}
+use Rattle.script_wishes.specs.Variables.{Bound, bindings_of, bindings_after}
+use Rattle.script_wishes.specs.Wishes.{Wish, Calls, ReadsOf, Reads, AsksSelection, AsksName, wish_of, OpensCatalog, GetsMessage, ClosesCatalog}
 use Rattle.script_lines.specs.Outcome.{Outcome, with_call, reads_between, reads_of, read_line, granted, asked_of}
 use Rattle.script_plan.specs.Serial.{Run, next_caller, outcome, with_outcome, played, TurnOutcome}
 use Rattle.script_plan.specs.Prints.{TaskLine, with_tasks, bound_by, places_in, PlacedCall, calls_of, calls_after, with_placed, history_below}

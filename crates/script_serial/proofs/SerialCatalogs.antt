@@ -19,11 +19,11 @@ use Rattle.script_commands.specs.declared.command.Read.{Read}
 use Rattle.script_out.specs.declared.output.OutLine.{OutLine}
 use Rattle.script_out.specs.declared.output.Why.{Why}
 use Rattle.script_lines.specs.Catalogs.{Books, book_for, catalog_setting, object_used, asked_after, catalogs_after, open_line}
-use Rattle.script_lines.specs.Holds.{object_held, open_holds, held_as}
+use Rattle.script_wishes.specs.Holds.{object_held, open_holds, held_as}
 use Rattle.script_lines.specs.Lines.{Caller}
-use Rattle.script_lines.specs.Turns.{Turn}
-use Rattle.script_lines.specs.Variables.{bindings_of}
-use Rattle.script_lines.specs.Wishes.{Wish, Calls, ReadsOf, Reads, AsksSelection, AsksName, OpensCatalog, GetsMessage, ClosesCatalog, wish_of}
+use Rattle.script_wishes.specs.Turns.{Turn}
+use Rattle.script_wishes.specs.Variables.{bindings_of}
+use Rattle.script_wishes.specs.Wishes.{Wish, Calls, ReadsOf, Reads, AsksSelection, AsksName, OpensCatalog, GetsMessage, ClosesCatalog, wish_of}
 use Rattle.script_lines.specs.Outcome.{reads_between, reads_of, read_line, opens_line, catalog_op_of, granted, catalogs_left}
 use Rattle.script_plan.specs.Serial.{Run, TurnOutcome, next_caller, outcome, with_outcome, played}
 use Rattle.script_plan.specs.Prints.{catalog_places_in, all_catalog_places}

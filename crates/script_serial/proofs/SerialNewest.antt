@@ -12,10 +12,10 @@ use Rattle.script_commands.specs.declared.command.Read.{Read}
 use Rattle.script_out.specs.declared.output.OutLine.{OutLine}
 use Rattle.script_out.specs.declared.output.Why.{Why}
 use Rattle.script_plan.specs.Plan.{PlanData, books_of}
-use Rattle.script_lines.specs.Holds.{object_held, open_holds, held_as}
+use Rattle.script_wishes.specs.Holds.{object_held, open_holds, held_as}
 use Rattle.script_lines.specs.Lines.{Caller}
-use Rattle.script_lines.specs.Turns.{Turn}
-use Rattle.script_lines.specs.Wishes.{Wish, Calls, ReadsOf, Reads, AsksSelection, AsksName, OpensCatalog, GetsMessage, ClosesCatalog}
+use Rattle.script_wishes.specs.Turns.{Turn}
+use Rattle.script_wishes.specs.Wishes.{Wish, Calls, ReadsOf, Reads, AsksSelection, AsksName, OpensCatalog, GetsMessage, ClosesCatalog}
 use Rattle.script_lines.specs.Outcome.{reads_between, reads_of, read_line, granted, opens_line, asked_of}
 use Rattle.script_plan.specs.Serial.{Run, next_caller, outcome, with_outcome, played, begun, serial_lines, setting, TurnOutcome}
 use Rattle.script_plan.specs.Prints.{places_in, with_tasks, PlacedCall, calls_after, history_below, all_turns, AreNewest, PrintsInOrder}

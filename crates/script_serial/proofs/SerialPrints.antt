@@ -10,10 +10,10 @@ use Rattle.handle_table.specs.Entry.{History, Setting}
 use Rattle.script_commands.specs.declared.command.Placed.{Placed}
 use Rattle.script_lang.specs.declared.bundle.Bundle.{Bundle}
 use Rattle.script_out.specs.declared.output.OutLine.{OutLine}
-use Rattle.script_lines.specs.declared.holds.OpenHold.{OpenHold}
+use Rattle.script_wishes.specs.declared.holds.OpenHold.{OpenHold}
 use Rattle.script_plan.specs.Plan.{PlanData, books_of}
-use Rattle.script_lines.specs.Holds.{open_holds}
-use Rattle.script_lines.specs.Turns.{Turn, first_numbers, in_round, in_thread, turn_of, thread_turns, round_turns, command_turns, closing_turn, releases, closing, closing_turns, Releases, Ends}
+use Rattle.script_wishes.specs.Holds.{open_holds}
+use Rattle.script_wishes.specs.Turns.{Turn, first_numbers, in_round, in_thread, turn_of, thread_turns, round_turns, command_turns, closing_turn, releases, closing, closing_turns, Releases, Ends}
 use Rattle.script_plan.specs.Serial.{Run, outcome, with_outcome, played, begun, commands_played, serial_lines, setting}
 use Rattle.script_plan.specs.Prints.{TaskLine, with_tasks, places_in, all_places, of_thread, before_round, from_round, PlacedCall, calls_after, history_below, caller_of, callers_after, command_calls, all_turns, AreAnswered, ArePlaced, Prints, AreInOrder, catalog_places_in, all_catalog_places, AreCatalogsPlaced, AreCatalogsInOrder, HaveOneOrder}
 use Rattle.script_plan.proofs.LineLists.{filter_all, filter_true, filter_none, all_kept, GoUp, AreBelow, increasing, range_up, up_right, up_below, up_kept, count_once}

@@ -10,9 +10,9 @@ use Rattle.handle_table.specs.History.{sets, global, selection, selection_after}
 use Rattle.handle_table.specs.Answer.{answer, entry, own, own_after}
 use Rattle.script_commands.specs.declared.command.Read.{Read}
 use Rattle.script_out.specs.declared.output.Why.{Why}
-use Rattle.script_lines.specs.Holds.{object_held, open_holds, held_as, holds_after}
+use Rattle.script_wishes.specs.Holds.{object_held, open_holds, held_as, holds_after}
 use Rattle.script_lines.specs.Lines.{Caller}
-use Rattle.script_lines.specs.Wishes.{Wish, Calls, ReadsOf, Reads, AsksSelection, AsksName, OpensCatalog, GetsMessage, ClosesCatalog}
+use Rattle.script_wishes.specs.Wishes.{Wish, Calls, ReadsOf, Reads, AsksSelection, AsksName, OpensCatalog, GetsMessage, ClosesCatalog}
 use Rattle.script_lines.specs.Outcome.{Outcome, with_call, reads_between, reads_of, read_line, granted, opens_line, asked_of}
 use Rattle.script_plan.specs.Prints.{places_in, behind_last, or_earlier}
 use Rattle.script_plan.proofs.GoingOn.{GoesOnFrom, goes_nowhere, one_entry, goes_on}

@@ -14,12 +14,12 @@ use Rattle.handle_table.specs.Entry.{History, names, is_accepted}
 use Rattle.script_lang.specs.declared.bundle.Bundle.{Bundle}
 use Rattle.script_commands.specs.declared.command.Placed.{Placed}
 use Rattle.script_lang.specs.Accepted.{IsPlaced, IsAccepted}
-use Rattle.script_lines.specs.declared.holds.OpenHold.{OpenHold}
-use Rattle.script_lines.specs.declared.holds.HoldChange.{HoldChange}
-use Rattle.script_lines.specs.declared.holds.HoldChange.TheVariants as changes
-use Rattle.script_lines.specs.Holds.{object_held, with_hold, hold_change, changed, holds_after, open_holds}
-use Rattle.script_lines.specs.Seen.{TurnFits}
-use Rattle.script_lines.specs.Turns.{Turn, first_numbers, in_round, in_thread, turn_of, thread_turns, round_turns, command_turns, closing_turn, releases, closing, closing_turns, Releases, Ends}
+use Rattle.script_wishes.specs.declared.holds.OpenHold.{OpenHold}
+use Rattle.script_wishes.specs.declared.holds.HoldChange.{HoldChange}
+use Rattle.script_wishes.specs.declared.holds.HoldChange.TheVariants as changes
+use Rattle.script_wishes.specs.Holds.{object_held, with_hold, hold_change, changed, holds_after, open_holds}
+use Rattle.script_wishes.specs.Seen.{TurnFits}
+use Rattle.script_wishes.specs.Turns.{Turn, first_numbers, in_round, in_thread, turn_of, thread_turns, round_turns, command_turns, closing_turn, releases, closing, closing_turns, Releases, Ends}
 use Rattle.script_serial.specs.Session.{ThreadData}
 use Rattle.script_plan.proofs.RoundTurns.{flat_all}
 

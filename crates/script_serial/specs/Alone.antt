@@ -7,8 +7,8 @@ use Rattle.handle_table.specs.History.{selection}
 use Rattle.handle_table.specs.Answer.{own}
 use Rattle.handle_table.specs.Table.{TableData}
 use Rattle.catalog_handles.specs.Table.{CatalogsData}
-use Rattle.script_lines.specs.declared.holds.OpenHold.{OpenHold}
-use Rattle.script_lines.specs.Holds.{open_holds}
+use Rattle.script_wishes.specs.declared.holds.OpenHold.{OpenHold}
+use Rattle.script_wishes.specs.Holds.{open_holds}
 
 -- the thread's number, the object that it has taken up (none where it goes by the global locale), what it has selected, and its
 -- open Holds in the order made

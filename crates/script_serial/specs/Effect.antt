@@ -1,7 +1,7 @@
 -- What an accepted op changes of what its thread has selected and holds.
 use Rattle.lc_base.specs.declared.handle.Named.{Named}
-use Rattle.script_lines.specs.declared.holds.HoldChange.{HoldChange}
-use Rattle.script_lines.specs.declared.holds.HoldChange.TheVariants.{Keep}
+use Rattle.script_wishes.specs.declared.holds.HoldChange.{HoldChange}
+use Rattle.script_wishes.specs.declared.holds.HoldChange.TheVariants.{Keep}
 use Rattle.script_serial.specs.declared.alone.Effect.{Effect}
 use Rattle.script_serial.specs.declared.alone.Effect.TheVariants.{Neither, Changes}
 

@@ -8,7 +8,7 @@ use Rattle.handle_table.specs.History.{holding}
 use Rattle.handle_table.specs.Answer.{IsLegal}
 use Rattle.script_out.specs.declared.output.OutLine.{OutLine}
 use Rattle.script_plan.specs.Plan.{PlanData}
-use Rattle.script_lines.specs.Holds.{open_holds, held_as}
+use Rattle.script_wishes.specs.Holds.{open_holds, held_as}
 use Rattle.script_plan.specs.Isolation.{IsIsolated, AreCatalogsIsolated}
 use Rattle.script_plan.specs.Prints.{Prints, PrintsInOrder}
 use Rattle.script_plan.specs.Serial.{serial_lines, setting}

@@ -7,7 +7,7 @@ ghost use Rattle.handle_table.specs.Entry.{is_accepted};
 ghost use Rattle.handle_table.specs.History.{selection_after};
 ghost use Rattle.handle_table.specs.Answer.{own_after};
 ghost use Rattle.handle_table.specs.Seen.{op_of, reply_of};
-ghost use Rattle.script_lines.specs.Holds.{object_held, changed, hold_change};
+ghost use Rattle.script_wishes.specs.Holds.{object_held, changed, hold_change};
 ghost use Rattle.script_serial.specs.Effect.{selected_by, change_by};
 
 use catalog_handles::{BookShare, CatalogOp, CatalogReply, Catalogs};
@@ -16,7 +16,7 @@ use handle_table::{Op, Reply, Table};
 use lc_base::{Handle, Named};
 use mask_compose::Object;
 use script_lines::board::{Board, Side};
-use script_lines::holds::{HoldChange, OpenHold, change_holds, held_as, hold_change, object_held};
+use script_wishes::holds::{HoldChange, OpenHold, change_holds, held_as, hold_change, object_held};
 use std::alloc::{AllocError, Global};
 use std::marker::Model;
 

@@ -1,15 +1,15 @@
 //! The turns that close threads.
 
 ghost use Rattle.std.specs.Prelude.{◌≡◌, ◌++◌, map, flat_map, IfOk, OnOk};
-ghost use Rattle.script_lines.specs.Seen.{turn_seen};
-ghost use Rattle.script_lines.specs.Turns.{releases, closing};
+ghost use Rattle.script_wishes.specs.Seen.{turn_seen};
+ghost use Rattle.script_wishes.specs.Turns.{releases, closing};
 ghost use Rattle.script_serial.specs.Session.{ThreadData};
 
 use crate::alone::AloneSide;
 use script_lines::board::Side;
-use script_lines::holds::OpenHold;
 use script_lines::thread::Thread;
-use script_lines::turns::{Task, Turn};
+use script_wishes::holds::OpenHold;
+use script_wishes::turns::{Task, Turn};
 use std::alloc::{AllocError, Global};
 
 /// The turns that close all threads, in order of their numbers.

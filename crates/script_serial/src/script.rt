@@ -4,7 +4,7 @@ ghost use Rattle.std.specs.Prelude.{◌≡◌, ◌≤◌, ◌<◌, ◌+◌, ◌*
 ghost use Rattle.category_store.specs.Library.{opening};
 ghost use Rattle.category_store.specs.Shelf.{IsNumbered, IsInstallable};
 ghost use Rattle.handle_table.specs.Table.{StandsFor};
-ghost use Rattle.script_lines.specs.Seen.{turn_seen, TurnFits};
+ghost use Rattle.script_wishes.specs.Seen.{turn_seen, TurnFits};
 ghost use Rattle.script_plan.specs.Isolation.{IsIsolated};
 ghost use Rattle.script_plan.specs.Plan.{PlanData, IsSound};
 ghost use Rattle.script_plan.specs.Prints.{PrintsInOrder};
@@ -21,9 +21,9 @@ use script_lang::Bundle;
 use script_lines::catalogs::Books;
 use script_lines::granted::turn_line;
 use script_lines::thread::Thread;
-use script_lines::turns::{Turn, command_turns};
 use script_out::OutLine;
 use script_plan::Plan;
+use script_wishes::turns::{Turn, command_turns};
 use std::alloc::{AllocError, Global};
 
 /// The lines of the script's commands, round by round and in a round thread by thread, and then the

@@ -1,14 +1,4 @@
 mod Examples
-pub mod Celling
-pub mod Shaping
-pub mod Operands
-pub mod Fielding
-pub mod Opening
-pub mod Runs
-pub mod Itemizing
-pub mod Naming
 pub mod Splitting
 pub mod Storing
 pub mod Positions
-pub mod Spelt
-pub mod Spellings

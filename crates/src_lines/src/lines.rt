@@ -2,17 +2,14 @@
 
 ghost use Rattle.std.specs.Prelude.{◌≡◌, ◌+◌, ◌^◌, ◌<◌, ◌≤◌, ◌↔◌, [], length, drop, position, option_map, IfOk, IfSome, OnOk, OnErr, IsTrue};
 ghost use Rattle.lc_base.specs.Reading.{Gives};
+ghost use Rattle.src_lines.specs.Rows.{line_of};
 ghost use Rattle.src_lines.specs.Places.{Logical, line_at, start, closes_line};
 ghost use Rattle.src_lines.specs.Words.{first_word, second_word};
 ghost use Rattle.src_lines.specs.Logical.{front, logical, takes_next};
-ghost use Rattle.src_lines.specs.Tokens.{tokens};
-ghost use Rattle.src_lines.specs.Fields.{fields};
 ghost use Rattle.src_lines.specs.Steps.{state_of, ended_draft, taken};
 
-use crate::fields::{Field, fields_of};
 use crate::head::fate_of;
-use crate::line::Line;
-use crate::operand::tokens_of;
+use crate::row::LogicalLine;
 use crate::signs::{Kind, Signs};
 use crate::store::Store;
 use crate::words::{blanks, closes, next_word};
@@ -75,27 +72,12 @@ impl Lines {
         (first.text, next_word(first.rest).text)
     }
 
-    /// The line's keyword and operands (XBD 7.3.1).
-    ///
-    /// The fault is the one at the least place: `BadEscape`, `OpenString`, `OpenName`,
-    /// `WrongOperand` where an operand is followed by neither `;` nor the end, and `OverLimit` at
-    /// the 65537th operand.
-    pub fn tokens(&self, alloc: Global, i: usize) -> Result<Line, TextFault>
+    /// The line with this number, counted from 0.
+    pub fn row(&self, i: usize) -> LogicalLine<'_>
         requires { i < length self.now }
-        ensures { Gives (λ line. line) result (tokens (line_at self.now i)) }
+        ensures { line_of result ≡ line_at self.now i }
     {
-        tokens_of(alloc, &self.store.row(i))
-    }
-
-    /// The line's first two fields, perhaps empty, with their names, escapes and numbers (XBD 6.4).
-    ///
-    /// The fault is the one at the least place: `BadEscape` or `OpenName`. What follows the second
-    /// field is not read.
-    pub fn fields(&self, alloc: Global, i: usize) -> Result<(Field, Field), TextFault>
-        requires { i < length self.now }
-        ensures { Gives (λ x. x) result (fields (line_at self.now i)) }
-    {
-        fields_of(alloc, &self.store.row(i))
+        self.store.row(i)
     }
 
     /// The line's bytes as they stand, with the joins taken out.

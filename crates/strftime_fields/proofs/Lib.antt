@@ -1,13 +1,8 @@
 pub mod Adding
 pub mod Answering
 pub mod Bound
-pub mod CalendarLemmas
 pub mod Counting
 pub mod Examples
 pub mod Going
-pub mod Keeping
 pub mod Left
-pub mod Numbers
-pub mod Offsets
-pub mod Pairs
 pub mod Shorts

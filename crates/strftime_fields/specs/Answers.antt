@@ -3,6 +3,8 @@ use Rattle.std.specs.Prelude.{◌≡◌, ℕ, List, Option, Some, None, IfSome, 
 use Rattle.lc_base.specs.declared.refusal.FormatRefusal.{FormatRefusal}
 use Rattle.lc_base.specs.declared.refusal.FormatRefusal.TheVariants.{BadFormat, TooBig}
 use Rattle.lc_base.specs.Limits.{within}
+use Rattle.conversion_texts.specs.declared.stop.Stop.{Stop}
+use Rattle.conversion_texts.specs.declared.stop.Stop.TheVariants as stops
 use Rattle.strftime_fields.specs.declared.fault.TimeFault.{TimeFault}
 use Rattle.strftime_fields.specs.declared.fault.TimeFault.TheVariants as faults
 use Rattle.time_cat.specs.Times.{TmValues}
@@ -23,6 +25,11 @@ abbrev pub refusal_of : TimeFault → Option FormatRefusal
 refusal_of (faults.BadFormat at) = Some (BadFormat at)
 refusal_of faults.TooBig = Some TooBig
 refusal_of faults.Memory = None
+
+-- the fault of a text that is given up
+abbrev pub fault_of : Stop → TimeFault
+fault_of stops.TooBig = faults.TooBig
+fault_of stops.Memory = faults.Memory
 
 -- a result is that answer, or out of memory, which says nothing
 abbrev pub Answers : Result (List ℕ) TimeFault → Result (List ℕ) FormatRefusal → Type 0

@@ -6,6 +6,8 @@ use Rattle.time_cat.specs.Formats.{Piece, Literal, Converted, Wrong, pieces, bad
 use Rattle.time_cat.specs.Times.{TmValues}
 use Rattle.time_cat.specs.TimeValues.{TimeValues}
 use Rattle.time_cat.specs.Shown.{format_for, piece_text, expanded, conversions_of}
+use Rattle.conversion_texts.specs.declared.stop.Stop.{Stop}
+use Rattle.conversion_texts.specs.declared.stop.Stop.TheVariants as stops
 use Rattle.strftime_fields.specs.declared.fault.TimeFault.{TimeFault}
 use Rattle.strftime_fields.specs.declared.fault.TimeFault.TheVariants.{BadFormat, TooBig, Memory}
 
@@ -43,6 +45,12 @@ unless_wrong (Some at) n = 0
 -- of the formats for which they stand, until the text is too long
 abbrev pub cost : TimeValues → TmValues → List ℕ → ℕ → ℕ
 cost v t format max = conversions_of format + unless_wrong (bad_place (pieces format)) (reads max 5 v t 0 format)
+
+-- so many steps were counted, or when out of memory at most so many
+abbrev pub CountsTo : Result (Unit {0}) Stop → ℕ → ℕ → Type 0
+CountsTo (Ok u) wanted steps = steps ≡ wanted
+CountsTo (Err stops.TooBig) wanted steps = steps ≡ wanted
+CountsTo (Err stops.Memory) wanted steps = steps ≤ wanted
 
 -- so many steps were counted as an answer costs, or when out of memory at most so many
 abbrev pub Counts : {A : Type 0} → Result A TimeFault → ℕ → ℕ → Type 0

@@ -1,15 +1,15 @@
 -- How the reading of formats within formats goes on.
-use Rattle.std.specs.Prelude.{◌≡◌, ℕ, ◌+◌, ◌-◌, ◌*◌, ◌<◌, ◌≤◌, Bool, true, false, List, ◌++◌, length, drop, Option, None, Result, Ok}
+use Rattle.std.specs.Prelude.{◌≡◌, ℕ, ◌+◌, ◌-◌, ◌*◌, ◌<◌, ◌≤◌, Bool, true, false, List, ◌++◌, length, drop, Option, None, Result, Ok, Err}
 use Rattle.std.specs.List.{flat_map}
 use Rattle.time_cat.specs.Formats.{rest_of, bad_place}
 use Rattle.time_cat.specs.Times.{TmValues}
 use Rattle.time_cat.specs.TimeValues.{TimeValues}
 use Rattle.time_cat.specs.Shown.{expanded, piece_text}
 use Rattle.strftime_fields.specs.declared.expand.Left.{Left}
-use Rattle.strftime_fields.specs.declared.stop.Stop.{Stop}
-use Rattle.strftime_fields.specs.Appending.{Appends, CountsTo, added}
-use Rattle.strftime_fields.specs.Cost.{pieces_read, reads}
-use Rattle.strftime_fields.specs.Kept.{Kind, kept}
+use Rattle.conversion_texts.specs.declared.stop.Stop.{Stop}
+use Rattle.conversion_texts.specs.Appending.{Appends}
+use Rattle.strftime_fields.specs.Cost.{pieces_read, reads, CountsTo}
+use Rattle.conversion_texts.specs.Kept.{Kind, kept}
 
 -- the format that is read, what is left of it, how many formats may lie within one another, and whether it is the caller's
 pub record Place : Type 0 where
@@ -63,6 +63,11 @@ pub record Goes (kind : Kind) (max : ℕ) (v : TimeValues) (t : TmValues) (out :
   pub stands : Stands p'
   pub deep : p'.levels ≤ p.levels
   pub less : size_of p' ≤ size_of p
+
+-- whether a text was added, whatever more the result says of it
+abbrev pub added : {A : Type 0} → Result A Stop → Result (Unit {0}) Stop
+added (Ok a) = Ok tt
+added (Err e) = Err e
 
 -- what is left is added, up to the first `%` that begins no conversion, and it is said where that stands in the whole format
 pub record Ends (kind : Kind) (max : ℕ) (v : TimeValues) (t : TmValues) (out : List ℕ) (n : ℕ) (p : Place) (out' : List ℕ) (n' : ℕ) (r : Result (Option ℕ) Stop) : Type 0 where

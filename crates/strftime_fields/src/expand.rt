@@ -4,17 +4,17 @@ ghost use Rattle.std.specs.Prelude.{◌≡◌, ◌+◌, ◌<◌, ◌≤◌, leng
 ghost use Rattle.time_cat.specs.Conversions.{conversion};
 ghost use Rattle.time_cat.specs.Formats.{pieces, bad_place, step};
 ghost use Rattle.time_cat.specs.Shown.{expanded, converted};
-ghost use Rattle.strftime_fields.specs.Appending.{Appends, CountsTo, added};
-ghost use Rattle.strftime_fields.specs.Cost.{read_for, reads};
-ghost use Rattle.strftime_fields.specs.Going.{Stands, Goes, Ends, place_of};
-ghost use Rattle.strftime_fields.specs.Kept.{Holds};
+ghost use Rattle.conversion_texts.specs.Appending.{Appends};
+ghost use Rattle.strftime_fields.specs.Cost.{read_for, reads, CountsTo};
+ghost use Rattle.strftime_fields.specs.Going.{Stands, Goes, Ends, added, place_of};
+ghost use Rattle.conversion_texts.specs.Kept.{Holds};
 ghost use Rattle.strftime_fields.specs.Reading.{IsSeen, SeenFormatless, AddsSeen};
 
-use crate::fields::TimeFields;
-use crate::output::{Output, put_byte, put_here, put_name_here};
-use crate::plain::{format_for, full_time, name, put_number_here, put_plain, short_time};
 use crate::read::{Seen, Short, short_of};
-use crate::stop::Stop;
+use conversion_texts::{
+    Output, Stop, TimeFields, format_for, full_time, name, put_byte, put_here, put_name_here,
+    put_number_here, put_plain, short_time,
+};
 use std::sync::ledger::Ledger;
 use time_cat::{NAME_FRONT, Shows, Step, Steps, Time, conversion_of, step_at};
 

@@ -1,9 +1,10 @@
 //! Why there is no text.
 
 ghost use Rattle.std.specs.Prelude.{◌≡◌};
-ghost use Rattle.strftime_fields.specs.Answers.{refusal_of};
+ghost use Rattle.strftime_fields.specs.Answers.{refusal_of, fault_of};
 ghost use Rattle.strftime_fields.specs.declared.fault.TimeFault.TheVariants.{Memory};
 
+use conversion_texts::Stop;
 use lc_base::FormatRefusal;
 use std::alloc::{AllocError, AllocFailed};
 use thiserror::Error;
@@ -48,5 +49,16 @@ impl<T: Drop> From<AllocFailed<T>> for TimeFault {
 
     fn from(_e: AllocFailed<T>) -> TimeFault {
         TimeFault::Memory
+    }
+}
+
+impl From<Stop> for TimeFault {
+    ghost from_gives = { λ s e. e ≡ fault_of s };
+
+    fn from(stop: Stop) -> TimeFault {
+        match stop {
+            Stop::TooBig => TimeFault::TooBig,
+            Stop::Memory => TimeFault::Memory,
+        }
     }
 }

@@ -3,16 +3,14 @@
 ghost use Rattle.std.specs.Prelude.{◌≡◌, ◌+◌, ◌*◌, ◌≤◌, ◌<◌, [], MatchOption, OnErr};
 ghost use Rattle.time_cat.specs.Formats.{pieces, bad_place};
 ghost use Rattle.time_cat.specs.Shown.{conversions_of};
-ghost use Rattle.strftime_fields.specs.Answers.{answer, Answers, with_text};
-ghost use Rattle.strftime_fields.specs.Appending.{fault_of};
+ghost use Rattle.strftime_fields.specs.Answers.{answer, fault_of, Answers, with_text};
 ghost use Rattle.strftime_fields.specs.Cost.{cost, Counts};
 ghost use Rattle.strftime_fields.specs.declared.fault.TimeFault.TheVariants.{BadFormat};
 
 use crate::expand::{put_format, put_whole};
 use crate::fault::TimeFault;
-use crate::fields::TimeFields;
 use crate::read::{Short, short_at};
-use crate::stop::Stop;
+use conversion_texts::{Stop, TimeFields};
 use lc_base::ByteText;
 use std::alloc::Global;
 use std::marker::Brand;

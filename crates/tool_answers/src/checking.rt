@@ -4,13 +4,12 @@ use crate::bundles::{is_bundle_file, push_bundle};
 use crate::gathered::Gathered;
 use crate::json::checked_json;
 use crate::progress::Progress;
-use crate::standard_input::{path_given, path_of};
-use crate::strs;
 use clap::ArgMatches;
 use std::alloc::Global;
 use std::rt::Files;
 use std::time::Clock;
 use tool_check::{Checking, Told, check_file};
+use tool_commands::{path_given, path_of, strs};
 use tool_messages::{Answer, Problem};
 
 /// Checks files: the status is 1 where one is refused.

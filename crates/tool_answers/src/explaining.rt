@@ -2,11 +2,12 @@
 
 use crate::json::rows_json;
 use crate::near::{as_written, first_word, near_names};
-use crate::strs;
 use clap::ArgMatches;
 use lc_base::ByteText;
+use reason_rules::explained;
 use std::alloc::{AllocError, Global};
-use tool_messages::{Problem, explained};
+use tool_commands::strs;
+use tool_messages::Problem;
 use tool_reads::usage_problem;
 
 /// What `explain` prints: the rows that words name, or the names of all, or the same as JSON text.

@@ -2,11 +2,10 @@
 
 use crate::gathered::Gathered;
 use crate::json::imported_json;
-use crate::standard_input::path_of;
-use crate::strs;
 use clap::ArgMatches;
 use std::alloc::Global;
 use std::rt::Files;
+use tool_commands::{path_of, strs};
 use tool_import::{Importing, import_file};
 use tool_messages::{Answer, Problem};
 

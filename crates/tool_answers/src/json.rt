@@ -2,15 +2,16 @@
 
 use crate::bundles::{is_bundle_file, push_bundle};
 use crate::progress::Progress;
-use crate::standard_input::path_of;
 use lc_base::ByteText;
+use reason_rules::{ROW_COUNT, ReasonRow, row_at};
 use std::alloc::{AllocError, Global};
 use std::rt::Files;
 use std::time::Clock;
 use tool_check::{Checking, Told, push_file_json, push_problem_json};
+use tool_commands::path_of;
 use tool_import::{Importing, push_import_json};
 use tool_json::{Writer, json_line, new_writer, push_row};
-use tool_messages::{Answer, Problem, ROW_COUNT, ReasonRow, row_at};
+use tool_messages::{Answer, Problem};
 
 /// Checks files: an object with what each is found to be. The status is 1 where one is refused.
 pub fn checked_json<R: Files + Clock + Eprint>(

@@ -2,9 +2,10 @@
 
 use clap::ArgMatches;
 use lc_base::{ByteText, Category};
+use reason_rules::rule_of;
 use std::alloc::{AllocError, Global};
 use tool_files::{Loaded, lacking_categories};
-use tool_messages::{Problem, push_word, rule_of};
+use tool_messages::{Problem, push_word};
 
 /// Tells which of the categories that a command reads its source lacks, so that those of the POSIX locale are read:
 /// a warning for each, or with `--strict` a refusal.

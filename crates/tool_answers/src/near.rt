@@ -1,8 +1,8 @@
 //! Names of reasons that are spelled otherwise.
 
+use reason_rules::{ROW_COUNT, row_at};
 use std::alloc::{AllocError, Global};
 use strsim::generic_levenshtein;
-use tool_messages::{ROW_COUNT, row_at};
 
 /// How many bytes a part of a name has at least that is looked for in names.
 const LEAST_PART: usize = 3;

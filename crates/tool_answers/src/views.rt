@@ -1,8 +1,6 @@
 //! Locales that are compared, or shown at a glance.
 
 use crate::locale::{lent, loaded_locale, number_of, wanted_files};
-use crate::standard_input::path_of;
-use crate::{strs, word};
 use category_store::{Library, Share};
 use charset::Charset;
 use clap::ArgMatches;
@@ -10,9 +8,11 @@ use lc_base::{ByteText, CATEGORIES, decimal_number};
 use std::alloc::{AllocError, Global};
 use std::env;
 use std::rt::{Env, Files};
-use tool_files::{Loaded, fault_problem, library_of, load};
+use tool_commands::{path_of, strs, word};
+use tool_files::{Loaded, load};
 use tool_json::{json_line, new_writer};
 use tool_messages::{Answer, Problem};
+use tool_sources::{fault_problem, library_of};
 use tool_views::{
     Column, Named, columns_text, differences_of, glance_of, page_text, push_differences_json,
 };

@@ -1,8 +1,4 @@
-pub mod LookLemmas
-pub mod CopiedLemmas
-pub mod FaultLemmas
-pub mod FoundLemmas
+mod Examples
 pub mod SummaryLemmas
 pub mod CheckedLemmas
-mod Examples
 pub mod OddLemmas

@@ -4,20 +4,18 @@ ghost use Rattle.std.specs.Prelude.{◌≡◌, IfErr};
 ghost use Rattle.tool_messages.specs.declared.answer.Problem.TheVariants.{Memory};
 
 use crate::checked::{Checking, charmap_summary, locale_summary};
-use crate::faults::faults_of;
-use crate::found::Fault;
 use crate::odd::{finding_words, oddity_name, source_findings};
-use crate::texts::is_charmap;
 use crate::told::{Told, is_new};
 use lc_base::{ByteText, Place, Reason, TextFault, next_line};
+use reason_rules::{name_of, rule_of};
 use std::alloc::{AllocError, Global};
 use std::rt::Files;
-use tool_files::{
-    FaultParts, Loaded, Sources, Wanted, charset_of, fault_parts, file_text, library_of, load_with,
-};
+use tool_faults::{Fault, faults_of, is_charmap};
+use tool_files::{Loaded, Wanted, file_text, load_with};
 use tool_findings::Finding;
 use tool_json::{Writer, push_flag, push_member, push_number_member, push_text};
-use tool_messages::{Problem, line_of, name_of, push_number, rule_of};
+use tool_messages::{Problem, line_of, push_number};
+use tool_sources::{FaultParts, Sources, charset_of, fault_parts, library_of};
 
 /// A fault with its rule.
 #[derive(Drop)]

@@ -2,15 +2,10 @@
 #![tactic(auto)]
 
 mod checked;
-mod copied;
 mod declared;
-mod faults;
-mod found;
 mod json;
-mod looks;
 mod odd;
 mod summary;
-mod texts;
 mod told;
 
 pub use checked::{Checked, Checking, charmap_checked, check_file, sources_checked};

@@ -1,4 +1,3 @@
+mod FileExamples
+pub mod FileLemmas
 pub mod PartLemmas
-pub mod SizeLemmas
-mod ToldExamples
-pub mod ToldLemmas

@@ -1,4 +1,3 @@
+pub mod Files
 pub mod Lacking
-pub mod Library
 pub mod Parts
-pub mod Told

@@ -3,13 +3,10 @@
 ghost use Rattle.std.specs.Prelude.{IfErr};
 ghost use Rattle.tool_messages.specs.Status.{IsSpoken};
 
-use crate::copies::{CopiedName, copied_names};
 use crate::files::file_text;
 use crate::folders::{is_file, path_in};
 use crate::loading::{Loaded, Reading, charset_name};
 use crate::parts::with_categories;
-use crate::shown::fault_problem;
-use crate::sources::Sources;
 use charset::Charset;
 use lc_base::{Block, ByteText, CATEGORIES, Category, Limit, List, Reason, TextFault};
 use locale_sources::is_posix;
@@ -17,6 +14,7 @@ use std::alloc::{AllocError, Global};
 use std::mem;
 use std::rt::Files;
 use tool_messages::Problem;
+use tool_sources::{CopiedName, Sources, copied_names, fault_problem};
 
 /// The most files of locales.
 const FILES_MOST: usize = 64;

@@ -2,7 +2,7 @@
 
 ghost use Rattle.std.specs.Prelude.{◌≡◌, IfOk, IfErr};
 ghost use Rattle.tool_messages.specs.Status.{IsSpoken};
-ghost use Rattle.tool_files.specs.Told.{unreadable};
+ghost use Rattle.tool_files.specs.Files.{unreadable};
 
 use lc_base::{ByteText, ReadRefusal, Source, StdSource, read_all};
 use std::alloc::{AllocError, Global};
@@ -61,7 +61,7 @@ fn cause_of(kind: ErrorKind) -> &'static [u8] {
 }
 
 /// The problem of a file that cannot be read.
-#[tactic(auto, using(crate::proofs::ToldLemmas::unreadable_spoken))]
+#[tactic(auto, using(crate::proofs::FileLemmas::unreadable_spoken))]
 fn unreadable(alloc: Global, path: &str, cause: &[u8]) -> Problem
     ensures { IsSpoken result }
 {

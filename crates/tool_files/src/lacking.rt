@@ -4,11 +4,11 @@ ghost use Rattle.std.specs.Prelude.{◌≡◌, ◌++◌, IfOk, OnOk};
 ghost use Rattle.lc_base.specs.Categories.{categories};
 ghost use Rattle.tool_files.specs.Lacking.{has_category, has_section, is_lacking, lacking_among};
 
-use crate::compiled::sections_in;
 use crate::loading::Loaded;
 use keywords::Section;
 use lc_base::{CATEGORIES, Category, TextFault};
 use std::alloc::{AllocError, Global};
+use tool_sources::sections_in;
 
 /// Those of these categories of which the first source that was read has no section, each once; none where there is
 /// no source, or one that is refused.

@@ -1,25 +1,14 @@
-//! Locale sources and charmaps that stand in files, and the locales that they give.
+//! Locale sources and charmaps that stand in files, with the files that they copy.
 #![tactic(auto)]
 
 mod chains;
-mod compiled;
-mod copies;
 mod files;
 mod folders;
-mod format;
-mod hints;
 mod lacking;
 mod loading;
 mod parts;
-mod shown;
-mod sized;
-mod sources;
 
-pub use compiled::{charset_of, library_of, sized_library};
-pub use copies::{CopiedName, copied_names};
 pub use files::{FILE_LIMIT, file_text};
 pub use folders::{is_file, path_in};
 pub use lacking::lacking_categories;
 pub use loading::{Loaded, Wanted, load, load_text, load_with};
-pub use shown::{FaultParts, fault_message, fault_parts, fault_problem, text_problem};
-pub use sources::Sources;

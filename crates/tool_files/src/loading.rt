@@ -4,18 +4,15 @@ ghost use Rattle.std.specs.Prelude.{IfErr};
 ghost use Rattle.tool_messages.specs.Status.{IsSpoken};
 
 use crate::chains::{follow_all, keep_parts};
-use crate::compiled::charset_of;
-use crate::copies::{CopiedName, copied_names, read_block};
 use crate::files::file_text;
 use crate::parts::with_categories;
-use crate::shown::fault_problem;
-use crate::sources::Sources;
 use charset::Charset;
 use keywords::Section;
 use lc_base::{Block, ByteText, Category, List};
 use std::alloc::{AllocError, Global};
 use std::rt::Files;
 use tool_messages::Problem;
+use tool_sources::{CopiedName, Sources, charset_of, copied_names, fault_problem, read_block};
 
 /// The files that the words of a command name.
 #[derive(Clone, Copy)]

@@ -5,8 +5,8 @@ use gnu_source::{ImportFault, Imported, Origin, import};
 use lc_base::{ByteText, Place, Reason, TextFault};
 use std::alloc::{AllocError, Global};
 use std::rt::Files;
-use tool_files::text_problem;
 use tool_messages::{Problem, push_number, push_word};
+use tool_sources::text_problem;
 
 /// The standard source that a system's source gives, with its notes left out.
 pub fn standard_text<R: Files>(

@@ -2,7 +2,7 @@ use Rattle.std.proofs.Common.{Ok, Err, refl}
 use Rattle.std.proofs.lemmas.Result.{IfOk-weaker}
 use Rattle.handle_table.specs.Seen.{op_of}
 use Rattle.script_lines.specs.Seen.{caller}
-use Rattle.script_lines.specs.Wishes.{Calls, ReadsOf, Reads, AsksSelection, AsksName}
+use Rattle.script_wishes.specs.Wishes.{Calls, ReadsOf, Reads, AsksSelection, AsksName}
 use Rattle.script_lines.proofs.LineLemmas.{refusal_leaves, selection_leaves, unasked, both_ok}
 use Rattle.script_lines.proofs.granted.granted.Goals as goal
 

@@ -1,6 +1,7 @@
 use Rattle.std.proofs.Common.{ap, ◌∙◌}
-use Rattle.script_lines.specs.Seen.{caller, task_seen, turn_seen, wished}
-use Rattle.script_lines.specs.Wishes.{wish_of}
+use Rattle.script_lines.specs.Seen.{caller}
+use Rattle.script_wishes.specs.Seen.{task_seen, turn_seen, wished}
+use Rattle.script_wishes.specs.Wishes.{wish_of}
 use Rattle.script_lines.proofs.LineLemmas.{turn_leaves}
 use Rattle.script_lines.proofs.granted.turn_line.Goals as goal
 

@@ -1,8 +1,8 @@
 use Rattle.std.proofs.Common.{◌≡◌, ◌+◌, ◌++◌, List, length, map, take, drop, sym, ap, subst, ◌∙◌, arith}
 use Rattle.std.specs.Prelude.{flat_map}
-use Rattle.script_lines.specs.Seen.{turn_seen}
-use Rattle.script_lines.specs.Turns.{Turn, round_turns}
-use Rattle.script_lines.specs.declared.turns.Turn.{Turn as LentTurn}
+use Rattle.script_wishes.specs.Seen.{turn_seen}
+use Rattle.script_wishes.specs.Turns.{Turn, round_turns}
+use Rattle.script_wishes.specs.declared.turns.Turn.{Turn as LentTurn}
 use Rattle.script_plan.specs.Plan.{PlanData}
 use Rattle.script_run.specs.declared.worker.Worker.{Worker}
 use Rattle.script_seats.specs.Seated.{Gates, gates}

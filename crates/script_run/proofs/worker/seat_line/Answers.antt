@@ -2,7 +2,7 @@ use Rattle.std.proofs.Common.{◌≡◌, sym, ap, ◌∙◌, subst}
 use Rattle.turn_gate.specs.Callers.{Gate}
 use Rattle.handle_table.specs.Entry.{Setting}
 use Rattle.catalog_handles.specs.declared.setting.CatalogSetting.{CatalogSetting}
-use Rattle.script_lines.specs.Seen.{turn_seen}
+use Rattle.script_wishes.specs.Seen.{turn_seen}
 use Rattle.script_seats.specs.Seated.{Gates, gates}
 use Rattle.script_run.specs.Beside.{stock, CanAdd, AddsLine}
 use Rattle.script_run.proofs.worker.seat_line.Goals as goal

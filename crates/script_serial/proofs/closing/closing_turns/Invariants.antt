@@ -1,8 +1,8 @@
 use Rattle.std.proofs.Common.{◌≡◌, ◌++◌, map, drop}
 use Rattle.std.specs.Prelude.{flat_map}
-use Rattle.script_lines.specs.Seen.{turn_seen}
+use Rattle.script_wishes.specs.Seen.{turn_seen}
 use Rattle.script_serial.specs.Session.{ThreadData}
-use Rattle.script_lines.specs.Turns.{closing}
+use Rattle.script_wishes.specs.Turns.{closing}
 use Rattle.script_serial.proofs.closing.closing_turns.Given as goal
 
 -- the turns so far, and those of the threads that are left

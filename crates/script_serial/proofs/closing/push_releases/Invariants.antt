@@ -1,6 +1,6 @@
 use Rattle.std.proofs.Common.{◌≡◌, ◌++◌, map, drop}
-use Rattle.script_lines.specs.Seen.{turn_seen}
-use Rattle.script_lines.specs.Turns.{releases}
+use Rattle.script_wishes.specs.Seen.{turn_seen}
+use Rattle.script_wishes.specs.Turns.{releases}
 use Rattle.script_serial.proofs.closing.push_releases.Given as goal
 
 -- the turns so far, and those of the Holds that are left

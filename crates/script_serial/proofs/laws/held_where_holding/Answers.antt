@@ -1,4 +1,4 @@
-use Rattle.script_lines.proofs.HoldLaws.{held_where_holding}
+use Rattle.script_wishes.proofs.HoldLaws.{held_where_holding}
 use Rattle.script_serial.proofs.laws.held_where_holding.Goals as goal
 
 pub returns : goal.returns

@@ -1,10 +1,10 @@
 use Rattle.std.proofs.Common.{◌≤◌, List, length, map, sym, ap, ◌∙◌, arith}
 use Rattle.script_out.specs.declared.output.OutLine.{OutLine}
-use Rattle.script_lines.specs.declared.turns.Turn.{Turn as LentTurn}
-use Rattle.script_lines.specs.Seen.{turn_seen}
+use Rattle.script_wishes.specs.declared.turns.Turn.{Turn as LentTurn}
+use Rattle.script_wishes.specs.Seen.{turn_seen}
 use Rattle.script_plan.specs.Serial.{begun, played, commands_played}
 use Rattle.script_lines.specs.Catalogs.{Books}
-use Rattle.script_lines.specs.Turns.{Turn, command_turns}
+use Rattle.script_wishes.specs.Turns.{Turn, command_turns}
 use Rattle.script_serial.proofs.PlayLemmas.{few_commands, can_play_commands, commands_fit, are_done, books_are, few_closings, can_play_closings, all_closings_fit, closed_is}
 use Rattle.script_serial.proofs.script.all_lines.Goals as goal
 

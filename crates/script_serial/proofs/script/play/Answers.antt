@@ -1,7 +1,7 @@
 use Rattle.std.proofs.Common.{◌<◌, length, get_or, arith, ◌∙◌}
 use Rattle.std.proofs.lemmas.List.{length-set}
-use Rattle.script_lines.specs.Seen.{task_seen, turn_seen}
-use Rattle.script_lines.proofs.WishLemmas.{task_fits}
+use Rattle.script_wishes.specs.Seen.{task_seen, turn_seen}
+use Rattle.script_wishes.proofs.WishLemmas.{task_fits}
 use Rattle.script_serial.proofs.RunLemmas.{next, turned, two_steps, fits_at, taking, more_lines, numbered_on, goes_on, after_turn}
 use Rattle.script_serial.proofs.script.play.Goals as goal
 

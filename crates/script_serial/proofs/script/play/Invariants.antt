@@ -1,5 +1,5 @@
 use Rattle.std.proofs.Common.{◌≡◌, ◌+◌, ◌*◌, length, map}
-use Rattle.script_lines.specs.Seen.{turn_seen}
+use Rattle.script_wishes.specs.Seen.{turn_seen}
 use Rattle.script_plan.specs.Serial.{Run}
 use Rattle.script_serial.specs.Session.{AreAt, AreNumbered, GoesOn}
 use Rattle.script_serial.proofs.RunLemmas.{PlaysOn}

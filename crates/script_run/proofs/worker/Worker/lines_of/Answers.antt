@@ -1,5 +1,5 @@
 use Rattle.std.proofs.Common.{◌+◌, ◌^◌, ◌<◌, map, sym, ◌∙◌, arith, ne_eqb}
-use Rattle.script_lines.specs.Seen.{turn_seen}
+use Rattle.script_wishes.specs.Seen.{turn_seen}
 use Rattle.script_run.proofs.WorkLemmas.{going_none, turn_at, turn_below, going_can, going_past, going_on}
 use Rattle.script_seats.specs.Seated.{gates}
 use Rattle.script_run.specs.Beside.{stock}

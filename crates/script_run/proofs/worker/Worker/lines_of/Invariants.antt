@@ -1,5 +1,5 @@
 use Rattle.std.proofs.Common.{map}
-use Rattle.script_lines.specs.Seen.{turn_seen}
+use Rattle.script_wishes.specs.Seen.{turn_seen}
 use Rattle.script_seats.specs.Seated.{gates}
 use Rattle.script_run.specs.Beside.{stock}
 use Rattle.script_run.proofs.WorkLemmas.{Going}

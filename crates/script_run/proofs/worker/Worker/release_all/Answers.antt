@@ -1,5 +1,5 @@
 use Rattle.std.proofs.Common.{ℕ, sym, ◌∙◌, subst, arith}
-use Rattle.script_lines.specs.Turns.{Releases, closing_turn}
+use Rattle.script_wishes.specs.Turns.{Releases, closing_turn}
 use Rattle.script_run.specs.Beside.{CanAdd, Adds, stock}
 use Rattle.script_run.proofs.WorkLemmas.{releasing_none, can_release, one_less, releasing_on, gives_up}
 use Rattle.script_seats.specs.Seated.{gates}

@@ -1,0 +1,5 @@
+pub mod CalendarLemmas
+pub mod Keeping
+pub mod Numbers
+pub mod Offsets
+pub mod Pairs

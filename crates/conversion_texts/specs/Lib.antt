@@ -1,0 +1,4 @@
+pub mod Appending
+pub mod Calendar
+pub mod Kept
+pub mod Zones

@@ -1,0 +1,4 @@
+pub mod Joined
+pub mod NumberExamples
+pub mod NumberLemmas
+pub mod ReadExamples

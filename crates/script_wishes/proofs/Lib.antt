@@ -1,0 +1,5 @@
+pub mod HoldLaws
+pub mod SpaceLemmas
+pub mod TurnLists
+pub mod VariableLemmas
+pub mod WishLemmas

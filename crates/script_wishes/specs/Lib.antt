@@ -1,0 +1,5 @@
+pub mod Holds
+pub mod Turns
+pub mod Variables
+pub mod Wishes
+pub mod Seen

@@ -1,0 +1,11 @@
+mod Examples
+pub mod Celling
+pub mod Shaping
+pub mod Operands
+pub mod Fielding
+pub mod Opening
+pub mod Runs
+pub mod Itemizing
+pub mod Naming
+pub mod Spelt
+pub mod Spellings

@@ -1,0 +1,3 @@
+pub mod SizeLemmas
+mod ToldExamples
+pub mod ToldLemmas
