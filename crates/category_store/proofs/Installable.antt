@@ -42,7 +42,7 @@ from_one_more least n name [] le from = (le, tt)
 from_one_more least n name (e ∷ es) le from = (from.0, from_one_more least n name es le from.1)
 
 -- what holds with one more name and without it holds of the names with it
-with_either : (P : List (Name × ℕ) → Type 0) (named : List (Name × ℕ)) (name : Name) (n : ℕ) → P named → P (named ++ (name, n) ∷ []) → P (with_named named name n)
+pub with_either : (P : List (Name × ℕ) → Type 0) (named : List (Name × ℕ)) (name : Name) (n : ℕ) → P named → P (named ++ (name, n) ∷ []) → P (with_named named name n)
 with_either P named name n kept added = elim (is_some (first_named named name)) as (λ b. P (cond b named (named ++ (name, n) ∷ []))) [ true ↦ kept | false ↦ added ]
 
 names_from : (named : List (Name × ℕ)) (ss : List Source) → AreFrom 1 named → AreFrom 1 (names_after named ss)
@@ -128,6 +128,11 @@ locales_named P sources n (s ∷ ss) all =
     let name : l.name ≡ s.name = ok_at (λ (x : Locale). x.name ≡ s.name) (locale_of sources n s) l e (locale_named sources n s) in
     ((subst P (sym name) all.0, rest.0), ap suc rest.1)))
 
+-- there are as many as sources
+pub locales_counted : (sources : List Source) (locales : List Locale) → locales_of sources ≡ Ok locales → length locales ≡ length sources
+locales_counted sources locales e =
+    (ok_at (AreNamed (IsFound (names_of sources)) (length sources)) (locales_of sources) locales e (locales_named (IsFound (names_of sources)) sources 1 sources (all_found [] sources))).1
+
 -- the locale with a number has such a name
 named_at : (P : Name → Type 0) (ls : List Locale) (n : ℕ) → AllByRecursion (λ (l : Locale). P l.name) ls → 1 ≤ n → n ≤ length ls → P (locale_among ls n).name
 named_at P ls zero all least most = absurd (omega (arith, least))
@@ -137,10 +142,10 @@ named_at P (l ∷ ls) (suc (suc k)) all least most = named_at P ls (suc k) all.1
 
 -- ---- keys
 
-abbrev AreWithin : ℕ → List (Name × ℕ) → Type 0
+abbrev pub AreWithin : ℕ → List (Name × ℕ) → Type 0
 AreWithin most named = AllByRecursion (λ (e : Name × ℕ). (1 ≤ e.1) × (e.1 ≤ most)) named
 
-within_one_more : (most n : ℕ) (name : Name) (named : List (Name × ℕ)) → 1 ≤ n → n ≤ most → AreWithin most named → AreWithin most (named ++ (name, n) ∷ [])
+pub within_one_more : (most n : ℕ) (name : Name) (named : List (Name × ℕ)) → 1 ≤ n → n ≤ most → AreWithin most named → AreWithin most (named ++ (name, n) ∷ [])
 within_one_more most n name [] least le within = ((least, le), tt)
 within_one_more most n name (e ∷ es) least le within = (within.0, within_one_more most n name es least le within.1)
 
@@ -148,14 +153,14 @@ key_within : (most n : ℕ) (key : Option Name) (named : List (Name × ℕ)) →
 key_within most n None named least le within = within
 key_within most n (Some k) named least le within = with_either (AreWithin most) named k n within (within_one_more most n k named least le within)
 
-keys_within : (most n : ℕ) (named : List (Name × ℕ)) (ss : List Source) → 1 ≤ n → n + length ss ≤ most + 1 → AreWithin most named → AreWithin most (keys_after named n ss)
+pub keys_within : (most n : ℕ) (named : List (Name × ℕ)) (ss : List Source) → 1 ≤ n → n + length ss ≤ most + 1 → AreWithin most named → AreWithin most (keys_after named n ss)
 keys_within most n named [] least le within = within
 keys_within most n named (s ∷ ss) least le within =
     keys_within most (n + 1) (elim s.key [ None ↦ named | Some k ↦ with_named named k n ]) ss (omega arith) (omega (arith, le))
     (key_within most n s.key named least (omega (arith, le)) within)
 
 -- what is found is what all entries are
-found_as : (P : ℕ → Type 0) (es : List (Name × ℕ)) (name : Name) → AllByRecursion (λ (e : Name × ℕ). P e.1) es → IfSome (first_named es name) P
+pub found_as : (P : ℕ → Type 0) (es : List (Name × ℕ)) (name : Name) → AllByRecursion (λ (e : Name × ℕ). P e.1) es → IfSome (first_named es name) P
 found_as P [] name all = tt
 found_as P (e ∷ es) name all =
     elim (bytes_eq e.0 name) as (λ b. IfSome (cond b (Some e.1) (first_named es name)) P) [ true ↦ all.0 | false ↦ found_as P es name all.1 ]
@@ -211,7 +216,7 @@ built_can sources native locales e =
       keys = subst (λ (n : ℕ). AreWithin n (keys_of sources)) (sym named.1) (keys_within (length sources) 1 [] sources (omega arith) (omega arith) tt);
     }
 
-unless_is : (fault : Option (Place × Reason)) (locales : Reads (List Locale)) (made : List Locale) → unless_fault fault locales ≡ Ok made → locales ≡ Ok made
+pub unless_is : (fault : Option (Place × Reason)) (locales : Reads (List Locale)) (made : List Locale) → unless_fault fault locales ≡ Ok made → locales ≡ Ok made
 unless_is None locales made e = e
 unless_is (Some fault) locales made e = absurd cc
 

@@ -4,3 +4,7 @@ pub mod Numbered
 pub mod Installable
 mod BlockExamples
 pub mod SizeLemmas
+pub mod WithinLemmas
+pub mod JoinedLemmas
+pub mod JoinedNumbered
+mod JoinedExamples

@@ -28,7 +28,7 @@ use Rattle.category_store.specs.Shelf.{IsNumbered}
 abbrev pub AreUpTo : ℕ → List (Name × ℕ) → Type 0
 AreUpTo m named = AllByRecursion (λ (e : Name × ℕ). e.1 ≤ m) named
 
-abbrev AreCounted : List (Name × ℕ) → Type 0
+abbrev pub AreCounted : List (Name × ℕ) → Type 0
 AreCounted named = AreUpTo (length named) named
 
 up_to_one_more : (m : ℕ) (name : Name) (named : List (Name × ℕ)) → AreUpTo m named → AreUpTo (m + 1) (named ++ (name, m + 1) ∷ [])
@@ -39,7 +39,7 @@ one_more : (named : List (Name × ℕ)) (name : Name) → AreCounted named → A
 one_more named name counted =
     subst (λ (m : ℕ). AreUpTo m (named ++ (name, length named + 1) ∷ [])) (sym (length-append named ((name, length named + 1) ∷ []))) (up_to_one_more (length named) name named counted)
 
-with_one : (named : List (Name × ℕ)) (name : Name) → AreCounted named → AreCounted (with_named named name (length named + 1))
+pub with_one : (named : List (Name × ℕ)) (name : Name) → AreCounted named → AreCounted (with_named named name (length named + 1))
 with_one named name counted =
     elim (is_some (first_named named name)) as (λ b. AreCounted (cond b named (named ++ (name, length named + 1) ∷ []))) [
       | true ↦ counted
@@ -55,7 +55,7 @@ pub names_counted : (sources : List Source) → AreUpTo (length (names_of source
 names_counted sources = after_counted [] sources tt
 
 -- what is found among names is up to what they all are
-found_up_to : (m : ℕ) (es : List (Name × ℕ)) (name : Name) → AreUpTo m es → IfSome (first_named es name) (λ n. n ≤ m)
+pub found_up_to : (m : ℕ) (es : List (Name × ℕ)) (name : Name) → AreUpTo m es → IfSome (first_named es name) (λ n. n ≤ m)
 found_up_to m [] name counted = tt
 found_up_to m (e ∷ es) name counted =
     elim (bytes_eq e.0 name) as (λ b. IfSome (cond b (Some e.1) (first_named es name)) (λ n. n ≤ m)) [
@@ -70,7 +70,7 @@ plain_up_to names name counted =
       | false ↦ found_up_to (length names) names name counted
     ]
 
-or_zero : (m : ℕ) (o : Option ℕ) → IfSome o (λ n. n ≤ m) → unwrap_or o 0 ≤ m
+pub or_zero : (m : ℕ) (o : Option ℕ) → IfSome o (λ n. n ≤ m) → unwrap_or o 0 ≤ m
 or_zero m None up = omega arith
 or_zero m (Some n) up = up
 
@@ -79,9 +79,9 @@ native_up_to names None counted = omega arith
 native_up_to names (Some name) counted = or_zero (length names) (plain_number names name) (plain_up_to names name counted)
 
 -- the names of a library and its native locale have numbers up to that of the names
-record IsCounted (c : Catalog) : Type 0 where
-  names : AreCounted c.names
-  native : c.native ≤ length c.names
+pub record IsCounted (c : Catalog) : Type 0 where
+  pub names : AreCounted c.names
+  pub native : c.native ≤ length c.names
 
 sources_counted : (sources : List Source) (native : Option Name) (locales : List Locale) → IsCounted (catalog_of sources native locales)
 sources_counted sources native locales =
@@ -138,7 +138,11 @@ each_on_shelf c mask [] names counted = tt
 each_on_shelf c mask (category ∷ cs) [] counted = tt
 each_on_shelf c mask (category ∷ cs) (name ∷ names) counted = joined c (number_in c mask category name) (numbers_in c mask cs names) (in_up_to c mask category name counted) (each_on_shelf c mask cs names counted)
 
+-- where the names are counted they are numbered
+pub numbered_counted : (c : Catalog) → IsCounted c → IsNumbered c
+numbered_counted c counted = λ name mask.
+    IfOk-weaker (numbers c name mask) (OnShelf c) (AreOnShelf (opening c)) (λ ns on. All-from_recursion _ ns on) (each_on_shelf c mask categories (names_given name) counted)
+
 -- the names of the library of sources are numbered
 pub is_numbered : (native : Option Name) (sources : List Source) (c : Catalog) → catalog_from native sources ≡ Ok c → IsNumbered c
-is_numbered native sources c e = λ name mask.
-    IfOk-weaker (numbers c name mask) (OnShelf c) (AreOnShelf (opening c)) (λ ns on. All-from_recursion _ ns on) (each_on_shelf c mask categories (names_given name) (catalog_counted native sources c e))
+is_numbered native sources c e = numbered_counted c (catalog_counted native sources c e)

@@ -4,3 +4,5 @@ pub mod Shelf
 pub mod Blocks
 pub mod Sources
 pub mod Seen
+pub mod Joined
+pub mod Within

@@ -3,6 +3,7 @@
 
 mod blocks;
 mod charsets;
+mod joined;
 mod library;
 mod names;
 mod reading;
@@ -10,6 +11,6 @@ mod share;
 
 pub use charsets::Charsets;
 pub use compiled_categories::Compiled;
-pub use library::{Library, NoData};
+pub use library::{LIBRARY_LIMIT, Library, NoData};
 pub use reading::read_blocks;
 pub use share::Share;

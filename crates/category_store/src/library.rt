@@ -9,8 +9,10 @@ ghost use Rattle.lc_base.specs.Blocks.{IsSized};
 ghost use Rattle.locale_sources.specs.Copies.{locale_numbers, copy_fault};
 ghost use Rattle.compiled_categories.specs.Compiled.{locales_of};
 ghost use Rattle.category_store.specs.Library.{catalog, catalog_over, catalog_from, locale_at, number_of, number_in, numbers, names_given, posix_object, object_of, offer_at, first_offer, name_at, opening, later, unless_fault};
+ghost use Rattle.category_store.specs.Joined.{joined, KeepsNumbers, StandsBehind, NamesLater, InstallsLater};
 ghost use Rattle.category_store.specs.Shelf.{IsNumbered, IsInstallable};
 
+use crate::joined::join_names;
 use crate::names::{Names, plain_number};
 use crate::share::Share;
 use crate::{Charsets, read_blocks};
@@ -20,6 +22,9 @@ use locale_sources::{Source, read_rows};
 use mask_compose::{Object, Offer, read_names};
 use std::alloc::{AllocError, Global};
 use std::marker::Model;
+
+/// The most locales of a bundle of which a library is built, and the most later versions.
+pub const LIBRARY_LIMIT: usize = 4096;
 
 /// The compiled locales of a bundle, with the numbers of their names.
 pub struct Library {
@@ -37,7 +42,9 @@ impl Drop for Library {
 }
 
 impl Model for Library {
+    ghost use Rattle.std.specs.Prelude.{length};
     ghost use Rattle.category_store.specs.Catalog.{Catalog};
+    ghost use Rattle.category_store.specs.Within.{IsWithin};
 
     ghost Value = { Catalog };
 
@@ -48,6 +55,8 @@ impl Model for Library {
       keys = l.names.keys;
       native = l.names.native;
     } };
+
+    ghost invariant = { λ l. IsWithin (length l.locales) l.names };
 }
 
 /// A category of the mask whose locale no block names.
@@ -69,7 +78,7 @@ impl Library {
         later: &List<Later>,
         native: Option<&[u8]>,
     ) -> Result<Library, TextFault>
-        requires few { (length locales.now ≤ 64) × (length later.now ≤ 64) }
+        requires few { (length locales.now ≤ LIBRARY_LIMIT) × (length later.now ≤ LIBRARY_LIMIT) }
         requires charmaps { All IsSized charmaps.now }
         requires locales { All IsSized locales.now }
         requires later { All (λ l. IsSized l.block) later.now }
@@ -79,6 +88,34 @@ impl Library {
     {
         let charsets = Charsets::read(alloc, charmaps)?;
         library_over(alloc, &charsets, locales, later, native)
+    }
+
+    /// A library, and behind it another. Nothing is compiled: both may be given up before this one, or
+    /// later.
+    ///
+    /// The locales of the earlier library keep their numbers, and those of the later follow them. A
+    /// name or key of both means what it means in the later library, whose native locale is the
+    /// native locale if it names one.
+    pub fn joined(alloc: Global, earlier: &Library, later: &Library) -> Result<Library, AllocError>
+        requires { length earlier.now.locales + length later.now.locales < 2 ^ 31 }
+        ensures library { IfOk result (λ l. l ≡ joined earlier.now later.now) }
+        ensures kept { IfOk result (KeepsNumbers earlier.now) }
+        ensures behind { IfOk result (StandsBehind (length earlier.now.locales) later.now) }
+        ensures named { IfOk result (NamesLater earlier.now later.now) }
+        ensures keyed { IfOk result (InstallsLater earlier.now later.now) }
+        ensures numbered { IfOk result IsNumbered }
+    {
+        let count = earlier.locales.len() as u32;
+        let names = join_names(alloc, &earlier.names, &later.names, count)?;
+        let locales = Locales::joined(alloc, &earlier.locales, &later.locales)?;
+        Ok(Library { locales, names })
+    }
+
+    /// The number of compiled locales.
+    pub fn count(&self) -> usize
+        ensures { result ≡ length self.now.locales }
+    {
+        self.locales.len()
     }
 
     /// The compiled locale of a share. The POSIX locale has the number 0, and stands for a number
@@ -276,7 +313,7 @@ fn library_over(
     later: &List<Later>,
     native: Option<&[u8]>,
 ) -> Result<Library, TextFault>
-    requires few { (length locales.now ≤ 64) × (length later.now ≤ 64) }
+    requires few { (length locales.now ≤ LIBRARY_LIMIT) × (length later.now ≤ LIBRARY_LIMIT) }
     requires locales { All IsSized locales.now }
     requires later { All (λ l. IsSized l.block) later.now }
     ensures library { Gives (λ l. l) result (catalog_over charsets.now locales.now later.now (option_copied native.entry)) }

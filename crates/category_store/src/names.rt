@@ -73,7 +73,7 @@ fn names_of(alloc: Global, sources: &[Source<'_>]) -> Result<ByName<u32>, AllocE
 }
 
 /// Gives a new name the next number.
-fn add_name(alloc: Global, names: &mut ByName<u32>, name: &[u8]) -> Result<(), AllocError>
+pub fn add_name(alloc: Global, names: &mut ByName<u32>, name: &[u8]) -> Result<(), AllocError>
     requires { length names.old < 2 ^ 31 }
     ensures named { OnOk result (names.new ≡ with_named names.old name.now (length names.old + 1)) }
     ensures few { OnOk result (length names.new ≤ length names.old + 1) }

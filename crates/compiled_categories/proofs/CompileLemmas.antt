@@ -1,5 +1,5 @@
 -- Locales that are compiled from what is kept of their categories.
-use Rattle.std.proofs.Common.{◌≡◌, ℕ, zero, suc, ◌+◌, List, [], ◌∷◌, map, Option, Some, None, unwrap_or, Ok, Err, refl, ◌∙◌, ap}
+use Rattle.std.proofs.Common.{◌≡◌, ℕ, zero, suc, ◌+◌, List, [], ◌∷◌, map, Option, Some, None, Ok, Err, refl, ◌∙◌, ap}
 use Rattle.std.specs.Prelude.{option_map}
 use Rattle.std.specs.Option.{option_or}
 use Rattle.std.specs.List.{slice_get}
@@ -22,8 +22,7 @@ use Rattle.compiled_categories.specs.Written.{Written, written_for, written_at}
 use Rattle.compiled_categories.specs.Compiled.{ctype_of, numeric_of, monetary_of, time_of, messages_of, read_or, category_of, locale_of, locales_from}
 use Rattle.locale_sources.specs.Rows.{available, row_of, rows_from, given_unless}
 use Rattle.compiled_categories.specs.Locale.{Locale}
-use Rattle.compiled_categories.specs.Kept.{slots, kept, given_or, kept_or, value_or, fault_in, kept_of, ends_fault, row_at, locale_in, rows_fault}
-use Rattle.compiled_categories.specs.Locale.{posix_locale, locale_among}
+use Rattle.compiled_categories.specs.Kept.{slots, kept, given_or, kept_or, value_or, fault_in, kept_of, ends_fault, locale_in, rows_fault}
 
 abbrev Fault : Type 0
 Fault = Place × Reason
@@ -99,19 +98,3 @@ from_told S n (s ∷ ss) =
 -- the locales of what is kept, or the first fault in it
 pub told : (S : List Source) (k : CategoryLists) (rows : List LocaleRow) (fault : Option Fault) → k ≡ kept_of S → rows ≡ rows_from S 1 S → fault ≡ rows_fault k rows → locales_from S 1 S ≡ given_unless fault (map (locale_in k) rows)
 told S k rows fault are_kept are_rows is = rw (is, are_kept, are_rows) (from_told S 1 S)
-
--- ---- one locale by its number
-
--- the locale of a row, if there is one
-abbrev pub found : CategoryLists → Option LocaleRow → Locale
-found k None = posix_locale
-found k (Some r) = locale_in k r
-
-found_get : (k : CategoryLists) (rows : List LocaleRow) (i : ℕ) → unwrap_or (slice_get (map (locale_in k) rows) i) posix_locale ≡ found k (slice_get rows i)
-found_get k [] i = refl
-found_get k (r ∷ rows) zero = refl
-found_get k (r ∷ rows) (suc i) = found_get k rows i
-
-pub found_is : (k : CategoryLists) (rows : List LocaleRow) (n : ℕ) → locale_among (map (locale_in k) rows) n ≡ found k (row_at rows n)
-found_is k rows zero = refl
-found_is k rows (suc i) = found_get k rows i

@@ -5,6 +5,7 @@ mod built;
 mod compiled;
 mod kept;
 mod locales;
+mod shared;
 mod written;
 
 pub use compiled::Compiled;

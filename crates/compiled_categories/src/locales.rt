@@ -1,41 +1,46 @@
 //! The compiled locales of a library.
 
-ghost use Rattle.std.specs.Prelude.{◌≡◌, map};
+ghost use Rattle.std.specs.Prelude.{◌≡◌, ◌++◌, length, map, IfOk};
 ghost use Rattle.std.specs.Option.{option_copied};
 ghost use Rattle.lc_base.specs.Reading.{Gives};
 ghost use Rattle.locale_sources.specs.Seen.{source};
 ghost use Rattle.locale_sources.specs.Rows.{given_unless, rows_from};
 ghost use Rattle.compiled_categories.specs.Compiled.{locales_of};
-ghost use Rattle.compiled_categories.specs.Kept.{rows_fault, row_at};
+ghost use Rattle.compiled_categories.specs.Kept.{locale_in, rows_fault, row_at};
 ghost use Rattle.compiled_categories.specs.Locale.{locale_among};
 
 use crate::compiled::Compiled;
 use crate::kept::CategoryLists;
+use crate::shared::{SharedLocale, add_shared, shared};
 use lc_base::{Mask, Place, Reason, TextFault};
 use locale_sources::{LocaleRow, Source, SourceNumbers};
-use std::alloc::Global;
+use std::alloc::{AllocError, Global};
 use std::marker::Model;
+use std::sync::Arc;
 
-/// Compiled locales by their numbers. What several of them share stands once.
+/// Compiled locales by their numbers. What several of them share stands once, also where they are
+/// in different lists.
 pub struct Locales {
-    rows: Vec<LocaleRow>,
-    kept: CategoryLists,
+    locales: Vec<SharedLocale>,
+    posix: Arc<CategoryLists>,
 }
 
 impl Drop for Locales {
     fn drop(self) {
-        let Locales { rows: _, kept: _ } = self;
+        let Locales {
+            locales: _,
+            posix: _,
+        } = self;
     }
 }
 
 impl Model for Locales {
-    ghost use Rattle.std.specs.Prelude.{List, map};
+    ghost use Rattle.std.specs.Prelude.{List};
     ghost use Rattle.compiled_categories.specs.Locale.{Locale};
-    ghost use Rattle.compiled_categories.specs.Kept.{locale_in};
 
     ghost Value = { List Locale };
 
-    ghost view = { λ l. map (locale_in l.kept) l.rows.items };
+    ghost view = { λ l. l.locales.items };
 }
 
 impl Locales {
@@ -53,15 +58,44 @@ impl Locales {
     {
         let kept = CategoryLists::read(alloc, sources)?;
         let fault = rows_fault(&kept, rows.as_slice());
-        made_unless(fault, Locales { rows, kept })
+        let locales = Locales::of(alloc, rows.as_slice(), kept)?;
+        made_unless(fault, locales)
+    }
+
+    /// The locales of rows, whose categories are among those that are kept.
+    fn of(alloc: Global, rows: &[LocaleRow], kept: CategoryLists) -> Result<Locales, AllocError>
+        ensures { IfOk result (λ l. l ≡ map (locale_in kept) rows.now) }
+    {
+        let posix = Arc::new(alloc, kept)?;
+        let locales = shared(alloc, rows, &posix)?;
+        Ok(Locales { locales, posix })
+    }
+
+    /// The locales of one list, and behind them those of another. Their names are copied, and what
+    /// is compiled is shared: it lasts as long as one of the lists in which it stands.
+    pub fn joined(alloc: Global, first: &Locales, second: &Locales) -> Result<Locales, AllocError>
+        ensures { IfOk result (λ l. l ≡ first.now ++ second.now) }
+    {
+        let posix = Arc::try_clone(&first.posix)?;
+        let mut locales = Vec::new(alloc);
+        add_shared(alloc, &mut locales, first.locales.as_slice())?;
+        add_shared(alloc, &mut locales, second.locales.as_slice())?;
+        Ok(Locales { locales, posix })
+    }
+
+    /// The number of locales.
+    pub fn len(&self) -> usize
+        ensures { result ≡ length self.now }
+    {
+        self.locales.len()
     }
 
     /// The compiled locale with a number; 0, and a number that no locale has, are the POSIX locale.
     pub fn get(&self, number: u32) -> Compiled<'_>
         ensures { result ≡ locale_among self.now number }
     {
-        match row_at(self.rows.as_slice(), number) {
-            Some(row) => Compiled::of(row.name.as_bytes(), row.available, &self.kept, row.ends),
+        match locale_at(self.locales.as_slice(), number) {
+            Some(locale) => locale.compiled(),
             None => {
                 let ends = SourceNumbers {
                     ctype: 0,
@@ -70,7 +104,7 @@ impl Locales {
                     time: 0,
                     messages: 0,
                 };
-                Compiled::of(b"C", Mask::all(), &self.kept, ends)
+                Compiled::of(b"C", Mask::all(), &self.posix, ends)
             }
         }
     }
@@ -98,12 +132,12 @@ fn rows_fault(kept: &CategoryLists, rows: &[LocaleRow]) -> Option<(Place, Reason
     None
 }
 
-/// The row with a number, from 1.
-fn row_at(rows: &[LocaleRow], number: u32) -> Option<&LocaleRow>
-    ensures { option_copied result ≡ row_at rows.now number }
+/// The locale with a number, from 1.
+fn locale_at(locales: &[SharedLocale], number: u32) -> Option<&SharedLocale>
+    ensures { option_copied result ≡ row_at locales.now number }
 {
     if number == 0 {
         return None;
     }
-    rows.get(number as usize - 1)
+    locales.get(number as usize - 1)
 }

@@ -1,0 +1,57 @@
+-- Worked examples of two libraries as one.
+use Rattle.std.specs.Prelude.{◌≡◌, ℕ, List, [], ◌∷◌, codes, Some, Ok, refl}
+use Rattle.compiled_categories.specs.Locale.{Locale, posix_locale}
+use Rattle.category_store.specs.Catalog.{Catalog}
+use Rattle.category_store.specs.Library.{numbers}
+use Rattle.category_store.specs.Joined.{joined, locale_named}
+
+-- a locale that has these categories
+abbrev locale : List ℕ → ℕ → Locale
+locale name mask = record posix_locale { name = name; available = mask }
+
+-- a and b, with a version of b; a is native
+abbrev system : Catalog
+system = record {
+  locales = locale (codes "a") 31 ∷ locale (codes "b") 1 ∷ locale (codes "b") 3 ∷ [];
+  names = (codes "a", 1) ∷ (codes "b", 2) ∷ [];
+  first = (codes "a", 1) ∷ (codes "b", 2) ∷ [];
+  keys = (codes "k", 3) ∷ [];
+  native = 1;
+}
+
+-- c and another b; c is native
+abbrev own : Catalog
+own = record {
+  locales = locale (codes "c") 31 ∷ locale (codes "b") 7 ∷ [];
+  names = (codes "c", 1) ∷ (codes "b", 2) ∷ [];
+  first = (codes "c", 1) ∷ (codes "b", 2) ∷ [];
+  keys = [];
+  native = 1;
+}
+
+-- c has a number behind those of a and b; b is the one of the later library
+joined-names : joined system own ≡ record {
+  locales = locale (codes "a") 31 ∷ locale (codes "b") 1 ∷ locale (codes "b") 3 ∷ locale (codes "c") 31 ∷ locale (codes "b") 7 ∷ [];
+  names = (codes "a", 1) ∷ (codes "b", 2) ∷ (codes "c", 3) ∷ [];
+  first = (codes "c", 4) ∷ (codes "b", 5) ∷ (codes "a", 1) ∷ [];
+  keys = (codes "k", 3) ∷ [];
+  native = 3;
+}
+joined-names = refl
+
+-- the native locale of the earlier library, where the later has none
+joined-native : (joined system (record own { native = 0 })).native ≡ 1
+joined-native = refl
+
+numbers-joined : numbers (joined system own) (codes "c") 2 ≡ Ok (0 ∷ 3 ∷ 0 ∷ 0 ∷ 0 ∷ [])
+numbers-joined = refl
+
+named-both : locale_named (joined system own) (codes "b") ≡ Some (locale (codes "b") 7)
+named-both = refl
+
+named-earlier : locale_named (joined own system) (codes "b") ≡ Some (locale (codes "b") 1)
+named-earlier = refl
+
+-- nothing is lost or added by a library that has nothing
+joined-empty : joined system (record { locales = []; names = []; first = []; keys = []; native = 0 }) ≡ system
+joined-empty = refl

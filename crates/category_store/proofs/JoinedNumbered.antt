@@ -1,0 +1,34 @@
+-- The names of two libraries as one have numbers that are on its shelf.
+use Rattle.std.proofs.Common.{ℕ, zero, suc, ◌+◌, ◌≤◌, true, false, cond, List, [], ◌∷◌, length, arith}
+use Rattle.std.specs.Prelude.{◌==◌}
+use Rattle.lc_base.specs.Tables.{first_named}
+use Rattle.lc_base.specs.Named.{with_named}
+use Rattle.charset.specs.Portable.{Name}
+use Rattle.category_store.specs.Catalog.{Catalog}
+use Rattle.category_store.specs.Joined.{numbered_after, names_of_both, entry_at, number_among, native_of_both, joined}
+use Rattle.category_store.specs.Shelf.{IsNumbered}
+use Rattle.category_store.proofs.Numbered.{AreUpTo, with_one, found_up_to, or_zero, numbered_counted}
+
+after_counted : (named es : List (Name × ℕ)) → AreUpTo (length named) named → AreUpTo (length (numbered_after named es)) (numbered_after named es)
+after_counted named [] counted = counted
+after_counted named (e ∷ es) counted = after_counted (with_named named e.0 (length named + 1)) es (with_one named e.0 counted)
+
+both_counted : (earlier later : List (Name × ℕ)) → AreUpTo (length (names_of_both earlier later)) (names_of_both earlier later)
+both_counted earlier later = after_counted (numbered_after [] earlier) later (after_counted [] earlier tt)
+
+among_up_to : (m : ℕ) (names own : List (Name × ℕ)) (n : ℕ) → AreUpTo m names → number_among names own n ≤ m
+among_up_to m names own zero counted = omega arith
+among_up_to m names own (suc k) counted = or_zero m (first_named names (entry_at own k).0) (found_up_to m names (entry_at own k).0 counted)
+
+native_up_to : (m : ℕ) (names earlier : List (Name × ℕ)) (first : ℕ) (later : List (Name × ℕ)) (second : ℕ) → AreUpTo m names → native_of_both names earlier first later second ≤ m
+native_up_to m names earlier first later second counted =
+    elim (second == 0) as (λ b. cond b (number_among names earlier first) (number_among names later second) ≤ m) [
+      | true ↦ among_up_to m names earlier first counted
+      | false ↦ among_up_to m names later second counted
+    ]
+
+pub joined_numbered : (earlier later : Catalog) → IsNumbered (joined earlier later)
+joined_numbered earlier later =
+    let names = names_of_both earlier.names later.names in
+    let counted : AreUpTo (length names) names = both_counted earlier.names later.names in
+    numbered_counted (joined earlier later) (record { names = counted; native = native_up_to (length names) names earlier.names earlier.native later.names later.native counted })
