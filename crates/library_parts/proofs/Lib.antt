@@ -1,0 +1,4 @@
+pub mod BlockLemmas
+pub mod SizeLemmas
+pub mod Laws
+mod Examples

@@ -1,0 +1,6 @@
+pub mod Told
+pub mod Lines
+pub mod Parts
+pub mod Places
+pub mod Books
+pub mod Made

@@ -1,0 +1,17 @@
+//! A library from its parts: charmaps, locale sources and message catalogs, given one by one.
+#![tactic(auto)]
+
+mod blocks;
+mod books;
+mod fault;
+mod lines;
+mod made;
+mod part;
+mod place;
+mod seen;
+
+pub use books::{Books, NamedBook};
+pub use fault::{PartFault, Wrong};
+pub use made::{Made, made_of};
+pub use part::{Part, PartKind};
+pub use seen::PART_LIMIT;
