@@ -2,25 +2,26 @@
  * POSIX locale objects by proved formatters (POSIX.1-2017, XSH newlocale, strfmon_l, strftime_l and
  * others). docs/C.md says how to build a program with the library and what is proved of it.
  *
- * Libraries. lobj_read compiles a text into a library, which is then never written: a program keeps its
- * pointer, and frees it by lobj_library_free. Each other call takes a `const lobj_library *`, and writes nothing
- * but its answer and what the caller gave it to write. So any number of threads may make any calls on one
+ * Libraries. lobj_read compiles a text into a library, lobj_build the parts of a builder, and lobj_join puts two
+ * libraries together. A library is then never written: a program keeps its pointer, and frees it by
+ * lobj_library_free. Each other call takes a `const lobj_library *`, and writes nothing but its answer and what the
+ * caller gave it to write. So any number of threads may make any calls on one
  * library at once, without a lock, and so may the child of a fork. The thread that frees it must know that no
  * call on it runs: by the join of the others, by a lock, or by an atomic.
  *
  * Locales. A `lobj_locale` is a plain value, to be copied and compared by its fields: nothing is to be freed.
  * It has the mark of the library that made it. A call that is given what is no locale of its library answers
- * LOBJ_NO_LOCALE. The mark is that of the text that was read: two libraries of one text take each other's
- * locales, which mean the same in both.
+ * LOBJ_NO_LOCALE. The mark is that of the text that was read, or of the parts: two libraries of one text take each
+ * other's locales, which mean the same in both. A `lobj_catalog`, a message catalog, is such a value as well.
  *
  * Texts are given by a pointer and a number of bytes, need no NUL, and may have any bytes. Buffers are
  * given with their size. A text that a call gives begins at the start of the buffer and is followed by a
  * NUL, and `n` is its length without the NUL. It is never cut: if text and NUL do not fit, the answer is
- * LOBJ_TOO_SMALL. Under any code but LOBJ_OK a buffer for a text is as it was; that of lobj_read is for the
- * line of a fault.
+ * LOBJ_TOO_SMALL. Under any code but LOBJ_OK a buffer for a text is as it was; those of lobj_read and lobj_build are
+ * for the message of a fault.
  *
  * A pointer to a text, to a buffer, or to amounts or numbers may be null where its size is 0, and
- * lobj_library_free takes a null. No other pointer may be null. No call checks this, but LOBJ_NONNULL below lets
+ * lobj_library_free and lobj_builder_free take a null. No other pointer may be null. No call checks this, but LOBJ_NONNULL below lets
  * compilers warn of a null constant (-Wall), and the sanitizer of undefined behavior stop at any null. What a call
  * writes through two pointers may not overlap, nor the other arguments; each points to as many bytes or elements
  * as its size says; a `bool` is true or false; no size is over PTRDIFF_MAX. Nothing checks these.
@@ -67,14 +68,17 @@ extern "C" {
 /* A library of compiled locales. */
 typedef struct lobj_library lobj_library;
 
+/* Parts of a library that is yet to be made. */
+typedef struct lobj_builder lobj_builder;
+
 /* What a call answers, in `code` of a `lobj_answer`; `n` is 0 where nothing is said of it. */
 enum {
     LOBJ_OK = 0,
-    /* Out of memory: of lobj_read alone. */
+    /* Out of memory: of the calls that make libraries and builders alone. */
     LOBJ_NO_MEMORY = 1,
     /* The text has 2^31 bytes or more. */
     LOBJ_TOO_LONG = 2,
-    /* The text breaks a rule; `n` is the length of the line in the buffer. */
+    /* The text breaks a rule; `n` is the length of the message, or the size that it needs. */
     LOBJ_BAD_TEXT = 3,
     /* The locale is not one of the library. */
     LOBJ_NO_LOCALE = 4,
@@ -92,7 +96,7 @@ enum {
     LOBJ_BAD_AMOUNT = 10,
     /* A field of a time is out of its range: the `n`-th, from 1, with the offset as the ninth. */
     LOBJ_TM_RANGE = 11,
-    /* There is no item, or no text of localeconv, with the number. */
+    /* There is no item, no text of localeconv, no kind of parts or no reason with the number. */
     LOBJ_NO_ITEM = 12,
     /* The locale has no class with the name or the number. */
     LOBJ_NO_CLASS = 13,
@@ -101,7 +105,19 @@ enum {
     /* The charset of the locale's LC_CTYPE is not UTF-8. */
     LOBJ_NOT_UTF8 = 15,
     /* The text is not UTF-8: its first `n` bytes are, and no more. */
-    LOBJ_BAD_CHARACTER = 16
+    LOBJ_BAD_CHARACTER = 16,
+    /* There are more than 4096 parts of a kind; or more than 4096 locales, or catalogs, together. */
+    LOBJ_TOO_MANY = 17,
+    /* The name or the label of a part is not formed as one of its kind. */
+    LOBJ_BAD_NAME = 18,
+    /* A part of the kind has the name already, and of a catalog also the locale. */
+    LOBJ_NAME_TWICE = 19,
+    /* The charset of a source is neither UTF-8 nor POSIX, nor a charmap among the parts. */
+    LOBJ_NO_CHARMAP = 20,
+    /* No catalog has the name for the locale, or the catalog is not one of the library. */
+    LOBJ_NO_CATALOG = 21,
+    /* The catalog has no such message. */
+    LOBJ_NO_MESSAGE = 22
 };
 
 typedef struct lobj_answer {
@@ -132,11 +148,37 @@ typedef struct lobj_locale {
     uint32_t messages;
 } lobj_locale;
 
-/* A line and a column of a text, each from 1. */
-typedef struct lobj_place {
-    uint32_t line;
-    uint32_t column;
-} lobj_place;
+/*
+ * Where and why a library is not made. The part is 0 for a text that lobj_read reads. Line and column are 0 where the
+ * text is not at fault, as are reason, start and length then.
+ */
+typedef struct lobj_fault {
+    size_t part;     /* the number of the part, from 0 */
+    uint32_t line;   /* the line in its text, from 1 */
+    uint32_t column; /* the byte in the line, from 1 */
+    uint32_t reason; /* the number of the reason, for lobj_rule and lobj_reason_name */
+    size_t start;    /* where the line begins in the text, from 0 */
+    size_t length;   /* how many bytes it has, without its newline */
+} lobj_fault;
+
+/* The number of reasons: they have the numbers below it, and keep them. */
+enum { LOBJ_REASONS = 77 };
+
+/* What a part is. */
+enum {
+    /* A charmap. Its label is empty. */
+    LOBJ_CHARMAP = 0,
+    /* A locale's source. Its label is the name of its charset: `UTF-8`, `POSIX` or that of a charmap. */
+    LOBJ_SOURCE = 1,
+    /* The source of a message catalog. Its label is the name of the locale that opens it by its LC_MESSAGES. */
+    LOBJ_CATALOG = 2
+};
+
+/* A message catalog: the mark of its library, and its number. Two catalogs are the same if both fields are. */
+typedef struct lobj_catalog {
+    uint64_t mark;
+    uint32_t number;
+} lobj_catalog;
 
 /* An amount of units / 10^scale; scale is at most 18. */
 typedef struct lobj_amount {
@@ -234,23 +276,76 @@ typedef struct lobj_table {
 } lobj_table;
 
 /*
- * Reads charmaps and locale sources, in the form of a bundle (docs/BUNDLE.md), and gives the library that
- * they make. Commands in the text are read, too, and ignored: a wrong one is a fault of the text. Message
- * catalogs are passed over: a wrong line `.catalog` is a fault, but what stands between it and its `.end` is not
- * looked at, and no call reads it. What `*out` was before is not looked at.
+ * Reads charmaps, locale sources and message catalogs, in the form of a bundle (docs/BUNDLE.md), and gives the library
+ * that they make. Commands in the text are read, too, and ignored: a wrong one is a fault of the text. What `*out` was
+ * before is not looked at.
  *
- * LOBJ_BAD_TEXT: the text breaks a rule; `place` is where, and the buffer has the line `refused: L:C REASON`
- * that names it (docs/REFUSALS.md), a newline at its end. LOBJ_TOO_SMALL: it does, and the line does not fit;
- * `place` is where. LOBJ_TOO_LONG, LOBJ_NO_MEMORY. Only LOBJ_OK writes `*out`, which is then the caller's to free,
- * and only a refusal writes `place` and the buffer. Once the call has returned, nothing refers to the text.
+ * LOBJ_BAD_TEXT: the text breaks a rule; `fault` tells where, and the buffer has the message `REASON: RULE`
+ * (docs/REFUSALS.md), of which `n` is the length. Where message and NUL do not fit, the buffer is as it was, and `n` is
+ * the size that they need: so the message is there if `n` is less than the size. LOBJ_TOO_LONG, LOBJ_NO_MEMORY. Only
+ * LOBJ_OK writes `*out`, which is then the caller's to free, and only LOBJ_BAD_TEXT writes `fault` and the buffer. Once
+ * the call has returned, nothing refers to the text.
  */
-lobj_answer lobj_read(const char *text, size_t length, lobj_library **out, lobj_place *place, char *buffer,
+lobj_answer lobj_read(const char *text, size_t length, lobj_library **out, lobj_fault *fault, char *buffer,
                       size_t size) LOBJ_NONNULL LOBJ_ANSWERS;
+
+/*
+ * Gives a builder without parts, which is the caller's to free by lobj_builder_free. One thread at a time may use it.
+ * LOBJ_NO_MEMORY: `*out` is as it was.
+ */
+lobj_answer lobj_builder_new(lobj_builder **out) LOBJ_NONNULL LOBJ_ANSWERS;
+
+/*
+ * Adds a part to a builder, and gives the builder again: lobj_add below is its simple form. The bytes are copied.
+ * LOBJ_NO_ITEM: there is no such kind; LOBJ_NO_MEMORY. Under each code the builder that is given has the parts that
+ * were added, and `builder` is used no more. Whether the part is well-formed is found by lobj_build.
+ */
+lobj_answer lobj_builder_add(lobj_builder *builder, uint32_t kind, const char *name, size_t name_length,
+                             const char *label, size_t label_length, const char *text, size_t length,
+                             lobj_builder **out) LOBJ_NONNULL LOBJ_ANSWERS;
+
+/*
+ * Builds a library of the parts of a builder. The builder stays as it is: it may get more parts, and be built again.
+ * The number of a locale of the library is that of its source among the sources, from 1.
+ *
+ * A fault is the first one: of the parts, in order, LOBJ_TOO_LONG (a text of 2^31 bytes or more, or so many lines in
+ * all parts so far), LOBJ_BAD_NAME, LOBJ_NAME_TWICE, LOBJ_TOO_MANY; then LOBJ_NO_CHARMAP; then LOBJ_BAD_TEXT, of the
+ * charmaps, the sources and the catalogs, in this order: the buffer is used as by lobj_read. Each of them writes `fault`
+ * with the number of the part, in the order in which they were added, from 0. LOBJ_NO_MEMORY: all is as it was. Only
+ * LOBJ_OK writes `*out`, which is then the caller's to free. The library does not refer to the builder.
+ */
+lobj_answer lobj_build(const lobj_builder *builder, lobj_library **out, lobj_fault *fault, char *buffer,
+                       size_t size) LOBJ_NONNULL LOBJ_ANSWERS;
+
+/* Frees a builder that is no null pointer. */
+void lobj_builder_end(lobj_builder *builder) LOBJ_NONNULL;
+
+/* Frees a builder, or nothing. */
+static inline void lobj_builder_free(lobj_builder *builder) {
+    if (builder != NULL) lobj_builder_end(builder);
+}
+
+/*
+ * Gives a library that has the locales and catalogs of both. Nothing is compiled again: they share what was compiled,
+ * and each of the three is freed by itself, in any order. The locales of the first keep their numbers, and those of the
+ * second follow them. A name that both have is that of the second from then on, and so is the native locale, if the
+ * second names one. The mark is another: lobj_locale_in gives a locale of the first as one of the new library.
+ * LOBJ_TOO_MANY: together they have more than 4096 locales, or catalogs. LOBJ_NO_MEMORY. Only LOBJ_OK writes `*out`,
+ * which is then the caller's to free.
+ */
+lobj_answer lobj_join(const lobj_library *first, const lobj_library *second, lobj_library **out)
+                      LOBJ_NONNULL LOBJ_ANSWERS;
+
+/* The rule that a reason says is broken, one sentence without a full stop. LOBJ_NO_ITEM, LOBJ_TOO_SMALL. */
+lobj_answer lobj_rule(char *buffer, size_t size, uint32_t reason) LOBJ_NONNULL LOBJ_ANSWERS;
+
+/* The name of a reason, as docs/REFUSALS.md has it. LOBJ_NO_ITEM, LOBJ_TOO_SMALL. */
+lobj_answer lobj_reason_name(char *buffer, size_t size, uint32_t reason) LOBJ_NONNULL LOBJ_ANSWERS;
 
 /* The version of the library that is linked: LOBJ_VERSION_NUMBER of the header that belongs to it. */
 uint32_t lobj_version(void);
 
-/* Frees a library that is no null pointer. Its locales are then those of no library. */
+/* Frees a library that is no null pointer. Its locales and catalogs are then those of no library. */
 void lobj_library_end(lobj_library *library) LOBJ_NONNULL;
 
 /* Frees a library, or nothing. */
@@ -280,7 +375,7 @@ lobj_answer lobj_locale_name(char *buffer, size_t size, const lobj_library *libr
 
 /*
  * The name of the compiled locale with a number: `C` of 0, and of i that of the i-th `.locale` or `.later` block of
- * the text by place. LOBJ_NO_ITEM: there is none with the number, nor with a larger one. So the names of a library
+ * the text by place, or of the i-th source of the parts. LOBJ_NO_ITEM: there is none with the number, nor with a larger one. So the names of a library
  * are those from 1 up to there; a name with later versions comes once with each. LOBJ_TOO_SMALL.
  */
 lobj_answer lobj_library_name(char *buffer, size_t size, const lobj_library *library, uint32_t number)
@@ -393,6 +488,20 @@ lobj_answer lobj_strptime(const lobj_library *library, lobj_locale locale, const
                           const char *format, size_t format_length, lobj_parsed *fields) LOBJ_NONNULL LOBJ_ANSWERS;
 
 /*
+ * The message catalog that a name opens for a locale: that for the name of its LC_MESSAGES (XSH catopen). Nothing is to
+ * be closed. LOBJ_NO_LOCALE, LOBJ_NO_CATALOG: `out` is as it was.
+ */
+lobj_answer lobj_catopen(const lobj_library *library, lobj_locale locale, const char *name, size_t length,
+                         lobj_catalog *out) LOBJ_NONNULL LOBJ_ANSWERS;
+
+/*
+ * A message of a catalog by its set and its number (XSH catgets). lobj_catgets_or gives another text where there is
+ * none. LOBJ_NO_CATALOG, LOBJ_NO_MESSAGE, LOBJ_TOO_SMALL.
+ */
+lobj_answer lobj_catgets(char *buffer, size_t size, const lobj_library *library, lobj_catalog catalog, uint32_t set,
+                         uint32_t number) LOBJ_NONNULL LOBJ_ANSWERS;
+
+/*
  * The functions below are no calls of the library: a compiler takes them from here.
  */
 
@@ -416,8 +525,22 @@ static inline const char *lobj_strerror(uint32_t code) {
     case LOBJ_MISMATCH: return "the text does not meet the format";
     case LOBJ_NOT_UTF8: return "the charset of the locale is not UTF-8";
     case LOBJ_BAD_CHARACTER: return "the text is not UTF-8";
+    case LOBJ_TOO_MANY: return "there are too many parts, locales or catalogs";
+    case LOBJ_BAD_NAME: return "the name or the label of a part is not formed as one";
+    case LOBJ_NAME_TWICE: return "another part has the name already";
+    case LOBJ_NO_CHARMAP: return "the charset is neither built in nor a charmap";
+    case LOBJ_NO_CATALOG: return "there is no such message catalog";
+    case LOBJ_NO_MESSAGE: return "the catalog has no such message";
     default: return "unknown code";
     }
+}
+
+/* A locale of the first of two libraries that were joined, as one of the library that lobj_join gave. */
+static inline lobj_locale lobj_locale_in(const lobj_library *joined, lobj_locale locale) {
+    lobj_locale posix;
+    lobj_posix_locale(joined, &posix);
+    locale.mark = posix.mark;
+    return locale;
 }
 
 /*
@@ -532,8 +655,29 @@ static inline const int64_t *lobj_numbers_or_none(const int64_t *numbers) {
 
 /* The calls with a null handed on where a size is 0. */
 static inline LOBJ_ANSWERS LOBJ_NONNULL_AT(3, 4) lobj_answer lobj_read_given(
-    const char *text, size_t length, lobj_library **out, lobj_place *place, char *buffer, size_t size) {
-    return lobj_read(lobj_text_or_none(text), length, out, place, lobj_buffer_or_none(buffer), size);
+    const char *text, size_t length, lobj_library **out, lobj_fault *fault, char *buffer, size_t size) {
+    return lobj_read(lobj_text_or_none(text), length, out, fault, lobj_buffer_or_none(buffer), size);
+}
+
+/* Adds a part to a builder by lobj_builder_add, which puts the builder back to where it was. */
+static inline LOBJ_ANSWERS LOBJ_NONNULL_AT(1) lobj_answer lobj_add(
+    lobj_builder **builder, uint32_t kind, const char *name, size_t name_length, const char *label,
+    size_t label_length, const char *text, size_t length) {
+    return lobj_builder_add(*builder, kind, lobj_text_or_none(name), name_length, lobj_text_or_none(label),
+        label_length, lobj_text_or_none(text), length, builder);
+}
+
+static inline LOBJ_ANSWERS LOBJ_NONNULL_AT(1, 2, 3) lobj_answer lobj_build_given(
+    const lobj_builder *builder, lobj_library **out, lobj_fault *fault, char *buffer, size_t size) {
+    return lobj_build(builder, out, fault, lobj_buffer_or_none(buffer), size);
+}
+
+static inline LOBJ_ANSWERS lobj_answer lobj_rule_given(char *buffer, size_t size, uint32_t reason) {
+    return lobj_rule(lobj_buffer_or_none(buffer), size, reason);
+}
+
+static inline LOBJ_ANSWERS lobj_answer lobj_reason_name_given(char *buffer, size_t size, uint32_t reason) {
+    return lobj_reason_name(lobj_buffer_or_none(buffer), size, reason);
 }
 
 static inline LOBJ_ANSWERS LOBJ_NONNULL_AT(1, 6) lobj_answer lobj_newlocale_given(
@@ -620,11 +764,31 @@ static inline LOBJ_ANSWERS LOBJ_NONNULL_AT(1, 7) lobj_answer lobj_strptime_given
         format_length, fields);
 }
 
+static inline LOBJ_ANSWERS LOBJ_NONNULL_AT(1, 5) lobj_answer lobj_catopen_given(
+    const lobj_library *library, lobj_locale locale, const char *name, size_t length, lobj_catalog *out) {
+    return lobj_catopen(library, locale, lobj_text_or_none(name), length, out);
+}
+
+static inline LOBJ_ANSWERS LOBJ_NONNULL_AT(3) lobj_answer lobj_catgets_given(
+    char *buffer, size_t size, const lobj_library *library, lobj_catalog catalog, uint32_t set, uint32_t number) {
+    return lobj_catgets(lobj_buffer_or_none(buffer), size, library, catalog, set, number);
+}
+
+/* A message in the buffer, or another text where the catalog lacks it or the buffer has no room for it. */
+static inline const char *lobj_catgets_or(char *buffer, size_t size, const lobj_library *library, lobj_catalog catalog,
+                                          uint32_t set, uint32_t number, const char *otherwise) {
+    const lobj_answer answer = lobj_catgets_given(buffer, size, library, catalog, set, number);
+    return answer.code == LOBJ_OK ? buffer : otherwise;
+}
+
 #ifdef __cplusplus
 }
 #endif
 
 #define lobj_read(...) lobj_read_given(__VA_ARGS__)
+#define lobj_build(...) lobj_build_given(__VA_ARGS__)
+#define lobj_rule(...) lobj_rule_given(__VA_ARGS__)
+#define lobj_reason_name(...) lobj_reason_name_given(__VA_ARGS__)
 #define lobj_newlocale(...) lobj_newlocale_given(__VA_ARGS__)
 #define lobj_locale_name(...) lobj_locale_name_given(__VA_ARGS__)
 #define lobj_library_name(...) lobj_library_name_given(__VA_ARGS__)
@@ -640,5 +804,7 @@ static inline LOBJ_ANSWERS LOBJ_NONNULL_AT(1, 7) lobj_answer lobj_strptime_given
 #define lobj_upper_text(...) lobj_upper_text_given(__VA_ARGS__)
 #define lobj_lower_text(...) lobj_lower_text_given(__VA_ARGS__)
 #define lobj_strptime(...) lobj_strptime_given(__VA_ARGS__)
+#define lobj_catopen(...) lobj_catopen_given(__VA_ARGS__)
+#define lobj_catgets(...) lobj_catgets_given(__VA_ARGS__)
 
 #endif

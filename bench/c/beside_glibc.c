@@ -245,7 +245,7 @@ static lobj_library *read_source(const char *path) {
     static char text[1 << 16] = ".locale us UTF-8\n";
     size_t length = strlen(text);
     lobj_library *library = NULL;
-    lobj_place place = { 0, 0 };
+    lobj_fault fault = { 0, 0, 0, 0, 0, 0 };
     char line[128] = "";
     FILE *file = fopen(path, "rb");
     if (file == NULL) {
@@ -255,7 +255,7 @@ static lobj_library *read_source(const char *path) {
     length += fread(text + length, 1, sizeof text - length - 8, file);
     fclose(file);
     memcpy(text + length, ".end\n", 5);
-    if (lobj_read(text, length + 5, &library, &place, line, sizeof line).code != LOBJ_OK) {
+    if (lobj_read(text, length + 5, &library, &fault, line, sizeof line).code != LOBJ_OK) {
         fputs(line, stderr);
         exit(1);
     }

@@ -1,10 +1,11 @@
 /*
  * A service that greets over a Unix socket, by a pool of threads that share one library, and that gets more locales
- * while it runs: it makes a second library of all sources, and frees the first when its last reader is done.
+ * while it runs: it builds a library of the new one, joins it with the first, which is not compiled again, and frees the
+ * first when its last reader is done.
  *
  * server serve SOCKET FILE   reads the locale sources of FILE, and answers until it is told to stop
- * server ask SOCKET WORDS..  sends the words as one line, and prints the answer: `greet LOCALE NAME`, `add FILE`,
- *                            `names`, `stop`
+ * server ask SOCKET WORDS..  sends the words as one line, and prints the answer: `greet LOCALE NAME`,
+ *                            `add LOCALE FILE`, `names`, `stop`
  */
 #define _POSIX_C_SOURCE 200809L
 #include "locale_objects.h"
@@ -20,11 +21,9 @@
 /* The threads, the longest line, and the most bytes that are read of a file. */
 enum { THREADS = 4, LINE = 512, MOST = 1 << 20 };
 
-/* A library with its text, and how many requests read it. */
+/* A library, and how many requests read it. */
 typedef struct shelf {
     lobj_library *library;
-    char *text;
-    size_t length;
     int readers;
 } shelf;
 
@@ -34,7 +33,6 @@ static int listening;
 
 static void end_shelf(shelf *s) {
     lobj_library_free(s->library);
-    free(s->text);
     free(s);
 }
 
@@ -63,30 +61,43 @@ static void replace(shelf *next) {
     if (is_unread) end_shelf(before);
 }
 
-/*
- * The library of the sources of a file and a text behind them; on a fault none, and the line of its refusal, which
- * counts the lines of the file.
- */
-static shelf *read_shelf(const char *text, size_t length, const char *path, char *line, size_t size) {
+/* The text of a file, to be freed; null where there is none. */
+static char *text_of(const char *path, size_t *length) {
     FILE *file = fopen(path, "rb");
-    shelf *made = calloc(1, sizeof *made);
-    char *all = malloc(MOST + 1 + length);
-    lobj_place place = { 0, 0 };
-    lobj_answer answer = { LOBJ_NO_MEMORY, 0 };
-    if (file != NULL && made != NULL && all != NULL) {
-        const size_t read = fread(all, 1, MOST, file);
-        all[read] = '\n';
-        if (length > 0) memcpy(all + read + 1, text, length);
-        made->text = all;
-        made->length = read + 1 + length;
-        answer = lobj_read(made->text, made->length, &made->library, &place, line, size);
-    }
+    char *text = file != NULL ? malloc(MOST) : NULL;
+    if (text != NULL) *length = fread(text, 1, MOST, file);
     if (file != NULL) fclose(file);
+    return text;
+}
+
+/* The library of a text: of a bundle, or of the source of the locale with a name, where there is one. */
+static lobj_answer library_of(const char *text, size_t length, const char *name, lobj_library **out, lobj_fault *fault,
+                              char *message, size_t size) {
+    lobj_builder *builder = NULL;
+    if (name == NULL) return lobj_read(text, length, out, fault, message, size);
+    lobj_answer answer = lobj_builder_new(&builder);
+    if (answer.code != LOBJ_OK) return answer;
+    answer = lobj_add(&builder, LOBJ_SOURCE, name, strlen(name), "UTF-8", 5, text, length);
+    if (answer.code == LOBJ_OK) answer = lobj_build(builder, out, fault, message, size);
+    lobj_builder_free(builder);
+    return answer;
+}
+
+/* The library of a file on a shelf; on a fault none, and a line that says why. */
+static shelf *read_shelf(const char *path, const char *name, char *line, size_t size) {
+    char message[LINE / 2] = "";
+    lobj_fault fault = { 0, 0, 0, 0, 0, 0 };
+    size_t length = 0;
+    shelf *made = calloc(1, sizeof *made);
+    char *text = text_of(path, &length);
+    lobj_answer answer = { LOBJ_NO_MEMORY, 0 };
+    if (made != NULL && text != NULL) answer = library_of(text, length, name, &made->library, &fault, message, sizeof message);
+    free(text);
     if (answer.code == LOBJ_OK) return made;
-    if (file == NULL) snprintf(line, size, "cannot read %s\n", path);
-    else if (answer.code != LOBJ_BAD_TEXT) snprintf(line, size, "%s\n", lobj_strerror(answer.code));
-    free(all);
     free(made);
+    if (text == NULL) snprintf(line, size, "cannot read %s\n", path);
+    else if (answer.code == LOBJ_BAD_TEXT) snprintf(line, size, "%u:%u: %s\n", (unsigned)fault.line, (unsigned)fault.column, message);
+    else snprintf(line, size, "%s\n", lobj_strerror(answer.code));
     return NULL;
 }
 
@@ -112,23 +123,27 @@ static void list_names(char *reply, size_t size, const lobj_library *library) {
     if (n + 1 < size) strcpy(reply + n, "\n");
 }
 
-static void add(char *reply, size_t size, const char *path) {
+static void add(char *reply, size_t size, const char *name, const char *path) {
+    shelf *more = read_shelf(path, name, reply, size), *next = calloc(1, sizeof *next);
     pthread_mutex_lock(&adding);
     shelf *before = take();
-    shelf *next = read_shelf(before->text, before->length, path, reply, size);
-    if (next != NULL) {
-        replace(next);
-        snprintf(reply, size, "added\n");
+    if (more != NULL && next != NULL) {
+        const lobj_answer answer = lobj_join(before->library, more->library, &next->library);
+        snprintf(reply, size, "%s\n", answer.code == LOBJ_OK ? "added" : lobj_strerror(answer.code));
     }
+    const bool is_joined = next != NULL && next->library != NULL;
+    if (is_joined) replace(next);
     give_back(before);
     pthread_mutex_unlock(&adding);
+    if (more != NULL) end_shelf(more);
+    if (!is_joined) free(next);
 }
 
 static void answer_line(char *reply, size_t size, char *line) {
     char word[16] = "", first[128] = "", second[128] = "";
     const int count = sscanf(line, "%15s %127s %127[^\n]", word, first, second);
-    if (count == 2 && strcmp(word, "add") == 0) {
-        add(reply, size, first);
+    if (count == 3 && strcmp(word, "add") == 0) {
+        add(reply, size, first, second);
     } else if (count == 1 && strcmp(word, "stop") == 0) {
         snprintf(reply, size, "stopped\n");
         shutdown(listening, SHUT_RDWR);
@@ -179,7 +194,7 @@ int main(int count, char **words) {
         perror("server: connect");
         return 1;
     }
-    current = read_shelf(NULL, 0, words[3], line, sizeof line);
+    current = read_shelf(words[3], NULL, line, sizeof line);
     if (current == NULL) {
         fprintf(stderr, "server: %s", line);
         return 1;

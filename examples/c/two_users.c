@@ -31,17 +31,6 @@ static void *format_both(void *given) {
     return NULL;
 }
 
-/* Prints the category and the keyword on the line of a fault, and why it is one. */
-static void print_fault(const char *source, uint32_t line, const char *refusal) {
-    char category[32] = "", keyword[32] = "";
-    for (uint32_t n = 1; n < line; n++) {
-        if (strncmp(source, "LC_", 3) == 0) sscanf(source, "%31s", category);
-        source = strchr(source, '\n') + 1;
-    }
-    sscanf(source, "%31s", keyword);
-    printf("%s %s: %s", category, keyword, refusal);
-}
-
 int main(int count, char **arguments) {
     static const char broken[] = ".locale de UTF-8\nLC_NUMERIC\ndecimal_point \"\"\nEND LC_NUMERIC\n.end\n";
     static const char *const names[] = { "en_US", "fr_FR" };
@@ -49,15 +38,15 @@ int main(int count, char **arguments) {
     user users[] = { { .name = "Ann", .format = "%x" }, { .name = "Bob", .format = "%A %d %B" } };
     lobj_library *library = NULL;
     lobj_locale posix;
-    lobj_place place = { 0, 0 };
+    lobj_fault fault = { 0, 0, 0, 0, 0, 0 };
     pthread_t threads[2];
-    char line[128];
+    char line[256];
     FILE *file = count == 2 ? fopen(arguments[1], "rb") : NULL;
     if (file == NULL) {
         fprintf(stderr, "usage: two_users FILE\n");
         return 2;
     }
-    require(lobj_read(text, fread(text, 1, sizeof text, file), &library, &place, line, sizeof line), "read");
+    require(lobj_read(text, fread(text, 1, sizeof text, file), &library, &fault, line, sizeof line), "read");
     fclose(file);
     lobj_posix_locale(library, &posix);
     for (int i = 0; i < 2; i++) {
@@ -70,8 +59,8 @@ int main(int count, char **arguments) {
         printf("%s: %s, %s\n", users[i].name, users[i].amount, users[i].date);
     }
     lobj_library_free(library);
-    if (lobj_read(broken, strlen(broken), &library, &place, line, sizeof line).code == LOBJ_BAD_TEXT) {
-        print_fault(broken, place.line, line);
+    if (lobj_read(broken, strlen(broken), &library, &fault, line, sizeof line).code == LOBJ_BAD_TEXT) {
+        printf("%u:%u: %s\n%.*s\n", (unsigned)fault.line, (unsigned)fault.column, line, (int)fault.length, broken + fault.start);
     }
     return 0;
 }

@@ -10,11 +10,11 @@
 #include <string.h>
 
 static void name_codes(void) {
-    for (uint32_t code = 0; code <= LOBJ_BAD_CHARACTER; code++) {
+    for (uint32_t code = 0; code <= LOBJ_NO_MESSAGE; code++) {
         for (uint32_t other = 0; other < code; other++) CHECK(strcmp(lobj_strerror(code), lobj_strerror(other)) != 0);
         CHECK(strcmp(lobj_strerror(code), "unknown code") != 0);
     }
-    CHECK(strcmp(lobj_strerror(LOBJ_BAD_CHARACTER + 1), "unknown code") == 0);
+    CHECK(strcmp(lobj_strerror(LOBJ_NO_MESSAGE + 1), "unknown code") == 0);
 }
 
 static void convert_times(void) {

@@ -10,10 +10,10 @@
 int main(void) {
     static const char text[] = ".locale us UTF-8\n.end\n";
     lobj_library *library = NULL;
-    lobj_place place;
+    lobj_fault fault;
     lobj_locale posix;
     char line[64];
-    if (lobj_read(text, sizeof text - 1, &library, &place, line, sizeof line).code != LOBJ_OK) return 1;
+    if (lobj_read(text, sizeof text - 1, &library, &fault, line, sizeof line).code != LOBJ_OK) return 1;
     lobj_posix_locale(library, &posix);
     const bool is_ours = lobj_towupper(library, posix, 'q').n == 'Q';
     lobj_library_free(library);

@@ -40,7 +40,8 @@ static const char sources[] =
     "era_t_fmt \"era t\"\nalt_digits \"zero\"\nEND LC_TIME\n.end\n"
     ".locale cased UTF-8\nLC_CTYPE\nupper <U00C9>;<U2C6F>\nlower <U00E9>;<U0250>;<U0131>\n"
     "toupper (<U00E9>,<U00C9>);(<U0131>,I);(<U0250>,<U2C6F>);(q,Q)\ntolower (<U00C9>,<U00E9>);(Q,q)\nEND LC_CTYPE\n.end\n"
-    ".catalog words half\nthis is no message\n.end\n"
+    ".catalog words C\n1 one\n$set 2\n7 seven of two\n.end\n"
+    ".catalog words half\n1 eins\n.end\n"
     ".native half\n";
 
 /* How many blocks of memory are given before none is; below 0 as many as are asked for. */
@@ -68,32 +69,214 @@ void *__wrap_realloc(void *block, size_t size) {
 
 static const lobj_tm sunday = { 2021, 1, 3, 14, 5, 6, 0, 2, true, 60 };
 
+static const lobj_fault untouched_fault = { 7, 7, 7, 7, 7, 7 };
+
+static bool is_fault(const lobj_fault *fault, size_t part, uint32_t line, uint32_t column, uint32_t reason, size_t start,
+                     size_t length) {
+    return fault->part == part && fault->line == line && fault->column == column && fault->reason == reason &&
+           fault->start == start && fault->length == length;
+}
+
+static bool is_untouched_fault(const lobj_fault *fault) {
+    return is_fault(fault, 7, 7, 7, 7, 7, 7);
+}
+
 static void read_library(lobj_library **library) {
-    lobj_place place = { 7, 7 };
+    lobj_fault fault = untouched_fault;
     char line[64];
     memset(line, 'x', sizeof line);
-    CHECK(is(lobj_read(sources, strlen(sources), library, &place, line, sizeof line), LOBJ_OK, 0));
-    CHECK(line[0] == 'x' && place.line == 7 && place.column == 7 && *library != NULL);
+    CHECK(is(lobj_read(sources, strlen(sources), library, &fault, line, sizeof line), LOBJ_OK, 0));
+    CHECK(line[0] == 'x' && is_untouched_fault(&fault) && *library != NULL);
+}
+
+/* The message of a fault: its reason, and the rule that lobj_rule gives of the number. */
+static bool is_message(const char *message, size_t length, const char *reason, uint32_t number) {
+    char rule[512], wanted[600];
+    if (lobj_rule(rule, sizeof rule, number).code != LOBJ_OK) return false;
+    return snprintf(wanted, sizeof wanted, "%s: %s", reason, rule) == (int)length && strcmp(wanted, message) == 0;
 }
 
 static void refuse_texts(void) {
     static const char broken[] = "# a comment\n.locale\n";
-    static const char told[] = "refused: 2:1 BadLine directive\n";
     lobj_library *nothing = NULL;
-    lobj_place place = { 0, 0 };
-    char line[64];
-    CHECK(is(lobj_read(broken, strlen(broken), &nothing, &place, line, sizeof line), LOBJ_BAD_TEXT, strlen(told)));
-    CHECK(strcmp(line, told) == 0 && place.line == 2 && place.column == 1 && nothing == NULL);
-    memset(line, 'x', sizeof line);
-    CHECK(is(lobj_read(broken, strlen(broken), &nothing, &place, line, strlen(told)), LOBJ_TOO_SMALL, strlen(told) + 1));
-    CHECK(line[0] == 'x');
-    CHECK(is(lobj_read(broken, strlen(broken), &nothing, &place, line, strlen(told) + 1), LOBJ_BAD_TEXT, strlen(told)));
+    lobj_fault fault = untouched_fault;
+    char line[512];
+    lobj_answer answer = lobj_read(broken, strlen(broken), &nothing, &fault, line, sizeof line);
+    CHECK(answer.code == LOBJ_BAD_TEXT && is_message(line, answer.n, "BadLine directive", 0) && nothing == NULL);
+    CHECK(is_fault(&fault, 0, 2, 1, 0, 12, 7) && memcmp(broken + fault.start, ".locale", fault.length) == 0);
+    const size_t size = answer.n + 1;
+    for (size_t small = 0; small < size; small++) {
+        memset(line, 'x', sizeof line);
+        fault = untouched_fault;
+        CHECK(is(lobj_read(broken, strlen(broken), &nothing, &fault, line, small), LOBJ_BAD_TEXT, size));
+        CHECK(line[0] == 'x' && is_fault(&fault, 0, 2, 1, 0, 12, 7));
+    }
+    CHECK(is(lobj_read(broken, strlen(broken), &nothing, &fault, line, size), LOBJ_BAD_TEXT, size - 1));
+    fault = untouched_fault;
     char *long_text = malloc((size_t)1 << 31);
     if (long_text != NULL) {
-        CHECK(is(lobj_read(long_text, (size_t)1 << 31, &nothing, &place, line, sizeof line), LOBJ_TOO_LONG, 0));
+        CHECK(is(lobj_read(long_text, (size_t)1 << 31, &nothing, &fault, line, sizeof line), LOBJ_TOO_LONG, 0));
+        CHECK(is_untouched_fault(&fault));
         free(long_text);
     }
     lobj_library_free(NULL);
+}
+
+/* Each reason has a name and a rule, and no number above the last has one. */
+static void ask_reasons(void) {
+    char name[64], other[64], rule[512];
+    for (uint32_t i = 0; i < LOBJ_REASONS; i++) {
+        lobj_answer answer = lobj_reason_name(name, sizeof name, i);
+        CHECK(answer.code == LOBJ_OK && answer.n > 0 && strlen(name) == answer.n);
+        CHECK(is_small(lobj_reason_name(other, answer.n, i), answer.n + 1));
+        answer = lobj_rule(rule, sizeof rule, i);
+        CHECK(answer.code == LOBJ_OK && answer.n > 0 && strlen(rule) == answer.n);
+        CHECK(is_small(lobj_rule(NULL, 0, i), answer.n + 1));
+        for (uint32_t k = 0; k < i; k++) CHECK(lobj_reason_name(other, sizeof other, k).code == LOBJ_OK && strcmp(name, other) != 0);
+    }
+    CHECK(is(lobj_reason_name(name, sizeof name, 4), LOBJ_OK, 5) && strcmp(name, "NoEnd") == 0);
+    CHECK(is(lobj_reason_name(name, sizeof name, LOBJ_REASONS), LOBJ_NO_ITEM, 0) && strcmp(name, "NoEnd") == 0);
+    CHECK(is(lobj_rule(rule, sizeof rule, LOBJ_REASONS), LOBJ_NO_ITEM, 0) && is(lobj_rule(rule, 0, UINT32_MAX), LOBJ_NO_ITEM, 0));
+}
+
+static lobj_answer add(lobj_builder **builder, uint32_t kind, const char *name, const char *label, const char *text) {
+    return lobj_add(builder, kind, name, strlen(name), label, strlen(label), text, strlen(text));
+}
+
+/* A builder with a charmap, a source of its charset, one of UTF-8 that copies, and a catalog for each. */
+static lobj_builder *filled_builder(void) {
+    lobj_builder *builder = NULL;
+    CHECK(is(lobj_builder_new(&builder), LOBJ_OK, 0) && builder != NULL);
+    CHECK(is(add(&builder, LOBJ_SOURCE, "one", "small", "LC_NUMERIC\ndecimal_point \";\"\nEND LC_NUMERIC\n"), LOBJ_OK, 0));
+    CHECK(is(add(&builder, LOBJ_CHARMAP, "small", "", "CHARMAP\n<e'> \\xe9\nEND CHARMAP\n"), LOBJ_OK, 0));
+    CHECK(is(add(&builder, LOBJ_CATALOG, "words", "one", "1 first"), LOBJ_OK, 0));
+    CHECK(is(add(&builder, LOBJ_SOURCE, "two", "UTF-8", "LC_NUMERIC\ncopy \"one\"\nEND LC_NUMERIC"), LOBJ_OK, 0));
+    CHECK(is(add(&builder, LOBJ_CATALOG, "words", "two", "1 second\n"), LOBJ_OK, 0));
+    return builder;
+}
+
+/* A part that is added to others is refused, and tells its number; without it the others are built. */
+static void refuse_parts(void) {
+    static const struct {
+        uint32_t kind;
+        const char *name, *label, *text;
+        uint32_t code;
+        lobj_fault fault;
+        const char *reason;
+    } rows[] = {
+        { LOBJ_SOURCE, "C", "UTF-8", "", LOBJ_BAD_NAME, { 5, 0, 0, 0, 0, 0 }, NULL },
+        { LOBJ_CHARMAP, "UTF-8", "", "", LOBJ_BAD_NAME, { 5, 0, 0, 0, 0, 0 }, NULL },
+        { LOBJ_CHARMAP, "more", "label", "", LOBJ_BAD_NAME, { 5, 0, 0, 0, 0, 0 }, NULL },
+        { LOBJ_SOURCE, "one", "UTF-8", "", LOBJ_NAME_TWICE, { 5, 0, 0, 0, 0, 0 }, NULL },
+        { LOBJ_CATALOG, "words", "two", "", LOBJ_NAME_TWICE, { 5, 0, 0, 0, 0, 0 }, NULL },
+        { LOBJ_SOURCE, "three", "large", "", LOBJ_NO_CHARMAP, { 5, 0, 0, 0, 0, 0 }, NULL },
+        { LOBJ_CATALOG, "others", "two", "1 a\nb c", LOBJ_BAD_TEXT, { 5, 2, 1, 55, 4, 3 }, "BadMessage" },
+        { LOBJ_SOURCE, "three", "UTF-8", "LC_TIME\n  abdays 1\nEND LC_TIME\n", LOBJ_BAD_TEXT, { 5, 2, 3, 37, 8, 10 }, "UnknownKeyword" },
+        { LOBJ_SOURCE, "three", "UTF-8", "LC_TIME\n  abdays 1", LOBJ_BAD_TEXT, { 5, 1, 1, 4, 0, 7 }, "NoEnd" }
+    };
+    char message[512];
+    for (size_t i = 0; i < sizeof rows / sizeof *rows; i++) {
+        lobj_builder *builder = filled_builder();
+        lobj_library *library = NULL;
+        lobj_fault fault = untouched_fault;
+        const lobj_fault *wanted = &rows[i].fault;
+        CHECK(is(lobj_build(builder, &library, &fault, NULL, 0), LOBJ_OK, 0) && library != NULL && is_untouched_fault(&fault));
+        lobj_library_free(library);
+        library = NULL;
+        memset(message, 'x', sizeof message);
+        CHECK(is(add(&builder, 3, "n", "l", "t"), LOBJ_NO_ITEM, 0) && is(add(&builder, UINT32_MAX, "n", "l", "t"), LOBJ_NO_ITEM, 0));
+        CHECK(is(add(&builder, rows[i].kind, rows[i].name, rows[i].label, rows[i].text), LOBJ_OK, 0));
+        const lobj_answer answer = lobj_build(builder, &library, &fault, message, sizeof message);
+        CHECK(answer.code == rows[i].code && library == NULL);
+        CHECK(is_fault(&fault, wanted->part, wanted->line, wanted->column, wanted->reason, wanted->start, wanted->length));
+        if (rows[i].reason != NULL) CHECK(is_message(message, answer.n, rows[i].reason, wanted->reason));
+        else CHECK(answer.n == 0 && message[0] == 'x');
+        lobj_builder_free(builder);
+    }
+    lobj_builder_free(NULL);
+}
+
+/* More than 4096 parts of a kind, and more than 4096 locales together. */
+static void refuse_many(void) {
+    lobj_builder *builder = NULL;
+    lobj_library *library = NULL, *nothing = NULL;
+    lobj_fault fault = untouched_fault;
+    char name[16];
+    CHECK(is(lobj_builder_new(&builder), LOBJ_OK, 0));
+    for (int i = 0; i < 4096; i++) {
+        snprintf(name, sizeof name, "l%d", i);
+        CHECK(is(add(&builder, LOBJ_SOURCE, name, "UTF-8", ""), LOBJ_OK, 0));
+    }
+    CHECK(is(lobj_build(builder, &library, &fault, NULL, 0), LOBJ_OK, 0));
+    CHECK(is(lobj_join(library, library, &nothing), LOBJ_TOO_MANY, 0) && nothing == NULL);
+    CHECK(is(add(&builder, LOBJ_SOURCE, "more", "UTF-8", ""), LOBJ_OK, 0));
+    CHECK(is(lobj_build(builder, &nothing, &fault, NULL, 0), LOBJ_TOO_MANY, 0) && is_fault(&fault, 4096, 0, 0, 0, 0, 0));
+    lobj_library_free(library);
+    lobj_builder_free(builder);
+}
+
+static bool is_point(const lobj_library *library, lobj_locale locale, const char *point) {
+    char text[8];
+    return lobj_nl_langinfo(text, sizeof text, library, locale, LOBJ_RADIXCHAR).code == LOBJ_OK && strcmp(text, point) == 0;
+}
+
+/* What was built is read, also once it was joined with others and these are freed. */
+static void join_libraries(const lobj_library *library) {
+    lobj_builder *builder = filled_builder();
+    lobj_library *built = NULL, *joined = NULL, *again = NULL;
+    lobj_locale posix, one, half;
+    lobj_fault fault = untouched_fault;
+    char text[64];
+    CHECK(is(lobj_build(builder, &built, &fault, NULL, 0), LOBJ_OK, 0));
+    lobj_posix_locale(built, &posix);
+    CHECK(is(lobj_newlocale(built, LOBJ_NUMERIC_MASK, "one", 3, posix, &one), LOBJ_OK, 0) && one.numeric == 1 && is_point(built, one, ";"));
+    CHECK(is(lobj_newlocale(built, LOBJ_NUMERIC_MASK, "two", 3, posix, &one), LOBJ_OK, 0) && one.numeric == 2 && is_point(built, one, ";"));
+    /* the library of more parts has another mark */
+    CHECK(is(add(&builder, LOBJ_SOURCE, "half", "UTF-8", "LC_NUMERIC\ndecimal_point \"'\"\nEND LC_NUMERIC\n"), LOBJ_OK, 0));
+    lobj_library_free(built);
+    CHECK(is(lobj_build(builder, &built, &fault, NULL, 0), LOBJ_OK, 0));
+    CHECK(is(lobj_towupper(built, one, 'q'), LOBJ_NO_LOCALE, 0));
+    lobj_builder_free(builder);
+    CHECK(is(lobj_join(library, built, &joined), LOBJ_OK, 0) && is(lobj_join(joined, built, &again), LOBJ_OK, 0));
+    lobj_posix_locale(library, &posix);
+    CHECK(is(lobj_newlocale(library, LOBJ_NUMERIC_MASK, "half", 4, posix, &half), LOBJ_OK, 0) && is_point(library, half, ","));
+    CHECK(is(lobj_towupper(joined, half, 'q'), LOBJ_NO_LOCALE, 0) && is(lobj_towupper(built, half, 'q'), LOBJ_NO_LOCALE, 0));
+    lobj_library_free(built);
+    CHECK(is_point(joined, lobj_locale_in(joined, half), ",") && is_point(again, lobj_locale_in(again, half), ","));
+    lobj_posix_locale(joined, &posix);
+    CHECK(is(lobj_newlocale(joined, LOBJ_NUMERIC_MASK, "half", 4, posix, &half), LOBJ_OK, 0) && half.numeric == 7 && is_point(joined, half, "'"));
+    CHECK(is(lobj_newlocale(joined, LOBJ_NUMERIC_MASK, "us", 2, posix, &half), LOBJ_OK, 0) && half.numeric == 1);
+    CHECK(is(lobj_library_name(text, sizeof text, joined, 5), LOBJ_OK, 3) && strcmp(text, "one") == 0);
+    CHECK(is(lobj_library_name(text, sizeof text, joined, 8), LOBJ_NO_ITEM, 0));
+    lobj_library_free(joined);
+    CHECK(is(lobj_library_name(text, sizeof text, again, 10), LOBJ_OK, 4) && strcmp(text, "half") == 0);
+    lobj_library_free(again);
+}
+
+/* Messages by their catalog, set and number; what is no catalog of the library, or no message, leaves the buffer. */
+static void read_messages(const lobj_library *library) {
+    lobj_locale posix, half, nothing;
+    lobj_catalog catalog = { 5, 5 }, own, other;
+    char text[64];
+    lobj_posix_locale(library, &posix);
+    nothing = half = posix;
+    nothing.mark++;
+    half.messages = 2;
+    CHECK(is(lobj_catopen(library, nothing, "words", 5, &catalog), LOBJ_NO_LOCALE, 0));
+    CHECK(is(lobj_catopen(library, posix, "word", 4, &catalog), LOBJ_NO_CATALOG, 0));
+    CHECK(is(lobj_catopen(library, posix, NULL, 0, &catalog), LOBJ_NO_CATALOG, 0) && catalog.mark == 5 && catalog.number == 5);
+    CHECK(is(lobj_catopen(library, posix, "words", 5, &own), LOBJ_OK, 0) && own.mark == posix.mark && own.number == 0);
+    CHECK(is(lobj_catopen(library, half, "words", 5, &other), LOBJ_OK, 0) && other.mark == posix.mark && other.number == 1);
+    CHECK(is(lobj_catgets(text, sizeof text, library, own, 1, 1), LOBJ_OK, 3) && strcmp(text, "one") == 0);
+    CHECK(is(lobj_catgets(text, sizeof text, library, other, 1, 1), LOBJ_OK, 4) && strcmp(text, "eins") == 0);
+    CHECK(is(lobj_catgets(text, sizeof text, library, own, 2, 7), LOBJ_OK, 12) && strcmp(text, "seven of two") == 0);
+    CHECK(is(lobj_catgets(text, sizeof text, library, own, 7, 2), LOBJ_NO_MESSAGE, 0) && is(lobj_catgets(text, 0, library, other, 2, 7), LOBJ_NO_MESSAGE, 0));
+    CHECK(is_small(lobj_catgets(text, 12, library, own, 2, 7), 13) && is_small(lobj_catgets(NULL, 0, library, own, 1, 1), 4));
+    CHECK(is(lobj_catgets(text, sizeof text, library, catalog, 1, 1), LOBJ_NO_CATALOG, 0) && strcmp(text, "seven of two") == 0);
+    other.number = 2;
+    CHECK(is(lobj_catgets(text, sizeof text, library, other, 1, 1), LOBJ_NO_CATALOG, 0));
+    CHECK(strcmp(lobj_catgets_or(text, sizeof text, library, own, 1, 1, "else"), "one") == 0);
+    CHECK(strcmp(lobj_catgets_or(text, sizeof text, library, own, 1, 2, "else"), "else") == 0);
 }
 
 static bool is_same(lobj_locale a, lobj_locale b) {
@@ -106,7 +289,7 @@ static void make_locales(const lobj_library *library) {
     static const char other_text[] = ".locale us UTF-8\n.end\n";
     lobj_locale posix, us, again, wrong_one;
     lobj_library *other = NULL, *twin = NULL;
-    lobj_place place;
+    lobj_fault fault;
     char text[64];
     lobj_posix_locale(library, &posix);
     us = posix;
@@ -130,10 +313,10 @@ static void make_locales(const lobj_library *library) {
         CHECK(is(lobj_towupper(library, wrong_one, 'q'), LOBJ_NO_LOCALE, 0));
         CHECK(is(lobj_newlocale(library, LOBJ_NUMERIC_MASK, "us", 2, wrong_one, &us), LOBJ_NO_LOCALE, 0));
     }
-    CHECK(is(lobj_read(other_text, strlen(other_text), &other, &place, text, sizeof text), LOBJ_OK, 0));
+    CHECK(is(lobj_read(other_text, strlen(other_text), &other, &fault, text, sizeof text), LOBJ_OK, 0));
     CHECK(is(lobj_towupper(other, posix, 'q'), LOBJ_NO_LOCALE, 0));
     lobj_library_free(other);
-    CHECK(is(lobj_read(sources, strlen(sources), &twin, &place, text, sizeof text), LOBJ_OK, 0));
+    CHECK(is(lobj_read(sources, strlen(sources), &twin, &fault, text, sizeof text), LOBJ_OK, 0));
     CHECK(is(lobj_towupper(twin, posix, 'q'), LOBJ_OK, 'Q'));
     lobj_library_free(twin);
 }
@@ -237,11 +420,11 @@ static void map_texts(const lobj_library *library, lobj_locale us) {
 /* A null stands for a text, a buffer or a list of size 0. */
 static void hand_nulls(const lobj_library *library, lobj_locale us) {
     lobj_library *empty = NULL;
-    lobj_place place;
+    lobj_fault fault;
     lobj_locale made;
     lobj_parsed fields;
     int64_t number = 5;
-    CHECK(is(lobj_read(NULL, 0, &empty, &place, NULL, 0), LOBJ_OK, 0) && empty != NULL);
+    CHECK(is(lobj_read(NULL, 0, &empty, &fault, NULL, 0), LOBJ_OK, 0) && empty != NULL);
     lobj_library_free(empty);
     CHECK(is(lobj_newlocale(library, LOBJ_NUMERIC_MASK, NULL, 0, us, &made), LOBJ_OK, 0) && made.numeric == 2);
     CHECK(is_small(lobj_locale_name(NULL, 0, library, us, LOBJ_CTYPE_MASK), 3));
@@ -384,9 +567,9 @@ static void ask_numbers_of_money(void) {
         lobj_library *library = NULL;
         lobj_locale money;
         lobj_lconv fields;
-        lobj_place place;
+        lobj_fault fault;
         int length = snprintf(source, sizeof source, ".locale m UTF-8\nLC_MONETARY\n%s 1\nEND LC_MONETARY\n.end\n", rows[i].keyword);
-        CHECK(is(lobj_read(source, (size_t)length, &library, &place, line, sizeof line), LOBJ_OK, 0));
+        CHECK(is(lobj_read(source, (size_t)length, &library, &fault, line, sizeof line), LOBJ_OK, 0));
         if (library == NULL) continue;
         lobj_posix_locale(library, &money);
         CHECK(is(lobj_newlocale(library, LOBJ_MONETARY_MASK, "m", 1, money, &money), LOBJ_OK, 0));
@@ -549,7 +732,13 @@ static lobj_answer upper_text(char *buffer, size_t size, const lobj_library *lib
     return lobj_upper_text(buffer, size, library, locale, text, (size_t)number % sizeof text);
 }
 
-static text_call *const text_calls[] = { money_text, time_text, item_text, number_text, conventions_text, name_text, upper_text };
+static lobj_answer message_text(char *buffer, size_t size, const lobj_library *library, lobj_locale locale, int number) {
+    lobj_catalog catalog;
+    const lobj_answer opened = lobj_catopen(library, locale, "words", 5, &catalog);
+    return opened.code == LOBJ_OK ? lobj_catgets(buffer, size, library, catalog, number % 2 == 0 ? 1 : 2, number % 2 == 0 ? 1 : 7) : opened;
+}
+
+static text_call *const text_calls[] = { money_text, time_text, item_text, number_text, conventions_text, name_text, upper_text, message_text };
 enum { TEXT_CALLS = sizeof text_calls / sizeof *text_calls };
 
 static bool is_untouched(const char *buffer, const char *end) {
@@ -577,22 +766,75 @@ static void run_out_of_memory(void) {
     const char *const texts[] = { sources, broken };
     for (int i = 0; i < 2; i++) {
         lobj_library *out = NULL;
-        lobj_place place = { 7, 7 };
-        char buffer[64];
+        lobj_fault fault = untouched_fault;
+        char buffer[512];
         lobj_answer answer = { LOBJ_NO_MEMORY, 0 };
         long given = 0;
         memset(buffer, 'x', sizeof buffer);
         for (; answer.code == LOBJ_NO_MEMORY; given++) {
-            CHECK(answer.n == 0 && out == NULL && place.line == 7 && place.column == 7);
+            CHECK(answer.n == 0 && out == NULL && is_untouched_fault(&fault));
             CHECK(is_untouched(buffer, buffer + sizeof buffer));
             blocks_left = given;
-            answer = lobj_read(texts[i], strlen(texts[i]), &out, &place, buffer, sizeof buffer);
+            answer = lobj_read(texts[i], strlen(texts[i]), &out, &fault, buffer, sizeof buffer);
             blocks_left = -1;
         }
         CHECK(answer.code == (i == 0 ? LOBJ_OK : LOBJ_BAD_TEXT));
         CHECK(given > 1);
         lobj_library_free(out);
     }
+}
+
+/* So does each of a builder, of what it builds, and of libraries that are joined. */
+static void run_out_in_parts(const lobj_library *library) {
+    lobj_builder *builder = NULL;
+    lobj_answer answer = { LOBJ_NO_MEMORY, 0 };
+    lobj_fault fault = untouched_fault;
+    lobj_library *built = NULL, *joined = NULL;
+    char buffer[512];
+    memset(buffer, 'x', sizeof buffer);
+    for (long given = 0; answer.code == LOBJ_NO_MEMORY; given++) {
+        CHECK(builder == NULL);
+        blocks_left = given;
+        answer = lobj_builder_new(&builder);
+        blocks_left = -1;
+    }
+    answer.code = LOBJ_NO_MEMORY;
+    for (long given = 0; answer.code == LOBJ_NO_MEMORY; given++) {
+        blocks_left = given;
+        answer = add(&builder, LOBJ_SOURCE, "one", "UTF-8", "LC_NUMERIC\ndecimal_point \";\"\nEND LC_NUMERIC\n");
+        blocks_left = -1;
+    }
+    CHECK(answer.code == LOBJ_OK);
+    answer.code = LOBJ_NO_MEMORY;
+    for (long given = 0; answer.code == LOBJ_NO_MEMORY; given++) {
+        CHECK(built == NULL && is_untouched_fault(&fault) && is_untouched(buffer, buffer + sizeof buffer));
+        blocks_left = given;
+        answer = lobj_build(builder, &built, &fault, buffer, sizeof buffer);
+        blocks_left = -1;
+    }
+    /* (the source was added once, so none has its name twice) */
+    CHECK(answer.code == LOBJ_OK);
+    answer.code = LOBJ_NO_MEMORY;
+    for (long given = 0; answer.code == LOBJ_NO_MEMORY; given++) {
+        CHECK(joined == NULL);
+        blocks_left = given;
+        answer = lobj_join(library, built, &joined);
+        blocks_left = -1;
+    }
+    CHECK(answer.code == LOBJ_OK);
+    lobj_library_free(joined);
+    lobj_library_free(built);
+    CHECK(is(add(&builder, LOBJ_SOURCE, "one", "UTF-8", ""), LOBJ_OK, 0));
+    built = NULL;
+    answer.code = LOBJ_NO_MEMORY;
+    for (long given = 0; answer.code == LOBJ_NO_MEMORY; given++) {
+        CHECK(built == NULL && is_untouched_fault(&fault) && is_untouched(buffer, buffer + sizeof buffer));
+        blocks_left = given;
+        answer = lobj_build(builder, &built, &fault, buffer, sizeof buffer);
+        blocks_left = -1;
+    }
+    CHECK(is(answer, LOBJ_NAME_TWICE, 0) && is_fault(&fault, 1, 0, 0, 0, 0, 0));
+    lobj_builder_free(builder);
 }
 
 /* No text asks for memory: each is given where none is left. */
@@ -640,6 +882,12 @@ static void run_threads(const lobj_library *library, lobj_locale us, int count) 
     for (int i = 0; i < count; i++) {
         tasks[i] = (task){ library, us, calls / count, 0 };
         CHECK(pthread_create(&threads[i], NULL, sum_of_texts, &tasks[i]) == 0);
+    }
+    /* (what is joined meanwhile shares with the library that is read, and is freed before it) */
+    for (int i = 0; i < 8; i++) {
+        lobj_library *joined = NULL;
+        CHECK(is(lobj_join(library, library, &joined), LOBJ_OK, 0));
+        lobj_library_free(joined);
     }
     pid_t child = fork();
     if (child == 0) {
@@ -718,7 +966,13 @@ int main(int count, char **words) {
     make_tables(library, us);
     scan_times(library, us);
     for (int i = 0; i < TEXT_CALLS; i++) try_each_size(text_calls[i], library, us);
+    ask_reasons();
+    refuse_parts();
+    refuse_many();
+    join_libraries(library);
+    read_messages(library);
     run_out_of_memory();
+    run_out_in_parts(library);
     run_out_in_texts(library, us);
     use_64_kib();
     run_threads(library, us, 2);

@@ -25,9 +25,9 @@ static void require(lobj_answer answer) {
 
 static Library read_library(const std::string &text) {
     lobj_library *library = nullptr;
-    lobj_place place = { 0, 0 };
+    lobj_fault fault = { 0, 0, 0, 0, 0, 0 };
     char line[128];
-    require(lobj_read(text.data(), text.size(), &library, &place, line, sizeof line));
+    require(lobj_read(text.data(), text.size(), &library, &fault, line, sizeof line));
     return Library(library);
 }
 

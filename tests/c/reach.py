@@ -2,7 +2,7 @@
 """What the calls of the C library can reach: tests/c/reach.py ARCHIVE HEADER MAKING..
 
 Reads the compiled archive by objdump and follows each call and jump from the functions that HEADER
-declares. Those that MAKING names read a text and may allocate. None of the others may reach an
+declares. Those that MAKING names make or free a library, and may allocate and count. None of the others may reach an
 allocation, an atomic instruction, or a call through a register. A line tells of each that does, with
 the way there. The status is 0 where none does.
 """

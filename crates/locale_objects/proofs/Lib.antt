@@ -1,9 +1,3 @@
 mod AsBox
-mod BufferLemmas
-mod CasedLemmas
-mod Examples
-mod NameLemmas
-mod NumberLemmas
+mod AsDraft
 mod PeekSteps
-mod TableLemmas
-mod TextLemmas

@@ -7,6 +7,7 @@ use base.Stored.{Coded}
 use denote.RattleType.{RattleType}
 use denote.RawPtr.{Ptr}
 use denote.Struct.Lending.{lent_at}
+use Rattle.shared_objects.specs.contracts.draft.Draft.{the_row as draft_row}
 use Rattle.shared_objects.specs.contracts.shelf.Shelf.{the_row}
 
 -- one of the shares of a token that are without number and apart from each other
@@ -24,3 +25,10 @@ library_lent p life part library = lending_owns the_row p life part library
 
 abbrev pub library_coded : Coded the_row.Denot
 library_coded = the_row.coded
+
+-- the same of parts
+abbrev pub parts_lent : Ptr → ℕ → ℕ → draft_row.Denot → Fml
+parts_lent p life part parts = lending_owns draft_row p life part parts
+
+abbrev pub parts_coded : Coded draft_row.Denot
+parts_coded = draft_row.coded

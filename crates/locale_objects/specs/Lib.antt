@@ -1,7 +1,4 @@
 pub mod Hold
+pub mod Builder
 pub mod Lending
-pub mod Answers
-pub mod Items
-pub mod Cased
-pub mod Conv
-pub mod Table
+pub mod Libraries

@@ -7,29 +7,33 @@ ghost use Rattle.lc_base.specs.Named.{place_of};
 ghost use Rattle.ctype_classes.specs.Classes.{class_answer, numbered_answer};
 ghost use Rattle.ctype_classes.specs.Case.{image};
 ghost use Rattle.shared_objects.specs.Objects.{ctype_in};
+ghost use Rattle.shared_objects.specs.Catalogs.{opened};
+ghost use Rattle.shared_objects.specs.Joined.{joined};
 ghost use Rattle.shared_objects.specs.Locales.{name_with, posix_of, shared_of, stock_in};
-ghost use Rattle.locale_objects.specs.declared.answer.TheConstants.{NO_MEMORY, OK, TOO_LONG, VERSION};
-ghost use Rattle.locale_objects.specs.declared.cased.Case.TheVariants.{Upper, Lower};
-ghost use Rattle.locale_objects.specs.Cased.{cased_told};
-ghost use Rattle.locale_objects.specs.Conv.{conv_text, lconv_by};
-ghost use Rattle.locale_objects.specs.Items.{item_of};
-ghost use Rattle.locale_objects.specs.Table.{HasTexts, IsTabled};
-ghost use Rattle.locale_objects.specs.Answers.{answered, of_object, by_object, IsReadUnlessMemory, IsNumberTold, IsReadBack, AreClassesTold, name_told, own_name_told, new_told, number_told, class_told, item_told, conv_told, amounts_told, tm_given, tm_told, numbers_told, scan_by};
+ghost use Rattle.shared_objects.specs.Parts.{stock_built};
+ghost use Rattle.reason_rules.specs.declared.table.TheConstants.{ROW_COUNT};
+ghost use Rattle.c_values.specs.declared.answer.TheConstants.{NO_ITEM, OK, TOO_LONG, VERSION};
+ghost use Rattle.c_values.specs.declared.cased.Case.TheVariants.{Upper, Lower};
+ghost use Rattle.c_values.specs.Cased.{cased_told};
+ghost use Rattle.c_values.specs.Catalogs.{catalog_told, message_by};
+ghost use Rattle.c_values.specs.Conv.{conv_text, lconv_by};
+ghost use Rattle.c_values.specs.Items.{item_of};
+ghost use Rattle.c_values.specs.Rules.{IsTold};
+ghost use Rattle.c_values.specs.Table.{HasTexts, IsTabled};
+ghost use Rattle.c_values.specs.Answers.{answered, of_object, by_object, refused, IsNumberTold, IsReadBack, AreClassesTold, name_told, own_name_told, new_told, number_told, class_told, item_told, conv_told, amounts_told, tm_given, tm_told, numbers_told, scan_by};
+ghost use Rattle.locale_objects.specs.Libraries.{kind_of, IsAddedBehind, IsBegun, IsBuiltUnlessMemory, IsJoinedUnlessMemory, IsReadUnlessMemory};
 
-use crate::amounts::LobjAmount;
-use crate::answer::{LobjAnswer, NO_LOCALE, NO_MEMORY, OK, TOO_LONG, VERSION, answered};
-use crate::cased::{Case, put_cased};
-use crate::conv::{LobjLconv, lconv_of};
-use crate::fault::LobjPlace;
+use crate::builder::Builder;
 use crate::hold::Hold;
-use crate::lent::LentLibrary;
-use crate::names::{put_name, put_own_name};
-use crate::parsed::{LobjParsed, put_fields};
-use crate::reads::{class_told, number_told, put_new, put_number, read_into};
-use crate::table::{LobjTable, put_table};
-use crate::texts::{put_amounts, put_conv_text, put_item, put_numbers, put_tm};
-use crate::times::LobjTm;
-use shared_objects::LocaleParts;
+use crate::lent::{LentBuilder, LentLibrary};
+use crate::libraries::{add_part, begin_into, build_into, join_into, read_into};
+use c_values::{
+    Case, LobjAmount, LobjAnswer, LobjFault, LobjLconv, LobjParsed, LobjTable, LobjTm, NO_LOCALE,
+    NO_MEMORY, OK, TOO_LONG, VERSION, answered, class_told, lconv_of, number_told, put_amounts,
+    put_cased, put_catalog, put_conv_text, put_fields, put_item, put_message, put_name, put_new,
+    put_number, put_numbers, put_own_name, put_reason_name, put_rule, put_table, put_tm,
+};
+use shared_objects::{CatalogParts, LocaleParts};
 use std::alloc::Global;
 
 /// The most bytes of a text that is read, and one more.
@@ -41,20 +45,113 @@ pub extern "C" fn lobj_read(
     alloc: Global,
     text: &[u8],
     out: &mut Hold,
-    place: &mut LobjPlace,
+    fault: &mut LobjFault,
     buffer: &mut [u8],
 ) -> LobjAnswer
-    ensures read { length text.now < 2 ^ 31 → IsReadUnlessMemory (stock_in text.now) result out.old.library out.new.library place.old place.new buffer.old buffer.new }
-    ensures too_long { 2 ^ 31 ≤ length text.now → (result ≡ answered TOO_LONG 0) × (out.new.library ≡ out.old.library) × (place.new ≡ place.old) × (buffer.new ≡ buffer.old) }
+    ensures read { length text.now < 2 ^ 31 → IsReadUnlessMemory text.now (stock_in text.now) result out.old.library out.new.library fault.old fault.new buffer.old buffer.new }
+    ensures too_long { 2 ^ 31 ≤ length text.now → (result ≡ answered TOO_LONG 0) × (out.new.library ≡ out.old.library) × (fault.new ≡ fault.old) × (buffer.new ≡ buffer.old) }
 {
     if text.len() >= TEXT_END {
         answered(TOO_LONG, 0)
     } else {
-        match read_into(alloc, text, out, place, buffer) {
+        match read_into(alloc, text, out, fault, buffer) {
             Ok(answer) => answer,
             Err(_) => answered(NO_MEMORY, 0),
         }
     }
+}
+
+/// Gives a builder without parts.
+#[unsafe(no_mangle)]
+pub extern "C" fn lobj_builder_new(alloc: Global, out: &mut Builder) -> LobjAnswer
+    ensures { IsBegun result out.old.parts out.new.parts }
+{
+    match begin_into(alloc, out) {
+        Ok(()) => answered(OK, 0),
+        Err(_) => answered(NO_MEMORY, 0),
+    }
+}
+
+/// Adds a part to a builder, and gives it again. What the pointer was before is not looked at.
+#[unsafe(no_mangle)]
+pub extern "C" fn lobj_builder_add(
+    alloc: Global,
+    builder: Builder,
+    kind: u32,
+    name: &[u8],
+    label: &[u8],
+    text: &[u8],
+    out: &mut Builder,
+) -> LobjAnswer
+    requires { IsSome builder.parts }
+    ensures { IsAddedBehind (kind_of kind) name.now label.now text.now result builder.parts out.new.parts }
+{
+    let mut draft = builder.into_box();
+    let answer = add_part(alloc, &mut draft, kind, name, label, text);
+    *out = Builder::of(draft);
+    answer
+}
+
+/// Builds a library of the parts of a builder.
+#[unsafe(no_mangle)]
+pub extern "C" fn lobj_build(
+    alloc: Global,
+    builder: LentBuilder,
+    out: &mut Hold,
+    fault: &mut LobjFault,
+    buffer: &mut [u8],
+) -> LobjAnswer
+    ensures { IsBuiltUnlessMemory builder.value (stock_built builder.value) result out.old.library out.new.library fault.old fault.new buffer.old buffer.new }
+{
+    let peek = builder.peek();
+    match build_into(alloc, peek.get().parts(), out, fault, buffer) {
+        Ok(answer) => answer,
+        Err(_) => answered(NO_MEMORY, 0),
+    }
+}
+
+/// Frees a builder.
+#[unsafe(no_mangle)]
+pub extern "C" fn lobj_builder_end(builder: Builder)
+    requires { IsSome builder.parts }
+{
+    drop(builder.into_box());
+}
+
+/// Joins two libraries.
+#[unsafe(no_mangle)]
+pub extern "C" fn lobj_join(
+    alloc: Global,
+    first: LentLibrary,
+    second: LentLibrary,
+    out: &mut Hold,
+) -> LobjAnswer
+    ensures { IsJoinedUnlessMemory (joined first.value second.value) result out.old.library out.new.library }
+{
+    let earlier = first.peek();
+    let later = second.peek();
+    match join_into(alloc, earlier.get(), later.get(), out) {
+        Ok(answer) => answer,
+        Err(_) => answered(NO_MEMORY, 0),
+    }
+}
+
+/// Gives the rule of the reason with a number.
+#[unsafe(no_mangle)]
+pub extern "C" fn lobj_rule(buffer: &mut [u8], reason: u32) -> LobjAnswer
+    ensures there { reason < ROW_COUNT → IsTold result buffer.old buffer.new }
+    ensures none { ROW_COUNT ≤ reason → (result, buffer.new) ≡ refused buffer.old NO_ITEM 0 }
+{
+    put_rule(buffer, reason)
+}
+
+/// Gives the name of the reason with a number.
+#[unsafe(no_mangle)]
+pub extern "C" fn lobj_reason_name(buffer: &mut [u8], reason: u32) -> LobjAnswer
+    ensures there { reason < ROW_COUNT → IsTold result buffer.old buffer.new }
+    ensures none { ROW_COUNT ≤ reason → (result, buffer.new) ≡ refused buffer.old NO_ITEM 0 }
+{
+    put_reason_name(buffer, reason)
 }
 
 /// The version of the library.
@@ -428,4 +525,33 @@ pub extern "C" fn lobj_strptime(
         None => answered(NO_LOCALE, 0),
         Some(view) => put_fields(fields, view.strptime(format, text)),
     }
+}
+
+/// Gives the catalog that a name opens for a locale (XSH catopen).
+#[unsafe(no_mangle)]
+pub extern "C" fn lobj_catopen(
+    library: LentLibrary,
+    locale: LocaleParts,
+    name: &[u8],
+    out: &mut CatalogParts,
+) -> LobjAnswer
+    ensures { (result, out.new) ≡ catalog_told out.old (opened library.value locale name.now) }
+{
+    let peek = library.peek();
+    put_catalog(out, peek.get().open_catalog(&locale, name))
+}
+
+/// Gives a message of a catalog (XSH catgets).
+#[unsafe(no_mangle)]
+pub extern "C" fn lobj_catgets(
+    buffer: &mut [u8],
+    library: LentLibrary,
+    catalog: CatalogParts,
+    set: u32,
+    number: u32,
+) -> LobjAnswer
+    ensures { (result, buffer.new) ≡ message_by buffer.old library.value catalog set number }
+{
+    let peek = library.peek();
+    put_message(buffer, peek.get(), &catalog, set, number)
 }

@@ -1,12 +1,13 @@
-//! A library that C lends for a call.
+//! Libraries and builders that C lends for a call.
 
-ghost use Rattle.std.specs.Prelude.{◌≡◌, ℕ};
+ghost use Rattle.std.specs.Prelude.{◌≡◌, ℕ, List};
+ghost use Rattle.library_parts.specs.declared.part.Part.{Part};
 ghost use Rattle.shared_objects.specs.Shared.{Stock};
-ghost use Rattle.locale_objects.specs.Lending.{library_lent, library_coded};
+ghost use Rattle.locale_objects.specs.Lending.{library_lent, library_coded, parts_lent, parts_coded};
 
 use crate::hold::Opaque;
 use crate::peek::Peek;
-use shared_objects::Shelf;
+use shared_objects::{Draft, Shelf};
 use std::marker::Model;
 
 /// A library that C lends for a call, by its pointer. C has a `const lobj_library *` for it. Any number of
@@ -33,6 +34,33 @@ impl LentLibrary {
         let LentLibrary { at } = self;
         Peek {
             at: at as *const Shelf,
+        }
+    }
+}
+
+/// A builder that C lends for a call, by its pointer. C has a `const lobj_builder *` for it.
+#[repr(C)]
+#[derive(Drop)]
+pub struct LentBuilder {
+    at: *const Opaque,
+    pub ghost life: { ℕ },
+    pub ghost part: { ℕ },
+    pub ghost value: { List Part } by { parts_coded },
+}
+
+impl Model for LentBuilder {
+    ghost also_owns = { λ l. parts_lent l.at l.life l.part l.value };
+}
+
+impl LentBuilder {
+    /// The parts, to be read.
+    #[inline(always)]
+    pub fn peek(self) -> Peek<Draft>
+        ensures { result.value ≡ self.value }
+    {
+        let LentBuilder { at } = self;
+        Peek {
+            at: at as *const Draft,
         }
     }
 }

@@ -1,22 +1,10 @@
 //! The formatters of locale objects for C programs: `include/locale_objects.h` has the calls.
 #![tactic(auto)]
 
-mod amounts;
-mod answer;
-mod buffer;
-mod cased;
-mod conv;
+mod builder;
 mod exports;
-mod fault;
 mod hold;
-mod items;
 mod lent;
-mod names;
-mod numbers;
-mod parsed;
+mod libraries;
 mod parts;
 mod peek;
-mod reads;
-mod table;
-mod texts;
-mod times;

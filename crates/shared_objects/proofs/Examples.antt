@@ -39,7 +39,7 @@ abbrev object : Parts → Shared
 object ps = record { library = library; object = ps }
 
 abbrev stock : Stock
-stock = record { library = library; mark = 7; count = 2 }
+stock = record { library = library; books = []; mark = 7 }
 
 -- a locale of the library with these parts
 abbrev made : Parts → LocaleParts
@@ -63,7 +63,7 @@ bundle_first text fault h = ap (λ (b : Reads Bundle). b >>= λ (b : Bundle). st
 
 -- no locale, whatever the threads and rounds of the script are
 no_blocks : (threads : List (List ℕ)) (rounds : ℕ) → stock_of (record { charmaps = []; locales = []; later = []; catalogs = []; native = None; threads = threads; rounds = rounds; commands = [] }) 7
-    ≡ Ok (record { library = record { locales = []; names = []; first = []; keys = []; native = 0 }; mark = 7; count = 0 })
+    ≡ Ok (record { library = record { locales = []; names = []; first = []; keys = []; native = 0 }; books = []; mark = 7 })
 no_blocks threads rounds = refl
 
 -- ---- locales of a library

@@ -1,3 +1,6 @@
 pub mod Shared
 pub mod Objects
 pub mod Locales
+pub mod Parts
+pub mod Joined
+pub mod Catalogs

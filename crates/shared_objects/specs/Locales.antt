@@ -4,6 +4,7 @@ use Rattle.lc_base.specs.declared.category.Category.{Category}
 use Rattle.lc_base.specs.Reading.{Reads, ◌>>=◌}
 use Rattle.mask_compose.specs.Parts.{Parts}
 use Rattle.category_store.specs.Library.{locale_at}
+use Rattle.library_parts.specs.Books.{books_read}
 use Rattle.script_lang.specs.declared.bundle.Bundle.{Bundle}
 use Rattle.script_lang.specs.Accepted.{bundle_of}
 use Rattle.shared_objects.specs.declared.fault.NewFault.{NewFault}
@@ -30,13 +31,9 @@ mark_of text = mark_from 1 text
 
 -- ---- a library that is read
 
--- the number of locales and later versions of a bundle
-abbrev pub block_count : Bundle → ℕ
-block_count b = length b.locales + length b.later
-
--- the library of a bundle, with a mark
+-- the library of a bundle with its catalogs and a mark: the first fault is that of the locales, and then that of the catalogs
 abbrev pub stock_of : Bundle → ℕ → Reads Stock
-stock_of b mark = catalog_of b >>= λ library. Ok (record { library = library; mark = mark; count = block_count b })
+stock_of b mark = catalog_of b >>= λ library. books_read b.catalogs >>= λ books. Ok (record { library = library; books = books; mark = mark })
 
 -- the library of a text in the form of a bundle, or its first fault
 abbrev pub stock_in : List ℕ → Reads Stock
@@ -54,9 +51,9 @@ parts_of l = record { ctype = l.ctype; numeric = l.numeric; monetary = l.monetar
 abbrev pub posix_of : Stock → LocaleParts
 posix_of stock = record { mark = stock.mark; ctype = 0; numeric = 0; monetary = 0; time = 0; messages = 0 }
 
--- the POSIX locale, and the locales and later versions by place, from 1
+-- the POSIX locale, and the locales and later versions, from 1
 abbrev pub has_number : Stock → ℕ → Bool
-has_number stock n = nat_lt n (stock.count + 1)
+has_number stock n = nat_lt n (length stock.library.locales + 1)
 
 -- the name of the compiled locale with a number, if the library has one
 abbrev pub name_with : Stock → ℕ → Option (List ℕ)

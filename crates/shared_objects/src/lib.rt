@@ -1,6 +1,9 @@
-//! Libraries of compiled locales for threads that read them, and the locales of each as plain values.
+//! Libraries of compiled locales and message catalogs for threads that read them, and the locales and catalogs of each as
+//! plain values.
 #![tactic(auto)]
 
+mod catalog;
+mod draft;
 mod fault;
 mod locale;
 mod mark;
@@ -9,7 +12,9 @@ mod shelf;
 mod shelved;
 mod view;
 
-pub use fault::NewFault;
+pub use catalog::CatalogParts;
+pub use draft::Draft;
+pub use fault::{JoinFault, NewFault, OpenFault};
 pub use locale::LocaleParts;
 pub use shelf::Shelf;
 pub use view::View;

@@ -1,37 +1,44 @@
-//! A library that was read, with its mark.
+//! A library of compiled locales and message catalogs, with its mark.
 
-ghost use Rattle.std.specs.Prelude.{◌≡◌, ◌<◌, ◌+◌, ◌^◌, length, Some, None};
+ghost use Rattle.std.specs.Prelude.{◌≡◌, ◌<◌, ◌^◌, length, Some, None, IfOk};
 ghost use Rattle.std.specs.Option.{option_copied};
 ghost use Rattle.lc_base.specs.Reading.{Gives};
+ghost use Rattle.library_parts.specs.Told as told;
 ghost use Rattle.script_lang.specs.Accepted.{IsAccepted};
 ghost use Rattle.shared_objects.specs.Objects.{catalog_of};
-ghost use Rattle.shared_objects.specs.Locales.{block_count, stock_in, stock_of, has_number, name_with, has_locale, shared_of, posix_of, located, new_locale};
+ghost use Rattle.shared_objects.specs.Locales.{stock_in, stock_of, has_number, name_with, has_locale, shared_of, posix_of, located, new_locale};
+ghost use Rattle.shared_objects.specs.Catalogs.{catalog_with, has_catalog, message_in, opened};
+ghost use Rattle.shared_objects.specs.Joined.{has_room, Joins};
+ghost use Rattle.shared_objects.specs.Parts.{stock_built};
 
-use crate::fault::NewFault;
+use crate::catalog::CatalogParts;
+use crate::draft::copied_parts;
+use crate::fault::{JoinFault, NewFault, OpenFault};
 use crate::locale::{LocaleParts, locale_of, object_of};
-use crate::mark::mark_of;
+use crate::mark::{joined_mark, mark_of, parts_mark};
 use crate::shelved::Shelved;
 use crate::view::View;
 use category_store::{Library, Share};
 use lc_base::{Category, Mask, TextFault};
+use library_parts::{Books, Made, PART_LIMIT, Part, PartFault, made_of};
 use mask_compose::Object;
 use script_lang::Bundle;
-use std::alloc::Global;
+use std::alloc::{AllocError, Global};
 use std::marker::Model;
 
-/// A library that was read: its compiled locales, their number, and the mark of its text. It never changes.
+/// A library: its compiled locales, its message catalogs, and the mark of what it was made of. It never changes.
 pub struct Shelf {
     shelved: Shelved,
+    books: Books,
     mark: u64,
-    count: usize,
 }
 
 impl Drop for Shelf {
     fn drop(self) {
         let Shelf {
             shelved: _,
+            books: _,
             mark: _,
-            count: _,
         } = self;
     }
 }
@@ -41,14 +48,15 @@ impl Model for Shelf {
 
     ghost Value = { Stock };
 
-    ghost view = { λ s. record { library = s.shelved; mark = s.mark; count = s.count } };
+    ghost view = { λ s. record { library = s.shelved; books = s.books; mark = s.mark } };
 }
 
 impl Shelf {
-    /// The library of the charmaps and locales of a text in the form of a bundle. The commands of the
-    /// bundle are read and passed over.
+    /// The library of the charmaps, locales and message catalogs of a text in the form of a bundle. The
+    /// commands of the bundle are read and passed over.
     ///
-    /// The refusal is the bundle's first fault, and where it has none, that of the library.
+    /// The refusal is the bundle's first fault, and where it has none, that of its locales, and then
+    /// that of its catalogs.
     pub fn read(alloc: Global, text: &[u8]) -> Result<Shelf, TextFault>
         requires { length text.now < 2 ^ 31 }
         ensures { Gives (λ s. s) result (stock_in text.now) }
@@ -64,11 +72,61 @@ impl Shelf {
     {
         let library = library_of(alloc, bundle)?;
         let shelved = Shelved::of(alloc, library)?;
+        let books = Books::read(alloc, bundle.catalogs.as_slice())?;
         Ok(Shelf {
             shelved,
+            books,
             mark,
-            count: block_count(bundle),
         })
+    }
+
+    /// The library of parts: charmaps, locale sources and message catalogs.
+    ///
+    /// The refusal is the first fault, with the number of the part that has it.
+    pub fn build(alloc: Global, parts: &[Part]) -> Result<Shelf, PartFault>
+        ensures { told.Gives (λ s. s) result (stock_built parts.now) }
+    {
+        let made = made_of(alloc, copied_parts(alloc, parts)?)?;
+        Ok(Shelf::of_made(alloc, made, parts_mark(parts))?)
+    }
+
+    /// The library that was made of parts, with a mark.
+    fn of_made(alloc: Global, made: Made, mark: u64) -> Result<Shelf, AllocError>
+        ensures { IfOk result (λ s. s ≡ record { library = made.library; books = made.books; mark = mark }) }
+    {
+        let (library, books) = made.into_both();
+        let shelved = Shelved::of(alloc, library)?;
+        Ok(Shelf {
+            shelved,
+            books,
+            mark,
+        })
+    }
+
+    /// Whether two libraries together have no more locales and catalogs than one may have.
+    fn has_room(&self, other: &Shelf) -> bool
+        ensures { result ≡ has_room self.now other.now }
+    {
+        self.shelved.count() as u128 + other.shelved.count() as u128 <= PART_LIMIT as u128
+            && self.books.len() as u128 + other.books.len() as u128 <= PART_LIMIT as u128
+    }
+
+    /// A library, and behind it another, whose meaning of a name of both holds. Nothing is read again:
+    /// both may be dropped before the new one, or later.
+    pub fn join(alloc: Global, first: &Shelf, second: &Shelf) -> Result<Shelf, JoinFault>
+        ensures { Joins result first.now second.now }
+    {
+        if first.has_room(second) {
+            let shelved = Shelved::joined(alloc, &first.shelved, &second.shelved)?;
+            let books = Books::joined(alloc, &first.books, &second.books)?;
+            Ok(Shelf {
+                shelved,
+                books,
+                mark: joined_mark(first.mark, second.mark),
+            })
+        } else {
+            Err(JoinFault::TooMany)
+        }
     }
 
     /// The POSIX locale.
@@ -90,7 +148,7 @@ impl Shelf {
     fn has_number(&self, number: u32) -> bool
         ensures { result ≡ has_number self.now number }
     {
-        number as usize <= self.count
+        number as usize <= self.shelved.count()
     }
 
     /// Whether a locale is of this library.
@@ -107,7 +165,7 @@ impl Shelf {
     }
 
     /// The name of the compiled locale with a number: `C` of 0, and that of the i-th locale or later
-    /// version by place of i. `None` exactly where the library has no such number.
+    /// version of i. `None` exactly where the library has no such number.
     pub fn name_at(&self, number: u32) -> Option<&[u8]>
         ensures { option_copied result ≡ name_with self.now number }
     {
@@ -159,14 +217,50 @@ impl Shelf {
             Err(NewFault::NoLocale)
         }
     }
-}
 
-/// The number of locales and later versions of a bundle.
-fn block_count(bundle: &Bundle) -> usize
-    requires { IsAccepted bundle.now }
-    ensures { result ≡ block_count bundle.now }
-{
-    bundle.locales.len() + bundle.later.len()
+    /// The catalog with a number.
+    fn catalog_with(&self, number: Option<u32>) -> Result<CatalogParts, OpenFault>
+        ensures { result ≡ catalog_with self.now number }
+    {
+        match number {
+            Some(number) => Ok(CatalogParts {
+                mark: self.mark,
+                number,
+            }),
+            None => Err(OpenFault::NoCatalog),
+        }
+    }
+
+    /// The catalog that a name opens for a locale: that for the name of its `LC_MESSAGES` (XSH
+    /// catopen).
+    pub fn open_catalog(&self, locale: &LocaleParts, name: &[u8]) -> Result<CatalogParts, OpenFault>
+        ensures { result ≡ opened self.now locale.now name.now }
+    {
+        match self.view(locale) {
+            Some(view) => {
+                self.catalog_with(self.books.number(name, view.name(Category::Messages)))
+            }
+            None => Err(OpenFault::NoLocale),
+        }
+    }
+
+    /// Whether a catalog is of this library.
+    pub fn has_catalog(&self, catalog: &CatalogParts) -> bool
+        ensures { result ≡ has_catalog self.now catalog.now }
+    {
+        catalog.mark == self.mark && (catalog.number as usize) < self.books.len()
+    }
+
+    /// The text of a message of a catalog of this library (XSH catgets).
+    pub fn message(&self, catalog: &CatalogParts, set: u32, number: u32) -> Option<&[u8]>
+        ensures { option_copied result ≡ message_in self.now catalog.now set number }
+    {
+        if self.has_catalog(catalog) {
+            self.books.message(catalog.number, set, number)
+        } else {
+            None
+        }
+    }
 }
 
 /// The library of a bundle.

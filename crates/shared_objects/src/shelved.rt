@@ -1,8 +1,9 @@
 //! A library with what its names offer.
 
-ghost use Rattle.std.specs.Prelude.{◌≡◌, IfOk, ◌<◌};
+ghost use Rattle.std.specs.Prelude.{◌≡◌, IfOk, ◌+◌, ◌^◌, ◌<◌, length};
 ghost use Rattle.std.specs.List.{find};
 ghost use Rattle.lc_base.specs.declared.category.Category.{Category};
+ghost use Rattle.category_store.specs.Joined.{joined};
 ghost use Rattle.category_store.specs.Library.{locale_at};
 ghost use Rattle.shared_objects.specs.Objects.{offer_of, is_lacking, lacking, picked_part, picked, composed_from, new_parts};
 ghost use Rattle.lc_base.specs.Categories.{number_for};
@@ -47,6 +48,23 @@ impl Shelved {
     {
         let offers = library.opening(alloc)?;
         Ok(Shelved { library, offers })
+    }
+
+    /// Two libraries as one, with what its names offer at first.
+    pub fn joined(alloc: Global, first: &Shelved, second: &Shelved) -> Result<Shelved, AllocError>
+        requires { length first.now.locales + length second.now.locales < 2 ^ 31 }
+        ensures { IfOk result (λ s. s ≡ joined first.now second.now) }
+    {
+        let library = Library::joined(alloc, &first.library, &second.library)?;
+        Shelved::of(alloc, library)
+    }
+
+    /// The number of compiled locales.
+    #[inline(always)]
+    pub fn count(&self) -> usize
+        ensures { result ≡ length self.now.locales }
+    {
+        self.library.count()
     }
 
     /// The compiled locale of a share.

@@ -1,6 +1,6 @@
 use Rattle.std.proofs.Common.{ap, ◌∙◌}
 use Rattle.shared_objects.specs.Shared.{Stock}
-use Rattle.locale_objects.specs.Answers.{new_told}
+use Rattle.c_values.specs.Answers.{new_told}
 use Rattle.locale_objects.proofs.exports.lobj_newlocale.Goals as goal
 
 -- src/exports.rt:71:1

@@ -1,0 +1,8 @@
+mod BufferLemmas
+mod CasedLemmas
+mod Examples
+mod FaultExamples
+mod NameLemmas
+mod NumberLemmas
+mod TableLemmas
+mod TextLemmas
