@@ -22,12 +22,13 @@ from ._faults import (
     UnknownLocale,
     UnknownName,
 )
-from ._library import Library, Locale
+from ._library import Catalog, Library, Locale
 from ._values import ParsedTime
 from ._version import __version__
 
 __all__ = [
     "AmountFault",
+    "Catalog",
     "FormatFault",
     "ImportFault",
     "Library",

@@ -33,16 +33,17 @@ class SourceFault(LocaleError, ValueError):
         self.file = file
         """The name of the source: a path, or the name that `from_texts` was given."""
         self.line = line
-        """The line, counted from 1."""
+        """The line, counted from 1; 0 where the source as a whole is at fault."""
         self.column = column
-        """The column in bytes, counted from 1."""
+        """The column in bytes, counted from 1; 0 with the line."""
         self.reason = reason
         """The reason in one word or a few, as `BadNumber`."""
         self.rule = rule
         """The rule that is broken, in a sentence."""
         self.text = text
         """The line itself."""
-        super().__init__(f"{file}:{line}:{column}: {reason}" + (f": {rule}" if rule else ""))
+        place = f"{file}:{line}:{column}" if line else file
+        super().__init__(f"{place}: {reason}" + (f": {rule}" if rule else ""))
 
     def __reduce__(self):
         return type(self), (self.file, self.line, self.column, self.reason, self.rule, self.text)

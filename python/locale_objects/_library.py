@@ -11,7 +11,7 @@ from ._quick import (
     AMOUNTS, FORMS, NUMBERS, ONE, SIZE, TIMES, Buffers, amount_buffers, int_format, keep, number_buffers, pointer, strfmon,
     strftime, time_buffers,
 )
-from ._sources import Source, as_bytes, bundle_of, imported, name_of_file, named
+from ._sources import CATALOG, CHARMAP, LOCALE, Source, as_bytes, imported, name_of_file, named
 from ._values import LEAST, MOST, Amount, Moment, ParsedTime, amount_parts, put_time, shown
 
 CATEGORIES = ("ctype", "numeric", "monetary", "time", "messages")
@@ -45,8 +45,8 @@ class Library:
 
     def __init__(self, sources: Iterable[Source]):
         given = list(sources)
-        self._handle = native.Handle(bundle_of(given), given)
-        self._names = tuple(it.directive.split()[1] for it in given if it.directive.startswith(".locale "))
+        self._handle = native.Handle.of(given)
+        self._names = tuple(it.name for it in given if it.kind == LOCALE)
 
     @classmethod
     def from_texts(
@@ -63,16 +63,11 @@ class Library:
         `catalogs` has sources of message catalogs by name and locale. The first rule that is broken is a
         `SourceFault`, which names the source.
         """
-        sources: List[Source] = []
-        for name, text in (charmaps or {}).items():
-            sources.append(Source(f".charmap {named(name, 'charmap')}", name, as_bytes(text)))
+        sources = [Source(CHARMAP, named(name, "charmap"), "", name, as_bytes(text)) for name, text in (charmaps or {}).items()]
         for name, text in locales.items():
-            charset = (charsets or {}).get(name, "UTF-8")
-            if charset not in ("UTF-8", "POSIX"):
-                named(charset, "charmap")
-            sources.append(Source(f".locale {named(name, 'locale')} {charset}", name, as_bytes(text)))
+            sources.append(Source(LOCALE, named(name, "locale"), _charset(charsets, name), name, as_bytes(text)))
         for (name, of), text in (catalogs or {}).items():
-            sources.append(Source(f".catalog {named(name, 'catalog')} {of if of == 'C' else named(of, 'locale')}", name, as_bytes(text)))
+            sources.append(Source(CATALOG, named(name, "catalog"), _locale_of(of), name, as_bytes(text)))
         return cls(sources)
 
     @classmethod
@@ -81,16 +76,15 @@ class Library:
         *paths: Union[str, os.PathLike],
         charmaps: Optional[Mapping[str, Union[str, os.PathLike]]] = None,
         charsets: Optional[Mapping[str, str]] = None,
+        catalogs: Optional[Mapping[Tuple[str, str], Union[str, os.PathLike]]] = None,
     ) -> "Library":
         """The library of locale sources in files, each of which names its locale."""
-        sources: List[Source] = []
-        for name, path in (charmaps or {}).items():
-            with open(path, "rb") as it:
-                sources.append(Source(f".charmap {named(name, 'charmap')}", os.fspath(path), it.read()))
+        sources = [_file(CHARMAP, named(name, "charmap"), "", path) for name, path in (charmaps or {}).items()]
         for path in paths:
             name = named(name_of_file(path), "locale")
-            with open(path, "rb") as it:
-                sources.append(Source(f".locale {name} {(charsets or {}).get(name, 'UTF-8')}", os.fspath(path), it.read()))
+            sources.append(_file(LOCALE, name, _charset(charsets, name), path))
+        for (name, of), path in (catalogs or {}).items():
+            sources.append(_file(CATALOG, named(name, "catalog"), _locale_of(of), path))
         return cls(sources)
 
     @classmethod
@@ -104,7 +98,14 @@ class Library:
         """
         by = tool or os.environ.get("LOCALE_TOOL", "locale_tool")
         paths = [os.fspath(it) for it in folders]
-        return cls(Source(f".locale {named(it, 'locale')} UTF-8", it, imported(it, by, paths)) for it in names)
+        return cls(Source(LOCALE, named(it, "locale"), "UTF-8", it, imported(it, by, paths)) for it in names)
+
+    def joined(self, other: "Library") -> "Library":
+        """A library with the locales of both, without reading their sources again; a name of both is the other's."""
+        library = object.__new__(type(self))
+        library._handle = self._handle.joined(other._handle)
+        library._names = self._names + tuple(it for it in other._names if it not in self._names)
+        return library
 
     @property
     def names(self) -> Tuple[str, ...]:
@@ -297,6 +298,13 @@ class Locale:
         except native.NoClass:
             raise UnknownName(f"the locale has no class {name!r}") from None
 
+    def catalog(self, name: str) -> "Catalog":
+        """The message catalog with a name for the locale that `LC_MESSAGES` is of (XSH catopen)."""
+        value = self.library._handle.catalog(self._value, encoded(name))
+        if value is None:
+            raise UnknownName(f"there is no message catalog {name!r} for the locale {self.name('messages')!r}")
+        return Catalog(self.library, name, value)
+
     def upper(self, text: str) -> str:
         """A text in upper case, character by character (XSH towupper)."""
         handle = self.library._handle
@@ -315,6 +323,52 @@ class Locale:
 
     def __repr__(self) -> str:
         return f"<Locale {self.name()} of {self.library!r}>"
+
+
+class Catalog:
+    """A message catalog of a library: a value that any thread may use, and that is not closed."""
+
+    __slots__ = ("library", "name", "_value")
+
+    def __init__(self, library: Library, name: str, value: "native.CatalogValue"):
+        self.library = library
+        """The library that it is of."""
+        self.name = name
+        self._value = value
+
+    def get(self, set: int, number: int, default: Optional[str] = None) -> Optional[str]:
+        """A message by its set and its number in it, or else the default (XSH catgets)."""
+        if not (_is_number(set) and _is_number(number)):
+            return default
+        text = self.library._handle.message(self._value, set, number)
+        return default if text is None else decoded(text)
+
+    def __repr__(self) -> str:
+        return f"<Catalog {self.name} of {self.library!r}>"
+
+
+def _is_number(given: int) -> bool:
+    """Whether a set or a message can have a number."""
+    if isinstance(given, bool) or not isinstance(given, int):
+        raise TypeError(f"a number is an int, and not a {type(given).__name__}")
+    return 0 <= given < 1 << 32
+
+
+def _file(kind: int, name: str, label: str, path: Union[str, os.PathLike]) -> Source:
+    """A source in a file."""
+    with open(path, "rb") as it:
+        return Source(kind, name, label, os.fspath(path), it.read())
+
+
+def _charset(charsets: Optional[Mapping[str, str]], name: str) -> str:
+    """The charset of a locale."""
+    charset = (charsets or {}).get(name, "UTF-8")
+    return charset if charset in ("UTF-8", "POSIX") else named(charset, "charmap")
+
+
+def _locale_of(name: str) -> str:
+    """The locale of a catalog, which may be the POSIX locale."""
+    return name if name == "C" else named(name, "locale")
 
 
 def _value(char: str) -> int:

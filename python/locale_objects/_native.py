@@ -4,14 +4,12 @@ from __future__ import annotations
 
 import ctypes
 import os
-import re
 import weakref
 from ctypes import POINTER, byref, c_bool, c_char_p, c_int32, c_int64, c_size_t, c_uint8, c_uint32, c_uint64, c_void_p
-from typing import Callable, Dict, List, Sequence, Tuple
+from typing import Callable, Dict, List, Optional, Sequence, Tuple
 
 from ._faults import LibraryMissing, LocaleError, SourceFault, TimeFault
-from ._rules import RULES
-from ._sources import Source, place_of
+from ._sources import Source
 from ._values import TM_FIELDS
 from ._version import __version__
 
@@ -19,6 +17,7 @@ NAME = "liblocale_objects.so.1"
 
 OK, NO_MEMORY, TOO_LONG, BAD_TEXT, NO_LOCALE, BAD_MASK, NO_DATA, TOO_SMALL = range(8)
 BAD_FORMAT, MISSING, BAD_AMOUNT, TM_RANGE, NO_ITEM, NO_CLASS, MISMATCH, NOT_UTF8, BAD_CHARACTER = range(8, 17)
+TOO_MANY, BAD_NAME, NAME_TWICE, NO_CHARMAP, NO_CATALOG, NO_MESSAGE = range(17, 23)
 
 
 class Answer(ctypes.Structure):
@@ -29,8 +28,15 @@ class LocaleValue(ctypes.Structure):
     _fields_ = [("mark", c_uint64)] + [(it, c_uint32) for it in ("ctype", "numeric", "monetary", "time", "messages")]
 
 
-class Place(ctypes.Structure):
-    _fields_ = [("line", c_uint32), ("column", c_uint32)]
+class CatalogValue(ctypes.Structure):
+    _fields_ = [("mark", c_uint64), ("number", c_uint32)]
+
+
+class Fault(ctypes.Structure):
+    _fields_ = [
+        ("part", c_size_t), ("line", c_uint32), ("column", c_uint32), ("reason", c_uint32), ("start", c_size_t),
+        ("length", c_size_t),
+    ]
 
 
 class AmountValue(ctypes.Structure):
@@ -105,6 +111,10 @@ class NoText(Numbered):
     """The text is not in UTF-8, or the locale is not."""
 
 
+class NoMessage(Numbered):
+    pass
+
+
 class NoData(Numbered):
     @property
     def mask(self) -> int:
@@ -147,7 +157,11 @@ _TEXT = [c_char_p, c_size_t]
 _BUFFER = [c_char_p, c_size_t]
 _READ = [c_void_p, LocaleValue]
 _PROTOTYPES: Dict[str, Tuple[list, type]] = {
-    "lobj_read": ([*_TEXT, POINTER(c_void_p), POINTER(Place), *_BUFFER], Answer),
+    "lobj_builder_new": ([POINTER(c_void_p)], Answer),
+    "lobj_builder_add": ([c_void_p, c_uint32, *_TEXT, *_TEXT, *_TEXT, POINTER(c_void_p)], Answer),
+    "lobj_build": ([c_void_p, POINTER(c_void_p), POINTER(Fault), *_BUFFER], Answer),
+    "lobj_builder_end": ([c_void_p], None),
+    "lobj_join": ([c_void_p, c_void_p, POINTER(c_void_p)], Answer),
     "lobj_library_end": ([c_void_p], None),
     "lobj_posix_locale": ([c_void_p, POINTER(LocaleValue)], None),
     "lobj_newlocale": ([c_void_p, c_uint32, *_TEXT, LocaleValue, POINTER(LocaleValue)], Answer),
@@ -165,6 +179,8 @@ _PROTOTYPES: Dict[str, Tuple[list, type]] = {
     "lobj_upper_text": ([*_BUFFER, *_READ, *_TEXT], Answer),
     "lobj_lower_text": ([*_BUFFER, *_READ, *_TEXT], Answer),
     "lobj_strptime": ([*_READ, *_TEXT, *_TEXT, POINTER(ParsedValue)], Answer),
+    "lobj_catopen": ([*_READ, *_TEXT, POINTER(CatalogValue)], Answer),
+    "lobj_catgets": ([*_BUFFER, c_void_p, CatalogValue, c_uint32, c_uint32], Answer),
 }
 
 _C = _loaded()
@@ -178,7 +194,7 @@ for _name, (_arguments, _result) in _PROTOTYPES.items():
 _FIRST_SIZE = 256
 _FORMATS = {
     BAD_FORMAT: BadFormat, MISSING: Missing, MISMATCH: Mismatch, NO_CLASS: NoClass, NO_DATA: NoData,
-    NOT_UTF8: NoText, BAD_CHARACTER: NoText,
+    NOT_UTF8: NoText, BAD_CHARACTER: NoText, NO_MESSAGE: NoMessage,
 }
 
 
@@ -206,27 +222,74 @@ def _text(call: Callable, *arguments, size: int = _FIRST_SIZE) -> bytes:
         size = answer.n
 
 
+_PART_FAULTS = {
+    TOO_MANY: ("TooMany", "a library has at most 4096 charmaps, 4096 locales and 4096 message catalogs"),
+    TOO_LONG: ("TooLong", "a source has less than 2^31 bytes, and all sources less than 2^31 lines"),
+    BAD_NAME: ("BadName", "a name has 1 to 64 letters, digits, `_`, `.`, `-` and `@`, and is neither C nor POSIX"),
+    NAME_TWICE: ("NameTwice", "a name is given once"),
+    NO_CHARMAP: ("NoCharmap", "a charset is `UTF-8`, `POSIX` or a charmap that is given"),
+}
+"""What is wrong with a source as a whole."""
+
+
+def _refused(answer: Answer, fault: Fault, message: bytes, sources: Sequence[Source]) -> Exception:
+    """What an answer that is not OK says of sources."""
+    if answer.code == BAD_TEXT:
+        source = sources[fault.part]
+        reason, _, rule = message.decode("utf-8", "replace").partition(": ")
+        line = source.text[fault.start : fault.start + fault.length].decode("utf-8", "replace")
+        return SourceFault(source.file, fault.line, fault.column, reason, rule, line)
+    if answer.code in _PART_FAULTS:
+        return SourceFault(sources[fault.part].file, 0, 0, *_PART_FAULTS[answer.code])
+    return _fault(answer)
+
+
+def _built(sources: Sequence[Source]) -> c_void_p:
+    """The library of sources."""
+    builder, library = c_void_p(), c_void_p()
+    answer = _C.lobj_builder_new(byref(builder))
+    if answer.code != OK:
+        raise _fault(answer)
+    try:
+        for source in sources:
+            name, label, text = source.name.encode("utf-8"), source.label.encode("utf-8"), source.text
+            answer = _C.lobj_builder_add(
+                builder, source.kind, name, len(name), label, len(label), text, len(text), byref(builder)
+            )
+            if answer.code != OK:
+                raise _fault(answer)
+        fault, message = Fault(), ctypes.create_string_buffer(4 * _FIRST_SIZE)
+        answer = _C.lobj_build(builder, byref(library), byref(fault), message, len(message))
+        if answer.code != OK:
+            raise _refused(answer, fault, message.value, sources)
+    finally:
+        _C.lobj_builder_end(builder)
+    return library
+
+
 class Handle:
     """A library, which is freed with this handle."""
 
     __slots__ = ("_at", "_end", "__weakref__")
 
-    def __init__(self, text: bytes, sources: Sequence[Source]):
-        at, place, line = c_void_p(), Place(), ctypes.create_string_buffer(_FIRST_SIZE)
-        answer = _C.lobj_read(text, len(text), byref(at), byref(place), line, len(line))
-        if answer.code == BAD_TEXT:
-            told = re.match(rb"refused: \d+:\d+ (.*)\n", line.raw[: answer.n])
-            reason = told[1].decode("ascii", "replace") if told else ""
-            file, number, content = place_of(sources, place.line)
-            raise SourceFault(file, number, place.column, reason, RULES.get(reason) or RULES.get(reason.split(" ")[0], ""), content)
-        if answer.code == TOO_LONG:
-            raise ValueError("the sources have 2^31 bytes or more")
-        if answer.code != OK:
-            raise _fault(answer)
+    def __init__(self, at: c_void_p):
         self._at = at
         self._end = weakref.finalize(self, _C.lobj_library_end, at)
         # (at the end of the process nothing is freed: another thread may still read)
         self._end.atexit = False
+
+    @classmethod
+    def of(cls, sources: Sequence[Source]) -> "Handle":
+        return cls(_built(sources))
+
+    def joined(self, other: "Handle") -> "Handle":
+        at = c_void_p()
+        answer = _C.lobj_join(self._at, other._at, byref(at))
+        if answer.code == TOO_MANY:
+            raise ValueError("both libraries have more than 4096 locales together")
+        if answer.code != OK:
+            raise _fault(answer)
+        return Handle(at)
 
     def posix(self) -> LocaleValue:
         out = LocaleValue()
@@ -300,3 +363,18 @@ class Handle:
         if answer.code != OK:
             raise _fault(answer)
         return [getattr(fields, name) for name, _ in ParsedValue._fields_], answer.n
+
+    def catalog(self, by: LocaleValue, name: bytes) -> Optional[CatalogValue]:
+        out = CatalogValue()
+        answer = _C.lobj_catopen(self._at, by, name, len(name), byref(out))
+        if answer.code == NO_CATALOG:
+            return None
+        if answer.code != OK:
+            raise _fault(answer)
+        return out
+
+    def message(self, of: CatalogValue, set: int, number: int) -> Optional[bytes]:
+        try:
+            return _text(_C.lobj_catgets, self._at, of, set, number)
+        except NoMessage:
+            return None

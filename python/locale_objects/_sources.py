@@ -1,22 +1,28 @@
-"""Sources put together as one text that the library reads, and places in it told by file and line."""
+"""The sources of a library."""
 
 from __future__ import annotations
 
 import os
 import re
 import subprocess
-from typing import Iterable, List, NamedTuple, Optional, Sequence, Tuple
+from typing import Iterable, NamedTuple
 
-from ._faults import ImportFault, LibraryMissing, SourceFault
+from ._faults import ImportFault, LibraryMissing
 
 NAME = re.compile(r"[A-Za-z0-9_.@-]{1,64}\Z")
+
+
+CHARMAP, LOCALE, CATALOG = range(3)
+"""The kinds of sources."""
 
 
 class Source(NamedTuple):
     """One charmap, locale source or message catalog."""
 
-    directive: str
-    """The line of the bundle that begins its block."""
+    kind: int
+    name: str
+    label: str
+    """The charset of a locale, the locale of a catalog; empty of a charmap."""
     file: str
     """The file, or the name that stands for it in faults."""
     text: bytes
@@ -32,32 +38,6 @@ def named(name: str, kind: str) -> str:
 def as_bytes(text) -> bytes:
     """The bytes of a source."""
     return text.encode("utf-8", "surrogateescape") if isinstance(text, str) else bytes(text)
-
-
-def bundle_of(sources: Sequence[Source]) -> bytes:
-    """The sources as one text."""
-    parts = []
-    for source in sources:
-        for number, line in enumerate(source.text.split(b"\n"), 1):
-            if line == b".end":
-                raise SourceFault(source.file, number, 1, "BadLine", "no line of a source is just `.end`", ".end")
-        end = b"" if not source.text or source.text.endswith(b"\n") else b"\n"
-        parts.append(source.directive.encode("ascii") + b"\n" + source.text + end + b".end\n")
-    return b"".join(parts)
-
-
-def place_of(sources: Sequence[Source], line: int) -> Tuple[str, int, str]:
-    """The file of a line of the bundle, the line in that file, and its text."""
-    first = 2
-    for source in sources:
-        lines = source.text.split(b"\n")
-        count = len(lines) - (1 if lines[-1] == b"" else 0)
-        if line < first + count + 1:
-            at = line - first
-            text = lines[at] if 0 <= at < count else b""
-            return source.file, max(at, 0) + 1, text.decode("utf-8", "replace")
-        first += count + 2
-    return "", line, ""
 
 
 def imported(name: str, tool: str, folders: Iterable[str]) -> bytes:

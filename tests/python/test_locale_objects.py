@@ -12,6 +12,7 @@ import signal
 import struct
 import subprocess
 import sys
+import tempfile
 import threading
 import time
 import unittest
@@ -266,6 +267,46 @@ class Values(unittest.TestCase):
         with self.assertRaises(UnknownName):
             mixed.name("collate")
 
+    def test_catalogs(self):
+        library = Library.from_texts(
+            {"us": US, "de": DE},
+            catalogs={
+                ("greetings", "us"): "$set 1\n1 Hello\n2 Good bye\n$set 255\n32767 Last\n",
+                ("greetings", "de"): "$set 1\n1 Grüß Gott\n",
+                ("greetings", "C"): "$set 1\n1 hello\n",
+            },
+        )
+        us, de = (library.locale(it).catalog("greetings") for it in ("us", "de"))
+        self.assertEqual((us.get(1, 1), us.get(1, 2), us.get(255, 32767)), ("Hello", "Good bye", "Last"))
+        self.assertEqual((de.get(1, 1), de.get(1, 2), de.get(1, 2, "?")), ("Grüß Gott", None, "?"))
+        self.assertEqual(library.locale("de", messages="us").catalog("greetings").get(1, 1), "Hello")
+        self.assertEqual(library.locale().catalog("greetings").get(1, 1), "hello")
+        for set, number in ((0, 0), (256, 1), (1, 1 << 40), (-1, 1)):
+            self.assertEqual(us.get(set, number, "none"), "none")
+        with self.assertRaises(UnknownName):
+            library.locale("de").catalog("farewells")
+        with self.assertRaises(TypeError):
+            us.get("1", 1)
+
+    def test_joined(self):
+        first = Library.from_texts({"us": US, "shop": DE}, catalogs={("greetings", "us"): "1 Hello\n"})
+        second = Library.from_texts({"de": DE, "shop": US})
+        kept = first.locale("us")
+        both = first.joined(second)
+        self.assertEqual(both.names, ("us", "shop", "de"))
+        self.assertEqual([both.locale(it).money(1) for it in both.names], ["$1.00", "$1.00", "1,00 €"])
+        self.assertEqual(both.locale("us").catalog("greetings").get(1, 1), "Hello")
+        self.assertEqual(first.locale("shop").money(1), "1,00 €")
+        with self.assertRaises(UnknownLocale):
+            first.locale("de")
+        del first, second
+        gc.collect()
+        self.assertEqual((kept.money(1), both.locale("de").money(1)), ("$1.00", "1,00 €"))
+
+    def test_many_locales(self):
+        library = Library.from_texts({f"x{n}": US for n in range(300)})
+        self.assertEqual(library.locale("x299").money(1), "$1.00")
+
     def test_library_outlives(self):
         kept = made().locale("us")
         gc.collect()
@@ -378,8 +419,27 @@ class Faults(unittest.TestCase):
         for wrong in ("", "C", "POSIX", "a b", "x" * 65):
             with self.subTest(name=wrong), self.assertRaises(ValueError):
                 Library.from_texts({wrong: US})
-        with self.assertRaises(SourceFault):
-            Library.from_texts({"xx": "LC_TIME\n.end\nEND LC_TIME\n"})
+
+    def test_sources_as_such(self):
+        with self.assertRaises(SourceFault) as met:
+            Library.from_texts({"us": US}, charsets={"us": "LATIN"})
+        fault = met.exception
+        self.assertEqual((fault.file, fault.line, fault.column, fault.reason), ("us", 0, 0, "NoCharmap"))
+        self.assertEqual(str(fault), f"us: NoCharmap: {fault.rule}")
+        with tempfile.TemporaryDirectory() as folder:
+            for part in ("a", "b"):
+                os.mkdir(os.path.join(folder, part))
+                with open(os.path.join(folder, part, "us"), "w", encoding="utf-8") as it:
+                    it.write(US)
+            with self.assertRaises(SourceFault) as met:
+                Library.from_files(os.path.join(folder, "a", "us"), os.path.join(folder, "b", "us"))
+        self.assertEqual((met.exception.file, met.exception.reason), (os.path.join(folder, "b", "us"), "NameTwice"))
+
+    def test_catalogs(self):
+        with self.assertRaises(SourceFault) as met:
+            Library.from_texts({"us": US}, catalogs={("greetings", "us"): "$set 1\n1 Hello\n1x Again\n"})
+        fault = met.exception
+        self.assertEqual((fault.file, fault.line, fault.reason, fault.text), ("greetings", 3, "BadMessage", "1x Again"))
 
 
 def in_child(amount: int) -> str:
