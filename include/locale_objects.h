@@ -281,8 +281,8 @@ typedef struct lobj_table {
  * before is not looked at.
  *
  * LOBJ_BAD_TEXT: the text breaks a rule; `fault` tells where, and the buffer has the message `REASON: RULE`
- * (docs/REFUSALS.md), of which `n` is the length. Where message and NUL do not fit, the buffer is as it was, and `n` is
- * the size that they need: so the message is there if `n` is less than the size. LOBJ_TOO_LONG, LOBJ_NO_MEMORY. Only
+ * (docs/REFUSALS.md), of which `n` is the length. If the buffer is too small for it with its NUL, the buffer is as it
+ * was, and `n` is the size that is needed: so the message is there if `n` is less than the size. LOBJ_TOO_LONG, LOBJ_NO_MEMORY. Only
  * LOBJ_OK writes `*out`, which is then the caller's to free, and only LOBJ_BAD_TEXT writes `fault` and the buffer. Once
  * the call has returned, nothing refers to the text.
  */

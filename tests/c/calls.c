@@ -784,6 +784,19 @@ static void run_out_of_memory(void) {
     }
 }
 
+/* What building answers once it has the memory that it asks for. Until then all is as it was. */
+static lobj_answer build_at_last(const lobj_builder *builder, lobj_library **out, lobj_fault *fault, char *buffer,
+                                 size_t size) {
+    lobj_answer answer = { LOBJ_NO_MEMORY, 0 };
+    for (long given = 0; answer.code == LOBJ_NO_MEMORY; given++) {
+        CHECK(*out == NULL && is_untouched_fault(fault) && is_untouched(buffer, buffer + size));
+        blocks_left = given;
+        answer = lobj_build(builder, out, fault, buffer, size);
+        blocks_left = -1;
+    }
+    return answer;
+}
+
 /* So does each of a builder, of what it builds, and of libraries that are joined. */
 static void run_out_in_parts(const lobj_library *library) {
     lobj_builder *builder = NULL;
@@ -805,13 +818,7 @@ static void run_out_in_parts(const lobj_library *library) {
         blocks_left = -1;
     }
     CHECK(answer.code == LOBJ_OK);
-    answer.code = LOBJ_NO_MEMORY;
-    for (long given = 0; answer.code == LOBJ_NO_MEMORY; given++) {
-        CHECK(built == NULL && is_untouched_fault(&fault) && is_untouched(buffer, buffer + sizeof buffer));
-        blocks_left = given;
-        answer = lobj_build(builder, &built, &fault, buffer, sizeof buffer);
-        blocks_left = -1;
-    }
+    answer = build_at_last(builder, &built, &fault, buffer, sizeof buffer);
     /* (the source was added once, so none has its name twice) */
     CHECK(answer.code == LOBJ_OK);
     answer.code = LOBJ_NO_MEMORY;
@@ -826,13 +833,7 @@ static void run_out_in_parts(const lobj_library *library) {
     lobj_library_free(built);
     CHECK(is(add(&builder, LOBJ_SOURCE, "one", "UTF-8", ""), LOBJ_OK, 0));
     built = NULL;
-    answer.code = LOBJ_NO_MEMORY;
-    for (long given = 0; answer.code == LOBJ_NO_MEMORY; given++) {
-        CHECK(built == NULL && is_untouched_fault(&fault) && is_untouched(buffer, buffer + sizeof buffer));
-        blocks_left = given;
-        answer = lobj_build(builder, &built, &fault, buffer, sizeof buffer);
-        blocks_left = -1;
-    }
+    answer = build_at_last(builder, &built, &fault, buffer, sizeof buffer);
     CHECK(is(answer, LOBJ_NAME_TWICE, 0) && is_fault(&fault, 1, 0, 0, 0, 0, 0));
     lobj_builder_free(builder);
 }
