@@ -73,24 +73,12 @@ fn new_part(
 ) -> Result<Part, AllocError>
     ensures { IfOk result (λ p. p ≡ part_of kind name.now label.now text.now) }
 {
-    let name = copied(alloc, name)?;
-    let label = copied(alloc, label)?;
-    let text = copied(alloc, text)?;
     Ok(Part {
         kind,
-        name,
-        label,
-        text,
+        name: ByteText::of(alloc, name)?,
+        label: ByteText::of(alloc, label)?,
+        text: ByteText::of(alloc, text)?,
     })
-}
-
-/// A copy of bytes.
-fn copied(alloc: Global, bytes: &[u8]) -> Result<ByteText, AllocError>
-    ensures { IfOk result (λ t. t ≡ bytes.now) }
-{
-    let mut copy = Vec::new(alloc);
-    copy.extend_from_slice(bytes)?;
-    Ok(ByteText::from_vec(copy))
 }
 
 /// Copies of parts.
