@@ -4,9 +4,9 @@ use Rattle.lc_base.specs.declared.place.Place.{Place}
 use Rattle.lc_base.specs.declared.reason.Reason.TheVariants.{NoEnd, BadHeader, BadEscape, OpenName, OpenString, BadEncoding, RangeBackward, NameTwice, PortableMoved}
 use Rattle.lc_base.specs.Reading.{Reads}
 use Rattle.src_lines.specs.Logical.{front_from, front}
-use Rattle.src_operands.specs.Atoms.{items_from}
-use Rattle.src_operands.specs.Tokens.{tokens, operands, separated, operand, run, text}
-use Rattle.src_operands.specs.Fields.{field, fields}
+use Rattle.src_lines.specs.Atoms.{items_from}
+use Rattle.src_lines.specs.Tokens.{tokens, operands, separated, operand, run, text}
+use Rattle.src_lines.specs.Fields.{field, fields}
 use Rattle.charset.specs.Portable.{Name, portable_code}
 use Rattle.charset.specs.CodedSet.{CodedSet, listed}
 use Rattle.charset.specs.Numbering.{stem, digits, number, padded}

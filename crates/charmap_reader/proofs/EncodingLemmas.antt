@@ -4,8 +4,8 @@ use Rattle.std.proofs.Common.{◌≡◌, ℕ, zero, suc, ◌+◌, ◌-◌, ◌*�
 use Rattle.std.proofs.Math.Nat.{pow-suc}
 use Rattle.std.proofs.lemmas.Bool.Decides.{nat_tests}
 use Rattle.std.proofs.lemmas.Nat.{mul-le}
-use Rattle.src_operands.specs.declared.atom.Atom.{Atom}
-use Rattle.src_operands.specs.Atoms.{up_to}
+use Rattle.src_lines.specs.declared.atom.Atom.{Atom}
+use Rattle.src_lines.specs.Atoms.{up_to}
 use Rattle.std.specs.Int.Digits.{number_from_digits_after}
 use Rattle.charset.specs.CodedSet.{big_endian}
 use Rattle.charmap_reader.specs.Encoding.{atom_number, and_bytes, numbers, is_encoding, encoding}

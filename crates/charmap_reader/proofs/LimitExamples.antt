@@ -4,9 +4,9 @@ use Rattle.lc_base.specs.declared.place.Place.{Place}
 use Rattle.lc_base.specs.declared.reason.Reason.TheVariants.{NameTwice, OverLimit}
 use Rattle.lc_base.specs.declared.reason.Limit.TheVariants.{Names}
 use Rattle.lc_base.specs.Reading.{Reads}
-use Rattle.src_operands.specs.Atoms.{items_from}
-use Rattle.src_operands.specs.Tokens.{run}
-use Rattle.src_operands.specs.Fields.{field, fields}
+use Rattle.src_lines.specs.Atoms.{items_from}
+use Rattle.src_lines.specs.Tokens.{run}
+use Rattle.src_lines.specs.Fields.{field, fields}
 use Rattle.charset.specs.Portable.{portable_code}
 use Rattle.charset.specs.Numbering.{padded}
 use Rattle.charset.specs.Entries.{Entry}

@@ -9,15 +9,15 @@ use Rattle.lc_base.specs.declared.reason.Reason.TheVariants.{NoEnd, BadHeader, B
 use Rattle.lc_base.specs.declared.reason.Limit.TheVariants.{Names}
 use Rattle.lc_base.specs.Reading.{Reads, ◌>>=◌}
 use Rattle.src_lines.specs.declared.signs.Kind.TheVariants.{Charmap}
-use Rattle.src_operands.specs.declared.line.Operand.{Operand}
-use Rattle.src_operands.specs.declared.line.Operand.TheVariants.{Plain, Quoted, Dots, Pair}
-use Rattle.src_operands.specs.declared.field.Field.{Field}
+use Rattle.src_lines.specs.declared.line.Operand.{Operand}
+use Rattle.src_lines.specs.declared.line.Operand.TheVariants.{Plain, Quoted, Dots, Pair}
+use Rattle.src_lines.specs.declared.field.Field.{Field}
 use Rattle.src_lines.specs.Words.{blanks, first_word, second_word}
 use Rattle.src_lines.specs.Places.{Logical, start, line_at, closes_line}
 use Rattle.src_lines.specs.Logical.{ends_head, front}
-use Rattle.src_operands.specs.Pieces.{only_bytes}
-use Rattle.src_operands.specs.Tokens.{tokens}
-use Rattle.src_operands.specs.Fields.{fields}
+use Rattle.src_lines.specs.Pieces.{only_bytes}
+use Rattle.src_lines.specs.Tokens.{tokens}
+use Rattle.src_lines.specs.Fields.{fields}
 use Rattle.charset.specs.declared.names.TheConstants.{NAME_LIMIT}
 use Rattle.charset.specs.Portable.{portable_code}
 use Rattle.charset.specs.CodedSet.{CodedSet, listed, big_endian}

@@ -1,8 +1,8 @@
 -- Encodings in a charmap (XBD 6.4): one to four bytes, each written as a number.
 use Rattle.std.specs.Prelude.{ℕ, Bool, ◌==◌, ◌&&◌, not, ◌||◌, List, [], ◌∷◌, length, slice_index, Option, Some, None, if◌then◌else◌}
 use Rattle.std.specs.Int.{is_in_range}
-use Rattle.src_operands.specs.declared.atom.Atom.{Atom}
-use Rattle.src_operands.specs.declared.atom.Atom.TheVariants.{Number}
+use Rattle.src_lines.specs.declared.atom.Atom.{Atom}
+use Rattle.src_lines.specs.declared.atom.Atom.TheVariants.{Number}
 
 -- the byte of an atom that is a number
 abbrev pub atom_number : Atom → Option ℕ

@@ -1,10 +1,10 @@
 -- What a line of a charmap's body speaks of (XBD 6.4): a name, or a range of names.
 use Rattle.std.specs.Prelude.{ℕ, ◌-◌, ◌==◌, ◌||◌, not, nat_lt, List, [], ◌∷◌, length, Option, Some, None, if◌then◌else◌}
 use Rattle.std.specs.Str.{bytes_eq}
-use Rattle.src_operands.specs.declared.line.OperandPiece.TheVariants.{Name as Named}
-use Rattle.src_operands.specs.declared.atom.Atom.{Atom}
-use Rattle.src_operands.specs.declared.atom.Atom.TheVariants.{Made}
-use Rattle.src_operands.specs.Shapes.{is_dots}
+use Rattle.src_lines.specs.declared.line.OperandPiece.TheVariants.{Name as Named}
+use Rattle.src_lines.specs.declared.atom.Atom.{Atom}
+use Rattle.src_lines.specs.declared.atom.Atom.TheVariants.{Made}
+use Rattle.src_lines.specs.Shapes.{is_dots}
 use Rattle.charset.specs.Portable.{Name}
 use Rattle.charset.specs.Numbering.{stem, digits, number, name_after}
 

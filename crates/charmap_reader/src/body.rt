@@ -14,7 +14,7 @@ use crate::encoding::encoding_in;
 use crate::subject::{SUBJECT_ATOMS, Subject, more_names, subject_in};
 use charset::{CharacterNames, Code, NAME_LIMIT, add_names, portable_code};
 use lc_base::{Limit, Place, Reason, TextFault};
-use src_operands::Field;
+use src_lines::Field;
 use std::alloc::Global;
 
 /// Whether a subject is a portable name with another code than its own.

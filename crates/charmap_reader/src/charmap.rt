@@ -9,8 +9,7 @@ use crate::body::add_line;
 use crate::header::read_header;
 use charset::{CharacterNames, Charset};
 use lc_base::{ByteText, Place, Reason, TextFault};
-use src_lines::{Kind, Lines, ends_head, next_word, split_front};
-use src_operands::fields;
+use src_lines::{Kind, Lines, ends_head, fields, next_word, split_front};
 use std::alloc::Global;
 
 /// Whether a line is the one before the body.

@@ -5,7 +5,7 @@ ghost use Rattle.charset.specs.Code.{code_bytes};
 ghost use Rattle.charmap_reader.specs.Encoding.{atom_number, is_encoding, encoding};
 
 use charset::Code;
-use src_operands::{Atom, Atoms};
+use src_lines::{Atom, Atoms};
 use std::alloc::{AllocError, Global};
 
 /// The byte of an atom that is a number.

@@ -6,8 +6,7 @@ ghost use Rattle.src_lines.specs.Places.{line_at};
 ghost use Rattle.charmap_reader.specs.Charmap.{header_bytes, line_bytes, is_count, named_by, counted_by, gives_name, gives_count, header};
 
 use lc_base::{ByteText, Place, Reason, TextFault};
-use src_lines::Lines;
-use src_operands::{Operand, tokens};
+use src_lines::{Lines, Operand, tokens};
 use std::alloc::Global;
 
 const CODE_SET_NAME: &[u8] = b"<code_set_name>";

@@ -2,16 +2,16 @@
 
 ghost use Rattle.std.specs.Prelude.{◌≡◌, ◌∷◌, [], min, option_map, None, Some};
 ghost use Rattle.std.specs.Prelude.{List as AllOf};
-ghost use Rattle.src_operands.specs.declared.atom.Atom.{Atom as AtomValue};
-ghost use Rattle.src_operands.specs.Atoms.{up_to};
-ghost use Rattle.src_operands.specs.Shapes.{is_dots};
+ghost use Rattle.src_lines.specs.declared.atom.Atom.{Atom as AtomValue};
+ghost use Rattle.src_lines.specs.Atoms.{up_to};
+ghost use Rattle.src_lines.specs.Shapes.{is_dots};
 ghost use Rattle.charmap_reader.specs.Subject.{atom_name, subject, more_between, more_names};
 ghost use Rattle.charmap_reader.specs.Seen.{seen};
 
 use crate::distance::distance;
 use charset::split_number;
 use lc_base::List;
-use src_operands::{Atom, OperandPiece};
+use src_lines::{Atom, OperandPiece};
 
 /// The most atoms of a subject: two names, with three dots between them.
 pub const SUBJECT_ATOMS: usize = 5;

@@ -10,8 +10,8 @@ use Rattle.lc_base.specs.declared.reason.Reason.{Reason}
 use Rattle.lc_base.specs.declared.reason.Reason.TheVariants.{NoEnd, WrongOperand, OpenString, SectionTwice, UnknownKeyword, KeywordTwice, CopyNotAlone, UnknownCharacter}
 use Rattle.lc_base.specs.Reading.{Reads}
 use Rattle.src_lines.specs.Logical.{front_from, front}
-use Rattle.src_operands.specs.Atoms.{items_from}
-use Rattle.src_operands.specs.Tokens.{tokens, operands, separated, operand, run, text}
+use Rattle.src_lines.specs.Atoms.{items_from}
+use Rattle.src_lines.specs.Tokens.{tokens, operands, separated, operand, run, text}
 use Rattle.charset.specs.Portable.{portable_code}
 use Rattle.charset.specs.Hex.{numbered}
 use Rattle.charset.specs.CodedSet.{CodedSet, utf8, posix, listed, valued}

@@ -3,7 +3,7 @@ use Rattle.std.specs.Prelude.{ℕ, Bool, false, ◌||◌, ◌&&◌, nat_lt, List
 use Rattle.std.specs.List.{list_any}
 use Rattle.std.specs.Str.{bytes_eq}
 use Rattle.lc_base.specs.declared.place.Place.{Place}
-use Rattle.src_operands.specs.declared.line.Line.{Line}
+use Rattle.src_lines.specs.declared.line.Line.{Line}
 use Rattle.charset.specs.Portable.{Name}
 use Rattle.keywords.specs.declared.source.Value.{Value}
 use Rattle.keywords.specs.declared.source.Value.TheVariants.{Text, Number, Chars, Pair}

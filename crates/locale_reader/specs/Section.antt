@@ -5,10 +5,10 @@ use Rattle.std.specs.Option.{option_or}
 use Rattle.lc_base.specs.declared.category.Category.{Category}
 use Rattle.lc_base.specs.declared.reason.Reason.TheVariants.{UnknownKeyword, KeywordTwice, CopyNotAlone}
 use Rattle.lc_base.specs.Reading.{Reads, ◌>>=◌}
-use Rattle.src_operands.specs.declared.line.Line.{Line}
+use Rattle.src_lines.specs.declared.line.Line.{Line}
 use Rattle.src_lines.specs.Words.{first_word}
 use Rattle.src_lines.specs.Places.{Logical}
-use Rattle.src_operands.specs.Tokens.{tokens}
+use Rattle.src_lines.specs.Tokens.{tokens}
 use Rattle.charset.specs.Portable.{Name}
 use Rattle.charset.specs.CodedSet.{CodedSet}
 use Rattle.keywords.specs.declared.source.Body.{Body}

@@ -13,7 +13,7 @@ use Rattle.src_lines.specs.declared.signs.Kind.TheVariants.{Locale}
 use Rattle.src_lines.specs.Words.{first_word, second_word}
 use Rattle.src_lines.specs.Places.{Logical, start, closes_line}
 use Rattle.src_lines.specs.Logical.{ends_head, front}
-use Rattle.src_operands.specs.Tokens.{tokens}
+use Rattle.src_lines.specs.Tokens.{tokens}
 use Rattle.charset.specs.Portable.{Name}
 use Rattle.charset.specs.CodedSet.{CodedSet}
 use Rattle.keywords.specs.declared.source.Section.{Section}

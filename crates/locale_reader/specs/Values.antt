@@ -6,12 +6,12 @@ use Rattle.lc_base.specs.declared.reason.Reason.{Reason}
 use Rattle.lc_base.specs.declared.reason.Reason.TheVariants.{WrongOperand, UnknownCharacter, OverLimit}
 use Rattle.lc_base.specs.declared.reason.Limit.TheVariants.{Text as TextLimit}
 use Rattle.lc_base.specs.Reading.{Reads, ◌>>=◌}
-use Rattle.src_operands.specs.declared.line.OperandPiece.{OperandPiece}
-use Rattle.src_operands.specs.declared.line.OperandPiece.TheVariants.{Byte, Name as Named}
-use Rattle.src_operands.specs.declared.line.Operand.{Operand}
-use Rattle.src_operands.specs.declared.line.Operand.TheVariants.{Plain, Quoted, Dots, Pair as Paired}
+use Rattle.src_lines.specs.declared.line.OperandPiece.{OperandPiece}
+use Rattle.src_lines.specs.declared.line.OperandPiece.TheVariants.{Byte, Name as Named}
+use Rattle.src_lines.specs.declared.line.Operand.{Operand}
+use Rattle.src_lines.specs.declared.line.Operand.TheVariants.{Plain, Quoted, Dots, Pair as Paired}
 use Rattle.charset.specs.CodedSet.{CodedSet, named, encoded, valued}
-use Rattle.src_operands.specs.Pieces.{only_bytes}
+use Rattle.src_lines.specs.Pieces.{only_bytes}
 use Rattle.keywords.specs.declared.source.Value.{Value}
 use Rattle.keywords.specs.declared.source.Value.TheVariants.{Text, Number, Chars, Pair}
 use Rattle.keywords.specs.declared.row.Element.{Element}

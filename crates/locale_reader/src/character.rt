@@ -9,7 +9,7 @@ ghost use Rattle.locale_reader.specs.Steps.{member, first_member};
 use charset::Charset;
 use keywords::{Value, Values};
 use lc_base::{Place, Reason, TextFault};
-use src_operands::{Operand, PieceRef, Pieces};
+use src_lines::{Operand, PieceRef, Pieces};
 use std::alloc::Global;
 
 /// A name that is alone.

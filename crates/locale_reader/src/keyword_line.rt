@@ -13,8 +13,7 @@ use crate::value::{copied_name, one, several};
 use charset::Charset;
 use keywords::{Body, Operands, Values, takes_of};
 use lc_base::{Category, Reason, TextFault};
-use src_lines::Lines;
-use src_operands::{Line, tokens};
+use src_lines::{Line, Lines, tokens};
 use std::alloc::Global;
 
 /// What a keyword takes: that of the table, or for a declared class characters.

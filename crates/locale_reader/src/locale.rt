@@ -10,8 +10,7 @@ use crate::keyword_line::read_body;
 use charset::Charset;
 use keywords::{LocaleSource, Section};
 use lc_base::{CATEGORIES, Category, List, Place, Reason, TextFault};
-use src_lines::{Kind, Lines, ends_head, split_front};
-use src_operands::tokens;
+use src_lines::{Kind, Lines, ends_head, split_front, tokens};
 use std::alloc::Global;
 
 /// The category of a name.

@@ -6,7 +6,7 @@ ghost use Rattle.lc_base.specs.Reading.{Gives};
 ghost use Rattle.locale_reader.specs.Values.{signed, number};
 
 use lc_base::{Place, Reason, TextFault, few_digits};
-use src_operands::Operand;
+use src_lines::Operand;
 
 /// The most digits of a number.
 const DIGITS: usize = 9;

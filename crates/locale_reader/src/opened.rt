@@ -8,7 +8,7 @@ ghost use Rattle.locale_reader.specs.Words.{has_word};
 use crate::words::{Words, add_word, has_word};
 use keywords::{Body, Entry, ValueRef, Values};
 use lc_base::{ByteText, List, Place};
-use src_operands::Line;
+use src_lines::Line;
 use std::alloc::{AllocError, Global};
 use std::marker::Model;
 

@@ -2,7 +2,7 @@
 
 ghost use Rattle.std.specs.Prelude.{◌≡◌, IfOk, option_map, option_and_then};
 ghost use Rattle.lc_base.specs.Reading.{Gives};
-ghost use Rattle.src_operands.specs.Pieces.{seen};
+ghost use Rattle.src_lines.specs.Pieces.{seen};
 ghost use Rattle.charset.specs.CodedSet.{named, encoded};
 ghost use Rattle.charset.specs.Code.{code_bytes};
 ghost use Rattle.locale_reader.specs.Values.{piece_bytes, decoded, quoted_text, quote, plain_word, word};
@@ -10,7 +10,7 @@ ghost use Rattle.locale_reader.specs.Steps.{IsAppended};
 
 use charset::{Charset, Code};
 use lc_base::{ByteText, Limit, Place, Reason, TextFault};
-use src_operands::{Operand, PieceRef, Pieces};
+use src_lines::{Operand, PieceRef, Pieces};
 use std::alloc::{AllocError, Global};
 
 /// The most bytes of a text (our own rule).

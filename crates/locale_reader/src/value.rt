@@ -10,7 +10,7 @@ use crate::text::{quote, word};
 use charset::Charset;
 use keywords::{Element, Value, Values};
 use lc_base::{ByteText, Place, Reason, TextFault};
-use src_operands::Operand;
+use src_lines::Operand;
 use std::alloc::Global;
 
 /// An operand as a value of this kind.

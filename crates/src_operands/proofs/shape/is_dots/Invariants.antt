@@ -1,6 +1,0 @@
-use Rattle.std.proofs.Common.{◌≡◌}
-use Rattle.src_operands.proofs.Shaping.{with_dots}
-use Rattle.src_operands.proofs.shape.is_dots.Given as goal
-
-abbrev pub invariant-loop : goal.invariant-loop
-invariant-loop l = with_dots l.counter l.walk ≡ l.atoms
