@@ -8,7 +8,7 @@ use Rattle.generations.proofs.Numbering.{with_other}
 use Rattle.generations.proofs.Free.{free_row_alike}
 use Rattle.lc_base.specs.declared.handle.Handle.{Handle}
 use Rattle.lc_base.specs.declared.handle.Named.{Named}
-use Rattle.table_rows.specs.Numbers.{object_handles}
+use Rattle.handle_table.specs.Numbers.{object_handles}
 use Rattle.handle_table.specs.Entry.{Op, New, Free, Use, Hold, Release, SetGlobal, Install, End, Entry, History, Setting, names, is_accepted}
 use Rattle.handle_table.specs.Shelf.{offer_after, shelf, installs_after, installs}
 use Rattle.handle_table.specs.History.{handle_made, makes_handle, made, op_frees, frees_handle, live, makings, handles, sets_after, sets, global_after, global, object, selection_after, selection, holding_after, holding, pins, objects, free_row, handle_named, posted}

@@ -12,12 +12,12 @@ use Rattle.generations.proofs.Places.{cell_here, cell_elsewhere}
 use Rattle.lc_base.specs.declared.handle.Handle.{Handle}
 use Rattle.lc_base.specs.declared.handle.Named.{Named}
 use Rattle.lc_base.specs.declared.handle.Named.TheVariants.{Global, Of}
-use Rattle.table_rows.specs.declared.row.Row.{Row}
-use Rattle.table_rows.specs.Numbers.{object_handles}
+use Rattle.handle_table.specs.declared.row.Row.{Row}
+use Rattle.handle_table.specs.Numbers.{object_handles}
 use Rattle.handle_table.specs.Entry.{Setting, names, same_handle}
 use Rattle.generations.specs.Grid.{GridData, place, with_cell}
-use Rattle.table_rows.specs.Row.{no_row, let_go}
-use Rattle.table_rows.specs.Rows.{counts, row_at, is_newest, changed, all_let_go}
+use Rattle.handle_table.specs.Row.{no_row, let_go}
+use Rattle.handle_table.specs.Rows.{counts, row_at, is_newest, changed, all_let_go}
 use Rattle.handle_table.specs.Kept.{HasLines}
 use Rattle.handle_table.proofs.Numbering.{same_handles, same_itself}
 

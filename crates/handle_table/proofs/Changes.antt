@@ -8,7 +8,7 @@ use Rattle.lc_base.specs.declared.handle.Handle.{Handle}
 use Rattle.lc_base.specs.declared.handle.Named.{Named}
 use Rattle.lc_base.specs.declared.handle.Named.TheVariants.{Global, Of}
 use Rattle.handle_table.specs.declared.op.Refusal.{Refusal}
-use Rattle.table_rows.specs.Numbers.{object_handles}
+use Rattle.handle_table.specs.Numbers.{object_handles}
 use Rattle.handle_table.specs.Entry.{Op, New, Dup, Free, Use, Hold, Release, SetGlobal, Install, Post, Fetch, Pins, End, Reply, Made, Freed, Was, Held, Released, Set, Installed, Posted, Got, Pinned, Ended, Refused, Entry, History, Setting, names, is_accepted}
 use Rattle.handle_table.specs.Shelf.{offer_after, shelf, installs_after, installs, from_shelf}
 use Rattle.handle_table.specs.History.{handle_in, handle_made, makes_handle, made, frees_handle, live, handles, sets_after, sets, global_after, global, object_after, replies_with, object, selection_after, selection, holding_after, holding, pins, free_row, posted_after, posted}

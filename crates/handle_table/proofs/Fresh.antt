@@ -10,15 +10,15 @@ use Rattle.mask_compose.specs.Offer.{Offered}
 use Rattle.lc_base.specs.declared.handle.Handle.{Handle}
 use Rattle.lc_base.specs.declared.handle.Named.{Named}
 use Rattle.lc_base.specs.declared.handle.Named.TheVariants.{Global}
-use Rattle.table_rows.specs.declared.row.Row.{Row}
-use Rattle.table_rows.specs.declared.row.TheConstants.{MAX_THREADS}
+use Rattle.handle_table.specs.declared.row.Row.{Row}
+use Rattle.handle_table.specs.declared.row.TheConstants.{MAX_THREADS}
 use Rattle.lc_base.specs.declared.cells.TheConstants.{CELLS}
 use Rattle.handle_table.specs.Entry.{Setting}
 use Rattle.handle_table.specs.Shelf.{opening_offer}
 use Rattle.handle_table.specs.History.{pins}
 use Rattle.generations.specs.Grid.{GridData, place, cell}
-use Rattle.table_rows.specs.Row.{no_row, is_held}
-use Rattle.table_rows.specs.Rows.{row_at}
+use Rattle.handle_table.specs.Row.{no_row, is_held}
+use Rattle.handle_table.specs.Rows.{row_at}
 use Rattle.handle_table.specs.Kept.{newest, RowStands, HasLines, RowsStand, ObjectsStand, SelectionsStand, CellsStand, ShelfStands}
 use Rattle.handle_table.proofs.Pinned.{ways, sum_none, pins_counted}
 

@@ -16,7 +16,7 @@ use Rattle.lc_base.specs.declared.handle.Handle.{Handle}
 use Rattle.lc_base.specs.declared.handle.Named.{Named}
 use Rattle.lc_base.specs.declared.handle.Named.TheVariants.{Global, Of}
 use Rattle.handle_table.specs.declared.op.Refusal.TheVariants.{NoData, NeverMade, Stale, AlreadyHeld, NotHeld}
-use Rattle.table_rows.specs.Numbers.{object_handles}
+use Rattle.handle_table.specs.Numbers.{object_handles}
 use Rattle.handle_table.specs.Entry.{Op, New, Dup, Free, Use, Hold, Release, SetGlobal, Install, Post, Fetch, Pins, End, Made, Was, Held, Set, Pinned, Installed, Entry, History, Setting, is_accepted}
 use Rattle.handle_table.specs.Shelf.{posix, offer_after, shelf, installs_after, installs, part_from_shelf, from_shelf, is_lacking, lacking}
 use Rattle.handle_table.specs.History.{handle_made, makes_handle, made, frees_handle, live, handles, sets_after, sets, global_after, global, global_at, object_named, object_after, replies_with, object, selection_after, selection, holding_after, holding, pins, free_row, handle_named, posted_after, posted}

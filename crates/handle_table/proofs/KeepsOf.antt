@@ -11,13 +11,13 @@ use Rattle.lc_base.specs.declared.handle.Named.{Named}
 use Rattle.lc_base.specs.declared.handle.Named.TheVariants.{Global, Of}
 use Rattle.handle_table.specs.declared.op.Refusal.{Refusal}
 use Rattle.handle_table.specs.declared.op.Refusal.TheVariants.{AlreadyHeld, NotHeld}
-use Rattle.table_rows.specs.Numbers.{object_handles}
+use Rattle.handle_table.specs.Numbers.{object_handles}
 use Rattle.handle_table.specs.Entry.{Op, New, Dup, Free, Use, Hold, Release, SetGlobal, Install, Fetch, Pins, End, Entry, History, Setting, names, is_accepted}
 use Rattle.handle_table.specs.Shelf.{posix, shelf, installs, from_shelf}
 use Rattle.handle_table.specs.History.{handle_in, makes, live, object_named, replies_with, object, selection, holding, posted, sets, global, is_free, free_row}
 use Rattle.handle_table.specs.Answer.{no_data, never_made, stale, global_handle, already_held, not_held, first_reason, reasons, unless, made_in, reply_to, answer, entry}
-use Rattle.table_rows.specs.Row.{pinned, unpinned}
-use Rattle.table_rows.specs.Rows.{changed, all_let_go}
+use Rattle.handle_table.specs.Row.{pinned, unpinned}
+use Rattle.handle_table.specs.Rows.{changed, all_let_go}
 use Rattle.handle_table.specs.Kept.{RowsStand, KeptData, Keeps}
 use Rattle.handle_table.specs.Effects.{after_make, after_rebuild, after_free, after_use, after_hold, after_release, after_set, after_install, after_end}
 use Rattle.handle_table.proofs.Numbering.{same_itself}

@@ -7,12 +7,12 @@ use Rattle.generations.specs.Rows.{is_free_row}
 use Rattle.generations.proofs.Says.{free_row_has}
 use Rattle.lc_base.specs.declared.handle.Handle.{Handle}
 use Rattle.lc_base.specs.declared.handle.Named.TheVariants.{Global}
-use Rattle.table_rows.specs.declared.row.Row.{Row}
+use Rattle.handle_table.specs.declared.row.Row.{Row}
 use Rattle.lc_base.specs.declared.cells.TheConstants.{CELLS}
 use Rattle.handle_table.specs.Entry.{History, Setting}
 use Rattle.handle_table.specs.History.{made, live, holding, pins, free_row, selection, posted, object}
 use Rattle.generations.specs.Grid.{GridData, cell}
-use Rattle.table_rows.specs.Rows.{counts, row_at, says_made, says_live, says_held, says_pins}
+use Rattle.handle_table.specs.Rows.{counts, row_at, says_made, says_live, says_held, says_pins}
 use Rattle.handle_table.specs.Kept.{KeptData, Keeps}
 use Rattle.handle_table.proofs.Says.{made_said, live_said, held_said, pins_said, free_row_said, object_said}
 

@@ -1,3 +1,4 @@
+pub mod Places
 pub mod Examples
 pub mod Reasons
 pub mod Numbering

@@ -6,7 +6,7 @@ use Rattle.generations.proofs.Numbering as numbering
 use Rattle.generations.proofs.Newest.{all_numbered}
 use Rattle.lc_base.specs.declared.handle.Handle.{Handle}
 use Rattle.handle_table.specs.declared.op.Refusal.{Refusal}
-use Rattle.table_rows.specs.Numbers.{object_handles}
+use Rattle.handle_table.specs.Numbers.{object_handles}
 use Rattle.handle_table.specs.Entry.{Op, New, Dup, Free, Use, Hold, Release, SetGlobal, Post, Fetch, Pins, End, Install, Reply, Entry, History, Setting, same_handle}
 use Rattle.handle_table.specs.History.{handle_in, handle_made, making, makings, makes_handle, made, makes, objects, free_row}
 use Rattle.handle_table.specs.Answer.{first_reason, reasons, unless, made_in, answer, IsLegal}

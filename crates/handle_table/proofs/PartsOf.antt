@@ -12,7 +12,7 @@ use Rattle.generations.proofs.Places.{cell_here, cell_elsewhere}
 use Rattle.lc_base.specs.declared.handle.Handle.{Handle}
 use Rattle.lc_base.specs.declared.handle.Named.{Named}
 use Rattle.lc_base.specs.declared.handle.Named.TheVariants.{Global, Of}
-use Rattle.table_rows.specs.Numbers.{object_handles}
+use Rattle.handle_table.specs.Numbers.{object_handles}
 use Rattle.handle_table.specs.Entry.{New, SetGlobal, Install, Entry, History, Setting, is_accepted, same_handle}
 use Rattle.handle_table.specs.Shelf.{opening_offer, shelf, from_shelf}
 use Rattle.handle_table.specs.History.{handle_made, makes_handle, made, makes, object, selection_after, selection, is_kept, posted, sets, global}

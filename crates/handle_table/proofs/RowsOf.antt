@@ -6,15 +6,15 @@ use Rattle.std.specs.Prelude.{if◌then◌else◌, min, slice_set}
 use Rattle.generations.specs.Kind.{nth}
 use Rattle.lc_base.specs.declared.handle.Handle.{Handle}
 use Rattle.lc_base.specs.declared.handle.Named.{Named}
-use Rattle.table_rows.specs.declared.row.Row.{Row}
-use Rattle.table_rows.specs.declared.row.TheConstants.{MAX_THREADS}
-use Rattle.table_rows.specs.Numbers.{object_handles}
+use Rattle.handle_table.specs.declared.row.Row.{Row}
+use Rattle.handle_table.specs.declared.row.TheConstants.{MAX_THREADS}
+use Rattle.handle_table.specs.Numbers.{object_handles}
 use Rattle.handle_table.specs.Entry.{Free, Use, Hold, Release, End, Entry, History, Setting, names, is_accepted}
 use Rattle.handle_table.specs.History.{makes, live, selection, holding, pins}
 use Rattle.handle_table.specs.Answer.{answer, entry}
 use Rattle.generations.specs.Grid.{GridData}
-use Rattle.table_rows.specs.Row.{pinned, unpinned, is_held, opened, closed, let_go, freed}
-use Rattle.table_rows.specs.Rows.{row_at, changed, all_let_go}
+use Rattle.handle_table.specs.Row.{pinned, unpinned, is_held, opened, closed, let_go, freed}
+use Rattle.handle_table.specs.Rows.{row_at, changed, all_let_go}
 use Rattle.handle_table.specs.Kept.{newest, RowStands, HasLines, RowsStand}
 use Rattle.handle_table.proofs.Pinned.{bit, bit_few, ways, part_below, sum_at_most, pins_counted}
 use Rattle.handle_table.proofs.Changes.{selection_of_caller, holding_of_caller, holding_of_other, pins_after, live_kept, same_either}

@@ -9,14 +9,14 @@ use Rattle.generations.proofs.Places.{cell_here, cell_elsewhere}
 use Rattle.generations.proofs.Numbering as numbering
 use Rattle.lc_base.specs.declared.handle.Handle.{Handle}
 use Rattle.lc_base.specs.declared.handle.Named.{Named}
-use Rattle.table_rows.specs.declared.row.Row.{Row}
-use Rattle.table_rows.specs.Numbers.{object_handles}
+use Rattle.handle_table.specs.declared.row.Row.{Row}
+use Rattle.handle_table.specs.Numbers.{object_handles}
 use Rattle.handle_table.specs.Entry.{Op, New, Dup, Free, Use, Hold, Release, SetGlobal, Install, Post, Fetch, Pins, End, Reply, Entry, History, Setting, names, is_accepted, same_handle}
 use Rattle.handle_table.specs.History.{handle_made, making, makings, makes_handle, made, op_frees, frees_handle, live, makes, selection_after, selection, holding_after, holding, pins, is_kept, is_free, free_row}
 use Rattle.handle_table.specs.Answer.{IsLegal}
 use Rattle.generations.specs.Grid.{GridData, with_cell}
-use Rattle.table_rows.specs.Row.{no_row, with_next}
-use Rattle.table_rows.specs.Rows.{row_at}
+use Rattle.handle_table.specs.Row.{no_row, with_next}
+use Rattle.handle_table.specs.Rows.{row_at}
 use Rattle.handle_table.specs.Kept.{newest, RowStands, RowsStand}
 use Rattle.handle_table.proofs.Numbering.{same_handles, same_itself, made_within}
 use Rattle.handle_table.proofs.Gone.{IsGone, unmade_gone}

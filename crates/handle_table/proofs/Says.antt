@@ -9,12 +9,12 @@ use Rattle.generations.specs.Grid.{GridData, cell}
 use Rattle.generations.specs.Rows.{is_free_row, RowsSay}
 use Rattle.generations.proofs.Says as rows_of
 use Rattle.lc_base.specs.declared.handle.Handle.{Handle}
-use Rattle.table_rows.specs.declared.row.Row.{Row}
+use Rattle.handle_table.specs.declared.row.Row.{Row}
 use Rattle.handle_table.specs.Entry.{History, Setting}
 use Rattle.handle_table.specs.History.{made, live, holding, pins, object, is_kept, objects, free_row}
 use Rattle.handle_table.specs.Answer.{IsLegal}
-use Rattle.table_rows.specs.Row.{is_held}
-use Rattle.table_rows.specs.Rows.{counts, row_at, is_newest, says_made, says_live, says_held, says_pins}
+use Rattle.handle_table.specs.Row.{is_held}
+use Rattle.handle_table.specs.Rows.{counts, row_at, is_newest, says_made, says_live, says_held, says_pins}
 use Rattle.handle_table.specs.Kept.{AreThreads, newest, RowsStand, ObjectsStand}
 use Rattle.handle_table.proofs.Gone.{IsGone}
 use Rattle.handle_table.proofs.Pinned.{gone_unpinned, unkept_gone}

@@ -7,8 +7,8 @@ use Rattle.lc_base.specs.declared.handle.Named.{Named}
 use Rattle.lc_base.specs.declared.handle.Named.TheVariants.{Global}
 use Rattle.generations.specs.Grid.{with_cell}
 use Rattle.handle_table.specs.History.{handle_named}
-use Rattle.table_rows.specs.Row.{pinned, unpinned, opened, closed, freed, with_next}
-use Rattle.table_rows.specs.Rows.{row_at, changed, all_let_go}
+use Rattle.handle_table.specs.Row.{pinned, unpinned, opened, closed, freed, with_next}
+use Rattle.handle_table.specs.Rows.{row_at, changed, all_let_go}
 use Rattle.handle_table.specs.Kept.{KeptData}
 
 -- what the thread selects

@@ -6,7 +6,7 @@ use Rattle.mask_compose.specs.Offer.{Offered}
 use Rattle.lc_base.specs.declared.handle.Handle.{Handle}
 use Rattle.lc_base.specs.declared.handle.Named.{Named}
 use Rattle.lc_base.specs.declared.handle.Named.TheVariants.{Global, Of}
-use Rattle.table_rows.specs.Numbers.{object_handles}
+use Rattle.handle_table.specs.Numbers.{object_handles}
 use Rattle.handle_table.specs.declared.op.Refusal.{Refusal}
 
 -- what a thread asks of the table; masks are bits, and the five numbers of a New or a SetGlobal are

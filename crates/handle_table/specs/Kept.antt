@@ -8,16 +8,16 @@ use Rattle.generations.specs.Grid.{GridData, cell}
 use Rattle.lc_base.specs.declared.handle.Handle.{Handle}
 use Rattle.lc_base.specs.declared.handle.Named.{Named}
 use Rattle.lc_base.specs.declared.handle.Named.TheVariants.{Global}
-use Rattle.table_rows.specs.declared.row.Row.{Row}
-use Rattle.table_rows.specs.declared.row.TheConstants.{MAX_THREADS}
+use Rattle.handle_table.specs.declared.row.Row.{Row}
+use Rattle.handle_table.specs.declared.row.TheConstants.{MAX_THREADS}
 use Rattle.lc_base.specs.declared.cells.TheConstants.{CELLS}
-use Rattle.table_rows.specs.Numbers.{object_handles}
+use Rattle.handle_table.specs.Numbers.{object_handles}
 use Rattle.handle_table.specs.Entry.{History, Setting}
 use Rattle.handle_table.specs.Shelf.{opening_offer, shelf, installs}
 use Rattle.handle_table.specs.History.{makings, makes, live, object, selection, holding, pins, is_kept, posted, sets, global}
 use Rattle.handle_table.specs.Answer.{IsLegal}
-use Rattle.table_rows.specs.Row.{is_held}
-use Rattle.table_rows.specs.Rows.{row_at}
+use Rattle.handle_table.specs.Row.{is_held}
+use Rattle.handle_table.specs.Rows.{row_at}
 
 -- the newest handle of a thread's row; with generation 0, which none has, where nothing was made in it
 abbrev pub newest : History → ℕ → ℕ → Handle

@@ -1,3 +1,6 @@
+pub mod Numbers
+pub mod Row
+pub mod Rows
 pub mod Entry
 pub mod Shelf
 pub mod History

@@ -18,7 +18,7 @@ use crate::setting::Setting;
 use crate::shelf::from_shelf;
 use lc_base::{CELLS, Handle, Mask, Named};
 use mask_compose::{Object, Offer, Part, compose};
-use table_rows::MAX_THREADS;
+use crate::MAX_THREADS;
 
 /// Answers the thread's op: refuses it for the first reason against it, else does what it asks for.
 pub fn answer<P: Part>(setting: &Setting<P>, kept: &mut Kept<P>, who: u32, op: Op<P>) -> Reply<P>

@@ -16,7 +16,7 @@ use crate::setting::Setting;
 use crate::shelf::lacking;
 use lc_base::{CELLS, Mask, Named};
 use mask_compose::Part;
-use table_rows::MAX_THREADS;
+use crate::MAX_THREADS;
 
 /// Whether the named locales have the categories of the mask.
 fn has_data<P: Part>(

@@ -4,7 +4,7 @@ ghost use Rattle.std.specs.Prelude.{◌≡◌, ◌+◌, ◌-◌, ◌<◌, ◌^�
 ghost use Rattle.handle_table.specs.Entry.{Setting as SettingData, History};
 ghost use Rattle.handle_table.specs.Shelf.{opening_offer};
 ghost use Rattle.handle_table.specs.History.{made, live, holding, pins, free_row, selection, posted, object};
-ghost use Rattle.table_rows.specs.Rows.{row_at};
+ghost use Rattle.handle_table.specs.Rows.{row_at};
 ghost use Rattle.handle_table.specs.Kept.{RowsStand, ObjectsStand, SelectionsStand, CellsStand, GlobalStands};
 ghost use Rattle.handle_table.specs.Effects.{selected, after_make, after_rebuild, after_free, after_use, after_hold, after_release, after_set, after_install, after_post, after_end};
 
@@ -15,7 +15,7 @@ use lc_base::{CELLS, Handle, Mask, Named};
 use mask_compose::{Object, Offer, Part};
 use std::alloc::{AllocError, Global};
 use std::marker::Model;
-use table_rows::{MAX_THREADS, Row, numbers, rows};
+use crate::{MAX_THREADS, Row, numbers, rows};
 
 /// What a table keeps: as much for each row, thread, cell and locale name, however many calls came.
 pub struct Kept<P: Part> {

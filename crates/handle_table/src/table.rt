@@ -11,7 +11,7 @@ use lc_base::List;
 use mask_compose::{Offer, Part};
 use std::alloc::{AllocError, Global};
 use std::marker::Model;
-use table_rows::MAX_THREADS;
+use crate::MAX_THREADS;
 
 /// The objects, selections, holds and cells of some threads, the shelf of locale names, and the
 /// global locale.

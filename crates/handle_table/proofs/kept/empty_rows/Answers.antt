@@ -1,7 +1,7 @@
 use Rattle.std.proofs.Common.{[], length, ap, subst, ◌∙◌}
 use Rattle.std.proofs.lemmas.List.{length-replicate}
 use Rattle.handle_table.specs.Entry.{Setting}
-use Rattle.table_rows.specs.declared.row.Row.{Row}
+use Rattle.handle_table.specs.declared.row.Row.{Row}
 use Rattle.handle_table.specs.Kept.{RowsStand, ObjectsStand}
 use Rattle.handle_table.proofs.Fresh.{rows_fresh, objects_fresh}
 use Rattle.handle_table.proofs.kept.empty_rows.Goals as goal

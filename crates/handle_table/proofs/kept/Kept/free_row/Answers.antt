@@ -2,7 +2,7 @@ use Rattle.std.proofs.Common.{ap, ◌∙◌, arith}
 use Rattle.handle_table.specs.Entry.{Setting}
 use Rattle.generations.specs.Least.{least_below}
 use Rattle.generations.specs.Rows.{is_free_row}
-use Rattle.table_rows.specs.Rows.{counts, row_at}
+use Rattle.handle_table.specs.Rows.{counts, row_at}
 use Rattle.handle_table.specs.Kept.{KeptData}
 use Rattle.handle_table.proofs.KeptSays.{free_row_is, if_free_inside, if_free_makes}
 use Rattle.handle_table.proofs.kept.Kept.free_row.Goals as goal

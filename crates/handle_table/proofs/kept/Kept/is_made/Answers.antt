@@ -1,6 +1,6 @@
 use Rattle.std.proofs.Common.{ap, ◌∙◌}
 use Rattle.generations.specs.Rows as rows_of
-use Rattle.table_rows.specs.Rows.{counts, says_made}
+use Rattle.handle_table.specs.Rows.{counts, says_made}
 use Rattle.handle_table.specs.Kept.{KeptData}
 use Rattle.handle_table.proofs.KeptSays.{made_is}
 use Rattle.handle_table.proofs.kept.Kept.is_made.Goals as goal

@@ -3,7 +3,7 @@ use Rattle.mask_compose.specs.Parts.{Parts}
 use Rattle.generations.specs.Grid.{GridData, with_cell}
 use Rattle.lc_base.specs.declared.handle.Handle.{Handle}
 use Rattle.lc_base.specs.declared.handle.Named.{Named}
-use Rattle.table_rows.specs.declared.row.Row.{Row}
+use Rattle.handle_table.specs.declared.row.Row.{Row}
 use Rattle.handle_table.specs.Kept.{IsShaped}
 use Rattle.handle_table.proofs.kept.Kept.make.Goals as goal
 

@@ -1,5 +1,5 @@
 use Rattle.std.proofs.Common.{ap, ◌∙◌}
-use Rattle.table_rows.specs.Rows.{says_pins}
+use Rattle.handle_table.specs.Rows.{says_pins}
 use Rattle.handle_table.specs.Kept.{KeptData}
 use Rattle.handle_table.proofs.KeptSays.{pins_is}
 use Rattle.handle_table.proofs.kept.Kept.pins.Goals as goal

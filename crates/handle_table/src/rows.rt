@@ -1,8 +1,8 @@
 //! The rows of all threads: which handles are live, are held and have pins.
 
 ghost use Rattle.std.specs.Prelude.{◌≡◌, ◌<◌, map, IfSome};
-ghost use Rattle.table_rows.specs.Row.{pinned, unpinned, opened, closed, let_go, freed, with_next};
-ghost use Rattle.table_rows.specs.Rows.{row_at, newest_row, says_live, says_held, says_pins, changed, all_let_go};
+ghost use Rattle.handle_table.specs.Row.{pinned, unpinned, opened, closed, let_go, freed, with_next};
+ghost use Rattle.handle_table.specs.Rows.{row_at, newest_row, says_live, says_held, says_pins, changed, all_let_go};
 ghost use Rattle.generations.specs.Grid.{with_cell};
 
 use crate::handle::numbers;

@@ -1,7 +1,7 @@
 //! One row of a thread.
 
 ghost use Rattle.std.specs.Prelude.{◌≡◌, ◌<◌};
-ghost use Rattle.table_rows.specs.Row.{pinned, unpinned, opened, closed, let_go, freed, with_next};
+ghost use Rattle.handle_table.specs.Row.{pinned, unpinned, opened, closed, let_go, freed, with_next};
 
 use generations::HandleRow;
 
@@ -106,7 +106,7 @@ impl Row {
 }
 
 impl HandleRow for Row {
-    ghost use Rattle.table_rows.specs.Rows.{counts};
+    ghost use Rattle.handle_table.specs.Rows.{counts};
 
     ghost counts = { counts };
 

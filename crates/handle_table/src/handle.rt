@@ -1,7 +1,7 @@
 //! The numbers of handles.
 
 ghost use Rattle.std.specs.Prelude.{◌≡◌};
-ghost use Rattle.table_rows.specs.Numbers.{object_handles};
+ghost use Rattle.handle_table.specs.Numbers.{object_handles};
 
 use generations::Numbers;
 use lc_base::Handle;

@@ -6,9 +6,9 @@ use Rattle.generations.specs.Rows as rows_of
 use Rattle.lc_base.specs.declared.handle.Handle.{Handle}
 use Rattle.lc_base.specs.declared.handle.Named.{Named}
 use Rattle.lc_base.specs.declared.handle.Named.TheVariants.{Global, Of}
-use Rattle.table_rows.specs.declared.row.Row.{Row}
-use Rattle.table_rows.specs.Numbers.{object_handles}
-use Rattle.table_rows.specs.Row.{no_row, is_held, let_go}
+use Rattle.handle_table.specs.declared.row.Row.{Row}
+use Rattle.handle_table.specs.Numbers.{object_handles}
+use Rattle.handle_table.specs.Row.{no_row, is_held, let_go}
 
 -- what a row says of its handles
 abbrev pub counts : Counts Row

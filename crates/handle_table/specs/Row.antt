@@ -1,6 +1,6 @@
 -- What a table keeps of one row, and how it changes.
 use Rattle.std.specs.Prelude.{ℕ, ◌+◌, ◌-◌, ◌^◌, Bool, true, false, [], if◌then◌else◌, min, slice_index_or, slice_set}
-use Rattle.table_rows.specs.declared.row.Row.{Row}
+use Rattle.handle_table.specs.declared.row.Row.{Row}
 
 -- a row in which nothing was made
 abbrev pub no_row : Row

@@ -1,6 +1,6 @@
-use Rattle.table_rows.specs.Row.{let_go}
-use Rattle.table_rows.proofs.Places.{replaced_more}
-use Rattle.table_rows.proofs.rows.let_go_each.Goals as goal
+use Rattle.handle_table.specs.Row.{let_go}
+use Rattle.handle_table.proofs.Places.{replaced_more}
+use Rattle.handle_table.proofs.rows.let_go_each.Goals as goal
 
 pub loop-row-preserved : goal.loop-row-preserved
 loop-row-preserved c =
