@@ -20,7 +20,7 @@ use Rattle.time_cat.specs.declared.tm.TmField.{TmField}
 use Rattle.time_cat.specs.declared.tm.TmField.TheVariants as fields
 use Rattle.time_cat.specs.declared.tm.TmRange.{TmRange}
 use Rattle.strftime_fields.specs.Answers.{whole_answer}
-use Rattle.conversion_texts.specs.Zones.{in_zone}
+use Rattle.strftime_fields.specs.Zones.{in_zone}
 use Rattle.int_format.specs.Ints.{ints, IsTextOf}
 use Rattle.time_cat.specs.declared.parsed.Parsed.{Parsed}
 use Rattle.strptime_fields.specs.Scans.{Scanned, scan}

@@ -6,7 +6,7 @@ ghost use Rattle.int_format.specs.Ints.{is_number, ints};
 ghost use Rattle.shared_objects.specs.Objects.{numeric_in, monetary_in, time_in};
 ghost use Rattle.strfmon.specs.Money.{money_text};
 ghost use Rattle.strftime_fields.specs.Answers.{whole_answer};
-ghost use Rattle.conversion_texts.specs.Zones.{in_zone};
+ghost use Rattle.strftime_fields.specs.Zones.{in_zone};
 ghost use Rattle.c_values.specs.Items.{item_of};
 ghost use Rattle.c_values.specs.Conv.{conv_text};
 ghost use Rattle.c_values.specs.Answers.{amount_of, most, item_told, conv_told, amounts_told, tm_given, tm_told, text_told, numbers_told};

@@ -9,7 +9,7 @@ ghost use Rattle.ctype_classes.specs.Case.{image};
 ghost use Rattle.text_buffer.specs.Written.{Written};
 ghost use Rattle.strfmon.specs.Money.{money_text};
 ghost use Rattle.strftime_fields.specs.Answers.{whole_answer};
-ghost use Rattle.conversion_texts.specs.Zones.{in_zone};
+ghost use Rattle.strftime_fields.specs.Zones.{in_zone};
 ghost use Rattle.int_format.specs.Ints.{is_number, ints, IsTextOf};
 ghost use Rattle.strptime_fields.specs.Scans.{scan, answer_of};
 ghost use Rattle.langinfo.specs.Items.{info};

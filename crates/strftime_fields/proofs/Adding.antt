@@ -1,10 +1,10 @@
 -- Texts that grow piece by piece, up to a limit.
 use Rattle.std.proofs.Common.{◌≡◌, ℕ, ◌+◌, ◌≤◌, List, ◌++◌, [], length, Ok, Err, sym, ap, ◌∙◌, arith, append_assoc, append-nil, length-append}
-use Rattle.conversion_texts.specs.declared.stop.Stop.{Stop}
-use Rattle.conversion_texts.specs.declared.stop.Stop.TheVariants.{TooBig, Memory}
-use Rattle.conversion_texts.specs.Appending.{Appends}
-use Rattle.conversion_texts.specs.Kept.{Kind, kept}
-use Rattle.conversion_texts.proofs.Keeping.{kept_nothing, kept_append, kept_length}
+use Rattle.strftime_fields.specs.declared.stop.Stop.{Stop}
+use Rattle.strftime_fields.specs.declared.stop.Stop.TheVariants.{TooBig, Memory}
+use Rattle.strftime_fields.specs.Appending.{Appends}
+use Rattle.strftime_fields.specs.Kept.{Kind, kept}
+use Rattle.strftime_fields.proofs.Keeping.{kept_nothing, kept_append, kept_length}
 
 -- how long a text is behind one more that is kept
 pub longer : (kind : Kind) (out new piece : List ℕ) → new ≡ out ++ kept kind piece → length new ≡ length out + length piece

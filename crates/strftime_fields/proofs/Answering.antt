@@ -2,14 +2,14 @@
 use Rattle.std.proofs.Common.{◌≡◌, ℕ, ◌<◌, ◌≤◌, true, false, ltb, List, [], length, Some, None, Ok, Err, refl, sym, ap, ◌∙◌, subst, arith}
 use Rattle.std.proofs.lemmas.Bool.{lt-ltb, le-ltb}
 use Rattle.lc_base.specs.declared.refusal.FormatRefusal.TheVariants.{BadFormat, TooBig}
-use Rattle.conversion_texts.specs.declared.stop.Stop.{Stop}
-use Rattle.conversion_texts.specs.declared.stop.Stop.TheVariants as stops
+use Rattle.strftime_fields.specs.declared.stop.Stop.{Stop}
+use Rattle.strftime_fields.specs.declared.stop.Stop.TheVariants as stops
 use Rattle.time_cat.specs.Formats.{pieces, bad_place}
 use Rattle.time_cat.specs.Times.{TmValues}
 use Rattle.time_cat.specs.TimeValues.{TimeValues}
 use Rattle.time_cat.specs.Shown.{expanded}
-use Rattle.conversion_texts.specs.Appending.{Appends}
-use Rattle.conversion_texts.specs.Kept.{Growing}
+use Rattle.strftime_fields.specs.Appending.{Appends}
+use Rattle.strftime_fields.specs.Kept.{Growing}
 use Rattle.strftime_fields.specs.Answers.{limited, answer, fault_of, Answers}
 
 fits : (max : ℕ) (text : List ℕ) → length text ≤ max → limited max (Ok text) ≡ Ok text

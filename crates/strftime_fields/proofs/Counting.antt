@@ -11,16 +11,16 @@ use Rattle.time_cat.specs.Formats.{Piece, Literal, Converted, Wrong, pieces, res
 use Rattle.time_cat.specs.Times.{TmValues}
 use Rattle.time_cat.specs.TimeValues.{TimeValues, format_text}
 use Rattle.time_cat.specs.Shown.{expanded, converted, piece_text, format_for, conversions_of}
-use Rattle.conversion_texts.specs.declared.stop.Stop.{Stop}
-use Rattle.conversion_texts.specs.declared.stop.Stop.TheVariants as stops
+use Rattle.strftime_fields.specs.declared.stop.Stop.{Stop}
+use Rattle.strftime_fields.specs.declared.stop.Stop.TheVariants as stops
 use Rattle.strftime_fields.specs.declared.read.Short.{Short}
 use Rattle.strftime_fields.specs.declared.read.Short.TheVariants.{Byte, Plain}
-use Rattle.conversion_texts.specs.Appending.{Appends}
+use Rattle.strftime_fields.specs.Appending.{Appends}
 use Rattle.strftime_fields.specs.Answers.{fault_of}
 use Rattle.strftime_fields.specs.Cost.{read_for, piece_reads, pieces_read, reads, cost, CountsTo, Counts}
 use Rattle.strftime_fields.specs.declared.read.Seen.TheVariants.{Inner}
 use Rattle.strftime_fields.specs.Going.{reads_left}
-use Rattle.conversion_texts.specs.Kept.{Kind}
+use Rattle.strftime_fields.specs.Kept.{Kind}
 use Rattle.strftime_fields.specs.Reading.{IsShort, IsFormatless, IsSeen, width, short_text}
 use Rattle.strftime_fields.proofs.Left.{plain_conversion, format_conversion, nothing_left}
 

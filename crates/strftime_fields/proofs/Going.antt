@@ -8,18 +8,18 @@ use Rattle.time_cat.specs.Formats.{pieces, rest_of, bad_place, step, counted, Is
 use Rattle.time_cat.specs.Times.{TmValues}
 use Rattle.time_cat.specs.TimeValues.{TimeValues, format_text}
 use Rattle.time_cat.specs.Shown.{expanded, converted}
-use Rattle.conversion_texts.specs.declared.stop.Stop.{Stop}
-use Rattle.conversion_texts.specs.declared.stop.Stop.TheVariants as stops_
+use Rattle.strftime_fields.specs.declared.stop.Stop.{Stop}
+use Rattle.strftime_fields.specs.declared.stop.Stop.TheVariants as stops_
 use Rattle.strftime_fields.specs.declared.read.Short.{Short}
 use Rattle.strftime_fields.specs.declared.read.Short.TheVariants.{Byte}
 use Rattle.strftime_fields.specs.declared.read.Seen.TheVariants.{Inner}
-use Rattle.conversion_texts.specs.Appending.{Appends}
+use Rattle.strftime_fields.specs.Appending.{Appends}
 use Rattle.strftime_fields.specs.Cost.{read_for, reads, CountsTo}
 use Rattle.strftime_fields.specs.Reading.{IsShort, IsFormatless, IsSeen, width, short_text}
 use Rattle.strftime_fields.specs.Going.{Place, Stands, text_left, reads_left, text_of, reads_of, bad_of, added, Goes, Ends}
-use Rattle.conversion_texts.specs.Kept.{Kind, kept}
+use Rattle.strftime_fields.specs.Kept.{Kind, kept}
 use Rattle.strftime_fields.proofs.Adding.{longer, goes_on, stops, ends}
-use Rattle.conversion_texts.proofs.Keeping.{kept_length}
+use Rattle.strftime_fields.proofs.Keeping.{kept_length}
 use Rattle.strftime_fields.proofs.Left.{behind, stands_here, short_within, short_left, short_bad, inner_ends, inner_ends_bad, text_at_start, text_at_end, text_at_wrong, text_at_byte, text_at_conversion, pieces_at_start, bads_same, bads_none, bads_here, bads_elsewhere}
 use Rattle.strftime_fields.proofs.Counting.{short_reads, inner_ends_reads, reads_at_start, reads_at_end, reads_at_wrong, reads_at_byte, reads_at_conversion, none_left, counts_same, counts_stop}
 

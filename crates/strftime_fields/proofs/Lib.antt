@@ -1,3 +1,8 @@
+pub mod CalendarLemmas
+pub mod Keeping
+pub mod Numbers
+pub mod Offsets
+pub mod Pairs
 pub mod Adding
 pub mod Answering
 pub mod Bound

@@ -6,8 +6,8 @@ use Rattle.time_cat.specs.Formats.{Piece, Literal, Converted, Wrong, pieces, bad
 use Rattle.time_cat.specs.Times.{TmValues}
 use Rattle.time_cat.specs.TimeValues.{TimeValues}
 use Rattle.time_cat.specs.Shown.{format_for, piece_text, expanded, conversions_of}
-use Rattle.conversion_texts.specs.declared.stop.Stop.{Stop}
-use Rattle.conversion_texts.specs.declared.stop.Stop.TheVariants as stops
+use Rattle.strftime_fields.specs.declared.stop.Stop.{Stop}
+use Rattle.strftime_fields.specs.declared.stop.Stop.TheVariants as stops
 use Rattle.strftime_fields.specs.declared.fault.TimeFault.{TimeFault}
 use Rattle.strftime_fields.specs.declared.fault.TimeFault.TheVariants.{BadFormat, TooBig, Memory}
 

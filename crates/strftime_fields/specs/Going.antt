@@ -6,10 +6,10 @@ use Rattle.time_cat.specs.Times.{TmValues}
 use Rattle.time_cat.specs.TimeValues.{TimeValues}
 use Rattle.time_cat.specs.Shown.{expanded, piece_text}
 use Rattle.strftime_fields.specs.declared.expand.Left.{Left}
-use Rattle.conversion_texts.specs.declared.stop.Stop.{Stop}
-use Rattle.conversion_texts.specs.Appending.{Appends}
+use Rattle.strftime_fields.specs.declared.stop.Stop.{Stop}
+use Rattle.strftime_fields.specs.Appending.{Appends}
 use Rattle.strftime_fields.specs.Cost.{pieces_read, reads, CountsTo}
-use Rattle.conversion_texts.specs.Kept.{Kind, kept}
+use Rattle.strftime_fields.specs.Kept.{Kind, kept}
 
 -- the format that is read, what is left of it, how many formats may lie within one another, and whether it is the caller's
 pub record Place : Type 0 where

@@ -7,7 +7,7 @@ use Rattle.time_cat.specs.Conversions.{conversion}
 use Rattle.time_cat.specs.Times.{TmValues}
 use Rattle.time_cat.specs.TimeValues.{TimeValues}
 use Rattle.time_cat.specs.Shown.{plain_text, format_for}
-use Rattle.conversion_texts.specs.Kept.{Kind, kept}
+use Rattle.strftime_fields.specs.Kept.{Kind, kept}
 use Rattle.strftime_fields.specs.declared.read.Short.{Short}
 use Rattle.strftime_fields.specs.declared.read.Short.TheVariants.{Byte, Plain}
 use Rattle.strftime_fields.specs.declared.read.Seen.{Seen}

@@ -4,14 +4,14 @@ ghost use Rattle.std.specs.Prelude.{◌≡◌, ◌+◌, ◌<◌, ◌≤◌, leng
 ghost use Rattle.time_cat.specs.Conversions.{conversion};
 ghost use Rattle.time_cat.specs.Formats.{pieces, bad_place, step};
 ghost use Rattle.time_cat.specs.Shown.{expanded, converted};
-ghost use Rattle.conversion_texts.specs.Appending.{Appends};
+ghost use Rattle.strftime_fields.specs.Appending.{Appends};
 ghost use Rattle.strftime_fields.specs.Cost.{read_for, reads, CountsTo};
 ghost use Rattle.strftime_fields.specs.Going.{Stands, Goes, Ends, added, place_of};
-ghost use Rattle.conversion_texts.specs.Kept.{Holds};
+ghost use Rattle.strftime_fields.specs.Kept.{Holds};
 ghost use Rattle.strftime_fields.specs.Reading.{IsSeen, SeenFormatless, AddsSeen};
 
 use crate::read::{Seen, Short, short_of};
-use conversion_texts::{
+use crate::{
     Output, Stop, TimeFields, format_for, full_time, name, put_byte, put_here, put_name_here,
     put_number_here, put_plain, short_time,
 };

@@ -4,7 +4,7 @@ ghost use Rattle.std.specs.Prelude.{◌≡◌};
 ghost use Rattle.strftime_fields.specs.Answers.{refusal_of, fault_of};
 ghost use Rattle.strftime_fields.specs.declared.fault.TimeFault.TheVariants.{Memory};
 
-use conversion_texts::Stop;
+use crate::Stop;
 use lc_base::FormatRefusal;
 use std::alloc::{AllocError, AllocFailed};
 use thiserror::Error;

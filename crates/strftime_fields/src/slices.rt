@@ -7,11 +7,11 @@ ghost use Rattle.text_buffer.specs.declared.unwritten.Unwritten.TheVariants.{Ref
 ghost use Rattle.time_cat.specs.Formats.{pieces, bad_place};
 ghost use Rattle.time_cat.specs.Shown.{expanded};
 ghost use Rattle.strftime_fields.specs.Answers.{whole_answer};
-ghost use Rattle.conversion_texts.specs.Zones.{in_zone};
+ghost use Rattle.strftime_fields.specs.Zones.{in_zone};
 
 use crate::expand::{put_format, put_whole};
 use crate::text::{LEVELS, bad_byte};
-use conversion_texts::{Counter, Output, Place, TimeFields};
+use crate::{Counter, Output, Place, TimeFields};
 use lc_base::FormatRefusal;
 use std::marker::Brand;
 use std::sync::ledger::{Blank, Ledger};

@@ -10,7 +10,7 @@ ghost use Rattle.strftime_fields.specs.declared.fault.TimeFault.TheVariants.{Bad
 use crate::expand::{put_format, put_whole};
 use crate::fault::TimeFault;
 use crate::read::{Short, short_at};
-use conversion_texts::{Stop, TimeFields};
+use crate::{Stop, TimeFields};
 use lc_base::ByteText;
 use std::alloc::Global;
 use std::marker::Brand;

@@ -2,8 +2,8 @@ use Rattle.std.proofs.Common.{◌≡◌, ℕ, ◌+◌, List, Err, sym, subst, ar
 use Rattle.std.proofs.lemmas.Result.{err_from_is_err_and}
 use Rattle.time_cat.specs.Times.{TmValues}
 use Rattle.time_cat.specs.Shown.{expanded}
-use Rattle.conversion_texts.specs.Appending.{Appends}
-use Rattle.conversion_texts.specs.Kept.{Growing}
+use Rattle.strftime_fields.specs.Appending.{Appends}
+use Rattle.strftime_fields.specs.Kept.{Growing}
 use Rattle.strftime_fields.specs.Cost.{reads, cost}
 use Rattle.strftime_fields.proofs.Bound.{cost_most}
 use Rattle.strftime_fields.proofs.Counting.{counts_fault, cost_wrong, cost_right}

@@ -2,7 +2,7 @@ use Rattle.std.proofs.Common.{rules, ◌≡◌, ◌+◌, ◌++◌, length, take,
 use Rattle.std.proofs.lemmas.List.{length-take, take-append-le}
 use Rattle.std.proofs.Math.Seq.{take-append-add}
 use Rattle.text_buffer.specs.Written.{over}
-use Rattle.conversion_texts.proofs.lent.PlaceOutput.put_front.Goals as goal
+use Rattle.strftime_fields.proofs.lent.PlaceOutput.put_front.Goals as goal
 
 -- the bytes of the name are among those of its front
 pub returns-clause-text : goal.returns-clause-text

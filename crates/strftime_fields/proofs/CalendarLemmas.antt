@@ -2,7 +2,7 @@
 use Rattle.std.proofs.Common.{◌≡◌, ◌≢◌, ℕ, zero, suc, ◌+◌, ◌-◌, ◌<◌, ◌≤◌, inl, inr, Bool, true, false, cond, eqb, ltb, leb, refl, sym, ap₂, ◌∙◌, arith}
 use Rattle.std.proofs.lemmas.Bool.{lt-ltb, le-ltb, le-leb, lt-leb, eq-eqb, ne_eqb, cases_lt, cases_eq}
 use Rattle.time_cat.specs.Weeks.{YearDay, is_leap, days_of, behind_monday}
-use Rattle.conversion_texts.specs.Calendar.{next_day, next_weekday, week_later, AreWeeks}
+use Rattle.strftime_fields.specs.Calendar.{next_day, next_weekday, week_later, AreWeeks}
 
 abbrev on : ℕ → ℕ → YearDay
 on year day = record { year = year; day = day }

@@ -2,7 +2,7 @@
 
 ghost use Rattle.std.specs.Prelude.{◌≡◌, ◌≤◌, ◌+◌, ◌-◌, ◌++◌, length, take, drop};
 ghost use Rattle.text_buffer.specs.Written.{over};
-ghost use Rattle.conversion_texts.specs.Kept.{Lent};
+ghost use Rattle.strftime_fields.specs.Kept.{Lent};
 
 use crate::output::Output;
 use crate::stop::Stop;

@@ -1,7 +1,7 @@
 -- The table of the numbers from 0 to 99.
 use Rattle.std.proofs.Common.{◌≡◌, ℕ, zero, suc, ◌+◌, ◌-◌, ◌*◌, ◌/◌, ◌%◌, ◌<◌, Bool, true, ◌&&◌, T, eqb, List, [], ◌∷◌, ◌++◌, get_or, ap, ◌∙◌, append_assoc, refl, arith, eq-zero-or-pos, eqb→eq, inl, inr}
 use lib.Ieee.Fits.{and_l, and_r}
-use Rattle.conversion_texts.specs.declared.digits.TheConstants.{PAIRS}
+use Rattle.strftime_fields.specs.declared.digits.TheConstants.{PAIRS}
 use Rattle.time_cat.specs.Shown.{two, four}
 
 -- the pairs below a number are those of its last two digits

@@ -1,6 +1,6 @@
 use Rattle.std.proofs.Common.{◌≡◌, ◌+◌, ◌++◌, length, take}
 use Rattle.std.specs.Vec.{vec_capacity}
-use Rattle.conversion_texts.proofs.growing.push_all.Given as goal
+use Rattle.strftime_fields.proofs.growing.push_all.Given as goal
 
 -- the bytes so far are added, and there is room for the others
 abbrev pub invariant-loop-byte : goal.invariant-loop-byte

@@ -2,7 +2,7 @@
 
 ghost use Rattle.std.specs.Prelude.{◌≡◌, ◌≤◌};
 ghost use Rattle.time_cat.specs.Times.{IsOffset};
-ghost use Rattle.conversion_texts.specs.Zones.{in_zone};
+ghost use Rattle.strftime_fields.specs.Zones.{in_zone};
 
 use std::marker::Model;
 use time_cat::Tm;
@@ -16,7 +16,7 @@ pub struct TimeFields<'a> {
 
 impl<'a> Model for TimeFields<'a> {
     ghost use Rattle.time_cat.specs.Times.{TmValues};
-    ghost use Rattle.conversion_texts.specs.Zones.{in_zone};
+    ghost use Rattle.strftime_fields.specs.Zones.{in_zone};
 
     ghost Value = { TmValues };
 

@@ -1,7 +1,7 @@
 //! The length of a text that is kept nowhere.
 
 ghost use Rattle.std.specs.Prelude.{◌≡◌, length, replicate};
-ghost use Rattle.conversion_texts.specs.Kept.{Counted};
+ghost use Rattle.strftime_fields.specs.Kept.{Counted};
 
 use crate::output::Output;
 use crate::stop::Stop;

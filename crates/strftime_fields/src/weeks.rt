@@ -2,7 +2,7 @@
 
 ghost use Rattle.std.specs.Prelude.{◌≡◌, ℕ, ◌+◌, ◌<◌, ◌≤◌};
 ghost use Rattle.time_cat.specs.Weeks.{is_leap, days_of, behind_monday, sunday_week, monday_week, thursday, iso_year, iso_week};
-ghost use Rattle.conversion_texts.specs.Calendar.{AreWeeks};
+ghost use Rattle.strftime_fields.specs.Calendar.{AreWeeks};
 
 /// A week with its year.
 #[derive(Clone, Copy)]

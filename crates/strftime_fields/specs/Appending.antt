@@ -1,8 +1,8 @@
 -- Adding to a text of limited length.
 use Rattle.std.specs.Prelude.{◌≡◌, ℕ, ◌+◌, ◌<◌, ◌≤◌, Bool, true, false, List, ◌++◌, length, Result, Ok, Err}
-use Rattle.conversion_texts.specs.declared.stop.Stop.{Stop}
-use Rattle.conversion_texts.specs.declared.stop.Stop.TheVariants.{TooBig, Memory}
-use Rattle.conversion_texts.specs.Kept.{Kind, kept, Fails}
+use Rattle.strftime_fields.specs.declared.stop.Stop.{Stop}
+use Rattle.strftime_fields.specs.declared.stop.Stop.TheVariants.{TooBig, Memory}
+use Rattle.strftime_fields.specs.Kept.{Kind, kept, Fails}
 
 -- a text is added, or it would be too long, or it is out of memory
 abbrev pub Appends : Kind → ℕ → List ℕ → List ℕ → List ℕ → Result (Unit {0}) Stop → Type 0

@@ -1,7 +1,7 @@
 //! A text in a `Vec`.
 
 ghost use Rattle.std.specs.Prelude.{◌≡◌, ◌+◌, ◌++◌, ◌≤◌, true, length, vec_capacity};
-ghost use Rattle.conversion_texts.specs.Kept.{Growing};
+ghost use Rattle.strftime_fields.specs.Kept.{Growing};
 
 use crate::output::Output;
 use crate::stop::Stop;

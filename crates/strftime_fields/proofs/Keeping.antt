@@ -1,7 +1,7 @@
 -- What an output keeps of a text.
 use Rattle.std.proofs.Common.{◌≡◌, ℕ, List, [], ◌++◌, length, replicate, refl, sym, ap, ◌∙◌, length-append}
 use Rattle.std.proofs.lemmas.List.{length-replicate, replicate-append-replicate}
-use Rattle.conversion_texts.specs.Kept.{Kind, Growing, Lent, Counted, kept}
+use Rattle.strftime_fields.specs.Kept.{Kind, Growing, Lent, Counted, kept}
 
 pub kept_nothing : (kind : Kind) → kept kind [] ≡ []
 kept_nothing Growing = refl

@@ -7,8 +7,8 @@ ghost use Rattle.time_cat.specs.Formats.{pieces, is_conversion};
 ghost use Rattle.time_cat.specs.declared.conversion.Shows.TheVariants.{EraName, EraYear};
 ghost use Rattle.time_cat.specs.Hits.{hit};
 ghost use Rattle.time_cat.specs.Shown.{quantity as value_of, alternative, name_text, slashed_date, dashed_date, short_time, full_time, hours_and_minutes, offset_text, era_of, or_plain, format_for, plain_text, or_text, laid_out};
-ghost use Rattle.conversion_texts.specs.Appending.{Appends, Adds};
-ghost use Rattle.conversion_texts.specs.Kept.{Holds};
+ghost use Rattle.strftime_fields.specs.Appending.{Appends, Adds};
+ghost use Rattle.strftime_fields.specs.Kept.{Holds};
 
 use crate::digits::{
     last_digit, pair, put_bare, put_bare_here, put_number, put_signed, spaced, three, two,

@@ -1,7 +1,7 @@
 //! Why a text is given up.
 
 ghost use Rattle.std.specs.Prelude.{◌≡◌};
-ghost use Rattle.conversion_texts.specs.declared.stop.Stop.TheVariants.{Memory};
+ghost use Rattle.strftime_fields.specs.declared.stop.Stop.TheVariants.{Memory};
 
 use std::alloc::{AllocError, AllocFailed};
 

@@ -3,8 +3,8 @@
 ghost use Rattle.std.specs.Prelude.{◌≡◌, ◌≤◌, ◌<◌, ◌%◌, ◌+◌, length, decimal};
 ghost use Rattle.std.specs.Fmt.{signed_decimal};
 ghost use Rattle.time_cat.specs.Shown.{last_digit, two, three, four, laid_out, spaced};
-ghost use Rattle.conversion_texts.specs.Appending.{Appends, Adds};
-ghost use Rattle.conversion_texts.specs.Kept.{Holds};
+ghost use Rattle.strftime_fields.specs.Appending.{Appends, Adds};
+ghost use Rattle.strftime_fields.specs.Kept.{Holds};
 
 use crate::output::{Output, put, put_here};
 use crate::stop::Stop;

@@ -1,8 +1,8 @@
 //! Where a text goes, which is given up as soon as it is too long.
 
 ghost use Rattle.std.specs.Prelude.{◌≡◌, ◌≤◌, ◌+◌, ◌++◌, ◌∷◌, [], true, length, take};
-ghost use Rattle.conversion_texts.specs.Appending.{Appends, Adds};
-ghost use Rattle.conversion_texts.specs.Kept.{kept, Holds};
+ghost use Rattle.strftime_fields.specs.Appending.{Appends, Adds};
+ghost use Rattle.strftime_fields.specs.Kept.{kept, Holds};
 
 use crate::stop::Stop;
 use time_cat::{NAME_FRONT, Name};
@@ -11,8 +11,8 @@ use time_cat::{NAME_FRONT, Name};
 /// The bytes that are lent are handed to each call.
 pub trait Output: Drop {
     ghost use Rattle.std.specs.Prelude.{◌≡◌, ◌≤◌, ◌+◌, ◌++◌, true, length, take, ℕ, List};
-    ghost use Rattle.conversion_texts.specs.Appending.{Appends};
-    ghost use Rattle.conversion_texts.specs.Kept.{Kind, kept, Holds};
+    ghost use Rattle.strftime_fields.specs.Appending.{Appends};
+    ghost use Rattle.strftime_fields.specs.Kept.{Kind, kept, Holds};
 
     /// What it keeps of a text, and whether it asks for memory.
     ghost kind: { Kind };

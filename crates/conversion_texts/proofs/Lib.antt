@@ -1,5 +1,0 @@
-pub mod CalendarLemmas
-pub mod Keeping
-pub mod Numbers
-pub mod Offsets
-pub mod Pairs

@@ -1,4 +1,0 @@
-pub mod Appending
-pub mod Calendar
-pub mod Kept
-pub mod Zones
