@@ -12,14 +12,13 @@ use std::time::Clock;
 use time_cat::Time;
 use tool_commands::{LocaleCommand, path_given, strs, word};
 use tool_decimals::{decimals_line, read_line};
-use tool_files::{Loaded, Wanted, load, load_text};
+use tool_files::{Loaded, Wanted, fault_problem, library_of, load, load_text};
 use tool_import::{source_path, standard_text};
 use tool_messages::{Answer, Problem};
 use tool_reads::{
     LentCategories, class_lines, conv_lines, info_lines, item_categories, lower_lines, money_line,
     number_line, parsed_lines, time_line, upper_lines,
 };
-use tool_sources::{fault_problem, library_of};
 use tool_times::tm_of;
 
 /// What a command answers that reads a locale.

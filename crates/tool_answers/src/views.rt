@@ -9,10 +9,9 @@ use std::alloc::{AllocError, Global};
 use std::env;
 use std::rt::{Env, Files};
 use tool_commands::{path_of, strs, word};
-use tool_files::{Loaded, load};
+use tool_files::{Loaded, fault_problem, library_of, load};
 use tool_json::{json_line, new_writer};
 use tool_messages::{Answer, Problem};
-use tool_sources::{fault_problem, library_of};
 use tool_views::{
     Column, Named, columns_text, differences_of, glance_of, page_text, push_differences_json,
 };

@@ -4,10 +4,10 @@ use Rattle.lc_base.specs.Reading.{Reads}
 use Rattle.charset.specs.CodedSet.{CodedSet}
 use Rattle.category_store.specs.Catalog.{Catalog}
 use Rattle.tool_messages.specs.Message.{BeginsWith}
-use Rattle.tool_sources.specs.declared.sources.FilePath.{FilePath}
-use Rattle.tool_sources.specs.declared.sources.Sources.{Sources}
-use Rattle.tool_sources.specs.Library.{charset_of, library}
-use Rattle.tool_sources.specs.Told.{IsFileMessage}
+use Rattle.tool_files.specs.declared.sources.FilePath.{FilePath}
+use Rattle.tool_files.specs.declared.sources.Sources.{Sources}
+use Rattle.tool_files.specs.Library.{charset_of, library}
+use Rattle.tool_files.specs.Told.{IsFileMessage}
 use Rattle.tool_check.specs.declared.checked.Checked.{Checked}
 use Rattle.tool_check.specs.declared.checked.Checked.TheVariants.{Accepted, Refused}
 use Rattle.tool_faults.specs.declared.found.Fault.{Fault}

@@ -4,7 +4,7 @@ ghost use Rattle.std.specs.Prelude.{◌≡◌, [], ◌++◌, IfOk, IfErr, if◌t
 ghost use Rattle.tool_messages.specs.declared.answer.Problem.TheVariants.{Memory};
 ghost use Rattle.tool_messages.specs.Message.{BeginsWith};
 ghost use Rattle.tool_messages.specs.Status.{IsSpoken};
-ghost use Rattle.tool_sources.specs.Told.{IsFileMessage};
+ghost use Rattle.tool_files.specs.Told.{IsFileMessage};
 ghost use Rattle.tool_check.specs.Checked.{accepted, refused, AreMessages, AreMessagesFrom, AreAllMessages, IsAcceptedOf, IsSummary, IsFound, IsCharmapFound, IsChecked, IsWritten};
 ghost use Rattle.tool_check.specs.Odd.{AreFindingMessages};
 ghost use Rattle.tool_check.specs.Summary.{accepted_line, charmap_summary};
@@ -20,10 +20,9 @@ use lc_base::{ByteText, List, TextFault};
 use std::alloc::{AllocError, Global};
 use std::rt::Files;
 use tool_faults::{Fault, faults_of, is_charmap};
-use tool_files::{Loaded, Wanted, file_text, load_with};
+use tool_files::{Loaded, Sources, Wanted, charset_of, fault_message, file_text, library_of, load_with};
 use tool_findings::Finding;
 use tool_messages::Problem;
-use tool_sources::{Sources, charset_of, fault_message, library_of};
 
 /// What is checked.
 #[derive(Clone, Copy)]

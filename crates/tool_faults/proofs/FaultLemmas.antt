@@ -3,7 +3,7 @@ use Rattle.std.proofs.Common.{◌≡◌, ℕ, ◌<◌, Bool, true, false, List, 
 use Rattle.std.specs.List.{insert}
 use Rattle.std.proofs.lemmas.List.Elements.{All-cons, All-append, All-take, All-drop, All-nil}
 use Rattle.lc_base.specs.declared.block.Block.{Block}
-use Rattle.tool_sources.specs.Library.{library}
+use Rattle.tool_files.specs.Library.{library}
 use Rattle.tool_faults.specs.declared.looks.TheConstants.{LOOK_COUNT}
 use Rattle.tool_faults.specs.declared.found.Fault.{Fault}
 use Rattle.tool_faults.specs.Looks.{AreAlone, look_at}

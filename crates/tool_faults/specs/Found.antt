@@ -2,7 +2,7 @@
 use Rattle.std.specs.Prelude.{◌≡◌, ◌⊎◌, ℕ, ◌+◌, ◌<◌, ◌≤◌, ◌==◌, nat_lt, Bool, true, ◌&&◌, List, [], ◌∷◌, ◌++◌, length, Option, Some, None, Err, if◌then◌else◌}
 use Rattle.std.specs.List.{list_any, list_all, insert, position_or_len}
 use Rattle.lc_base.specs.declared.block.Block.{Block}
-use Rattle.tool_sources.specs.Library.{library}
+use Rattle.tool_files.specs.Library.{library}
 use Rattle.tool_faults.specs.Looks.{AreAlone, look_at}
 use Rattle.tool_faults.specs.declared.looks.TheConstants.{LOOK_COUNT}
 use Rattle.tool_faults.specs.declared.found.Fault.{Fault}

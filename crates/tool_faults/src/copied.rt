@@ -8,7 +8,7 @@ use crate::looks::{Look, block_alone};
 use charset::Charset;
 use lc_base::{Block, List};
 use std::alloc::{AllocError, Global};
-use tool_sources::{CopiedName, copied_names};
+use tool_files::{CopiedName, copied_names};
 
 /// What is looked at of the first block, and of those that it copies there, one after another: a fault of
 /// another block, or of another part, is not found in them.

@@ -9,7 +9,7 @@ use crate::looks::{LOOK_COUNT, look_at};
 use charset::Charset;
 use lc_base::TextFault;
 use std::alloc::{AllocError, Global};
-use tool_sources::{Sources, sized_library};
+use tool_files::{Sources, sized_library};
 
 /// The first fault that is found, and beside it that of each look, where it stands on a line of its own: in
 /// the order of their lines.

@@ -14,7 +14,7 @@ use std::alloc::{AllocError, Global};
 use std::mem;
 use std::rt::Files;
 use tool_messages::Problem;
-use tool_sources::{CopiedName, Sources, copied_names, fault_problem};
+use crate::{CopiedName, Sources, copied_names, fault_problem};
 
 /// The most files of locales.
 const FILES_MOST: usize = 64;

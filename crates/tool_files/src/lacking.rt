@@ -8,7 +8,7 @@ use crate::loading::Loaded;
 use keywords::Section;
 use lc_base::{CATEGORIES, Category, TextFault};
 use std::alloc::{AllocError, Global};
-use tool_sources::sections_in;
+use crate::sections_in;
 
 /// Those of these categories of which the first source that was read has no section, each once; none where there is
 /// no source, or one that is refused.

@@ -2,13 +2,24 @@
 #![tactic(auto)]
 
 mod chains;
+mod compiled;
+mod copies;
 mod files;
 mod folders;
+mod format;
+mod hints;
 mod lacking;
 mod loading;
 mod parts;
+mod shown;
+mod sized;
+mod sources;
 
+pub use compiled::{charset_of, library_of, sections_in, sized_library};
+pub use copies::{CopiedName, ReadBlock, copied_names, read_block};
 pub use files::{FILE_LIMIT, file_text};
 pub use folders::{is_file, path_in};
 pub use lacking::lacking_categories;
 pub use loading::{Loaded, Wanted, load, load_text, load_with};
+pub use shown::{FaultParts, fault_message, fault_parts, fault_problem, text_problem};
+pub use sources::Sources;

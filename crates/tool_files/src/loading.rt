@@ -12,7 +12,7 @@ use lc_base::{Block, ByteText, Category, List};
 use std::alloc::{AllocError, Global};
 use std::rt::Files;
 use tool_messages::Problem;
-use tool_sources::{CopiedName, Sources, charset_of, copied_names, fault_problem, read_block};
+use crate::{CopiedName, Sources, charset_of, copied_names, fault_problem, read_block};
 
 /// The files that the words of a command name.
 #[derive(Clone, Copy)]

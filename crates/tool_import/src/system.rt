@@ -6,7 +6,7 @@ use lc_base::{ByteText, Place, Reason, TextFault};
 use std::alloc::{AllocError, Global};
 use std::rt::Files;
 use tool_messages::{Problem, push_number, push_word};
-use tool_sources::text_problem;
+use tool_files::text_problem;
 
 /// The standard source that a system's source gives, with its notes left out.
 pub fn standard_text<R: Files>(

@@ -16,9 +16,8 @@ use script_serial::serial;
 use std::alloc::{AllocError, Global};
 use std::sync::Wait;
 use std::thread::Threads;
-use tool_files::FILE_LIMIT;
+use tool_files::{FILE_LIMIT, text_problem};
 use tool_messages::Problem;
-use tool_sources::text_problem;
 
 /// The rows of each thread.
 const ROWS: u32 = 16;

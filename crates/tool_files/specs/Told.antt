@@ -9,7 +9,7 @@ use Rattle.reason_rules.specs.Words.{reason_text}
 use Rattle.tool_messages.specs.declared.answer.Problem.{Problem}
 use Rattle.tool_messages.specs.declared.answer.Problem.TheVariants.{Refused, Usage, Memory}
 use Rattle.tool_messages.specs.Message.{BeginsWith, fault_head}
-use Rattle.tool_sources.specs.declared.sources.FilePath.{FilePath}
+use Rattle.tool_files.specs.declared.sources.FilePath.{FilePath}
 
 -- the path and the first line of the last of these files that does not begin behind a line, or else what was found before
 abbrev pub file_from : List ℕ × ℕ → ℕ → List FilePath → List ℕ × ℕ

@@ -5,9 +5,9 @@ use Rattle.lc_base.specs.declared.block.Block.{Block}
 use Rattle.lc_base.specs.declared.place.Place.{Place}
 use Rattle.lc_base.specs.declared.reason.Reason.TheVariants.{BadFormat, EmptyRadix}
 use Rattle.charset.specs.CodedSet.{utf8, posix}
-use Rattle.tool_sources.specs.declared.sources.FilePath.{FilePath}
-use Rattle.tool_sources.specs.Library.{charset_of, too_many}
-use Rattle.tool_sources.specs.Told.{file_of, place_in, is_format, IsFileMessage}
+use Rattle.tool_files.specs.declared.sources.FilePath.{FilePath}
+use Rattle.tool_files.specs.Library.{charset_of, too_many}
+use Rattle.tool_files.specs.Told.{file_of, place_in, is_format, IsFileMessage}
 
 -- a file of ten lines, and another
 abbrev two : List FilePath

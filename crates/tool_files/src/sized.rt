@@ -3,7 +3,7 @@
 ghost use Rattle.std.specs.Prelude.{◌≡◌, true, All, IsTrue};
 ghost use Rattle.std.specs.List.{list_all};
 ghost use Rattle.lc_base.specs.Blocks.{IsSized};
-ghost use Rattle.tool_sources.specs.Library.{is_sized};
+ghost use Rattle.tool_files.specs.Library.{is_sized};
 
 use lc_base::Block;
 

@@ -10,8 +10,8 @@ use Rattle.tool_messages.specs.declared.answer.Problem.TheVariants.{Refused}
 use Rattle.tool_messages.specs.Status.{IsSpoken}
 use Rattle.tool_messages.proofs.MessageLemmas.{head_says}
 use Rattle.tool_messages.specs.Message.{BeginsWith, fault_head}
-use Rattle.tool_sources.specs.declared.sources.FilePath.{FilePath}
-use Rattle.tool_sources.specs.Told.{file_of, place_in, is_format, IsMessage, IsFileMessage}
+use Rattle.tool_files.specs.declared.sources.FilePath.{FilePath}
+use Rattle.tool_files.specs.Told.{file_of, place_in, is_format, IsMessage, IsFileMessage}
 
 pub message_spoken : (path : List ℕ) (place : Place) (reason : Reason) (message : List ℕ) → IsMessage path place reason message → IsSpoken (Refused message)
 message_spoken path place reason message is = head_says path is.spot.line is.spot.column (reason_text reason) message is.begins

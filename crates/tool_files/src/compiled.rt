@@ -3,7 +3,7 @@
 ghost use Rattle.std.specs.Prelude.{◌≡◌, ◌≤◌, [], ◌∷◌, length, All, IsTrue};
 ghost use Rattle.lc_base.specs.Reading.{Gives};
 ghost use Rattle.lc_base.specs.Blocks.{IsSized};
-ghost use Rattle.tool_sources.specs.Library.{are_taken, charset_of, library};
+ghost use Rattle.tool_files.specs.Library.{are_taken, charset_of, library};
 
 use crate::sized::{are_sized, is_sized};
 use crate::sources::Sources;

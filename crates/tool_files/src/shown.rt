@@ -5,7 +5,7 @@ ghost use Rattle.script_out.specs.Output.{newline};
 ghost use Rattle.reason_rules.specs.Words.{reason_text};
 ghost use Rattle.tool_messages.specs.Message.{BeginsWith, fault_head};
 ghost use Rattle.tool_messages.specs.Status.{IsSpoken};
-ghost use Rattle.tool_sources.specs.Told.{file_of, place_in, is_format, IsMessage, IsFileMessage, IsTold};
+ghost use Rattle.tool_files.specs.Told.{file_of, place_in, is_format, IsMessage, IsFileMessage, IsTold};
 
 use crate::copies::name_at;
 use crate::format::{byte_place, from_place};

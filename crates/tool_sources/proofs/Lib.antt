@@ -1,3 +1,0 @@
-pub mod SizeLemmas
-mod ToldExamples
-pub mod ToldLemmas
