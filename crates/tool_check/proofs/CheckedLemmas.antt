@@ -12,8 +12,8 @@ use Rattle.tool_files.specs.Library.{charset_of, library}
 use Rattle.tool_files.specs.Told.{IsFileMessage, file_of}
 use Rattle.tool_check.specs.declared.checked.Checked.{Checked}
 use Rattle.tool_check.specs.declared.checked.Checked.TheVariants.{Accepted, Refused}
-use Rattle.tool_faults.specs.declared.found.Fault.{Fault}
-use Rattle.tool_faults.specs.Found.{AreAllTold, IsFaultOf}
+use Rattle.tool_check.specs.declared.fault.Fault.{Fault}
+use Rattle.tool_check.specs.Found.{AreAllTold, IsFaultOf}
 use Rattle.tool_check.specs.Summary.{row, charmap_summary}
 use Rattle.tool_findings.specs.declared.found.Finding.{Finding}
 use Rattle.tool_check.specs.Odd.{AreFindingMessages, source_findings, IsAdded}

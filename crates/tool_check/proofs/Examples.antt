@@ -2,7 +2,7 @@
 use Rattle.std.proofs.Common.{◌≡◌, ℕ, ◌==◌, ◌||◌, [], ◌∷◌, ◌++◌, codes, refl}
 use Rattle.std.specs.Fmt.{decimal, digits}
 use Rattle.lc_base.specs.declared.reason.Reason.TheVariants.{EmptyRadix}
-use Rattle.tool_faults.specs.declared.found.Fault.{Fault}
+use Rattle.tool_check.specs.declared.fault.Fault.{Fault}
 use Rattle.tool_check.specs.Checked.{AreMessages}
 use Rattle.tool_check.specs.Summary.{row, count_below, keyword_count}
 

@@ -1,3 +1,8 @@
+mod FaultExamples
+pub mod LookLemmas
+pub mod CopiedLemmas
+pub mod FaultLemmas
+pub mod FoundLemmas
 mod Examples
 pub mod SummaryLemmas
 pub mod CheckedLemmas

@@ -1,3 +1,6 @@
+pub mod Texts
+pub mod Looks
+pub mod Found
 pub mod Odd
 pub mod Summary
 pub mod Checked

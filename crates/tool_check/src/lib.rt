@@ -2,12 +2,20 @@
 #![tactic(auto)]
 
 mod checked;
+mod copied;
 mod declared;
+mod fault;
+mod faults;
 mod json;
+mod looks;
 mod odd;
 mod summary;
+mod texts;
 mod told;
 
 pub use checked::{Checked, Checking, charmap_checked, check_file, sources_checked};
+pub use fault::Fault;
+pub use faults::faults_of;
 pub use json::{push_file_json, push_problem_json};
+pub use texts::is_charmap;
 pub use told::Told;

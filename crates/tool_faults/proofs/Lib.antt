@@ -1,5 +1,0 @@
-mod Examples
-pub mod LookLemmas
-pub mod CopiedLemmas
-pub mod FaultLemmas
-pub mod FoundLemmas

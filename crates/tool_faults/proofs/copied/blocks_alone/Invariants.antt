@@ -1,6 +1,0 @@
-use Rattle.tool_faults.specs.Looks.{AreAlone}
-use Rattle.tool_faults.proofs.copied.blocks_alone.Given as goal
-
--- the blocks so far
-abbrev pub invariant-loop-number : goal.invariant-loop-number
-invariant-loop-number l = AreAlone l.look l.blocks l.alone.items
