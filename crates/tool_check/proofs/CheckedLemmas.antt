@@ -15,7 +15,7 @@ use Rattle.tool_check.specs.declared.checked.Checked.TheVariants.{Accepted, Refu
 use Rattle.tool_check.specs.declared.fault.Fault.{Fault}
 use Rattle.tool_check.specs.Found.{AreAllTold, IsFaultOf}
 use Rattle.tool_check.specs.Summary.{row, charmap_summary}
-use Rattle.tool_findings.specs.declared.found.Finding.{Finding}
+use Rattle.tool_check.specs.declared.finding.Finding.{Finding}
 use Rattle.tool_check.specs.Odd.{AreFindingMessages, source_findings, IsAdded}
 use Rattle.tool_check.proofs.OddLemmas.{findings_say}
 use Rattle.tool_check.specs.Checked.{accepted, refused, IsSummary, AreMessages, AreMessagesFrom, AreAllMessages, IsAcceptedOf, IsRefusedOf, IsFoundOf, IsFound, IsCharmapFoundOf, IsCharmapFound, IsChecked, IsWritten}

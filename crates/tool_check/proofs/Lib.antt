@@ -1,3 +1,5 @@
+mod FindingExamples
+pub mod HeaderLemmas
 mod FaultExamples
 pub mod LookLemmas
 pub mod CopiedLemmas

@@ -2,7 +2,7 @@
 use Rattle.std.proofs.Common.{◌≡◌, ℕ, ◌+◌, ◌<◌, List, ◌∷◌, ◌++◌, length, codes, ap, ◌∙◌, append_assoc, length-append, arith}
 use Rattle.tool_messages.specs.Message.{BeginsWith}
 use Rattle.tool_messages.proofs.MessageLemmas.{head_says}
-use Rattle.tool_findings.specs.declared.found.Finding.{Finding}
+use Rattle.tool_check.specs.declared.finding.Finding.{Finding}
 use Rattle.tool_check.specs.Odd.{AreFindingMessages, IsFindingMessage, IsAdded, oddity_name}
 
 pub one_more_finding : (path : List ℕ) (finding : Finding) (findings : List Finding) (message rest text : List ℕ) → IsFindingMessage path finding message → AreFindingMessages path findings rest

@@ -11,7 +11,7 @@ use Rattle.tool_files.specs.Told.{IsFileMessage}
 use Rattle.tool_check.specs.declared.checked.Checked.{Checked}
 use Rattle.tool_check.specs.declared.checked.Checked.TheVariants.{Accepted, Refused}
 use Rattle.tool_check.specs.declared.fault.Fault.{Fault}
-use Rattle.tool_findings.specs.declared.found.Finding.{Finding}
+use Rattle.tool_check.specs.declared.finding.Finding.{Finding}
 use Rattle.tool_check.specs.Found.{AreAllTold, IsFaultOf}
 use Rattle.tool_check.specs.Odd.{BeginsWithMessage, AreFindingMessages, source_findings}
 use Rattle.tool_check.specs.Summary.{accepted_line, charmap_summary}

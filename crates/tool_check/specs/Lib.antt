@@ -1,3 +1,4 @@
+pub mod Findings
 pub mod Texts
 pub mod Looks
 pub mod Found

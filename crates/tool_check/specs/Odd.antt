@@ -2,10 +2,10 @@
 use Rattle.std.specs.Prelude.{◌≡◌, ℕ, ◌<◌, List, [], ◌∷◌, ◌++◌, length, codes}
 use Rattle.lc_base.specs.declared.block.Block.{Block}
 use Rattle.tool_messages.specs.Message.{BeginsWith, fault_head}
-use Rattle.tool_findings.specs.declared.found.Finding.{Finding}
-use Rattle.tool_findings.specs.declared.found.Oddity.{Oddity}
-use Rattle.tool_findings.specs.declared.found.Oddity.TheVariants.{Return, UnknownSection, NoSection}
-use Rattle.tool_findings.specs.Findings.{findings}
+use Rattle.tool_check.specs.declared.finding.Finding.{Finding}
+use Rattle.tool_check.specs.declared.finding.Oddity.{Oddity}
+use Rattle.tool_check.specs.declared.finding.Oddity.TheVariants.{Return, UnknownSection, NoSection}
+use Rattle.tool_check.specs.Findings.{findings}
 
 -- the name of an oddity, which stands for the reason
 abbrev pub oddity_name : Oddity → List ℕ

@@ -19,9 +19,8 @@ use keywords::Section;
 use lc_base::{ByteText, List, TextFault};
 use std::alloc::{AllocError, Global};
 use std::rt::Files;
-use crate::{Fault, faults_of, is_charmap};
+use crate::{Fault, Finding, faults_of, is_charmap};
 use tool_files::{Loaded, Sources, Wanted, charset_of, fault_message, file_text, library_of, load_with};
-use tool_findings::Finding;
 use tool_messages::Problem;
 
 /// What is checked.

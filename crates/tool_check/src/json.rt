@@ -10,9 +10,8 @@ use lc_base::{ByteText, Place, Reason, TextFault, next_line};
 use reason_rules::{name_of, rule_of};
 use std::alloc::{AllocError, Global};
 use std::rt::Files;
-use crate::{Fault, faults_of, is_charmap};
+use crate::{Fault, Finding, faults_of, is_charmap};
 use tool_files::{FaultParts, Loaded, Sources, Wanted, charset_of, fault_parts, file_text, library_of, load_with};
-use tool_findings::Finding;
 use tool_json::{Writer, push_flag, push_member, push_number_member, push_text};
 use tool_messages::{Problem, line_of, push_number};
 

@@ -6,7 +6,7 @@ ghost use Rattle.tool_check.specs.Odd.{AreFindingMessages, oddity_name, source_f
 
 use lc_base::{Block, ByteText, is_blank};
 use std::alloc::{AllocError, Global};
-use tool_findings::{Finding, Oddity, findings_in};
+use crate::{Finding, Oddity, findings_in};
 use tool_messages::{Spot, line_of, push_fault, push_word};
 
 /// What is found of the first of these sources that its reader passes over.

@@ -1,7 +1,7 @@
 use Rattle.std.proofs.Common.{◌≡◌, length}
 use Rattle.lc_base.specs.Lines.{lines_of}
-use Rattle.tool_findings.specs.Findings.{return_findings}
-use Rattle.tool_findings.proofs.returns.push_return.Given as goal
+use Rattle.tool_check.specs.Findings.{return_findings}
+use Rattle.tool_check.proofs.returns.push_return.Given as goal
 
 -- nothing is found so far, and what is found of the rest is found of all
 abbrev pub invariant-loop-line : goal.invariant-loop-line

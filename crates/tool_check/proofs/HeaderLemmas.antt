@@ -3,8 +3,8 @@ use Rattle.std.proofs.Common.{◌≡◌, ℕ, zero, suc, ◌+◌, ◌<◌, ◌�
 use Rattle.std.proofs.lemmas.List.{drop_more, drop-drop}
 use Rattle.std.proofs.Math.ListN.{drop_of_length-le}
 use Rattle.src_lines.specs.Places.{Logical, line_at}
-use Rattle.tool_findings.specs.declared.found.Finding.{Finding}
-use Rattle.tool_findings.specs.Findings.{behind, header_finding, is_unknown, unknown_findings}
+use Rattle.tool_check.specs.declared.finding.Finding.{Finding}
+use Rattle.tool_check.specs.Findings.{behind, header_finding, is_unknown, unknown_findings}
 
 -- lines that belong to the section before are skipped
 skipped : (n : ℕ) (ls : List Logical) → unknown_findings n ls ≡ unknown_findings 0 (drop n ls)

@@ -3,9 +3,9 @@
 ghost use Rattle.std.specs.Prelude.{◌≡◌, ◌+◌, ◌-◌, ◌<◌, ◌≤◌, ◌^◌, ◌++◌, length, drop, IfOk, OnOk};
 ghost use Rattle.std.specs.List.{list_any};
 ghost use Rattle.src_lines.specs.Places.{Logical, line_at};
-ghost use Rattle.tool_findings.specs.Findings.{behind, belonging, header_finding, is_standard, is_unknown, opens_section, unknown_findings, without_return};
+ghost use Rattle.tool_check.specs.Findings.{behind, belonging, header_finding, is_standard, is_unknown, opens_section, unknown_findings, without_return};
 
-use crate::found::{Finding, Oddity};
+use crate::finding::{Finding, Oddity};
 use crate::returns::ends_with_return;
 use src_lines::{Kind, Lines, ends_head};
 use std::alloc::AllocError;

@@ -2,10 +2,10 @@
 
 ghost use Rattle.std.specs.Prelude.{◌≡◌, ◌++◌, ◌^◌, ◌-◌, ◌+◌, min, length, OnOk};
 ghost use Rattle.lc_base.specs.Lines.{lines_of};
-ghost use Rattle.tool_findings.specs.declared.found.Oddity.TheVariants.{Return};
-ghost use Rattle.tool_findings.specs.Findings.{ends_with_return, return_findings};
+ghost use Rattle.tool_check.specs.declared.finding.Oddity.TheVariants.{Return};
+ghost use Rattle.tool_check.specs.Findings.{ends_with_return, return_findings};
 
-use crate::found::{Finding, Oddity};
+use crate::finding::{Finding, Oddity};
 use lc_base::{Place, next_line};
 use std::alloc::AllocError;
 

@@ -1,10 +1,10 @@
 -- Findings of small sources.
 use Rattle.std.proofs.Common.{◌≡◌, ℕ, List, [], ◌∷◌, ◌++◌, codes, refl}
 use Rattle.src_lines.specs.Logical.{front, front_from}
-use Rattle.tool_findings.specs.declared.found.Finding.{Finding}
-use Rattle.tool_findings.specs.declared.found.Oddity.{Oddity}
-use Rattle.tool_findings.specs.declared.found.Oddity.TheVariants.{Return, UnknownSection, NoSection}
-use Rattle.tool_findings.specs.Findings.{findings}
+use Rattle.tool_check.specs.declared.finding.Finding.{Finding}
+use Rattle.tool_check.specs.declared.finding.Oddity.{Oddity}
+use Rattle.tool_check.specs.declared.finding.Oddity.TheVariants.{Return, UnknownSection, NoSection}
+use Rattle.tool_check.specs.Findings.{findings}
 
 -- a text of lines that each end in a newline
 abbrev text_of : List (List ℕ) → List ℕ

@@ -8,8 +8,8 @@ use Rattle.src_lines.specs.declared.signs.Kind.TheVariants.{Locale}
 use Rattle.src_lines.specs.Words.{first_word, second_word}
 use Rattle.src_lines.specs.Places.{Logical, start, closes_line}
 use Rattle.src_lines.specs.Logical.{Front, ends_head, front}
-use Rattle.tool_findings.specs.declared.found.Finding.{Finding}
-use Rattle.tool_findings.specs.declared.found.Oddity.TheVariants.{Return, UnknownSection, NoSection}
+use Rattle.tool_check.specs.declared.finding.Finding.{Finding}
+use Rattle.tool_check.specs.declared.finding.Oddity.TheVariants.{Return, UnknownSection, NoSection}
 
 -- a line that ends in CR
 abbrev pub ends_with_return : List ℕ → Bool

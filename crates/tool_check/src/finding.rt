@@ -1,7 +1,7 @@
 //! Findings of a source.
 
 ghost use Rattle.std.specs.Prelude.{◌≡◌, ◌++◌, IfOk, OnOk};
-ghost use Rattle.tool_findings.specs.Findings.{findings, lone_findings};
+ghost use Rattle.tool_check.specs.Findings.{findings, lone_findings};
 
 use crate::headers::push_unknown;
 use crate::returns::push_return;

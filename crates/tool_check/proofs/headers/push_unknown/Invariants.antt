@@ -1,6 +1,6 @@
 use Rattle.std.proofs.Common.{◌≡◌, ◌-◌, ◌≤◌, length, drop}
-use Rattle.tool_findings.specs.Findings.{unknown_findings}
-use Rattle.tool_findings.proofs.headers.push_unknown.Given as goal
+use Rattle.tool_check.specs.Findings.{unknown_findings}
+use Rattle.tool_check.proofs.headers.push_unknown.Given as goal
 
 -- nothing is found so far, and what is found of the lines that are left is found of all
 abbrev pub invariant-loop-i : goal.invariant-loop-i
