@@ -12,7 +12,7 @@ use Rattle.keywords.specs.declared.source.Body.TheVariants.{Copy, Entries}
 use Rattle.numeric_cat.specs.NumericValues.{NumericValues}
 use Rattle.numeric_cat.specs.Numeric.{posix_values}
 use Rattle.locale_sources.specs.Sources.{Source}
-use Rattle.compiled_categories.specs.Locale.{Locale, posix_locale}
+use Rattle.category_store.specs.Locale.{Locale, posix_locale}
 use Rattle.category_store.specs.Catalog.{Catalog}
 use Rattle.category_store.specs.Library.{names_of, keys_of, catalog_from, catalog_of, locale_at, numbers, opening, later, posix_object}
 

@@ -22,8 +22,8 @@ use Rattle.lc_base.specs.Named.{with_named}
 use Rattle.locale_sources.specs.Sources.{Source}
 use Rattle.locale_sources.specs.Copies.{copy_fault}
 use Rattle.locale_sources.specs.Rows.{available}
-use Rattle.compiled_categories.specs.Locale.{Locale, locale_among}
-use Rattle.compiled_categories.specs.Compiled.{ctype_of, numeric_of, monetary_of, time_of, messages_of, category_of, locale_of, locales_from, locales_of}
+use Rattle.category_store.specs.Locale.{Locale, locale_among}
+use Rattle.category_store.specs.Compiled.{ctype_of, numeric_of, monetary_of, time_of, messages_of, category_of, locale_of, locales_from, locales_of}
 use Rattle.category_store.specs.Catalog.{Catalog}
 use Rattle.category_store.specs.Library.{names_after, names_of, keys_after, keys_of, catalog_of, unless_fault, catalog_from, locale_at, offer_at, first_offer, opening}
 use Rattle.category_store.specs.Shelf.{IsInstallable}

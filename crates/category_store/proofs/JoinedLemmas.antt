@@ -9,7 +9,7 @@ use Rattle.std.proofs.lemmas.Slice.Eq.{bytes_eq-Decides}
 use Rattle.lc_base.specs.Tables.{first_named}
 use Rattle.lc_base.specs.Named.{with_named}
 use Rattle.charset.specs.Portable.{Name}
-use Rattle.compiled_categories.specs.Locale.{Locale, posix_locale, locale_among}
+use Rattle.category_store.specs.Locale.{Locale, posix_locale, locale_among}
 use Rattle.category_store.specs.Catalog.{Catalog}
 use Rattle.category_store.proofs.Installable.{with_either, found_as}
 use Rattle.category_store.specs.Joined.{numbered_after, with_others, moved, later_else, entry_at, joined, KeepsNumbers, StandsBehind, NamesLater, InstallsLater}

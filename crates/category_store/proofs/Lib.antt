@@ -1,3 +1,5 @@
+mod CompileExamples
+pub mod CompileLemmas
 mod Examples
 pub mod LibraryLemmas
 pub mod Numbered

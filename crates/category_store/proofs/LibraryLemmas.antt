@@ -13,8 +13,8 @@ use Rattle.std.proofs.Math.Seq.{take-nil}
 use Rattle.locale_sources.specs.Sources.{Source}
 use Rattle.locale_sources.specs.Copies.{locale_numbers, copy_fault}
 use Rattle.locale_sources.specs.Rows.{given_unless}
-use Rattle.compiled_categories.specs.Locale.{Locale}
-use Rattle.compiled_categories.specs.Compiled.{locales_of}
+use Rattle.category_store.specs.Locale.{Locale}
+use Rattle.category_store.specs.Compiled.{locales_of}
 use Rattle.category_store.specs.Catalog.{Catalog}
 use Rattle.category_store.specs.Library.{names_of, keys_of, native_number, catalog_of, unless_fault, catalog_from, offer_at, first_offer, name_at, opening}
 

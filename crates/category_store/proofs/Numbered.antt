@@ -18,8 +18,8 @@ use Rattle.lc_base.specs.Named.{with_named}
 use Rattle.locale_sources.specs.Sources.{Source}
 use Rattle.locale_sources.specs.Sections.{is_posix}
 use Rattle.locale_sources.specs.Copies.{copy_fault}
-use Rattle.compiled_categories.specs.Locale.{Locale}
-use Rattle.compiled_categories.specs.Compiled.{locales_of}
+use Rattle.category_store.specs.Locale.{Locale}
+use Rattle.category_store.specs.Compiled.{locales_of}
 use Rattle.category_store.specs.Catalog.{Catalog}
 use Rattle.category_store.specs.Library.{names_after, names_of, plain_number, native_number, catalog_of, unless_fault, catalog_from, number_of, number_in, ◌then◌, numbers_in, names_given, numbers, first_offer, opening}
 use Rattle.category_store.specs.Shelf.{IsNumbered}

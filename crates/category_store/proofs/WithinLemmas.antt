@@ -6,8 +6,8 @@ use Rattle.charset.specs.Portable.{Name}
 use Rattle.lc_base.specs.Named.{with_named}
 use Rattle.locale_sources.specs.Sources.{Source}
 use Rattle.locale_sources.specs.Copies.{numbered_from, locale_numbers, copy_fault}
-use Rattle.compiled_categories.specs.Locale.{Locale}
-use Rattle.compiled_categories.specs.Compiled.{locales_of}
+use Rattle.category_store.specs.Locale.{Locale}
+use Rattle.category_store.specs.Compiled.{locales_of}
 use Rattle.category_store.specs.declared.names.Names.{Names}
 use Rattle.category_store.specs.Library.{names_after, names_of, keys_of, unless_fault}
 use Rattle.category_store.specs.Within.{AreWithin, IsWithin}

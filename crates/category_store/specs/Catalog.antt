@@ -1,6 +1,6 @@
 -- What a library of compiled locales says, as data.
 use Rattle.std.specs.Prelude.{ℕ, List}
-use Rattle.compiled_categories.specs.Locale.{Locale}
+use Rattle.category_store.specs.Locale.{Locale}
 
 -- a library
 pub record Catalog : Type 0 where

@@ -4,7 +4,7 @@ use Rattle.std.specs.Option.{option_or}
 use Rattle.lc_base.specs.Tables.{first_named}
 use Rattle.lc_base.specs.Named.{with_named}
 use Rattle.charset.specs.Portable.{Name}
-use Rattle.compiled_categories.specs.Locale.{Locale}
+use Rattle.category_store.specs.Locale.{Locale}
 use Rattle.category_store.specs.Catalog.{Catalog}
 use Rattle.category_store.specs.Library.{locale_at}
 

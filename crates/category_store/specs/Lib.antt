@@ -1,3 +1,8 @@
+pub mod Written
+pub mod Locale
+pub mod Compiled
+pub mod SeenWritten
+pub mod Kept
 pub mod Catalog
 pub mod Library
 pub mod Shelf

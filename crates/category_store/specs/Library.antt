@@ -21,8 +21,8 @@ use Rattle.locale_sources.specs.Sections.{is_posix}
 use Rattle.category_store.specs.Blocks.{by_place}
 use Rattle.category_store.specs.Sources.{charsets, sources_of}
 use Rattle.locale_sources.specs.Copies.{locale_numbers, copy_fault}
-use Rattle.compiled_categories.specs.Locale.{Locale, locale_among}
-use Rattle.compiled_categories.specs.Compiled.{locales_of}
+use Rattle.category_store.specs.Locale.{Locale, locale_among}
+use Rattle.category_store.specs.Compiled.{locales_of}
 use Rattle.category_store.specs.Catalog.{Catalog}
 
 -- ---- what a bundle's blocks make

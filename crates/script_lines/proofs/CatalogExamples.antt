@@ -8,7 +8,7 @@ use Rattle.catalog_handles.specs.declared.handle.CatalogHandle.{CatalogHandle}
 use Rattle.catalog_handles.specs.declared.op.CatalogRefusal.TheVariants as catalog_refusals
 use Rattle.catalog_handles.specs.Entry as catalogs
 use Rattle.category_store.specs.Catalog.{Catalog}
-use Rattle.compiled_categories.specs.Locale.{posix_locale}
+use Rattle.category_store.specs.Locale.{posix_locale}
 use Rattle.lc_base.specs.declared.handle.Handle.{Handle}
 use Rattle.lc_base.specs.declared.handle.Named.TheVariants.{Of, Global}
 use Rattle.handle_table.specs.declared.op.Refusal.TheVariants as refusals

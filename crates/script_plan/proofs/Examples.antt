@@ -5,7 +5,7 @@ use Rattle.lc_base.specs.declared.category.Category.TheVariants as categories
 use Rattle.lc_base.specs.declared.block.Block.{Block}
 use Rattle.msg_catalog.specs.declared.book.Message.{Message}
 use Rattle.numeric_cat.specs.NumericValues.{NumericValues}
-use Rattle.compiled_categories.specs.Locale.{Locale, posix_locale}
+use Rattle.category_store.specs.Locale.{Locale, posix_locale}
 use Rattle.category_store.specs.Catalog.{Catalog}
 use Rattle.lc_base.specs.declared.handle.Handle.{Handle}
 use Rattle.lc_base.specs.declared.handle.Named.TheVariants as named

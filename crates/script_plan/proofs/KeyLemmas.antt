@@ -18,7 +18,7 @@ use Rattle.locale_sources.specs.Sources.{Source}
 use Rattle.category_store.specs.Blocks.{Placed as PlacedBlock, locale_block, later_block, is_before, among, merged, by_place}
 use Rattle.category_store.specs.Sources.{charsets, charset_named, source_of, sources_of}
 use Rattle.locale_sources.specs.Copies.{copy_fault}
-use Rattle.compiled_categories.specs.Compiled.{locales_of}
+use Rattle.category_store.specs.Compiled.{locales_of}
 use Rattle.category_store.specs.Catalog.{Catalog}
 use Rattle.category_store.specs.Library.{keys_after, keys_of, catalog_of, unless_fault, catalog_from, catalog_over, catalog, later}
 use Rattle.script_commands.specs.declared.command.Placed.{Placed}

@@ -7,7 +7,7 @@ use Rattle.digit_groups.specs.Numbers.{number_behind}
 use Rattle.int_format.specs.Formats.{flags_behind, conversion_with, piece, pieces}
 use Rattle.int_format.specs.Ints.{pieces_text, missing}
 use Rattle.category_store.specs.Catalog.{Catalog}
-use Rattle.compiled_categories.specs.Locale.{posix_locale}
+use Rattle.category_store.specs.Locale.{posix_locale}
 use Rattle.script_commands.specs.declared.command.Read.TheVariants.{Number}
 use Rattle.script_out.specs.declared.output.Said.{Said}
 use Rattle.script_out.specs.declared.output.Said.TheVariants as said

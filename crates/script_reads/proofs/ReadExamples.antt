@@ -25,7 +25,7 @@ use Rattle.strptime_fields.specs.Items.{item}
 use Rattle.strptime_fields.specs.Reading.{number as read_number, longest}
 use Rattle.strptime_fields.specs.Scans.{followed}
 use Rattle.category_store.specs.Catalog.{Catalog}
-use Rattle.compiled_categories.specs.Locale.{posix_locale}
+use Rattle.category_store.specs.Locale.{posix_locale}
 use Rattle.lc_base.specs.Amounts.{MoneyAmount}
 use Rattle.script_words.specs.declared.given.UncheckedTime.{UncheckedTime}
 use Rattle.script_commands.specs.declared.command.Read.{Read}

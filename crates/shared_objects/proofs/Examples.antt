@@ -8,7 +8,7 @@ use Rattle.lc_base.specs.declared.category.Category.TheVariants.{Ctype, Time}
 use Rattle.monetary_cat.specs.Monetary as monetary
 use Rattle.time_cat.specs.Values as time
 use Rattle.mask_compose.specs.Parts.{Parts}
-use Rattle.compiled_categories.specs.Locale.{Locale, posix_locale}
+use Rattle.category_store.specs.Locale.{Locale, posix_locale}
 use Rattle.category_store.specs.Catalog.{Catalog}
 use Rattle.script_lang.specs.declared.bundle.Bundle.{Bundle}
 use Rattle.script_lang.specs.Accepted.{bundle_of}

@@ -13,7 +13,7 @@ use Rattle.numeric_cat.specs.NumericValues.{NumericValues}
 use Rattle.monetary_cat.specs.Monetary.{MonetaryValues}
 use Rattle.time_cat.specs.TimeValues.{TimeValues}
 use Rattle.messages_cat.specs.MessagesValues.{MessagesValues}
-use Rattle.compiled_categories.specs.Locale.{Locale}
+use Rattle.category_store.specs.Locale.{Locale}
 use Rattle.category_store.specs.Catalog.{Catalog}
 use Rattle.category_store.specs.Library.{catalog, locale_at, numbers, posix_object, opening}
 use Rattle.script_lang.specs.declared.bundle.Bundle.{Bundle}

@@ -2,7 +2,7 @@ use Rattle.std.proofs.Common.{map}
 use Rattle.locale_sources.specs.Seen.{source}
 use Rattle.locale_sources.specs.Copies.{copy_fault}
 use Rattle.locale_sources.specs.Rows.{rows_from}
-use Rattle.compiled_categories.specs.Compiled.{locales_of}
+use Rattle.category_store.specs.Compiled.{locales_of}
 use Rattle.category_store.proofs.LibraryLemmas.{categories_follow}
 use Rattle.category_store.proofs.library.compile.Goals as goal
 

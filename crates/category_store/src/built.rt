@@ -2,8 +2,8 @@
 
 ghost use Rattle.std.specs.Prelude.{◌≡◌, IfOk};
 ghost use Rattle.lc_base.specs.Reading.{Reads, Gives};
-ghost use Rattle.compiled_categories.specs.Written.{Written as List};
-ghost use Rattle.compiled_categories.specs.Seen.{written};
+ghost use Rattle.category_store.specs.Written.{Written as List};
+ghost use Rattle.category_store.specs.SeenWritten.{written};
 
 use crate::written::Written;
 use ctype_classes::Ctype;
@@ -33,7 +33,7 @@ pub trait Built: Drop {
 
 impl Built for Ctype {
     ghost use Rattle.ctype_classes.specs.Ctype.{posix_values};
-    ghost use Rattle.compiled_categories.specs.Compiled.{ctype_of};
+    ghost use Rattle.category_store.specs.Compiled.{ctype_of};
 
     ghost gives = { ctype_of };
 
@@ -50,7 +50,7 @@ impl Built for Ctype {
 
 impl Built for Numeric {
     ghost use Rattle.numeric_cat.specs.Numeric.{posix_values};
-    ghost use Rattle.compiled_categories.specs.Compiled.{numeric_of};
+    ghost use Rattle.category_store.specs.Compiled.{numeric_of};
 
     ghost gives = { numeric_of };
 
@@ -67,7 +67,7 @@ impl Built for Numeric {
 
 impl Built for Monetary {
     ghost use Rattle.monetary_cat.specs.Monetary.{posix_values};
-    ghost use Rattle.compiled_categories.specs.Compiled.{monetary_of};
+    ghost use Rattle.category_store.specs.Compiled.{monetary_of};
 
     ghost gives = { monetary_of };
 
@@ -84,7 +84,7 @@ impl Built for Monetary {
 
 impl Built for Time {
     ghost use Rattle.time_cat.specs.Values.{posix_values};
-    ghost use Rattle.compiled_categories.specs.Compiled.{time_of};
+    ghost use Rattle.category_store.specs.Compiled.{time_of};
 
     ghost gives = { time_of };
 
@@ -101,7 +101,7 @@ impl Built for Time {
 
 impl Built for Messages {
     ghost use Rattle.messages_cat.specs.Messages.{posix_values};
-    ghost use Rattle.compiled_categories.specs.Compiled.{messages_of};
+    ghost use Rattle.category_store.specs.Compiled.{messages_of};
 
     ghost gives = { messages_of };
 

@@ -2,7 +2,7 @@
 
 ghost use Rattle.std.specs.Prelude.{◌≡◌, ◌++◌, map, IfOk, OnOk};
 ghost use Rattle.std.specs.Arc.{arc_value};
-ghost use Rattle.compiled_categories.specs.Kept.{locale_in};
+ghost use Rattle.category_store.specs.Kept.{locale_in};
 
 use crate::compiled::Compiled;
 use crate::kept::CategoryLists;
@@ -26,8 +26,8 @@ impl Drop for SharedLocale {
 
 impl Model for SharedLocale {
     ghost use Rattle.std.specs.Arc.{arc_value};
-    ghost use Rattle.compiled_categories.specs.Locale.{Locale};
-    ghost use Rattle.compiled_categories.specs.Kept.{locale_in};
+    ghost use Rattle.category_store.specs.Locale.{Locale};
+    ghost use Rattle.category_store.specs.Kept.{locale_in};
 
     ghost Value = { Locale };
 

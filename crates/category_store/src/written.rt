@@ -2,8 +2,8 @@
 
 ghost use Rattle.std.specs.Prelude.{◌≡◌, option_map};
 ghost use Rattle.locale_sources.specs.Seen.{source};
-ghost use Rattle.compiled_categories.specs.Seen.{written};
-ghost use Rattle.compiled_categories.specs.Written.{written_for};
+ghost use Rattle.category_store.specs.SeenWritten.{written};
+ghost use Rattle.category_store.specs.Written.{written_for};
 
 use charset::Charset;
 use keywords::{Body, Entry};

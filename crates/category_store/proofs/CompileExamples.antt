@@ -20,8 +20,8 @@ use Rattle.time_cat.specs.Faults.{line_checked}
 use Rattle.time_cat.specs.Values.{time_values, posix_values as posix_times}
 use Rattle.messages_cat.specs.Messages.{posix_values as posix_messages}
 use Rattle.locale_sources.specs.Sources.{Source}
-use Rattle.compiled_categories.specs.Locale.{Locale, posix_locale}
-use Rattle.compiled_categories.specs.Compiled.{ctype_of, numeric_of, monetary_of, time_of, messages_of, category_of, locales_of}
+use Rattle.category_store.specs.Locale.{Locale, posix_locale}
+use Rattle.category_store.specs.Compiled.{ctype_of, numeric_of, monetary_of, time_of, messages_of, category_of, locales_of}
 
 at : ℕ → ℕ → Place
 at line column = record { line = line; column = column }

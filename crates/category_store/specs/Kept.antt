@@ -15,10 +15,10 @@ use Rattle.messages_cat.specs.Messages.{posix_values as posix_messages}
 use Rattle.locale_sources.specs.Sources.{Source}
 use Rattle.locale_sources.specs.declared.numbers.SourceNumbers.{SourceNumbers}
 use Rattle.locale_sources.specs.declared.rows.LocaleRow.{LocaleRow}
-use Rattle.compiled_categories.specs.declared.kept.CategoryLists.{CategoryLists}
-use Rattle.compiled_categories.specs.Written.{Written, written_for}
-use Rattle.compiled_categories.specs.Locale.{Locale}
-use Rattle.compiled_categories.specs.Compiled.{ctype_of, numeric_of, monetary_of, time_of, messages_of}
+use Rattle.category_store.specs.declared.kept.CategoryLists.{CategoryLists}
+use Rattle.category_store.specs.Written.{Written, written_for}
+use Rattle.category_store.specs.Locale.{Locale}
+use Rattle.category_store.specs.Compiled.{ctype_of, numeric_of, monetary_of, time_of, messages_of}
 
 -- ---- one category of all sources
 

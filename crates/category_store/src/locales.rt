@@ -5,9 +5,9 @@ ghost use Rattle.std.specs.Option.{option_copied};
 ghost use Rattle.lc_base.specs.Reading.{Gives};
 ghost use Rattle.locale_sources.specs.Seen.{source};
 ghost use Rattle.locale_sources.specs.Rows.{given_unless, rows_from};
-ghost use Rattle.compiled_categories.specs.Compiled.{locales_of};
-ghost use Rattle.compiled_categories.specs.Kept.{locale_in, rows_fault, row_at};
-ghost use Rattle.compiled_categories.specs.Locale.{locale_among};
+ghost use Rattle.category_store.specs.Compiled.{locales_of};
+ghost use Rattle.category_store.specs.Kept.{locale_in, rows_fault, row_at};
+ghost use Rattle.category_store.specs.Locale.{locale_among};
 
 use crate::compiled::Compiled;
 use crate::kept::CategoryLists;
@@ -36,7 +36,7 @@ impl Drop for Locales {
 
 impl Model for Locales {
     ghost use Rattle.std.specs.Prelude.{List};
-    ghost use Rattle.compiled_categories.specs.Locale.{Locale};
+    ghost use Rattle.category_store.specs.Locale.{Locale};
 
     ghost Value = { List Locale };
 

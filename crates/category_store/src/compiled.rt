@@ -1,7 +1,7 @@
 //! A compiled locale.
 
 ghost use Rattle.std.specs.Prelude.{◌≡◌};
-ghost use Rattle.compiled_categories.specs.Kept.{locale_with};
+ghost use Rattle.category_store.specs.Kept.{locale_with};
 
 use crate::kept::CategoryLists;
 use ctype_classes::Ctype;
@@ -23,8 +23,8 @@ pub struct Compiled<'a> {
 }
 
 impl<'a> Model for Compiled<'a> {
-    ghost use Rattle.compiled_categories.specs.Locale.{Locale};
-    ghost use Rattle.compiled_categories.specs.Kept.{locale_with};
+    ghost use Rattle.category_store.specs.Locale.{Locale};
+    ghost use Rattle.category_store.specs.Kept.{locale_with};
 
     ghost Value = { Locale };
 

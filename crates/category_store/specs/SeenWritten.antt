@@ -1,6 +1,6 @@
 -- A keyword list that is kept as a value of the definitions.
-use Rattle.compiled_categories.specs.declared.written.Written.{Written as Lent}
-use Rattle.compiled_categories.specs.Written.{Written}
+use Rattle.category_store.specs.declared.written.Written.{Written as Lent}
+use Rattle.category_store.specs.Written.{Written}
 
 -- a keyword list that is written in a source
 abbrev pub written : Lent → Written

@@ -2,9 +2,9 @@ use Rattle.std.proofs.Common.{◌∙◌, ap, map, subst, sym}
 use Rattle.lc_base.specs.Reading.{Gives}
 use Rattle.locale_sources.specs.Seen.{source}
 use Rattle.locale_sources.specs.Rows.{given_unless}
-use Rattle.compiled_categories.specs.Kept.{rows_fault, locale_in}
-use Rattle.compiled_categories.proofs.CompileLemmas.{told}
-use Rattle.compiled_categories.proofs.locales.Locales.compile.Goals as goal
+use Rattle.category_store.specs.Kept.{rows_fault, locale_in}
+use Rattle.category_store.proofs.CompileLemmas.{told}
+use Rattle.category_store.proofs.locales.Locales.compile.Goals as goal
 
 pub returns : goal.returns
 returns c =

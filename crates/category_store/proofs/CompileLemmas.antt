@@ -14,15 +14,15 @@ use Rattle.numeric_cat.specs.Numeric.{posix_values}
 use Rattle.monetary_cat.specs.Monetary.{posix_values as posix_money}
 use Rattle.time_cat.specs.Values.{posix_values as posix_times}
 use Rattle.messages_cat.specs.Messages.{posix_values as posix_messages}
-use Rattle.compiled_categories.specs.declared.kept.CategoryLists.{CategoryLists}
+use Rattle.category_store.specs.declared.kept.CategoryLists.{CategoryLists}
 use Rattle.locale_sources.specs.declared.rows.LocaleRow.{LocaleRow}
 use Rattle.locale_sources.specs.Sources.{Source}
 use Rattle.locale_sources.specs.Copies.{end_of}
-use Rattle.compiled_categories.specs.Written.{Written, written_for, written_at}
-use Rattle.compiled_categories.specs.Compiled.{ctype_of, numeric_of, monetary_of, time_of, messages_of, read_or, category_of, locale_of, locales_from}
+use Rattle.category_store.specs.Written.{Written, written_for, written_at}
+use Rattle.category_store.specs.Compiled.{ctype_of, numeric_of, monetary_of, time_of, messages_of, read_or, category_of, locale_of, locales_from}
 use Rattle.locale_sources.specs.Rows.{available, row_of, rows_from, given_unless}
-use Rattle.compiled_categories.specs.Locale.{Locale}
-use Rattle.compiled_categories.specs.Kept.{slots, kept, given_or, kept_or, value_or, fault_in, kept_of, ends_fault, locale_in, rows_fault}
+use Rattle.category_store.specs.Locale.{Locale}
+use Rattle.category_store.specs.Kept.{slots, kept, given_or, kept_or, value_or, fault_in, kept_of, ends_fault, locale_in, rows_fault}
 
 abbrev Fault : Type 0
 Fault = Place × Reason

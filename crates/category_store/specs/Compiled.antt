@@ -15,8 +15,8 @@ use Rattle.messages_cat.specs.Messages.{messages_values, posix_values as posix_m
 use Rattle.locale_sources.specs.Sources.{Source}
 use Rattle.locale_sources.specs.Copies.{end_of}
 use Rattle.locale_sources.specs.Rows.{available}
-use Rattle.compiled_categories.specs.Written.{Written, written_at}
-use Rattle.compiled_categories.specs.Locale.{Locale}
+use Rattle.category_store.specs.Written.{Written, written_at}
+use Rattle.category_store.specs.Locale.{Locale}
 
 -- ---- what keyword lists give, category by category
 

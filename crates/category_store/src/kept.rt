@@ -3,8 +3,8 @@
 ghost use Rattle.std.specs.Prelude.{◌≡◌, Ok, map, option_map, IfOk};
 ghost use Rattle.std.specs.Option.{option_copied};
 ghost use Rattle.locale_sources.specs.Seen.{source};
-ghost use Rattle.compiled_categories.specs.Written.{written_for};
-ghost use Rattle.compiled_categories.specs.Kept.{slots, kept, kept_or, value_or, fault_in, kept_of, ends_fault};
+ghost use Rattle.category_store.specs.Written.{written_for};
+ghost use Rattle.category_store.specs.Kept.{slots, kept, kept_or, value_or, fault_in, kept_of, ends_fault};
 
 use crate::built::Built;
 use crate::written::written_for;

@@ -1,5 +1,0 @@
-pub mod Written
-pub mod Locale
-pub mod Compiled
-pub mod Seen
-pub mod Kept
