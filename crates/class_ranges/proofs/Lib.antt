@@ -1,3 +1,7 @@
+mod PageExamples
+pub mod Words
+pub mod Pages
+pub mod Blocks
 mod Examples
 pub mod Joining
 pub mod Orders

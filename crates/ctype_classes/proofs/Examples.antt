@@ -11,7 +11,7 @@ use Rattle.keywords.specs.declared.source.Entry.{Entry}
 use Rattle.keywords.specs.declared.row.Rule.TheVariants.{NotEmpty, Between}
 use Rattle.ctype_classes.specs.Characters.{characters}
 use Rattle.lc_base.specs.Named.{place_of}
-use Rattle.value_pages.specs.Pages.{has_bit}
+use Rattle.class_ranges.specs.Pages.{has_bit}
 use Rattle.ctype_classes.specs.Classes.{Classes, members_of, numbered_answer, has_numbered}
 use Rattle.ctype_classes.specs.Lines.{rule_of_line}
 use Rattle.ctype_classes.specs.Lists.{is_reserved, is_taken, after_operands, classes_of}

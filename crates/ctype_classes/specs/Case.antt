@@ -2,7 +2,7 @@
 use Rattle.std.specs.Prelude.{ℕ, ◌==◌, List, [], ◌∷◌, map, codes, Option, Some, None, if◌then◌else◌}
 use Rattle.std.specs.BTreeMap.{insert_entry}
 use Rattle.std.specs.Ordering.{nat_cmp}
-pub use Rattle.value_pages.specs.Maps.{image}
+pub use Rattle.class_ranges.specs.Maps.{image}
 use Rattle.lc_base.specs.declared.category.Category.TheVariants as categories
 use Rattle.keywords.specs.declared.source.Entry.{Entry}
 use Rattle.keywords.specs.LookUp.{posix_pairs}

@@ -9,7 +9,7 @@ use Rattle.keywords.specs.declared.source.Value.{Value}
 use Rattle.keywords.specs.declared.source.Entry.{Entry}
 use Rattle.keywords.specs.Keywords.{operands, ranges}
 use Rattle.lc_base.specs.Named.{with_named}
-use Rattle.value_pages.specs.Pages.{has_bit}
+use Rattle.class_ranges.specs.Pages.{has_bit}
 use Rattle.ctype_classes.specs.Characters.{characters}
 use Rattle.ctype_classes.specs.Table.{ClassRow, class_table}
 

@@ -8,7 +8,7 @@ use keywords::{pairs, posix_pairs};
 use lc_base::Category;
 use std::alloc::{AllocError, Global};
 use std::collections::BTreeMap;
-use value_pages::PagedMap;
+use class_ranges::PagedMap;
 
 /// The pairs that map to upper case.
 pub fn upper_pairs(alloc: Global, list: &KeywordList<'_>) -> Result<Vec<(u32, u32)>, AllocError>

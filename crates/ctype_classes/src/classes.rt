@@ -10,11 +10,10 @@ use crate::characters::characters;
 use crate::first_lines::KeywordList;
 use crate::table::{AutomaticMembers, ClassRow, TABLE};
 use charset::Charset;
-use class_ranges::Ranges;
+use class_ranges::{PagedRanges, Ranges};
 use keywords::{Values, ranges};
 use lc_base::ByName;
 use std::alloc::{AllocError, Global};
-use value_pages::PagedRanges;
 
 /// Classes with their members.
 pub type Classes = ByName<PagedRanges>;

@@ -21,7 +21,7 @@ use keywords::Entry;
 use lc_base::{ByteText, List, Place, TextFault};
 use std::alloc::{AllocError, Global};
 use std::marker::Model;
-use value_pages::PagedMap;
+use class_ranges::PagedMap;
 
 /// The character classes and case maps of a locale.
 pub struct Ctype {

@@ -11,7 +11,7 @@ ghost use Rattle.ctype_classes.specs.Excluded.{is_kept_in, in_both, IsExcluded, 
 
 use crate::classes::{Classes, has_member};
 use lc_base::{Class, Place, Reason, TextFault};
-use value_pages::PagedRanges;
+use class_ranges::PagedRanges;
 
 /// The pairs of classes that have no common member, in the order in which they are tested.
 const EXCLUSIONS: [(Class, Class); 21] = [

@@ -1,7 +1,7 @@
 use Rattle.std.proofs.Common.{◌≡◌, ℕ, ◌+◌, ◌<◌, ◌≤◌, Bool, true, false, nat_lt, nat_eq, refl, sym, ap, ◌∙◌, subst, arith, length}
 use Rattle.std.proofs.lemmas.Bool.Decides.{nat_tests}
-use Rattle.value_pages.specs.Pages.{has_bit}
-use Rattle.value_pages.proofs.Words.{IsWordTo, with_bit, without_bit}
+use Rattle.class_ranges.specs.Pages.{has_bit}
+use Rattle.class_ranges.proofs.Words.{IsWordTo, with_bit, without_bit}
 use Rattle.ctype_classes.specs.Classes.{has_numbered}
 use Rattle.ctype_classes.proofs.ClassBits.{none_from}
 use Rattle.ctype_classes.proofs.class_bits.class_bits.Goals as goal

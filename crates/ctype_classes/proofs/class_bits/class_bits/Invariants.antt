@@ -1,6 +1,6 @@
 use Rattle.std.proofs.Common.{◌≡◌, ℕ, ◌<◌, ◌≤◌}
 use Rattle.std.specs.Int.{bit_at}
-use Rattle.value_pages.specs.Pages.{has_bit}
+use Rattle.class_ranges.specs.Pages.{has_bit}
 use Rattle.ctype_classes.specs.Classes.{has_numbered}
 use Rattle.ctype_classes.proofs.class_bits.class_bits.Given as goal
 

@@ -1,6 +1,6 @@
 use Rattle.std.proofs.Common.{◌<◌, length, Some, sym, ap, ◌∙◌, arith}
 use Rattle.std.specs.Prelude.{slice_index}
-use Rattle.value_pages.proofs.Words.{bit_test}
+use Rattle.class_ranges.proofs.Words.{bit_test}
 use Rattle.ctype_classes.proofs.ClassBits.{some_below}
 use Rattle.ctype_classes.proofs.class_bits.low_answer.Goals as goal
 

@@ -1,4 +1,0 @@
-mod Examples
-pub mod Words
-pub mod Pages
-pub mod Blocks

@@ -1,7 +1,0 @@
-use Rattle.std.proofs.Common.{arith}
-use Rattle.value_pages.proofs.Pages.{bits_say}
-use Rattle.value_pages.proofs.page.page_says.Goals as goal
-
-pub returns : goal.returns
-returns c =
-    bits_say c.args.pages.now c.in_ok-page.page.now c.args.number c.args.k (omega arith) c.in_ok-page.ensures.lookup.3.0 c.in_ok-page.ensures.lookup.1
