@@ -6,6 +6,6 @@ mod faults;
 mod making;
 
 pub use faults::ImportFault;
-pub use gnu_lines::copied_names;
+pub use gnu_read::copied_names;
 pub use gnu_text::{Named, Note, NoteCode, Origin};
 pub use making::{Imported, import};

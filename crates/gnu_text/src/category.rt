@@ -1,8 +1,7 @@
 //! The lines of a category: those of the file, and those of the files that it copies.
 
 use charset::Charset;
-use gnu_drafts::{Draft, Notes, Origin, Reading, SourceFault, add_line, in_file};
-use gnu_lines::{GnuFile, GnuSection, copied_from};
+use gnu_read::{Draft, GnuFile, GnuSection, Notes, Origin, Reading, SourceFault, add_line, copied_from, in_file};
 use lc_base::{Category, Reason};
 use std::alloc::Global;
 

@@ -1,6 +1,6 @@
 //! Classes that have no common character.
 
-use gnu_drafts::{Content, Draft, DraftLine, NoteCode, Notes};
+use gnu_read::{Content, Draft, DraftLine, NoteCode, Notes};
 use std::alloc::{AllocError, Global};
 
 /// The class whose characters are taken out of others.

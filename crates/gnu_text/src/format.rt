@@ -1,6 +1,6 @@
 //! Formats of times (XSH strftime) with conversions beyond the standard's.
 
-use gnu_drafts::NoteCode;
+use gnu_read::NoteCode;
 use std::alloc::{AllocError, Global};
 use time_cat::conversion_of;
 

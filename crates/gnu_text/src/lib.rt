@@ -9,5 +9,5 @@ mod times;
 mod writer;
 
 pub use category::Named;
-pub use gnu_drafts::{Note, NoteCode, Origin, SourceFault};
+pub use gnu_read::{Note, NoteCode, Origin, SourceFault};
 pub use made::{MadeText, made_text};

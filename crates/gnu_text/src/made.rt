@@ -8,8 +8,7 @@ use crate::exclusions::keep_apart;
 use crate::times::renew_times;
 use crate::writer::Writer;
 use charset::Charset;
-use gnu_drafts::{Note, NoteCode, Notes, Origin, SourceFault, in_file};
-use gnu_lines::{GnuFile, read_file};
+use gnu_read::{GnuFile, Note, NoteCode, Notes, Origin, SourceFault, in_file, read_file};
 use lc_base::{ByteText, CATEGORIES, Category, List};
 use std::alloc::{AllocError, Global};
 

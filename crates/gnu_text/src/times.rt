@@ -1,7 +1,7 @@
 //! The formats of `LC_TIME`, and the alternative digits that they ask for.
 
 use crate::format::{Digits, Style, parts, push_part, wanted_digits};
-use gnu_drafts::{Content, Draft, DraftLine, DraftText, NoteCode, Notes, Origin};
+use gnu_read::{Content, Draft, DraftLine, DraftText, NoteCode, Notes, Origin};
 use keywords::{Rule, rule_of};
 use lc_base::Category;
 use std::alloc::{AllocError, Global};

@@ -1,6 +1,6 @@
 //! The text of a standard source, with where each line comes from.
 
-use gnu_drafts::{CLASSES, Content, Draft, DraftLine, Origin};
+use gnu_read::{CLASSES, Content, Draft, DraftLine, Origin};
 use lc_base::Category;
 use std::alloc::{AllocError, Global};
 

@@ -4,7 +4,7 @@ use crate::draft::DraftText;
 use crate::faults::SourceFault;
 use crate::notes::{NoteCode, Notes, Origin};
 use charset::Charset;
-use gnu_lines::{Placed, Token};
+use crate::{Placed, Token};
 use lc_base::{Limit, Reason};
 use std::alloc::{AllocError, Global};
 

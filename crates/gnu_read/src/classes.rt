@@ -4,7 +4,7 @@ use crate::draft::{Content, Draft, DraftLine};
 use crate::faults::SourceFault;
 use crate::notes::{NoteCode, Notes, Origin};
 use crate::operands::{Reading, characters, left_out};
-use gnu_lines::{Placed, Token};
+use crate::{Placed, Token};
 use keywords::takes_of;
 use lc_base::Category;
 use std::alloc::{AllocError, Global};

@@ -5,7 +5,7 @@ use crate::draft::{Content, Draft, DraftLine};
 use crate::faults::{SourceFault, in_file};
 use crate::notes::{NoteCode, Notes, Origin};
 use crate::operands::{Reading, characters, pairs, texts, words};
-use gnu_lines::{GnuLine, Placed, Scanned, Token, tokens};
+use crate::{GnuLine, Placed, Scanned, Token, tokens};
 use keywords::{Element, Operands, takes_of};
 use lc_base::Category;
 use std::alloc::AllocError;
