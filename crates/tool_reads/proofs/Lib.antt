@@ -1,3 +1,5 @@
+pub mod MemberLemmas
+pub mod NameLemmas
 pub mod AnswerLemmas
 pub mod ItemLemmas
 pub mod NumberLemmas

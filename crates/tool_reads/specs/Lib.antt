@@ -1,3 +1,4 @@
+pub mod JsonReads
 pub mod Answers
 pub mod ItemCategories
 pub mod Printed

@@ -2,8 +2,8 @@ use Rattle.std.proofs.Common.{◌≡◌, [], ◌∷◌, drop, map}
 use Rattle.json.specs.Token.{begin_object}
 use Rattle.langinfo.specs.Items.{info}
 use Rattle.tool_reads.specs.Answers.{beside}
-use Rattle.json_reads.specs.JsonReads.{item_members}
-use Rattle.json_reads.proofs.info.items_json.Given as goal
+use Rattle.tool_reads.specs.JsonReads.{item_members}
+use Rattle.tool_reads.proofs.json_info.items_json.Given as goal
 
 -- the members so far, and those of the names that are left
 abbrev pub invariant-loop-name : goal.invariant-loop-name

@@ -1,6 +1,6 @@
 use Rattle.std.proofs.Common.{◌≡◌, ◌++◌, drop}
-use Rattle.json_reads.specs.JsonReads.{text_members}
-use Rattle.json_reads.proofs.conv.push_texts.Given as goal
+use Rattle.tool_reads.specs.JsonReads.{text_members}
+use Rattle.tool_reads.proofs.json_conv.push_texts.Given as goal
 
 -- what is written, and what is left
 abbrev pub invariant-loop-name : goal.invariant-loop-name

@@ -5,7 +5,7 @@ ghost use Rattle.langinfo.specs.Items.{info};
 ghost use Rattle.lc_base.specs.Tables.{first_named};
 ghost use Rattle.script_words.specs.Tables.{items_table};
 ghost use Rattle.tool_reads.specs.Answers.{Answers, Tells, all_of, beside};
-ghost use Rattle.json_reads.specs.JsonReads.{info_json, is_asked, is_named, item_member, item_members, members_json};
+ghost use Rattle.tool_reads.specs.JsonReads.{info_json, is_asked, is_named, item_member, item_members, members_json};
 
 use json::Writer;
 use langinfo::LentCategories;
@@ -14,13 +14,13 @@ use script_words::item_named;
 use std::alloc::Global;
 use tool_json::{json_line, new_writer, push_member};
 use tool_messages::Problem;
-use tool_reads::{ITEM_NAMES, item_of, no_item, text_of};
+use crate::{ITEM_NAMES, item_of, no_item, text_of};
 
 /// An object with a member for each item that is named, or for all of them without names, in the order of the
 /// standard's table (XSH nl_langinfo).
 ///
 /// A word that names no item is a wrong word.
-#[tactic(auto, using(tool_reads::proofs::AnswerLemmas::passed_on))]
+#[tactic(auto, using(crate::proofs::AnswerLemmas::passed_on))]
 pub fn info_json(
     alloc: Global,
     locale: &LentCategories<'_>,
@@ -33,7 +33,7 @@ pub fn info_json(
 }
 
 /// The items with these names.
-#[tactic(auto, using(tool_reads::proofs::AnswerLemmas::one_more_value, tool_reads::proofs::AnswerLemmas::wrong_value, tool_reads::proofs::AnswerLemmas::last_value, tool_reads::proofs::AnswerLemmas::told))]
+#[tactic(auto, using(crate::proofs::AnswerLemmas::one_more_value, crate::proofs::AnswerLemmas::wrong_value, crate::proofs::AnswerLemmas::last_value, crate::proofs::AnswerLemmas::told))]
 fn items_of(alloc: Global, names: &[&str]) -> Result<Vec<Item>, Problem>
     ensures { Answers (λ v. v.items) result (all_of (first_named items_table) (map (λ name. name.now) names.entry.now)) }
 {
@@ -67,7 +67,7 @@ fn items_json(
 }
 
 /// Adds the member of an item, where it is asked for.
-#[tactic(auto, using(tool_reads::proofs::AnswerLemmas::told, tool_reads::proofs::AnswerLemmas::passed_on))]
+#[tactic(auto, using(crate::proofs::AnswerLemmas::told, crate::proofs::AnswerLemmas::passed_on))]
 fn push_item(
     alloc: Global,
     json: &mut Writer,

@@ -4,7 +4,7 @@ ghost use Rattle.std.specs.Prelude.{◌≡◌, ◌∷◌, [], ◌++◌, IfOk, On
 ghost use Rattle.json.specs.Token.{key};
 ghost use Rattle.langinfo.specs.Conv.{conv};
 ghost use Rattle.tool_json.specs.Json.{number_member};
-ghost use Rattle.json_reads.specs.JsonReads.{conv_json, member_name, number_members, size_tokens, text_members, value_tokens};
+ghost use Rattle.tool_reads.specs.JsonReads.{conv_json, member_name, number_members, size_tokens, text_members, value_tokens};
 
 use json::Writer;
 use langinfo::{ConvText, FieldName, Lconv, localeconv};

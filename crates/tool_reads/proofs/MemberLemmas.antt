@@ -6,7 +6,7 @@ use Rattle.lc_base.specs.declared.item.Item.{Item}
 use Rattle.tool_messages.specs.declared.answer.Problem.{Problem}
 use Rattle.tool_messages.specs.declared.answer.Problem.TheVariants.{Refused, Usage, Memory}
 use Rattle.tool_reads.specs.Answers.{Defined, Tells, beside, and_then}
-use Rattle.json_reads.specs.JsonReads.{item_member, item_members}
+use Rattle.tool_reads.specs.JsonReads.{item_member, item_members}
 
 regroup : (front more : List Token) (later : Defined (List Token)) → beside (front ++ more) later ≡ beside front (beside more later)
 regroup front more (Ok xs) = ap {B = Defined (List Token)} (λ (x : List Token). Ok x) (append_assoc front more xs)

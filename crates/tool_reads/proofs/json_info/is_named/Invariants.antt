@@ -1,6 +1,6 @@
 use Rattle.std.proofs.Common.{◌≡◌, drop, map}
-use Rattle.json_reads.specs.JsonReads.{is_named}
-use Rattle.json_reads.proofs.info.is_named.Given as goal
+use Rattle.tool_reads.specs.JsonReads.{is_named}
+use Rattle.tool_reads.proofs.json_info.is_named.Given as goal
 
 -- no word so far is the name
 abbrev pub invariant-loop-word : goal.invariant-loop-word

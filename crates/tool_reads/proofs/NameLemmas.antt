@@ -2,7 +2,7 @@
 use Rattle.std.proofs.Common.{◌≡◌, ℕ, List, [], Bool, true, false, if◌then◌else◌, refl}
 use Rattle.std.specs.Str.{IsUtf8, is_utf8}
 use Rattle.std.proofs.lemmas.Str.{IsUtf8-from_is_utf8, is_utf8-from_IsUtf8}
-use Rattle.json_reads.specs.JsonReads.{member_name}
+use Rattle.tool_reads.specs.JsonReads.{member_name}
 
 pub is_name : (name : List ℕ) → IsUtf8 name → member_name name ≡ name
 is_name name is = rw (is_utf8-from_IsUtf8 name is) refl

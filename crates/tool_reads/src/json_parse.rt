@@ -3,7 +3,7 @@
 ghost use Rattle.std.specs.Prelude.{◌≡◌, ◌++◌, IfOk, OnOk, option_map};
 ghost use Rattle.tool_reads.specs.Answers.{Answers};
 ghost use Rattle.tool_reads.specs.Printed.{year_number};
-ghost use Rattle.json_reads.specs.JsonReads.{clock_members, date_members, day_members, fields_json, number_if, parsed_json};
+ghost use Rattle.tool_reads.specs.JsonReads.{clock_members, date_members, day_members, fields_json, number_if, parsed_json};
 
 use json::Writer;
 use lc_base::ByteText;
@@ -12,11 +12,11 @@ use strptime_fields::{Parsed, strptime};
 use time_cat::Time;
 use tool_json::{json_line, new_writer, push_number_member};
 use tool_messages::Problem;
-use tool_reads::problem_of;
+use crate::problem_of;
 
 /// An object with a member for each field that a text has, and one for the number of bytes that were read
 /// (XSH strptime). Refused where the format is none, or the text does not meet it.
-#[tactic(auto, using(tool_reads::proofs::AnswerLemmas::told))]
+#[tactic(auto, using(crate::proofs::AnswerLemmas::told))]
 pub fn parsed_json(
     alloc: Global,
     time: &Time,

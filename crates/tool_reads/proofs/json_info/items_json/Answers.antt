@@ -1,6 +1,6 @@
 use Rattle.std.proofs.Common.{rules, ◌∙◌}
-use Rattle.json_reads.proofs.MemberLemmas.{member_step}
-use Rattle.json_reads.proofs.info.items_json.Goals as goal
+use Rattle.tool_reads.proofs.MemberLemmas.{member_step}
+use Rattle.tool_reads.proofs.json_info.items_json.Goals as goal
 
 pub loop-name-preserved : goal.loop-name-preserved
 loop-name-preserved c = record {
