@@ -11,9 +11,8 @@ use std::time::Clock;
 use tool_answers::{
     check_files, compare_locales, explain_given, import_files, preview_locales, read_locale,
 };
-use tool_colours::{is_coloured, painted};
+use tool_messages::{Answer, Problem, is_coloured, painted};
 use tool_commands::{ToolCommand, colours_given, command_given};
-use tool_messages::{Answer, Problem};
 
 /// What the command answers that words give.
 pub fn answer_of<

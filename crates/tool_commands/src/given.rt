@@ -4,8 +4,7 @@ use crate::rows::{COMMANDS, CommandRow, ToolCommand};
 use crate::standard_input::is_read_once;
 use clap::ArgMatches;
 use std::alloc::Global;
-use tool_colours::{When, when_of};
-use tool_messages::Problem;
+use tool_messages::{Problem, When, when_of};
 use tool_reads::usage_problem;
 
 /// The command that words give, with what its arguments are given.

@@ -1,3 +1,4 @@
+pub mod Choice
 pub mod Message
 pub mod Shown
 pub mod Status

@@ -1,7 +1,7 @@
 //! Whether messages have colours.
 
 ghost use Rattle.std.specs.Prelude.{◌≡◌};
-ghost use Rattle.tool_colours.specs.Choice.{when_of};
+ghost use Rattle.tool_messages.specs.Choice.{when_of};
 
 use std::env::{self, VarError};
 use std::rt::Env;
