@@ -1,3 +1,4 @@
+mod LconvExamples
 pub mod CellLemmas
 mod CellExamples
 mod TableExamples

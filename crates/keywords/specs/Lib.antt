@@ -1,3 +1,4 @@
+pub mod LconvChars
 pub mod Cells
 pub mod Table
 pub mod LookUp

@@ -3,7 +3,7 @@
 ghost use Rattle.std.specs.Prelude.{◌≡◌, slice_get, IfOk};
 ghost use Rattle.std.specs.Option.{option_copied};
 ghost use Rattle.monetary_cat.specs.Monetary.{number_of};
-ghost use Rattle.lconv_chars.specs.Chars.{encoded};
+ghost use Rattle.keywords.specs.LconvChars.{encoded};
 ghost use Rattle.langinfo.specs.Conv.{bare_numbers, bare_texts, conv, number_fields, text_fields};
 ghost use Rattle.langinfo.specs.Lent.{lconv_of, owned_numbers, owned_text, owned_texts};
 
@@ -11,7 +11,7 @@ use crate::categories::Categories;
 use crate::field::LentText::{Bytes, Sizes};
 use crate::field::{ConvText, FieldName, LentText};
 use lc_base::{ByteText, List};
-use lconv_chars::encoded;
+use keywords::encoded;
 use monetary_cat::MonNumber::{
     FracDigits, IntFracDigits, IntNCsPrecedes, IntNSepBySpace, IntNSignPosn, IntPCsPrecedes,
     IntPSepBySpace, IntPSignPosn, NCsPrecedes, NSepBySpace, NSignPosn, PCsPrecedes, PSepBySpace,

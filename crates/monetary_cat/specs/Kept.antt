@@ -1,6 +1,6 @@
 -- What is kept of the category.
 use Rattle.std.specs.Prelude.{◌≡◌}
-use Rattle.lconv_chars.specs.Chars.{groups}
+use Rattle.keywords.specs.LconvChars.{groups}
 use Rattle.monetary_cat.specs.declared.Monetary.TheInside.{Inside}
 use Rattle.monetary_cat.specs.Currency.{currency}
 

@@ -3,15 +3,14 @@
 
 ghost use Rattle.std.specs.Prelude.{◌≡◌, IfOk};
 ghost use Rattle.lc_base.specs.Reading.{Gives};
-ghost use Rattle.lconv_chars.specs.Chars.{groups};
+ghost use Rattle.keywords.specs.LconvChars.{groups};
 ghost use Rattle.monetary_cat.specs.Currency.{currency};
 ghost use Rattle.monetary_cat.specs.Monetary.{monetary_values, number_of, posix_values, text_of, values_of};
 ghost use Rattle.monetary_cat.specs.declared.keys.MonNumber.TheVariants as numbers;
 ghost use Rattle.monetary_cat.specs.declared.keys.MonText.TheVariants as texts;
 
-use keywords::{Entry, check, numbers_value};
+use keywords::{Entry, check, group_chars, numbers_value};
 use lc_base::{ByteText, Category, List, TextFault};
-use lconv_chars::group_chars;
 use std::alloc::{AllocError, Global};
 use std::marker::Model;
 

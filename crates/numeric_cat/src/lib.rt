@@ -3,12 +3,11 @@
 
 ghost use Rattle.std.specs.Prelude.{◌≡◌, IfOk};
 ghost use Rattle.lc_base.specs.Reading.{Gives};
-ghost use Rattle.lconv_chars.specs.Chars.{groups};
+ghost use Rattle.keywords.specs.LconvChars.{groups};
 ghost use Rattle.numeric_cat.specs.Numeric.{values_of, numeric_values, posix_values};
 
-use keywords::{Entry, check, numbers_value, text_value};
+use keywords::{Entry, check, group_chars, numbers_value, text_value};
 use lc_base::{ByteText, Category, List, TextFault};
-use lconv_chars::group_chars;
 use std::alloc::{AllocError, Global};
 use std::marker::Model;
 
@@ -33,7 +32,7 @@ impl Drop for Numeric {
 
 impl Model for Numeric {
     ghost use Rattle.std.specs.Prelude.{◌≡◌};
-    ghost use Rattle.lconv_chars.specs.Chars.{groups};
+    ghost use Rattle.keywords.specs.LconvChars.{groups};
     ghost use Rattle.numeric_cat.specs.NumericValues.{NumericValues};
 
     ghost Value = { NumericValues };

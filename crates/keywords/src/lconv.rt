@@ -1,9 +1,8 @@
 //! Numbers and sizes of groups as localeconv gives them: each a char (XSH localeconv, XBD
 //! <locale.h>).
-#![tactic(auto)]
 
 ghost use Rattle.std.specs.Prelude.{◌≡◌, map, IfOk};
-ghost use Rattle.lconv_chars.specs.Chars.{encoded, groups, sizes_of};
+ghost use Rattle.keywords.specs.Chars.{encoded, groups, sizes_of};
 
 use lc_base::ByteText;
 use std::alloc::{AllocError, Global};

@@ -1,6 +1,6 @@
 use Rattle.std.proofs.Common.{◌≡◌, map, take}
-use Rattle.lconv_chars.specs.Chars.{encoded}
-use Rattle.lconv_chars.proofs.chars.Given as goal
+use Rattle.keywords.specs.LconvChars.{encoded}
+use Rattle.keywords.proofs.lconv.chars.Given as goal
 
 -- the sizes so far
 abbrev pub invariant-loop-size : goal.invariant-loop-size

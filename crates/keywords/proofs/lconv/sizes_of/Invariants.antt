@@ -1,6 +1,6 @@
 use Rattle.std.proofs.Common.{◌≡◌, ◌++◌, map, take, drop}
-use Rattle.lconv_chars.specs.Chars.{encoded, sizes_of}
-use Rattle.lconv_chars.proofs.sizes_of.Given as goal
+use Rattle.keywords.specs.LconvChars.{encoded, sizes_of}
+use Rattle.keywords.proofs.lconv.sizes_of.Given as goal
 
 -- those before, and what counts of those to come
 abbrev pub invariant-loop-i : goal.invariant-loop-i

@@ -1,7 +1,7 @@
 -- Numbers and sizes of groups as chars.
 use Rattle.std.proofs.Common.{◌≡◌, [], ◌∷◌, refl}
 use Rattle.std.specs.Prelude.{pos, negsuc}
-use Rattle.lconv_chars.specs.Chars.{encoded, groups}
+use Rattle.keywords.specs.LconvChars.{encoded, groups}
 
 -- a number, one that is not told, and one above CHAR_MAX
 number : encoded (pos 4) ≡ 4
