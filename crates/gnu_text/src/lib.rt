@@ -4,10 +4,10 @@
 mod category;
 mod exclusions;
 mod format;
-mod made;
+mod standard_text;
 mod times;
 mod writer;
 
 pub use category::Named;
 pub use gnu_read::{Note, NoteCode, Origin, SourceFault};
-pub use made::{MadeText, made_text};
+pub use standard_text::{MadeText, made_text};

@@ -3,7 +3,7 @@ use Rattle.std.specs.Prelude.{List, [], length, None, Ok}
 use Rattle.lc_base.specs.Reading.{Reads, ◌>>=◌}
 use Rattle.category_store.specs.Library.{catalog}
 use Rattle.library_parts.specs.declared.blocks.Blocks.{Blocks}
-use Rattle.library_parts.specs.declared.made.Made.{Made}
+use Rattle.library_parts.specs.declared.from_parts.Made.{Made}
 use Rattle.library_parts.specs.declared.part.Part.{Part}
 use Rattle.library_parts.specs.Books.{books_read}
 use Rattle.library_parts.specs.Parts.{at_first, parts_seen, charsets_known}

@@ -5,13 +5,13 @@ mod blocks;
 mod books;
 mod fault;
 mod lines;
-mod made;
+mod from_parts;
 mod part;
 mod place;
 mod seen;
 
 pub use books::{Books, NamedBook};
 pub use fault::{PartFault, Wrong};
-pub use made::{Made, made_of};
+pub use from_parts::{Made, made_of};
 pub use part::{Part, PartKind};
 pub use seen::PART_LIMIT;

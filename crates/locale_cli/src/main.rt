@@ -3,7 +3,7 @@
 
 mod answer;
 mod concurrent;
-mod made;
+mod make_command;
 #[cfg(test)]
 mod pauses;
 mod pieces;

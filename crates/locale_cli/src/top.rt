@@ -15,7 +15,7 @@ ghost use Rattle.locale_cli.specs.Run.{Wrote, Ran};
 ghost use Rattle.locale_cli.specs.Status.{usage_line, IsDone, IsChecked, IsRefused, IsTooLarge, IsCutShort, due_status, IsDue, StayedSound};
 
 use crate::answer::{Answer, Status, answer_to};
-use crate::made::made_answer;
+use crate::make_command::made_answer;
 use crate::request::{Request, request_of};
 use crate::words::Mode;
 use lc_base::{ByteText, ReadRefusal, Sink, Source, read_all, write_all};

@@ -12,7 +12,7 @@ ghost use Rattle.tool_check.specs.Summary.{accepted_line, charmap_summary};
 use crate::declared::declared_classes;
 use crate::odd::{finding_messages, joined, source_findings};
 use crate::summary::{push_charmap, push_locale};
-use crate::told::{Told, push_untold};
+use crate::told_once::{Told, push_untold};
 use category_store::{Library, Share};
 use charset::Charset;
 use keywords::Section;

@@ -5,7 +5,7 @@ ghost use Rattle.tool_messages.specs.declared.answer.Problem.TheVariants.{Memory
 
 use crate::checked::{Checking, charmap_summary, locale_summary};
 use crate::odd::{finding_words, oddity_name, source_findings};
-use crate::told::{Told, is_new};
+use crate::told_once::{Told, is_new};
 use lc_base::{ByteText, Place, Reason, TextFault, next_line};
 use reason_rules::{name_of, rule_of};
 use std::alloc::{AllocError, Global};

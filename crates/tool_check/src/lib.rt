@@ -14,7 +14,7 @@ mod odd;
 mod returns;
 mod summary;
 mod texts;
-mod told;
+mod told_once;
 
 pub use checked::{Checked, Checking, charmap_checked, check_file, sources_checked};
 pub use fault::Fault;
@@ -22,4 +22,4 @@ pub use faults::faults_of;
 pub use finding::{Finding, Oddity, findings_in};
 pub use json::{push_file_json, push_problem_json};
 pub use texts::is_charmap;
-pub use told::Told;
+pub use told_once::Told;

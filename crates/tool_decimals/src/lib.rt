@@ -8,7 +8,7 @@ mod format;
 mod layout;
 mod read;
 mod rounding;
-mod told;
+mod number_lines;
 mod wrong;
 
-pub use told::{decimals_line, read_line};
+pub use number_lines::{decimals_line, read_line};

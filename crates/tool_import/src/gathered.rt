@@ -1,6 +1,6 @@
 //! A source with the files of the locales that it copies.
 
-use crate::found::path_in_folders;
+use crate::locating::path_in_folders;
 use gnu_source::{Named, copied_names};
 use lc_base::{ByteText, List};
 use locale_sources::is_posix;

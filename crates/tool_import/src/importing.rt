@@ -1,6 +1,6 @@
 //! Sources that are imported one after another.
 
-use crate::found::source_path;
+use crate::locating::source_path;
 use crate::gathered::{base_name, gnu_files};
 use crate::notes::{push_notes, push_summary};
 use crate::system::imported_files;

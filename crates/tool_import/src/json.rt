@@ -1,6 +1,6 @@
 //! What comes of imports, as JSON text.
 
-use crate::found::source_path;
+use crate::locating::source_path;
 use crate::gathered::{GnuFile, base_name, gnu_files, path_of};
 use crate::importing::{Importing, written};
 use crate::notes::{Tally, each_note, tallies_of};

@@ -3,7 +3,7 @@
 ghost use Rattle.std.specs.Prelude.{◌≡◌, ◌++◌, OnOk};
 ghost use Rattle.tool_messages.specs.Message.{BeginsWith, fault_head, fault_line};
 
-use crate::shown::push_word;
+use crate::word::push_word;
 use crate::text::push_number;
 use std::alloc::AllocError;
 

@@ -6,7 +6,7 @@ mod choice;
 mod fault;
 mod hints;
 mod painting;
-mod shown;
+mod word;
 mod text;
 mod wanted;
 
@@ -15,6 +15,6 @@ pub use choice::{When, is_coloured, when_of};
 pub use fault::{Spot, push_fault};
 pub use hints::push_hints;
 pub use painting::painted;
-pub use shown::push_word;
+pub use word::push_word;
 pub use text::{line_of, push_number};
 pub use wanted::{Wanted, push_wanted, wanted_of};

@@ -3,7 +3,7 @@
 ghost use Rattle.std.specs.Prelude.{◌≤◌, length};
 
 use crate::glance::{Column, GLANCES};
-use crate::shown::{drop_spaces, push_padded, width_of};
+use crate::padding::{drop_spaces, push_padded, width_of};
 use lc_base::ByteText;
 use std::alloc::{AllocError, Global};
 

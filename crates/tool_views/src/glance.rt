@@ -1,6 +1,6 @@
 //! What shows a locale at a glance.
 
-use crate::shown::cell_of;
+use crate::padding::cell_of;
 use lc_base::ByteText;
 use std::alloc::Global;
 use time_cat::{Time, Tm};

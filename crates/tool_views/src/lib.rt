@@ -8,7 +8,7 @@ mod glance;
 mod json;
 mod language;
 mod page;
-mod shown;
+mod padding;
 mod table;
 mod values;
 

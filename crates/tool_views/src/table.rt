@@ -1,6 +1,6 @@
 //! A table of keywords with two columns.
 
-use crate::shown::{push_padded, width_of};
+use crate::padding::{push_padded, width_of};
 use lc_base::ByteText;
 use std::alloc::{AllocError, Global};
 

@@ -8,8 +8,8 @@ mod gnu;
 mod operands;
 mod parts;
 mod phrases;
-mod told;
+mod fault_sentences;
 
 pub use gnu::push_gnu_hint;
 pub use parts::word_at;
-pub use told::{Shown, push_told};
+pub use fault_sentences::{Shown, push_told};

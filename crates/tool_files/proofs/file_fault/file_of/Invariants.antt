@@ -1,6 +1,6 @@
 use Rattle.std.proofs.Common.{◌≡◌, drop}
 use Rattle.tool_files.specs.Told.{file_from, file_of}
-use Rattle.tool_files.proofs.shown.file_of.Given as goal
+use Rattle.tool_files.proofs.file_fault.file_of.Given as goal
 
 -- the last file so far, and those that are left
 abbrev pub invariant-loop-file : goal.invariant-loop-file

@@ -1,5 +1,5 @@
 use Rattle.locale_cli.proofs.Summaries.{line_of}
-use Rattle.locale_cli.proofs.made.made_line.Goals as goal
+use Rattle.locale_cli.proofs.make_command.made_line.Goals as goal
 
 pub returns : goal.returns
 returns g c =

@@ -1,7 +1,7 @@
 use Rattle.std.proofs.Common.{◌≡◌, ◌-◌, ◌≤◌, length, false}
 use Rattle.time_cat.specs.Formats.{pieces, rest_of}
 use Rattle.strptime_fields.specs.Plain.{are_plain}
-use Rattle.strptime_fields.proofs.plain.is_plain_from.Given as goal
+use Rattle.strptime_fields.proofs.plain_formats.is_plain_from.Given as goal
 
 abbrev pub invariant-reading : goal.invariant-reading
 invariant-reading g l = record {

@@ -1,6 +1,6 @@
 use Rattle.std.proofs.Common.{◌≡◌, ◌++◌, take}
 use Rattle.tool_messages.specs.Shown.{shown_word}
-use Rattle.tool_messages.proofs.shown.push_word.Given as goal
+use Rattle.tool_messages.proofs.word.push_word.Given as goal
 
 -- the bytes so far
 abbrev pub invariant-loop-byte : goal.invariant-loop-byte

@@ -2,7 +2,7 @@ use Rattle.std.proofs.Common.{◌≡◌, ℕ, List, ◌++◌, ap, ◌∙◌}
 use Rattle.reason_rules.specs.Words.{reason_text}
 use Rattle.script_out.specs.Refusal.{refusal_line}
 use Rattle.tool_files.proofs.ToldLemmas.{placeless}
-use Rattle.tool_files.proofs.shown.reason_words.Goals as goal
+use Rattle.tool_files.proofs.file_fault.reason_words.Goals as goal
 
 pub returns : goal.returns
 returns c =

@@ -1,7 +1,7 @@
 use Rattle.std.proofs.Common.{Ok, ap, sym, ◌∙◌}
 use Rattle.locale_cli.specs.Made.{made_text}
 use Rattle.locale_cli.proofs.Making.{made_ok, made_fault}
-use Rattle.locale_cli.proofs.made.made_answer.Goals as goal
+use Rattle.locale_cli.proofs.make_command.made_answer.Goals as goal
 
 pub returns-in-Ok : goal.returns-in-Ok
 returns-in-Ok g c = made_ok (made_text c.args.seed c.args.commands) c.of.result (c.in-Ok.ensures ∙ ap Ok (sym c.of.ensures))

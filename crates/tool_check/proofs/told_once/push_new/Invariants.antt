@@ -1,5 +1,5 @@
 use Rattle.tool_messages.specs.Message.{BeginsWith}
-use Rattle.tool_check.proofs.told.push_new.Given as goal
+use Rattle.tool_check.proofs.told_once.push_new.Given as goal
 
 -- what was added so far stands behind what was there
 abbrev pub invariant-loop : goal.invariant-loop
