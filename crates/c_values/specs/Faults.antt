@@ -6,7 +6,7 @@ use Rattle.lc_base.specs.Lines.{is_newline}
 use Rattle.lc_base.specs.Reading.{Reads}
 use Rattle.reason_rules.specs.Words.{reason_text}
 use Rattle.reason_rules.specs.Rows.{row_of}
-use Rattle.library_parts.specs.declared.part.Part.{Part}
+use Rattle.library_parts.specs.declared.part.LibraryPart.{LibraryPart}
 use Rattle.library_parts.specs.declared.fault.Wrong.{Wrong}
 use Rattle.library_parts.specs.declared.fault.Wrong.TheVariants.{TooLong, BadName, NameTwice, TooMany, NoCharmap, Text}
 use Rattle.library_parts.specs.Told.{Tells}
@@ -72,8 +72,8 @@ abbrev pub IsTextTold : ℕ → List ℕ → Place → Reason → LobjAnswer →
 IsTextTold part text place reason a fault' old new = IsRefused reason a old new × (fault' ≡ text_fault part text place reason)
 
 -- the text of the part with a number
-abbrev pub part_text : List Part → ℕ → List ℕ
-part_text parts n = unwrap_or (option_map (λ (p : Part). p.text) (slice_get parts n)) []
+abbrev pub part_text : List LibraryPart → ℕ → List ℕ
+part_text parts n = unwrap_or (option_map (λ (p : LibraryPart). p.text) (slice_get parts n)) []
 
 -- the code of what is wrong with a part
 abbrev pub wrong_code : Wrong → ℕ
@@ -89,7 +89,7 @@ abbrev pub IsPartTold : ℕ → Wrong → LobjAnswer → LobjFault → List ℕ 
 IsPartTold n wrong a fault' old new = (a ≡ answered (wrong_code wrong) 0) × (fault' ≡ part_fault n) × (new ≡ old)
 
 -- what is wrong with the part that has a number is told
-abbrev pub IsWrongTold : List Part → ℕ → Wrong → LobjAnswer → LobjFault → List ℕ → List ℕ → Type 0
+abbrev pub IsWrongTold : List LibraryPart → ℕ → Wrong → LobjAnswer → LobjFault → List ℕ → List ℕ → Type 0
 IsWrongTold parts n (Text place reason) a fault' old new = IsTextTold n (part_text parts n) place reason a fault' old new
 IsWrongTold parts n TooLong a fault' old new = IsPartTold n TooLong a fault' old new
 IsWrongTold parts n BadName a fault' old new = IsPartTold n BadName a fault' old new
@@ -107,6 +107,6 @@ IsRead text (Ok stock) a held held' fault fault' old new = IsStocked stock a hel
 IsRead text (Err at) a held held' fault fault' old new = IsTextTold 0 text at.0 at.1 a fault' old new × (held' ≡ held)
 
 -- what parts make, or the first that is wrong
-abbrev pub IsBuilt : List Part → Tells Stock → LobjAnswer → Option Stock → Option Stock → LobjFault → LobjFault → List ℕ → List ℕ → Type 0
+abbrev pub IsBuilt : List LibraryPart → Tells Stock → LobjAnswer → Option Stock → Option Stock → LobjFault → LobjFault → List ℕ → List ℕ → Type 0
 IsBuilt parts (Ok stock) a held held' fault fault' old new = IsStocked stock a held' fault fault' old new
 IsBuilt parts (Err at) a held held' fault fault' old new = IsWrongTold parts at.0 at.1 a fault' old new × (held' ≡ held)

@@ -10,7 +10,7 @@ use crate::answer::{
 };
 use crate::buffer::put_text;
 use lc_base::{ByteText, Place, Reason};
-use library_parts::{Part, Wrong};
+use library_parts::{LibraryPart, Wrong};
 use reason_rules::{push_reason, row_of, rule_of_reason};
 use std::alloc::{AllocError, Global};
 
@@ -146,7 +146,7 @@ pub fn put_text_fault(
 }
 
 /// The text of the part with a number; empty where there is none.
-fn part_text(parts: &[Part], number: usize) -> &[u8]
+fn part_text(parts: &[LibraryPart], number: usize) -> &[u8]
     ensures { result.now ≡ part_text parts.now number }
 {
     match parts.get(number) {
@@ -174,7 +174,7 @@ pub fn put_wrong(
     alloc: Global,
     buffer: &mut [u8],
     fault: &mut LobjFault,
-    parts: &[Part],
+    parts: &[LibraryPart],
     number: usize,
     wrong: Wrong,
 ) -> Result<LobjAnswer, AllocError>

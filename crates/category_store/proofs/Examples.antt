@@ -13,7 +13,7 @@ use Rattle.numeric_cat.specs.NumericValues.{NumericValues}
 use Rattle.numeric_cat.specs.Numeric.{posix_values}
 use Rattle.locale_sources.specs.Sources.{Source}
 use Rattle.category_store.specs.Locale.{Locale, posix_locale}
-use Rattle.category_store.specs.Catalog.{Catalog}
+use Rattle.category_store.specs.LibraryData.{LibraryData}
 use Rattle.category_store.specs.Library.{names_of, keys_of, catalog_from, catalog_of, locale_at, numbers, opening, later, posix_object}
 
 at : ℕ → ℕ → Place
@@ -63,7 +63,7 @@ keys_of-four : keys_of four ≡ (codes "k", 1) ∷ (codes "l", 4) ∷ []
 unfolding at numeric locale version
 keys_of-four = refl
 
-library : Option (List ℕ) → Catalog
+library : Option (List ℕ) → LibraryData
 library native = catalog_of four native (
     with_numeric (codes "b") 0 posix_values ∷ with_numeric (codes "a") 2 comma ∷
     with_numeric (codes "b") 2 posix_values ∷ with_numeric (codes "c") 2 posix_values ∷ [])

@@ -24,7 +24,7 @@ use Rattle.locale_sources.specs.Copies.{copy_fault}
 use Rattle.locale_sources.specs.Rows.{available}
 use Rattle.category_store.specs.Locale.{Locale, locale_among}
 use Rattle.category_store.specs.Compiled.{ctype_of, numeric_of, monetary_of, time_of, messages_of, category_of, locale_of, locales_from, locales_of}
-use Rattle.category_store.specs.Catalog.{Catalog}
+use Rattle.category_store.specs.LibraryData.{LibraryData}
 use Rattle.category_store.specs.Library.{names_after, names_of, keys_after, keys_of, catalog_of, unless_fault, catalog_from, locale_at, offer_at, first_offer, opening}
 use Rattle.category_store.specs.Shelf.{IsInstallable}
 use Rattle.category_store.proofs.Numbered.{names_counted}
@@ -168,7 +168,7 @@ found_as P (e ∷ es) name all =
 -- ---- the library
 
 -- numbers up to that of the names are on the shelf
-shelf_length : (c : Catalog) → length (opening c) ≡ length c.names + 1
+shelf_length : (c : LibraryData) → length (opening c) ≡ length c.names + 1
 shelf_length c = let mapped = length-map c.names (λ (entry : Name × ℕ). first_offer c entry.0) in omega arith
 
 number_within : (least most : ℕ) (o : Option ℕ) → is_some o ≡ true → IfSome o (λ n. (least ≤ n) × (n ≤ most)) → (least ≤ unwrap_or o 0) × (unwrap_or o 0 ≤ most)
@@ -176,12 +176,12 @@ number_within least most None there within = absurd (cc there)
 number_within least most (Some n) there within = within
 
 -- what holds of a library whose keys may be installed
-record CanInstall (c : Catalog) : Type 0 where
+record CanInstall (c : LibraryData) : Type 0 where
   names : AllByRecursion (λ (e : Name × ℕ). (1 ≤ e.1) × (e.1 ≤ length c.names)) c.names
   found : AllByRecursion (λ (l : Locale). IsFound c.names l.name) c.locales
   keys : AreWithin (length c.locales) c.keys
 
-version_within : (c : Catalog) → CanInstall c → (o : Option ℕ) → IfSome o (λ n. (1 ≤ n) × (n ≤ length c.locales))
+version_within : (c : LibraryData) → CanInstall c → (o : Option ℕ) → IfSome o (λ n. (1 ≤ n) × (n ≤ length c.locales))
     → IfSome {T = ℕ × Offered} (option_map (λ n. (unwrap_or (first_named c.names (locale_at c n).name) 0, offer_at c n)) o) (λ version. (1 ≤ version.0) × (version.0 < length (opening c)))
 version_within c can None within = tt
 version_within c can (Some n) within =
@@ -191,7 +191,7 @@ version_within c can (Some n) within =
     let long = shelf_length c in
     (number.0, omega (arith, number.1, long))
 
-can_install : (c : Catalog) → CanInstall c → IsInstallable c
+can_install : (c : LibraryData) → CanInstall c → IsInstallable c
 can_install c can key = version_within c can (first_named c.keys key) (found_as (λ (n : ℕ). (1 ≤ n) × (n ≤ length c.locales)) c.keys key can.keys)
 
 -- ---- libraries that are built
@@ -201,10 +201,10 @@ names_within : (named : List (Name × ℕ)) (most : ℕ) → AreFrom 1 named →
 names_within [] most from up = tt
 names_within (e ∷ es) most from up = ((from.0, up.0), names_within es most from.1 up.1)
 
-abbrev read : Catalog → Reads Catalog
+abbrev read : LibraryData → Reads LibraryData
 read c = Ok c
 
-ok_is : (x y : Catalog) → read x ≡ read y → x ≡ y
+ok_is : (x y : LibraryData) → read x ≡ read y → x ≡ y
 ok_is x y e = cc
 
 built_can : (sources : List Source) (native : Option Name) (locales : List Locale) → locales_of sources ≡ Ok locales → CanInstall (catalog_of sources native locales)
@@ -221,7 +221,7 @@ unless_is None locales made e = e
 unless_is (Some fault) locales made e = absurd cc
 
 -- the keys of the library of sources may be installed
-pub is_installable : (native : Option Name) (sources : List Source) (c : Catalog) → catalog_from native sources ≡ Ok c → IsInstallable c
+pub is_installable : (native : Option Name) (sources : List Source) (c : LibraryData) → catalog_from native sources ≡ Ok c → IsInstallable c
 is_installable native sources c e =
     let made = value_of (unless_fault (copy_fault sources) (locales_of sources)) (λ made. Ok (catalog_of sources native made)) c e in
     subst IsInstallable (ok_is (catalog_of sources native made.0) c made.2)

@@ -1,7 +1,7 @@
 -- Worked examples of two libraries as one.
 use Rattle.std.specs.Prelude.{◌≡◌, ℕ, List, [], ◌∷◌, codes, Some, Ok, refl}
 use Rattle.category_store.specs.Locale.{Locale, posix_locale}
-use Rattle.category_store.specs.Catalog.{Catalog}
+use Rattle.category_store.specs.LibraryData.{LibraryData}
 use Rattle.category_store.specs.Library.{numbers}
 use Rattle.category_store.specs.Joined.{joined, locale_named}
 
@@ -10,7 +10,7 @@ abbrev locale : List ℕ → ℕ → Locale
 locale name mask = record posix_locale { name = name; available = mask }
 
 -- a and b, with a version of b; a is native
-abbrev system : Catalog
+abbrev system : LibraryData
 system = record {
   locales = locale (codes "a") 31 ∷ locale (codes "b") 1 ∷ locale (codes "b") 3 ∷ [];
   names = (codes "a", 1) ∷ (codes "b", 2) ∷ [];
@@ -20,7 +20,7 @@ system = record {
 }
 
 -- c and another b; c is native
-abbrev own : Catalog
+abbrev own : LibraryData
 own = record {
   locales = locale (codes "c") 31 ∷ locale (codes "b") 7 ∷ [];
   names = (codes "c", 1) ∷ (codes "b", 2) ∷ [];

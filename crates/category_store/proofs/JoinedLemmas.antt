@@ -10,7 +10,7 @@ use Rattle.lc_base.specs.Tables.{first_named}
 use Rattle.lc_base.specs.Named.{with_named}
 use Rattle.charset.specs.Portable.{Name}
 use Rattle.category_store.specs.Locale.{Locale, posix_locale, locale_among}
-use Rattle.category_store.specs.Catalog.{Catalog}
+use Rattle.category_store.specs.LibraryData.{LibraryData}
 use Rattle.category_store.proofs.Installable.{with_either, found_as}
 use Rattle.category_store.specs.Joined.{numbered_after, with_others, moved, later_else, entry_at, joined, KeepsNumbers, StandsBehind, NamesLater, InstallsLater}
 use Rattle.category_store.specs.declared.names.Names.{Names}
@@ -190,10 +190,10 @@ locale_behind xs ys zero m h e = absurd (omega (arith, h))
 locale_behind xs ys (suc k) zero h e = absurd (omega (arith, e))
 locale_behind xs ys (suc k) (suc j) h e = ap (λ (o : Option Locale). unwrap_or o posix_locale) (get_behind xs ys j k (omega (arith, e)))
 
-pub keeps_numbers : (earlier later : Catalog) → KeepsNumbers earlier (joined earlier later)
+pub keeps_numbers : (earlier later : LibraryData) → KeepsNumbers earlier (joined earlier later)
 keeps_numbers earlier later n h = first_locale earlier.locales later.locales n h
 
-pub stands_behind : (earlier later : Catalog) → StandsBehind (length earlier.locales) later (joined earlier later)
+pub stands_behind : (earlier later : LibraryData) → StandsBehind (length earlier.locales) later (joined earlier later)
 stands_behind earlier later n h = locale_behind earlier.locales later.locales n (length earlier.locales + n) h refl
 
 meant : (xs ys : List Locale) (o p : Option ℕ) → IfSome o (λ n. (1 ≤ n) × (n ≤ length ys)) → IfSome p (λ n. (1 ≤ n) × (n ≤ length xs))
@@ -211,8 +211,8 @@ later_means xs ys earlier later name h k =
     (found_as (λ (n : ℕ). (1 ≤ n) × (n ≤ length ys)) later name (recursion_from_All _ later k))
     (found_as (λ (n : ℕ). (1 ≤ n) × (n ≤ length xs)) earlier name (recursion_from_All _ earlier h))
 
-pub names_later : (earlier later : Catalog) → AreWithin (length earlier.locales) earlier.first → AreWithin (length later.locales) later.first → NamesLater earlier later (joined earlier later)
+pub names_later : (earlier later : LibraryData) → AreWithin (length earlier.locales) earlier.first → AreWithin (length later.locales) later.first → NamesLater earlier later (joined earlier later)
 names_later earlier later h k name = later_means earlier.locales later.locales earlier.first later.first name h k
 
-pub installs_later : (earlier later : Catalog) → AreWithin (length earlier.locales) earlier.keys → AreWithin (length later.locales) later.keys → InstallsLater earlier later (joined earlier later)
+pub installs_later : (earlier later : LibraryData) → AreWithin (length earlier.locales) earlier.keys → AreWithin (length later.locales) later.keys → InstallsLater earlier later (joined earlier later)
 installs_later earlier later h k key = later_means earlier.locales later.locales earlier.keys later.keys key h k

@@ -4,7 +4,7 @@ use Rattle.std.specs.Prelude.{◌==◌}
 use Rattle.lc_base.specs.Tables.{first_named}
 use Rattle.lc_base.specs.Named.{with_named}
 use Rattle.charset.specs.Portable.{Name}
-use Rattle.category_store.specs.Catalog.{Catalog}
+use Rattle.category_store.specs.LibraryData.{LibraryData}
 use Rattle.category_store.specs.Joined.{numbered_after, names_of_both, entry_at, number_among, native_of_both, joined}
 use Rattle.category_store.specs.Shelf.{IsNumbered}
 use Rattle.category_store.proofs.Numbered.{AreUpTo, with_one, found_up_to, or_zero, numbered_counted}
@@ -27,7 +27,7 @@ native_up_to m names earlier first later second counted =
       | false ↦ among_up_to m names later second counted
     ]
 
-pub joined_numbered : (earlier later : Catalog) → IsNumbered (joined earlier later)
+pub joined_numbered : (earlier later : LibraryData) → IsNumbered (joined earlier later)
 joined_numbered earlier later =
     let names = names_of_both earlier.names later.names in
     let counted : AreUpTo (length names) names = both_counted earlier.names later.names in

@@ -15,7 +15,7 @@ use Rattle.locale_sources.specs.Copies.{locale_numbers, copy_fault}
 use Rattle.locale_sources.specs.Rows.{given_unless}
 use Rattle.category_store.specs.Locale.{Locale}
 use Rattle.category_store.specs.Compiled.{locales_of}
-use Rattle.category_store.specs.Catalog.{Catalog}
+use Rattle.category_store.specs.LibraryData.{LibraryData}
 use Rattle.category_store.specs.Library.{names_of, keys_of, native_number, catalog_of, unless_fault, catalog_from, offer_at, first_offer, name_at, opening}
 
 -- ---- copies, and then categories
@@ -27,7 +27,7 @@ categories_follow view result (Some fault) x y locales e gives = absurd cc
 
 -- ---- the library of sources
 
-abbrev catalog_with : List Locale → List (Name × ℕ) → List (Name × ℕ) → List (Name × ℕ) → ℕ → Catalog
+abbrev catalog_with : List Locale → List (Name × ℕ) → List (Name × ℕ) → List (Name × ℕ) → ℕ → LibraryData
 catalog_with locales names first keys native = record { locales = locales; names = names; first = first; keys = keys; native = native }
 
 pub library_is : (S : List Source) (native : Option Name) (locales : List Locale) (names first keys : List (Name × ℕ)) (n : ℕ)
@@ -62,7 +62,7 @@ map_more {A} {B} f (x ∷ xs) (suc i) d h =
     ap (λ (n : ℕ). map f (take n (x ∷ xs))) more ∙ ap (λ (ys : List B). f x ∷ ys) (map_more f xs i d (omega arith))
 
 -- one offer more
-pub opening_more : (c : Catalog) (i : ℕ) → i < length c.names → offer_at c 0 ∷ map (λ (entry : List ℕ × ℕ). first_offer c entry.0) (take (i + 1) c.names) ≡ (offer_at c 0 ∷ map (λ (entry : List ℕ × ℕ). first_offer c entry.0) (take i c.names)) ++ first_offer c (name_at c i) ∷ []
+pub opening_more : (c : LibraryData) (i : ℕ) → i < length c.names → offer_at c 0 ∷ map (λ (entry : List ℕ × ℕ). first_offer c entry.0) (take (i + 1) c.names) ≡ (offer_at c 0 ∷ map (λ (entry : List ℕ × ℕ). first_offer c entry.0) (take i c.names)) ++ first_offer c (name_at c i) ∷ []
 opening_more c i h = ap (λ (ys : List Offered). offer_at c 0 ∷ ys) (map_more (λ (entry : List ℕ × ℕ). first_offer c entry.0) c.names i ([], 0) h)
 
 take_all : {A : Type 0} (i : ℕ) (xs : List A) → length xs ≤ i → take i xs ≡ xs
@@ -71,5 +71,5 @@ take_all zero (x ∷ xs) h = absurd (omega arith)
 take_all {A} (suc i) (x ∷ xs) h = ap (λ (ys : List A). x ∷ ys) (take_all i xs (omega arith))
 
 -- all offers are there
-pub opening_all : (c : Catalog) (i : ℕ) → length c.names ≤ i → offer_at c 0 ∷ map (λ (entry : List ℕ × ℕ). first_offer c entry.0) (take i c.names) ≡ opening c
+pub opening_all : (c : LibraryData) (i : ℕ) → length c.names ≤ i → offer_at c 0 ∷ map (λ (entry : List ℕ × ℕ). first_offer c entry.0) (take i c.names) ≡ opening c
 opening_all c i h = ap (λ (es : List (List ℕ × ℕ)). offer_at c 0 ∷ map (λ (entry : List ℕ × ℕ). first_offer c entry.0) es) (take_all i c.names h)

@@ -20,7 +20,7 @@ use Rattle.locale_sources.specs.Sections.{is_posix}
 use Rattle.locale_sources.specs.Copies.{copy_fault}
 use Rattle.category_store.specs.Locale.{Locale}
 use Rattle.category_store.specs.Compiled.{locales_of}
-use Rattle.category_store.specs.Catalog.{Catalog}
+use Rattle.category_store.specs.LibraryData.{LibraryData}
 use Rattle.category_store.specs.Library.{names_after, names_of, plain_number, native_number, catalog_of, unless_fault, catalog_from, number_of, number_in, ◌then◌, numbers_in, names_given, numbers, first_offer, opening}
 use Rattle.category_store.specs.Shelf.{IsNumbered}
 
@@ -79,7 +79,7 @@ native_up_to names None counted = omega arith
 native_up_to names (Some name) counted = or_zero (length names) (plain_number names name) (plain_up_to names name counted)
 
 -- the names of a library and its native locale have numbers up to that of the names
-pub record IsCounted (c : Catalog) : Type 0 where
+pub record IsCounted (c : LibraryData) : Type 0 where
   pub names : AreCounted c.names
   pub native : c.native ≤ length c.names
 
@@ -88,27 +88,27 @@ sources_counted sources native locales =
     let counted : AreCounted (names_of sources) = after_counted [] sources tt in
     record { names = counted; native = native_up_to (names_of sources) native counted }
 
-abbrev read : Catalog → Reads Catalog
+abbrev read : LibraryData → Reads LibraryData
 read c = Ok c
 
-ok_is : (x y : Catalog) → read x ≡ read y → x ≡ y
+ok_is : (x y : LibraryData) → read x ≡ read y → x ≡ y
 ok_is x y e = cc
 
-catalog_counted : (native : Option Name) (sources : List Source) (c : Catalog) → catalog_from native sources ≡ Ok c → IsCounted c
+catalog_counted : (native : Option Name) (sources : List Source) (c : LibraryData) → catalog_from native sources ≡ Ok c → IsCounted c
 catalog_counted native sources c e =
     let made = value_of (unless_fault (copy_fault sources) (locales_of sources)) (λ made. Ok (catalog_of sources native made)) c e in
     subst IsCounted (ok_is (catalog_of sources native made.0) c made.2) (sources_counted sources native made.0)
 
 -- ---- the numbers of a name
 
-number_up_to : (c : Catalog) (name : Name) → IsCounted c → IfSome (number_of c name) (λ n. n ≤ length c.names)
+number_up_to : (c : LibraryData) (name : Name) → IsCounted c → IfSome (number_of c name) (λ n. n ≤ length c.names)
 number_up_to c name counted =
     elim (length name == 0) as (λ b. IfSome (cond b (Some c.native) (plain_number c.names name)) (λ n. n ≤ length c.names)) [
       | true ↦ counted.native
       | false ↦ plain_up_to c.names name counted.names
     ]
 
-shelf_length : (c : Catalog) → length (opening c) ≡ length c.names + 1
+shelf_length : (c : LibraryData) → length (opening c) ≡ length c.names + 1
 shelf_length c = let mapped = length-map c.names (λ (entry : Name × ℕ). first_offer c entry.0) in omega arith
 
 abbrev or_category : Category → Option ℕ → Result ℕ Category
@@ -118,31 +118,31 @@ or_category_up_to : (m : ℕ) (category : Category) (o : Option ℕ) → IfSome 
 or_category_up_to m category None up = tt
 or_category_up_to m category (Some n) up = up
 
-in_up_to : (c : Catalog) (mask : ℕ) (category : Category) (name : Name) → IsCounted c → IfOk (number_in c mask category name) (λ n. n ≤ length c.names)
+in_up_to : (c : LibraryData) (mask : ℕ) (category : Category) (name : Name) → IsCounted c → IfOk (number_in c mask category name) (λ n. n ≤ length c.names)
 in_up_to c mask category name counted =
     elim (includes mask category) as (λ b. IfOk (cond b (or_category category (number_of c name)) (Ok 0)) (λ n. n ≤ length c.names)) [
       | true ↦ or_category_up_to (length c.names) category (number_of c name) (number_up_to c name counted)
       | false ↦ omega arith
     ]
 
-abbrev OnShelf : Catalog → List ℕ → Type 0
+abbrev OnShelf : LibraryData → List ℕ → Type 0
 OnShelf c ns = AllByRecursion (λ n. n < length (opening c)) ns
 
-joined : (c : Catalog) (r : Result ℕ Category) (rest : Result (List ℕ) Category) → IfOk r (λ n. n ≤ length c.names) → IfOk rest (OnShelf c) → IfOk (r then rest) (OnShelf c)
+joined : (c : LibraryData) (r : Result ℕ Category) (rest : Result (List ℕ) Category) → IfOk r (λ n. n ≤ length c.names) → IfOk rest (OnShelf c) → IfOk (r then rest) (OnShelf c)
 joined c (Ok n) (Ok ns) up shelf = (let long = shelf_length c in omega arith, shelf)
 joined c (Ok n) (Err e) up shelf = tt
 joined c (Err e) rest up shelf = tt
 
-each_on_shelf : (c : Catalog) (mask : ℕ) (cs : List Category) (names : List Name) → IsCounted c → IfOk (numbers_in c mask cs names) (OnShelf c)
+each_on_shelf : (c : LibraryData) (mask : ℕ) (cs : List Category) (names : List Name) → IsCounted c → IfOk (numbers_in c mask cs names) (OnShelf c)
 each_on_shelf c mask [] names counted = tt
 each_on_shelf c mask (category ∷ cs) [] counted = tt
 each_on_shelf c mask (category ∷ cs) (name ∷ names) counted = joined c (number_in c mask category name) (numbers_in c mask cs names) (in_up_to c mask category name counted) (each_on_shelf c mask cs names counted)
 
 -- where the names are counted they are numbered
-pub numbered_counted : (c : Catalog) → IsCounted c → IsNumbered c
+pub numbered_counted : (c : LibraryData) → IsCounted c → IsNumbered c
 numbered_counted c counted = λ name mask.
     IfOk-weaker (numbers c name mask) (OnShelf c) (AreOnShelf (opening c)) (λ ns on. All-from_recursion _ ns on) (each_on_shelf c mask categories (names_given name) counted)
 
 -- the names of the library of sources are numbered
-pub is_numbered : (native : Option Name) (sources : List Source) (c : Catalog) → catalog_from native sources ≡ Ok c → IsNumbered c
+pub is_numbered : (native : Option Name) (sources : List Source) (c : LibraryData) → catalog_from native sources ≡ Ok c → IsNumbered c
 is_numbered native sources c e = numbered_counted c (catalog_counted native sources c e)

@@ -5,7 +5,7 @@ use Rattle.lc_base.specs.Tables.{first_named}
 use Rattle.lc_base.specs.Named.{with_named}
 use Rattle.charset.specs.Portable.{Name}
 use Rattle.category_store.specs.Locale.{Locale}
-use Rattle.category_store.specs.Catalog.{Catalog}
+use Rattle.category_store.specs.LibraryData.{LibraryData}
 use Rattle.category_store.specs.Library.{locale_at}
 
 -- ---- names
@@ -48,7 +48,7 @@ native_of_both names earlier first later second = if second == 0 then number_amo
 -- ---- libraries
 
 -- a library, and behind it another, whose meaning of a name of both holds
-abbrev pub joined : Catalog → Catalog → Catalog
+abbrev pub joined : LibraryData → LibraryData → LibraryData
 joined earlier later = record {
   locales = earlier.locales ++ later.locales;
   names = names_of_both earlier.names later.names;
@@ -60,25 +60,25 @@ joined earlier later = record {
 -- ---- laws
 
 -- the locale that a name has at first
-abbrev pub locale_named : Catalog → Name → Option Locale
+abbrev pub locale_named : LibraryData → Name → Option Locale
 locale_named c name = option_map (locale_at c) (first_named c.first name)
 
 -- the version that a key installs
-abbrev pub version_keyed : Catalog → Name → Option Locale
+abbrev pub version_keyed : LibraryData → Name → Option Locale
 version_keyed c key = option_map (locale_at c) (first_named c.keys key)
 
 -- the locales of the earlier library keep their numbers
-abbrev pub KeepsNumbers : Catalog → Catalog → Type 0
+abbrev pub KeepsNumbers : LibraryData → LibraryData → Type 0
 KeepsNumbers earlier c = (n : ℕ) → n ≤ length earlier.locales → locale_at c n ≡ locale_at earlier n
 
 -- the locales of the later library stand behind so many others
-abbrev pub StandsBehind : ℕ → Catalog → Catalog → Type 0
+abbrev pub StandsBehind : ℕ → LibraryData → LibraryData → Type 0
 StandsBehind count later c = (n : ℕ) → 1 ≤ n → locale_at c (count + n) ≡ locale_at later n
 
 -- a name means what it means in the later library, and else what it means in the earlier one
-abbrev pub NamesLater : Catalog → Catalog → Catalog → Type 0
+abbrev pub NamesLater : LibraryData → LibraryData → LibraryData → Type 0
 NamesLater earlier later c = (name : Name) → locale_named c name ≡ option_or (locale_named later name) (locale_named earlier name)
 
 -- so does a key
-abbrev pub InstallsLater : Catalog → Catalog → Catalog → Type 0
+abbrev pub InstallsLater : LibraryData → LibraryData → LibraryData → Type 0
 InstallsLater earlier later c = (key : Name) → version_keyed c key ≡ option_or (version_keyed later key) (version_keyed earlier key)

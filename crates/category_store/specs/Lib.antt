@@ -3,7 +3,7 @@ pub mod Locale
 pub mod Compiled
 pub mod SeenWritten
 pub mod Kept
-pub mod Catalog
+pub mod LibraryData
 pub mod Library
 pub mod Shelf
 pub mod Blocks

@@ -23,7 +23,7 @@ use Rattle.category_store.specs.Sources.{charsets, sources_of}
 use Rattle.locale_sources.specs.Copies.{locale_numbers, copy_fault}
 use Rattle.category_store.specs.Locale.{Locale, locale_among}
 use Rattle.category_store.specs.Compiled.{locales_of}
-use Rattle.category_store.specs.Catalog.{Catalog}
+use Rattle.category_store.specs.LibraryData.{LibraryData}
 
 -- ---- what a bundle's blocks make
 
@@ -54,7 +54,7 @@ native_number names None = 0
 native_number names (Some name) = unwrap_or (plain_number names name) 0
 
 -- what sources make whose locales are compiled
-abbrev pub catalog_of : List Source → Option Name → List Locale → Catalog
+abbrev pub catalog_of : List Source → Option Name → List Locale → LibraryData
 catalog_of sources native locales = record {
   locales = locales;
   names = names_of sources;
@@ -69,30 +69,30 @@ unless_fault None locales = locales
 unless_fault (Some fault) locales = Err fault
 
 -- what sources make, or the first fault of their copies, or else of their categories
-abbrev pub catalog_from : Option Name → List Source → Reads Catalog
+abbrev pub catalog_from : Option Name → List Source → Reads LibraryData
 catalog_from native sources = unless_fault (copy_fault sources) (locales_of sources) >>= λ locales. Ok (catalog_of sources native locales)
 
 -- the library of locales and later versions over charsets, or its first fault: sources in order of place come before copies, and
 -- copies before categories
-abbrev pub catalog_over : List (Name × CodedSet) → List Block → List Later → Option Name → Reads Catalog
+abbrev pub catalog_over : List (Name × CodedSet) → List Block → List Later → Option Name → Reads LibraryData
 catalog_over sets locales later native = sources_of sets (by_place locales later) >>= catalog_from native
 
 -- the library of a bundle with these charmaps, locales and later versions, or its first fault: charmaps in order come before
 -- sources
-abbrev pub catalog : List Block → List Block → List Later → Option Name → Reads Catalog
+abbrev pub catalog : List Block → List Block → List Later → Option Name → Reads LibraryData
 catalog charmaps locales later native = charsets charmaps >>= λ sets. catalog_over sets locales later native
 
 -- ---- what it answers
 
-abbrev pub locale_at : Catalog → ℕ → Locale
+abbrev pub locale_at : LibraryData → ℕ → Locale
 locale_at c n = locale_among c.locales n
 
 -- the number of a name: an empty one is the native locale's
-abbrev pub number_of : Catalog → Name → Option ℕ
+abbrev pub number_of : LibraryData → Name → Option ℕ
 number_of c name = if length name == 0 then Some c.native else plain_number c.names name
 
 -- a category's number: 0 outside of the mask
-abbrev pub number_in : Catalog → ℕ → Category → Name → Result ℕ Category
+abbrev pub number_in : LibraryData → ℕ → Category → Name → Result ℕ Category
 number_in c mask category name = if includes mask category then (elim (number_of c name) [ None ↦ Err category | Some n ↦ Ok n ]) else Ok 0
 
 -- the numbers of categories whose locales have these names, or the first category of the mask whose name no block has
@@ -102,7 +102,7 @@ abbrev pub ◌then◌ : Result ℕ Category → Result (List ℕ) Category → R
 (Ok n) then (Err category) = Err category
 (Err category) then rest = Err category
 
-abbrev pub numbers_in : Catalog → ℕ → List Category → List Name → Result (List ℕ) Category
+abbrev pub numbers_in : LibraryData → ℕ → List Category → List Name → Result (List ℕ) Category
 numbers_in c mask [] names = Ok []
 numbers_in c mask (category ∷ cs) [] = Ok []
 numbers_in c mask (category ∷ cs) (name ∷ names) = number_in c mask category name then numbers_in c mask cs names
@@ -112,7 +112,7 @@ abbrev pub names_given : Name → List Name
 names_given name = unwrap_or (mixed_parts name) (replicate 5 name)
 
 -- the numbers of the five categories under a name
-abbrev pub numbers : Catalog → Name → ℕ → Result (List ℕ) Category
+abbrev pub numbers : LibraryData → Name → ℕ → Result (List ℕ) Category
 numbers c name mask = numbers_in c mask categories (names_given name)
 
 -- a number in the categories of a mask, the POSIX locale in the others
@@ -133,24 +133,24 @@ abbrev pub posix_object : Parts
 posix_object = object_of 0 0
 
 -- what the compiled locale with a number offers: its categories
-abbrev pub offer_at : Catalog → ℕ → Offered
+abbrev pub offer_at : LibraryData → ℕ → Offered
 offer_at c n = let mask = (locale_at c n).available in record { object = object_of mask n; available = mask }
 
 -- what a name offers at first: its locale, or nothing where only a later version has the name
-abbrev pub first_offer : Catalog → Name → Offered
+abbrev pub first_offer : LibraryData → Name → Offered
 first_offer c name = elim (first_named c.first name) [
   | None ↦ no_offer
   | Some n ↦ offer_at c n
 ]
 
 -- the name with a place, from 0
-abbrev pub name_at : Catalog → ℕ → Name
+abbrev pub name_at : LibraryData → ℕ → Name
 name_at c i = (unwrap_or (slice_get c.names i) ([], 0)).0
 
 -- what the names offer at first, by their numbers
-abbrev pub opening : Catalog → List Offered
+abbrev pub opening : LibraryData → List Offered
 opening c = offer_at c 0 ∷ map (λ (entry : Name × ℕ). first_offer c entry.0) c.names
 
 -- what a key installs: the number of its name, and what it offers
-abbrev pub later : Catalog → Name → Option (ℕ × Offered)
+abbrev pub later : LibraryData → Name → Option (ℕ × Offered)
 later c key = option_map (λ n. (unwrap_or (first_named c.names (locale_at c n).name) 0, offer_at c n)) (first_named c.keys key)

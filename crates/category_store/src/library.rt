@@ -42,10 +42,10 @@ impl Drop for Library {
 
 impl Model for Library {
     ghost use Rattle.std.specs.Prelude.{length};
-    ghost use Rattle.category_store.specs.Catalog.{Catalog};
+    ghost use Rattle.category_store.specs.LibraryData.{LibraryData};
     ghost use Rattle.category_store.specs.Within.{IsWithin};
 
-    ghost Value = { Catalog };
+    ghost Value = { LibraryData };
 
     ghost view = { λ l. record {
       locales = l.locales;

@@ -1,7 +1,7 @@
 //! The sections of a file.
 
 use crate::line::GnuLine;
-use crate::mark::{Mark, from_word, mark_of};
+use crate::mark::{LineMark, from_word, mark_of};
 use lc_base::{Category, Place, Reason, TextFault};
 use std::alloc::{AllocError, Global};
 use std::mem::replace;
@@ -113,7 +113,7 @@ impl Reader {
             Inside::Nothing => self.outside(mark),
             Inside::Kept(category) => Ok(self.inside_of(category, mark, bytes)?),
             Inside::PassedOver => {
-                if let Mark::Ends = mark {
+                if let LineMark::Ends = mark {
                     self.inside = Inside::Nothing;
                 }
                 Ok(())
@@ -134,19 +134,19 @@ impl Reader {
     }
 
     /// Takes a line outside of sections.
-    fn outside(&mut self, mark: Mark) -> Result<(), TextFault> {
+    fn outside(&mut self, mark: LineMark) -> Result<(), TextFault> {
         match mark {
-            Mark::Empty => Ok(()),
-            Mark::Escape(sign) => {
+            LineMark::Empty => Ok(()),
+            LineMark::Escape(sign) => {
                 self.escape = sign;
                 Ok(())
             }
-            Mark::Comment(sign) => {
+            LineMark::Comment(sign) => {
                 self.comment = sign;
                 Ok(())
             }
-            Mark::Opens(category) => Ok(self.open(category)?),
-            Mark::Ends | Mark::TransliterationsBegin | Mark::TransliterationsEnd | Mark::Other =>
+            LineMark::Opens(category) => Ok(self.open(category)?),
+            LineMark::Ends | LineMark::TransliterationsBegin | LineMark::TransliterationsEnd | LineMark::Other =>
                 Err(TextFault::At(self.place(), Reason::UnknownKeyword)),
         }
     }
@@ -166,20 +166,20 @@ impl Reader {
     fn inside_of(
         &mut self,
         category: Category,
-        mark: Mark,
+        mark: LineMark,
         bytes: Vec<u8>,
     ) -> Result<(), AllocError> {
         match mark {
-            Mark::Empty | Mark::TransliterationsEnd => Ok(()),
-            Mark::Ends => {
+            LineMark::Empty | LineMark::TransliterationsEnd => Ok(()),
+            LineMark::Ends => {
                 self.inside = Inside::Nothing;
                 Ok(())
             }
-            Mark::TransliterationsBegin => {
+            LineMark::TransliterationsBegin => {
                 self.inside = Inside::Transliterations(category);
                 self.keep(category, bytes)
             }
-            Mark::Escape(_) | Mark::Comment(_) | Mark::Opens(_) | Mark::Other => {
+            LineMark::Escape(_) | LineMark::Comment(_) | LineMark::Opens(_) | LineMark::Other => {
                 self.keep(category, bytes)
             }
         }
@@ -198,16 +198,16 @@ impl Reader {
     }
 
     /// Takes a line among transliterations.
-    fn among_transliterations(&mut self, category: Category, mark: Mark) {
+    fn among_transliterations(&mut self, category: Category, mark: LineMark) {
         match mark {
-            Mark::TransliterationsEnd => self.inside = Inside::Kept(category),
-            Mark::Ends => self.inside = Inside::Nothing,
-            Mark::Empty
-            | Mark::Escape(_)
-            | Mark::Comment(_)
-            | Mark::Opens(_)
-            | Mark::TransliterationsBegin
-            | Mark::Other => {}
+            LineMark::TransliterationsEnd => self.inside = Inside::Kept(category),
+            LineMark::Ends => self.inside = Inside::Nothing,
+            LineMark::Empty
+            | LineMark::Escape(_)
+            | LineMark::Comment(_)
+            | LineMark::Opens(_)
+            | LineMark::TransliterationsBegin
+            | LineMark::Other => {}
         }
     }
 

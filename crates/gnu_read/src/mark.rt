@@ -4,7 +4,7 @@ use lc_base::{CATEGORIES, Category, is_blank};
 
 /// What a logical line is for the sections of a file.
 #[derive(Clone, Copy)]
-pub enum Mark {
+pub enum LineMark {
     /// It says nothing.
     Empty,
     /// It sets the escape character.
@@ -56,32 +56,32 @@ fn sign_behind(keyword: &[u8], text: &[u8]) -> Option<u8> {
 }
 
 /// What a line is that sets the escape character.
-fn escape_mark(text: &[u8]) -> Mark {
+fn escape_mark(text: &[u8]) -> LineMark {
     match sign_behind(b"escape_char", text) {
-        Some(sign) => Mark::Escape(sign),
-        None => Mark::Other,
+        Some(sign) => LineMark::Escape(sign),
+        None => LineMark::Other,
     }
 }
 
 /// What a line is that sets the comment character.
-fn comment_mark(text: &[u8]) -> Mark {
+fn comment_mark(text: &[u8]) -> LineMark {
     match sign_behind(b"comment_char", text) {
-        Some(sign) => Mark::Comment(sign),
-        None => Mark::Other,
+        Some(sign) => LineMark::Comment(sign),
+        None => LineMark::Other,
     }
 }
 
 /// What a logical line is.
-pub fn mark_of(line: &[u8]) -> Mark {
+pub fn mark_of(line: &[u8]) -> LineMark {
     let text = from_word(line);
     match word_of(text) {
-        b"" => Mark::Empty,
-        b"END" => Mark::Ends,
+        b"" => LineMark::Empty,
+        b"END" => LineMark::Ends,
         b"escape_char" => escape_mark(text),
         b"comment_char" => comment_mark(text),
-        b"translit_start" => Mark::TransliterationsBegin,
-        b"translit_end" => Mark::TransliterationsEnd,
-        word if word.starts_with(b"LC_") => Mark::Opens(category_named(word)),
-        _ => Mark::Other,
+        b"translit_start" => LineMark::TransliterationsBegin,
+        b"translit_end" => LineMark::TransliterationsEnd,
+        word if word.starts_with(b"LC_") => LineMark::Opens(category_named(word)),
+        _ => LineMark::Other,
     }
 }

@@ -6,7 +6,7 @@ use time_cat::conversion_of;
 
 /// A part of a format.
 #[derive(Clone, Copy)]
-pub enum Part {
+pub enum FormatPart {
     /// A byte that stands for itself.
     Byte(u8),
     /// A conversion: its flag and its modifier, each 0 where there is none, and its letter.
@@ -58,14 +58,14 @@ fn with_flag(flag: u8, more: u8) -> u8 {
 
 /// The parts of a format. A `%` at its end is a conversion without a letter, of byte 0. The flag `+` stands for
 /// several flags.
-pub fn parts(alloc: Global, format: &[u8]) -> Result<Vec<Part>, AllocError> {
+pub fn parts(alloc: Global, format: &[u8]) -> Result<Vec<FormatPart>, AllocError> {
     let mut parts = Vec::new(alloc);
     let mut begun: Option<(u8, u8)> = None;
     for byte in format {
         begun = match (begun, *byte) {
             (None, b'%') => Some((0, 0)),
             (None, byte) => {
-                parts.push(Part::Byte(byte))?;
+                parts.push(FormatPart::Byte(byte))?;
                 None
             }
             (Some((flag, modifier)), b'-' | b'_' | b'0'..=b'9' | b'^' | b'#' | b'+') => {
@@ -73,13 +73,13 @@ pub fn parts(alloc: Global, format: &[u8]) -> Result<Vec<Part>, AllocError> {
             }
             (Some((flag, 0)), b'E' | b'O') => Some((flag, *byte)),
             (Some((flag, modifier)), letter) => {
-                parts.push(Part::Conversion(flag, modifier, letter))?;
+                parts.push(FormatPart::Conversion(flag, modifier, letter))?;
                 None
             }
         };
     }
     if let Some((flag, modifier)) = begun {
-        parts.push(Part::Conversion(flag, modifier, 0))?;
+        parts.push(FormatPart::Conversion(flag, modifier, 0))?;
     }
     Ok(parts)
 }
@@ -93,11 +93,11 @@ fn is_number(letter: u8) -> bool {
 }
 
 /// The digits that a part of a format wants.
-pub fn wanted_digits(part: Part) -> Digits {
+pub fn wanted_digits(part: FormatPart) -> Digits {
     match part {
-        Part::Conversion(b'-', 0 | b'O', letter) if is_number(letter) => Digits::Bare,
-        Part::Conversion(0 | b'_', 0, b'k' | b'l') => Digits::Spaced,
-        Part::Conversion(..) | Part::Byte(_) => Digits::Absent,
+        FormatPart::Conversion(b'-', 0 | b'O', letter) if is_number(letter) => Digits::Bare,
+        FormatPart::Conversion(0 | b'_', 0, b'k' | b'l') => Digits::Spaced,
+        FormatPart::Conversion(..) | FormatPart::Byte(_) => Digits::Absent,
     }
 }
 
@@ -219,14 +219,14 @@ fn note_if(is_noted: bool, code: NoteCode) -> Option<NoteCode> {
 pub fn push_part(
     text: &mut Vec<u8>,
     style: Style,
-    part: Part,
+    part: FormatPart,
 ) -> Result<[Option<NoteCode>; 3], AllocError> {
     match part {
-        Part::Byte(byte) => {
+        FormatPart::Byte(byte) => {
             text.push(byte)?;
             Ok([None, None, None])
         }
-        Part::Conversion(flag, modifier, letter) => {
+        FormatPart::Conversion(flag, modifier, letter) => {
             let (shown, notes) = style.shown(flag, modifier, letter);
             push_shown(text, shown)?;
             Ok(notes)

@@ -4,7 +4,7 @@ use Rattle.std.specs.Prelude.{ℤ, replicate}
 use Rattle.std.proofs.lemmas.List.{length-append, length-replicate}
 use Rattle.digit_groups.specs.Groups.{grouped}
 use Rattle.numeric_cat.specs.NumericValues.{NumericValues}
-use Rattle.int_format.specs.declared.format.Conversion.{Conversion}
+use Rattle.int_format.specs.declared.format.IntConversion.{IntConversion}
 use Rattle.int_format.specs.declared.layout.Fill.{Fill}
 use Rattle.int_format.specs.declared.layout.Fill.TheVariants.{Before, Between, Behind}
 use Rattle.digit_groups.specs.Digits.{last_digits}
@@ -20,7 +20,7 @@ length-padded Behind n sign digits = omega (arith, length-append sign (digits ++
 
 -- ---- a number laid out
 
-pub laid_text : (n : NumericValues) (c : Conversion) (v : ℤ) (fill : Fill) (padding : ℕ) (sign : List ℕ) (digits magnitude : ℕ) →
+pub laid_text : (n : NumericValues) (c : IntConversion) (v : ℤ) (fill : Fill) (padding : ℕ) (sign : List ℕ) (digits magnitude : ℕ) →
     sign ≡ sign_text c v → fill ≡ fill_of c → magnitude ≡ shown c.signed v → digits ≡ max (digit_count magnitude) (least_digits c) →
     padding ≡ c.width - (length sign + length (grouped (last_digits digits magnitude) (sizes_of n c) n.thousands_sep)) →
     padded fill padding sign (grouped (last_digits digits magnitude) (sizes_of n c) n.thousands_sep) ≡ conversion_text n c v

@@ -4,15 +4,15 @@ use Rattle.lc_base.specs.Lines.{◌>>=◌}
 use Rattle.digit_groups.specs.Numbers.{counted, leading_number}
 use Rattle.digit_groups.specs.Conversions.{of_byte, number_after}
 unfoldable pub use Rattle.digit_groups.specs.Formats.{piece, pieces}
-use Rattle.int_format.specs.declared.format.Mark.{Mark}
-use Rattle.int_format.specs.declared.format.Mark.TheVariants.{Groups, LeftAligned, PlusSign, SpaceSign, Zeros}
+use Rattle.int_format.specs.declared.format.IntFlag.{IntFlag}
+use Rattle.int_format.specs.declared.format.IntFlag.TheVariants.{Groups, LeftAligned, PlusSign, SpaceSign, Zeros}
 use Rattle.int_format.specs.declared.format.Flags.{Flags}
-use Rattle.int_format.specs.declared.format.Conversion.{Conversion}
+use Rattle.int_format.specs.declared.format.IntConversion.{IntConversion}
 
 -- ---- flags
 
 -- the flags, each of one byte
-abbrev pub marks : List (ℕ × Mark)
+abbrev pub marks : List (ℕ × IntFlag)
 marks =
     (39, Groups) ∷
     (45, LeftAligned) ∷
@@ -20,14 +20,14 @@ marks =
     (32, SpaceSign) ∷
     (48, Zeros) ∷ []
 
-abbrev pub mark_of : ℕ → Option Mark
+abbrev pub mark_of : ℕ → Option IntFlag
 mark_of c = of_byte marks c
 
 abbrev pub no_flags : Flags
 no_flags = record { groups = false; left = false; plus = false; space = false; zeros = false }
 
 -- a flag more, perhaps one that was given before
-abbrev pub with_mark : Flags → Mark → Flags
+abbrev pub with_mark : Flags → IntFlag → Flags
 with_mark f Groups = record f { groups = true }
 with_mark f LeftAligned = record f { left = true }
 with_mark f PlusSign = record f { plus = true }
@@ -67,12 +67,12 @@ abbrev pub letter : List ℕ → Option (Bool × ℕ)
 letter bs = option_map (λ s. (s, modifier bs + 1)) (is_signed (drop (modifier bs) bs))
 
 -- the conversion that bytes behind a `%` begin with, whose flags take so many bytes: the width, the precision and the letter, and how many bytes it takes
-unfoldable pub conversion_with : Flags → ℕ → List ℕ → Option (Conversion × ℕ)
+unfoldable pub conversion_with : Flags → ℕ → List ℕ → Option (IntConversion × ℕ)
 conversion_with f n bs = do
   w ← leading_number (drop n bs)
   p ← number_after 46 0 (drop (n + w.1) bs)
   l ← letter (drop (n + w.1 + p.1) bs)
   Some (record { flags = f; width = w.0; precision = p.0; signed = l.0 }, n + w.1 + p.1 + l.1)
 
-abbrev pub conversion : List ℕ → Option (Conversion × ℕ)
+abbrev pub conversion : List ℕ → Option (IntConversion × ℕ)
 conversion bs = conversion_with (flags bs).0 (flags bs).1 bs

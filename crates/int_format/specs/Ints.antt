@@ -5,7 +5,7 @@ use Rattle.digit_groups.specs.Formats.{formatted}
 pub use Rattle.digit_groups.specs.Formats.{at_most}
 unfoldable pub use Rattle.digit_groups.specs.Formats.{pieces_text, missing}
 use Rattle.numeric_cat.specs.NumericValues.{NumericValues}
-use Rattle.int_format.specs.declared.format.Conversion.{Conversion}
+use Rattle.int_format.specs.declared.format.IntConversion.{IntConversion}
 use Rattle.int_format.specs.declared.layout.Fill.{Fill}
 use Rattle.int_format.specs.declared.layout.Fill.TheVariants.{Before, Between, Behind}
 use Rattle.int_format.specs.declared.fault.IntFault.{IntFault}
@@ -29,24 +29,24 @@ shown true (negsuc n) = suc n
 shown false (negsuc n) = 2 ^ 64 - suc n
 
 -- the least number of digits, which is the precision or else 1
-abbrev pub least_digits : Conversion → ℕ
+abbrev pub least_digits : IntConversion → ℕ
 least_digits c = unwrap_or c.precision 1
 
 -- the sizes of groups, where `'` asks for them
-abbrev pub sizes_of : NumericValues → Conversion → List ℤ
+abbrev pub sizes_of : NumericValues → IntConversion → List ℤ
 sizes_of n c = if c.flags.groups then n.grouping else []
 
 -- the digits, in groups
-abbrev pub digits_text : NumericValues → Conversion → ℤ → List ℕ
+abbrev pub digits_text : NumericValues → IntConversion → ℤ → List ℕ
 digits_text n c v = grouped (digits_at_least (least_digits c) (shown c.signed v)) (sizes_of n c) n.thousands_sep
 
 -- the sign; a number that is not below 0 has the one that its flags ask for, and `u` has none
-abbrev pub sign_text : Conversion → ℤ → List ℕ
+abbrev pub sign_text : IntConversion → ℤ → List ℕ
 sign_text c (negsuc n) = if c.signed then codes "-" else []
 sign_text c (pos n) = if c.signed then (if c.flags.plus then codes "+" else if c.flags.space then codes " " else []) else []
 
 -- where the bytes stand that fill the field: `0` does nothing beside `-`, nor beside a precision
-abbrev pub fill_of : Conversion → Fill
+abbrev pub fill_of : IntConversion → Fill
 fill_of c = if c.flags.left then Behind else if c.flags.zeros && is_none c.precision then Between else Before
 
 -- a sign and digits with so many bytes that fill the field
@@ -56,7 +56,7 @@ padded Between n sign digits = sign ++ (replicate n 48 ++ digits)
 padded Behind n sign digits = sign ++ (digits ++ replicate n 32)
 
 -- the text of a number
-abbrev pub conversion_text : NumericValues → Conversion → ℤ → List ℕ
+abbrev pub conversion_text : NumericValues → IntConversion → ℤ → List ℕ
 conversion_text n c v = padded (fill_of c) (c.width - (length (sign_text c v) + length (digits_text n c v))) (sign_text c v) (digits_text n c v)
 
 -- ---- a format

@@ -7,7 +7,7 @@ use digit_groups::{leading_number, number_after};
 
 /// A flag.
 #[derive(Clone, Copy)]
-pub enum Mark {
+pub enum IntFlag {
     /// `'`: digits in groups.
     Groups,
     /// `-`: to the left of its field.
@@ -32,7 +32,7 @@ pub struct Flags {
 
 /// The conversion of one number.
 #[derive(Clone, Copy)]
-pub struct Conversion {
+pub struct IntConversion {
     pub flags: Flags,
     /// The least number of bytes.
     pub width: u8,
@@ -51,31 +51,31 @@ const NO_FLAGS: Flags = Flags {
 };
 
 #[inline(always)]
-fn mark_of(byte: u8) -> Option<Mark>
+fn mark_of(byte: u8) -> Option<IntFlag>
     ensures { result ≡ mark_of byte }
 {
     match byte {
-        b'\'' => Some(Mark::Groups),
-        b'-' => Some(Mark::LeftAligned),
-        b'+' => Some(Mark::PlusSign),
-        b' ' => Some(Mark::SpaceSign),
-        b'0' => Some(Mark::Zeros),
+        b'\'' => Some(IntFlag::Groups),
+        b'-' => Some(IntFlag::LeftAligned),
+        b'+' => Some(IntFlag::PlusSign),
+        b' ' => Some(IntFlag::SpaceSign),
+        b'0' => Some(IntFlag::Zeros),
         _ => None,
     }
 }
 
 /// The flags with one more.
 #[inline(always)]
-fn with_mark(flags: Flags, mark: Mark) -> Flags
+fn with_mark(flags: Flags, mark: IntFlag) -> Flags
     ensures { result ≡ with_mark flags mark }
 {
     let mut more = flags;
     match mark {
-        Mark::Groups => more.groups = true,
-        Mark::LeftAligned => more.left = true,
-        Mark::PlusSign => more.plus = true,
-        Mark::SpaceSign => more.space = true,
-        Mark::Zeros => more.zeros = true,
+        IntFlag::Groups => more.groups = true,
+        IntFlag::LeftAligned => more.left = true,
+        IntFlag::PlusSign => more.plus = true,
+        IntFlag::SpaceSign => more.space = true,
+        IntFlag::Zeros => more.zeros = true,
     }
     more
 }
@@ -139,7 +139,7 @@ fn letter_of(bytes: &[u8]) -> Option<(bool, usize)>
 
 /// The conversion that bytes behind a `%` begin with, and how many bytes it takes.
 #[inline(always)]
-pub fn conversion_of(bytes: &[u8]) -> Option<(Conversion, usize)>
+pub fn conversion_of(bytes: &[u8]) -> Option<(IntConversion, usize)>
     ensures is { result ≡ conversion bytes.now }
     ensures within { IfSome result (λ r. r.1 ≤ length bytes.now) }
 {
@@ -149,7 +149,7 @@ pub fn conversion_of(bytes: &[u8]) -> Option<(Conversion, usize)>
     let (precision, more) = number_after(b'.', 0, &bytes[at..])?;
     at += more;
     let (signed, last) = letter_of(&bytes[at..])?;
-    let conversion = Conversion {
+    let conversion = IntConversion {
         flags,
         width,
         precision,

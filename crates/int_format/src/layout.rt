@@ -6,7 +6,7 @@ ghost use Rattle.digit_groups.specs.Digits.{last_digits};
 ghost use Rattle.int_format.specs.Ints.{is_number, shown, least_digits, sizes_of, sign_text, fill_of, padded, conversion_text};
 
 use crate::digits::digit_count;
-use crate::format::Conversion;
+use crate::format::IntConversion;
 use digit_groups::grouped_width;
 use numeric_cat::Numeric;
 
@@ -41,7 +41,7 @@ pub struct Laid {
 
 /// The magnitude that a conversion shows; `u` shows a number below 0 with 2^64 more.
 #[inline(always)]
-fn magnitude_of(c: &Conversion, value: i128) -> u64
+fn magnitude_of(c: &IntConversion, value: i128) -> u64
     requires { is_number value ≡ true }
     ensures { result ≡ shown c.now.signed value }
 {
@@ -55,7 +55,7 @@ fn magnitude_of(c: &Conversion, value: i128) -> u64
 
 /// What stands for the sign.
 #[inline(always)]
-fn sign_of(c: &Conversion, value: i128) -> &'static [u8]
+fn sign_of(c: &IntConversion, value: i128) -> &'static [u8]
     ensures is { result.now ≡ sign_text c.now value }
     ensures short { length result.now ≤ 1 }
 {
@@ -74,7 +74,7 @@ fn sign_of(c: &Conversion, value: i128) -> &'static [u8]
 
 /// Where the bytes stand that fill the field.
 #[inline(always)]
-fn fill_of(c: &Conversion) -> Fill
+fn fill_of(c: &IntConversion) -> Fill
     ensures { result ≡ fill_of c.now }
 {
     if c.flags.left {
@@ -88,7 +88,7 @@ fn fill_of(c: &Conversion) -> Fill
 
 /// The sizes of groups.
 #[inline(always)]
-pub fn sizes_of<'a>(n: &'a Numeric, c: &Conversion) -> &'a [i32]
+pub fn sizes_of<'a>(n: &'a Numeric, c: &IntConversion) -> &'a [i32]
     ensures { result.now ≡ sizes_of n.now c.now }
 {
     if c.flags.groups { n.grouping() } else { &[] }
@@ -96,7 +96,7 @@ pub fn sizes_of<'a>(n: &'a Numeric, c: &Conversion) -> &'a [i32]
 
 /// The least number of digits.
 #[inline(always)]
-fn least_digits(c: &Conversion) -> usize
+fn least_digits(c: &IntConversion) -> usize
     ensures is { result ≡ least_digits c.now }
     ensures few { result ≤ 255 }
 {
@@ -117,7 +117,7 @@ fn padding_of(width: u8, text: u128) -> usize
 
 /// A number laid out in a conversion.
 #[inline(always)]
-pub fn laid_out(n: &Numeric, c: &Conversion, value: i128) -> Laid
+pub fn laid_out(n: &Numeric, c: &IntConversion, value: i128) -> Laid
     requires { is_number value ≡ true }
     ensures few { result.digits ≤ 255 }
     ensures text { padded result.fill result.padding result.sign.now (grouped (last_digits result.digits result.magnitude) (sizes_of n.now c.now) n.now.thousands_sep) ≡ conversion_text n.now c.now value }

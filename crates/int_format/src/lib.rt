@@ -15,7 +15,7 @@ mod write;
 
 use digit_groups::{FormatConversion, format_into, write_format};
 pub use fault::IntFault;
-use format::{Conversion, conversion_of};
+use format::{IntConversion, conversion_of};
 use lc_base::{ByteText, FormatRefusal};
 use numeric_cat::Numeric;
 pub use read::{numbers_are_told_apart, read_grouped};
@@ -45,7 +45,7 @@ pub fn int_format(
 {
     let mut out = Vec::new(alloc);
     let room = first_room(format, numbers.len());
-    match format_into::<Conversion>(&mut out, n, format, numbers, room, max) {
+    match format_into::<IntConversion>(&mut out, n, format, numbers, room, max) {
         Ok(()) => Ok(ByteText::from_vec(out)),
         Err(fault) => Err(IntFault::from(fault)),
     }
@@ -66,7 +66,7 @@ pub fn int_format_to(
     requires { list_all is_number numbers.now ≡ true }
     ensures { Written buffer.old buffer.new result (ints n.now format.now numbers.now) }
 {
-    write_format::<Conversion>(buffer, n, format, numbers)
+    write_format::<IntConversion>(buffer, n, format, numbers)
 }
 
 /// How many bytes a text of a format with so many numbers has at first room for. A conversion has two
@@ -77,7 +77,7 @@ fn first_room(format: &[u8], numbers: usize) -> usize {
     format.len().saturating_add(written.saturating_mul(SPARE))
 }
 
-impl FormatConversion for Conversion {
+impl FormatConversion for IntConversion {
     ghost use Rattle.lc_base.specs.declared.refusal.FormatRefusal.TheVariants.{MissingNumber};
     ghost use Rattle.int_format.specs.Formats.{conversion};
     ghost use Rattle.int_format.specs.Ints.{conversion_text, is_number};
@@ -95,7 +95,7 @@ impl FormatConversion for Conversion {
     ghost lacks = { λ at. MissingNumber at };
 
     #[inline(always)]
-    fn read(bytes: &[u8]) -> Option<(Conversion, usize)> {
+    fn read(bytes: &[u8]) -> Option<(IntConversion, usize)> {
         conversion_of(bytes)
     }
 

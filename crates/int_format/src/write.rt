@@ -6,7 +6,7 @@ ghost use Rattle.digit_groups.specs.Digits.{last_digits};
 ghost use Rattle.digit_groups.specs.Groups.{grouped};
 ghost use Rattle.int_format.specs.Ints.{is_number, sizes_of, padded, conversion_text};
 
-use crate::format::Conversion;
+use crate::format::IntConversion;
 use crate::layout::{Fill, Laid, laid_out, sizes_of};
 use digit_groups::{write_before, write_grouped, write_repeated};
 use numeric_cat::Numeric;
@@ -14,7 +14,7 @@ use numeric_cat::Numeric;
 /// Writes the digits of a number that is laid out over the bytes before `end`, and says where they
 /// begin.
 #[inline(always)]
-fn write_number(target: &mut [u8], end: usize, n: &Numeric, c: &Conversion, laid: &Laid) -> usize
+fn write_number(target: &mut [u8], end: usize, n: &Numeric, c: &IntConversion, laid: &Laid) -> usize
     requires room { length (grouped (last_digits laid.now.digits laid.now.magnitude) (sizes_of n.now c.now) n.now.thousands_sep) ≤ end }
     requires within { end ≤ length target.old }
     ensures begins { result + length (grouped (last_digits laid.now.digits laid.now.magnitude) (sizes_of n.now c.now) n.now.thousands_sep) ≡ end }
@@ -32,7 +32,7 @@ fn write_number(target: &mut [u8], end: usize, n: &Numeric, c: &Conversion, laid
 
 /// Writes the text of a number that is laid out over the bytes before `end`, and says where it begins.
 #[inline(always)]
-fn write_text(target: &mut [u8], end: usize, n: &Numeric, c: &Conversion, laid: &Laid) -> usize
+fn write_text(target: &mut [u8], end: usize, n: &Numeric, c: &IntConversion, laid: &Laid) -> usize
     requires room { length (padded laid.now.fill laid.now.padding laid.now.sign.now (grouped (last_digits laid.now.digits laid.now.magnitude) (sizes_of n.now c.now) n.now.thousands_sep)) ≤ end }
     requires within { end ≤ length target.old }
     ensures begins { result + length (padded laid.now.fill laid.now.padding laid.now.sign.now (grouped (last_digits laid.now.digits laid.now.magnitude) (sizes_of n.now c.now) n.now.thousands_sep)) ≡ end }
@@ -59,7 +59,7 @@ fn write_text(target: &mut [u8], end: usize, n: &Numeric, c: &Conversion, laid: 
 
 /// Writes the text of a number that is laid out over bytes that are just as many.
 #[inline(always)]
-fn fill_text(target: &mut [u8], n: &Numeric, c: &Conversion, laid: &Laid)
+fn fill_text(target: &mut [u8], n: &Numeric, c: &IntConversion, laid: &Laid)
     requires { length target.old ≡ length (padded laid.now.fill laid.now.padding laid.now.sign.now (grouped (last_digits laid.now.digits laid.now.magnitude) (sizes_of n.now c.now) n.now.thousands_sep)) }
     ensures { target.new ≡ padded laid.now.fill laid.now.padding laid.now.sign.now (grouped (last_digits laid.now.digits laid.now.magnitude) (sizes_of n.now c.now) n.now.thousands_sep) }
 {
@@ -69,7 +69,7 @@ fn fill_text(target: &mut [u8], n: &Numeric, c: &Conversion, laid: &Laid)
 /// Writes the text of a number to the front of a buffer, if it has room for all of it, and says how
 /// many bytes the text has.
 #[inline(always)]
-pub fn put_number(target: &mut [u8], n: &Numeric, c: &Conversion, value: i128) -> u128
+pub fn put_number(target: &mut [u8], n: &Numeric, c: &IntConversion, value: i128) -> u128
     requires { is_number value ≡ true }
     ensures width { result ≡ length (conversion_text n.now c.now value) }
     ensures written { result ≤ length target.old → target.new ≡ over target.old 0 (conversion_text n.now c.now value) }
@@ -85,7 +85,7 @@ pub fn put_number(target: &mut [u8], n: &Numeric, c: &Conversion, value: i128) -
 
 /// How many bytes the text of a number has.
 #[inline(never)]
-pub fn width_of(n: &Numeric, c: &Conversion, value: i128) -> u128
+pub fn width_of(n: &Numeric, c: &IntConversion, value: i128) -> u128
     requires { is_number value ≡ true }
     ensures { result ≡ length (conversion_text n.now c.now value) }
 {

@@ -2,7 +2,7 @@
 use Rattle.std.specs.Prelude.{if◌then◌else◌}
 use Rattle.std.proofs.Common.{◌≡◌, ℕ, List, [], ◌∷◌, ◌++◌, refl, ap, append_assoc}
 use Rattle.lc_base.specs.declared.block.Block.{Block}
-use Rattle.library_parts.specs.declared.part.Part.{Part}
+use Rattle.library_parts.specs.declared.part.LibraryPart.{LibraryPart}
 use Rattle.library_parts.specs.declared.part.PartKind.{PartKind}
 use Rattle.library_parts.specs.declared.part.PartKind.TheVariants.{Charmap, Source, Catalog}
 use Rattle.library_parts.specs.declared.blocks.Blocks.{Blocks}
@@ -13,7 +13,7 @@ abbrev pub joined_blocks : Blocks → List Block → List Block → List Block �
 joined_blocks s cs ss ts bs = record { charmaps = s.charmaps ++ cs; sources = s.sources ++ ss; catalogs = s.catalogs ++ ts; befores = s.befores ++ bs }
 
 -- the blocks so far, with those of parts behind so many lines
-abbrev pub blocks_from : Blocks → ℕ → List Part → Blocks
+abbrev pub blocks_from : Blocks → ℕ → List LibraryPart → Blocks
 blocks_from s before ps = joined_blocks s (blocks_of Charmap before ps) (blocks_of Source before ps) (blocks_of Catalog before ps) (befores before ps)
 
 append_nil : {A : Type 0} (xs : List A) → xs ++ [] ≡ xs
@@ -31,7 +31,7 @@ taken s Source b n cs ss ts bs = simp append_assoc
 taken s Catalog b n cs ss ts bs = simp append_assoc
 
 -- a part that was taken
-pub blocks_step : (s : Blocks) (before : ℕ) (p : Part) (ps : List Part) → blocks_from (with_block s before p) (behind_part before p) ps ≡ blocks_from s before (p ∷ ps)
+pub blocks_step : (s : Blocks) (before : ℕ) (p : LibraryPart) (ps : List LibraryPart) → blocks_from (with_block s before p) (behind_part before p) ps ≡ blocks_from s before (p ∷ ps)
 blocks_step s before p ps =
     let next = behind_part before p in
     taken s p.kind (block before p) before (blocks_of Charmap next ps) (blocks_of Source next ps) (blocks_of Catalog next ps) (befores next ps)

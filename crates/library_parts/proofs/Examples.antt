@@ -4,7 +4,7 @@ use Rattle.lc_base.specs.declared.place.Place.{Place}
 use Rattle.lc_base.specs.declared.block.Block.{Block}
 use Rattle.lc_base.specs.declared.reason.Reason.TheVariants.{CopyMissing}
 use Rattle.library_parts.specs.declared.fault.Wrong.TheVariants.{BadName, NameTwice, NoCharmap, Text}
-use Rattle.library_parts.specs.declared.part.Part.{Part}
+use Rattle.library_parts.specs.declared.part.LibraryPart.{LibraryPart}
 use Rattle.library_parts.specs.declared.part.PartKind.TheVariants.{Charmap, Source, Catalog}
 use Rattle.library_parts.specs.declared.books.NamedBook.{NamedBook}
 use Rattle.library_parts.specs.Books.{number_of, message_at}
@@ -23,13 +23,13 @@ lent = line (codes "LC_NUMERIC") ++ line (codes "END LC_NUMERIC")
 abbrev copying : List ℕ
 copying = line (codes "LC_NUMERIC") ++ line (codes "copy \"a\"") ++ line (codes "END LC_NUMERIC")
 
-abbrev source : List ℕ → List ℕ → List ℕ → Part
+abbrev source : List ℕ → List ℕ → List ℕ → LibraryPart
 source name charset text = record { kind = Source; name = name; label = charset; text = text }
 
-abbrev charmap : List ℕ → List ℕ → Part
+abbrev charmap : List ℕ → List ℕ → LibraryPart
 charmap name text = record { kind = Charmap; name = name; label = []; text = text }
 
-abbrev catalog : List ℕ → List ℕ → List ℕ → Part
+abbrev catalog : List ℕ → List ℕ → List ℕ → LibraryPart
 catalog name locale text = record { kind = Catalog; name = name; label = locale; text = text }
 
 abbrev at : ℕ → ℕ → Place
@@ -39,7 +39,7 @@ abbrev source_block : List ℕ → ℕ → List ℕ → Block
 source_block name first text = record { name = name; charset = codes "UTF-8"; first_line = first; text = text }
 
 -- a source, a catalog, and a source that copies the first one's category
-abbrev three : List Part
+abbrev three : List LibraryPart
 three = source (codes "a") (codes "UTF-8") lent ∷ catalog (codes "m") (codes "a") (codes "1 x") ∷ source (codes "b") (codes "UTF-8") copying ∷ []
 
 -- a text without its last newline has as many lines as one with it

@@ -3,7 +3,7 @@ use Rattle.std.specs.Prelude.{nat_lt, ◌==◌, ◌||◌, if◌then◌else◌}
 use Rattle.std.specs.List.{list_any}
 use Rattle.std.proofs.Common.{◌≡◌, ℕ, ◌+◌, ◌-◌, ◌<◌, ◌≤◌, Bool, true, false, cond, List, [], ◌∷◌, ◌++◌, length, refl, sym, ◌∙◌, ap, subst, arith}
 use Rattle.std.proofs.lemmas.Bool.Decides.{nat_tests}
-use Rattle.library_parts.specs.declared.part.Part.{Part}
+use Rattle.library_parts.specs.declared.part.LibraryPart.{LibraryPart}
 use Rattle.library_parts.specs.Lines.{line_count}
 use Rattle.library_parts.specs.Parts.{catalog_key}
 use Rattle.library_parts.specs.Places.{befores, behind_part, found_line, own_line, lines_behind}
@@ -14,18 +14,18 @@ pair a b = (a, b)
 -- ---- places
 
 -- a part stands behind more lines than those before it
-pub befores_rise : (before : ℕ) (p : Part) → before < behind_part before p
+pub befores_rise : (before : ℕ) (p : LibraryPart) → before < behind_part before p
 befores_rise before p = omega arith
 
 -- a part behind as many lines or more has no such line
-stays : (best : ℕ × ℕ) (n line before : ℕ) (ps : List Part) → line ≤ before → found_line best n line (befores before ps) ≡ best
+stays : (best : ℕ × ℕ) (n line before : ℕ) (ps : List LibraryPart) → line ≤ before → found_line best n line (befores before ps) ≡ best
 stays best n line before [] h = refl
 stays best n line before (p ∷ ps) h =
     let no : nat_lt before line ≡ false = grind (arith, nat_tests) in
     let P : Bool → Type 0 = λ t. found_line (cond t (n, line - before) best) (n + 1) line (befores (behind_part before p) ps) ≡ best in
     subst P (sym no) (stays best (n + 1) line (behind_part before p) ps (omega arith))
 
-found_back : (best : ℕ × ℕ) (n before k : ℕ) (ps : List Part) (p : Part) (qs : List Part) → 0 < k → k ≤ line_count p.text + 1
+found_back : (best : ℕ × ℕ) (n before k : ℕ) (ps : List LibraryPart) (p : LibraryPart) (qs : List LibraryPart) → 0 < k → k ≤ line_count p.text + 1
     → found_line best n (lines_behind before ps + k) (befores before (ps ++ p ∷ qs)) ≡ pair (n + length ps) k
 found_back best n before k [] p qs some within =
     let yes : nat_lt before (before + k) ≡ true = grind (arith, nat_tests) in
@@ -39,7 +39,7 @@ found_back best n before k (x ∷ ps) p qs some within =
     found_back (if nat_lt before line then (n, line - before) else best) (n + 1) (behind_part before x) k ps p qs some within ∙ ap (λ (m : ℕ). pair m k) count
 
 -- a line of a part, or the one behind its last, is told of that part as its own line
-pub own_line-back : (ps : List Part) (p : Part) (qs : List Part) (k : ℕ) → 0 < k → k ≤ line_count p.text + 1 → own_line (befores 0 (ps ++ p ∷ qs)) (lines_behind 0 ps + k) ≡ pair (length ps) k
+pub own_line-back : (ps : List LibraryPart) (p : LibraryPart) (qs : List LibraryPart) (k : ℕ) → 0 < k → k ≤ line_count p.text + 1 → own_line (befores 0 (ps ++ p ∷ qs)) (lines_behind 0 ps + k) ≡ pair (length ps) k
 own_line-back ps p qs k some within =
     let line : ℕ = lines_behind 0 ps + k in
     let count : 0 + length ps ≡ length ps = omega arith in

@@ -12,7 +12,7 @@ use Rattle.lc_base.specs.Tables.{first_named}
 use Rattle.lc_base.specs.declared.block.Block.{Block}
 use Rattle.library_parts.specs.declared.fault.Wrong.{Wrong}
 use Rattle.library_parts.specs.declared.fault.Wrong.TheVariants.{TooLong, BadName, NameTwice, TooMany}
-use Rattle.library_parts.specs.declared.part.Part.{Part}
+use Rattle.library_parts.specs.declared.part.LibraryPart.{LibraryPart}
 use Rattle.library_parts.specs.declared.part.PartKind.{PartKind}
 use Rattle.library_parts.specs.declared.part.PartKind.TheVariants.{Charmap, Source, Catalog}
 use Rattle.library_parts.specs.declared.seen.Seen.{Seen}
@@ -39,7 +39,7 @@ passed false true false true e = absurd cc
 passed false true false false e = record { short = refl; new = refl; few = refl }
 
 -- a part in which nothing is wrong
-part_passed : (s : Seen) (p : Part) → wrong_with s p ≡ None → Passed (is_long s p) (is_some (first_named (names_in s p.kind) (key p))) (nat_le PART_LIMIT (length (names_in s p.kind)))
+part_passed : (s : Seen) (p : LibraryPart) → wrong_with s p ≡ None → Passed (is_long s p) (is_some (first_named (names_in s p.kind) (key p))) (nat_le PART_LIMIT (length (names_in s p.kind)))
 part_passed s p e = passed (is_long s p) (is_named p) (is_some (first_named (names_in s p.kind) (key p))) (nat_le PART_LIMIT (length (names_in s p.kind))) e
 
 -- a part that was seen
@@ -66,7 +66,7 @@ sizes : (a b : ℕ) → (nat_le SIZE_LIMIT a || nat_le SIZE_LIMIT b) ≡ false �
 sizes a b e = let each = both_false (nat_le SIZE_LIMIT a) (nat_le SIZE_LIMIT b) e in (short a each.0, short b each.1)
 
 -- parts that were seen have the sizes that readers take
-pub seen_sized : (s : Seen) (n : ℕ) (ps : List Part) (t : Seen) → parts_seen s n ps ≡ Ok t → AreSized s.before ps
+pub seen_sized : (s : Seen) (n : ℕ) (ps : List LibraryPart) (t : Seen) → parts_seen s n ps ≡ Ok t → AreSized s.before ps
 seen_sized s n [] t e = tt
 seen_sized s n (p ∷ ps) t e =
     let rest : Seen → Tells Seen = λ u. parts_seen u (n + 1) ps in
@@ -80,12 +80,12 @@ either_sized : (b : Bool) (x : Block) (xs : List Block) → IsSized x → AllByR
 either_sized true x xs h k = (h, k)
 either_sized false x xs h k = k
 
-sized_from : (kind : PartKind) (before : ℕ) (ps : List Part) → AreSized before ps → AllByRecursion IsSized (blocks_of kind before ps)
+sized_from : (kind : PartKind) (before : ℕ) (ps : List LibraryPart) → AreSized before ps → AllByRecursion IsSized (blocks_of kind before ps)
 sized_from kind before [] h = tt
 sized_from kind before (p ∷ ps) h =
     either_sized (same_kind kind p.kind) (block before p) (blocks_of kind (behind_part before p) ps) (record { text = h.0; line = h.1 }) (sized_from kind (behind_part before p) ps h.2)
 
-pub blocks_sized : (kind : PartKind) (ps : List Part) → AreSized 0 ps → All IsSized (blocks_of kind 0 ps)
+pub blocks_sized : (kind : PartKind) (ps : List LibraryPart) → AreSized 0 ps → All IsSized (blocks_of kind 0 ps)
 blocks_sized kind ps h = All-from_recursion IsSized (blocks_of kind 0 ps) (sized_from kind 0 ps h)
 
 -- ---- how many
@@ -119,7 +119,7 @@ kept_names s b Charmap = refl
 kept_names s b Source = refl
 kept_names s b Catalog = refl
 
-few_from : (kind : PartKind) (s : Seen) (n : ℕ) (before : ℕ) (ps : List Part) (t : Seen) → parts_seen s n ps ≡ Ok t → length (names_in s kind) ≤ PART_LIMIT → length (names_in s kind) + length (blocks_of kind before ps) ≤ PART_LIMIT
+few_from : (kind : PartKind) (s : Seen) (n : ℕ) (before : ℕ) (ps : List LibraryPart) (t : Seen) → parts_seen s n ps ≡ Ok t → length (names_in s kind) ≤ PART_LIMIT → length (names_in s kind) + length (blocks_of kind before ps) ≤ PART_LIMIT
 few_from kind s n before [] t e room = omega arith
 few_from kind s n before (p ∷ ps) t e room =
     let rest : Seen → Tells Seen = λ u. parts_seen u (n + 1) ps in
@@ -132,5 +132,5 @@ few_from kind s n before (p ∷ ps) t e room =
     (few_from kind (with_part s n p) (n + 1) (behind_part before p) ps t there.1 (subst (λ (ns : List (List ℕ × ℕ)). length ns ≤ PART_LIMIT) (sym same) room')))
 
 -- there are few blocks of each kind
-pub blocks_few : (kind : PartKind) (s : Seen) (ps : List Part) (t : Seen) → parts_seen s 0 ps ≡ Ok t → length (names_in s kind) ≡ 0 → length (blocks_of kind 0 ps) ≤ PART_LIMIT
+pub blocks_few : (kind : PartKind) (s : Seen) (ps : List LibraryPart) (t : Seen) → parts_seen s 0 ps ≡ Ok t → length (names_in s kind) ≡ 0 → length (blocks_of kind 0 ps) ≤ PART_LIMIT
 blocks_few kind s ps t e none = let few = few_from kind s 0 0 ps t e (omega arith) in omega arith

@@ -7,7 +7,7 @@ use Rattle.lc_base.specs.Reading.{◌>>=◌}
 use Rattle.script_words.specs.Names.{is_formed, is_locale_name, is_part_name, is_charmap_name}
 use Rattle.library_parts.specs.declared.fault.Wrong.{Wrong}
 use Rattle.library_parts.specs.declared.fault.Wrong.TheVariants.{TooLong, BadName, NameTwice, TooMany, NoCharmap}
-use Rattle.library_parts.specs.declared.part.Part.{Part}
+use Rattle.library_parts.specs.declared.part.LibraryPart.{LibraryPart}
 use Rattle.library_parts.specs.declared.part.PartKind.{PartKind}
 use Rattle.library_parts.specs.declared.part.PartKind.TheVariants.{Charmap, Source, Catalog}
 use Rattle.library_parts.specs.declared.seen.Seen.{Seen}
@@ -22,7 +22,7 @@ Names = List (List ℕ × ℕ)
 -- ---- one part
 
 -- whether the name and the label are formed as those of the part's kind, as a bundle wants them of a block
-abbrev pub is_named : Part → Bool
+abbrev pub is_named : LibraryPart → Bool
 is_named p = elim p.kind [
   | Charmap ↦ is_charmap_name p.name && (length p.label == 0)
   | Source ↦ is_locale_name p.name && is_formed p.label
@@ -34,7 +34,7 @@ abbrev pub catalog_key : List ℕ → List ℕ → List ℕ
 catalog_key name locale = name ++ 47 ∷ locale
 
 -- the key of a part, which it has alone among those of its kind
-abbrev pub key : Part → List ℕ
+abbrev pub key : LibraryPart → List ℕ
 key p = elim p.kind [
   | Charmap ↦ p.name
   | Source ↦ p.name
@@ -60,11 +60,11 @@ with_name s Source name n = record s { sources = with_named s.sources name n }
 with_name s Catalog name n = record s { catalogs = with_named s.catalogs name n }
 
 -- whether a part is too long, or stands behind too many lines
-abbrev pub is_long : Seen → Part → Bool
+abbrev pub is_long : Seen → LibraryPart → Bool
 is_long s p = nat_le SIZE_LIMIT (length p.text) || nat_le SIZE_LIMIT (s.before + 1)
 
 -- what is wrong with a part behind others: its size, its name, that another has it, or that there are too many
-abbrev pub wrong_with : Seen → Part → Option Wrong
+abbrev pub wrong_with : Seen → LibraryPart → Option Wrong
 wrong_with s p =
     if is_long s p then Some TooLong else
     if not (is_named p) then Some BadName else
@@ -72,26 +72,26 @@ wrong_with s p =
     if nat_le PART_LIMIT (length (names_in s p.kind)) then Some TooMany else None
 
 -- behind one more line than a part has
-abbrev pub behind : Seen → Part → Seen
+abbrev pub behind : Seen → LibraryPart → Seen
 behind s p = record s { before = s.before + (line_count p.text + 1) }
 
 -- one part more, which has this number
-abbrev pub with_part : Seen → ℕ → Part → Seen
+abbrev pub with_part : Seen → ℕ → LibraryPart → Seen
 with_part s n p = behind (with_name s p.kind (key p) n) p
 
 -- a part with this number
-abbrev pub part_seen : Seen → ℕ → Part → Tells Seen
+abbrev pub part_seen : Seen → ℕ → LibraryPart → Tells Seen
 part_seen s n p = elim (wrong_with s p) [ None ↦ Ok (with_part s n p) | Some wrong ↦ Err (n, wrong) ]
 
 -- one part after another, up to the first that is wrong; the first of them has this number
-abbrev pub parts_seen : Seen → ℕ → List Part → Tells Seen
+abbrev pub parts_seen : Seen → ℕ → List LibraryPart → Tells Seen
 parts_seen s n [] = Ok s
 parts_seen s n (p ∷ ps) = part_seen s n p >>= λ t. parts_seen t (n + 1) ps
 
 -- ---- charsets
 
 -- whether a part is a source whose charset is neither built in nor one of these charmaps
-abbrev pub lacks_charset : Names → Part → Bool
+abbrev pub lacks_charset : Names → LibraryPart → Bool
 lacks_charset charmaps p = elim p.kind [
   | Charmap ↦ false
   | Source ↦ not (bytes_eq p.label (codes "UTF-8") || bytes_eq p.label (codes "POSIX") || is_some (first_named charmaps p.label))
@@ -99,6 +99,6 @@ lacks_charset charmaps p = elim p.kind [
 ]
 
 -- parts whose charsets are known, up to the first whose charset is not; the first of them has this number
-abbrev pub charsets_known : Names → ℕ → List Part → Tells (Unit {0})
+abbrev pub charsets_known : Names → ℕ → List LibraryPart → Tells (Unit {0})
 charsets_known charmaps n [] = Ok tt
 charsets_known charmaps n (p ∷ ps) = if lacks_charset charmaps p then Err (n, NoCharmap) else charsets_known charmaps (n + 1) ps

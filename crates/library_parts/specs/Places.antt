@@ -7,7 +7,7 @@ use Rattle.lc_base.specs.declared.reason.Reason.{Reason}
 use Rattle.lc_base.specs.declared.fault.TextFault.{TextFault}
 use Rattle.lc_base.specs.declared.fault.TextFault.TheVariants as texts
 use Rattle.lc_base.specs.Reading.{Reads}
-use Rattle.library_parts.specs.declared.part.Part.{Part}
+use Rattle.library_parts.specs.declared.part.LibraryPart.{LibraryPart}
 use Rattle.library_parts.specs.declared.part.PartKind.{PartKind}
 use Rattle.library_parts.specs.declared.part.PartKind.TheVariants.{Charmap, Source, Catalog}
 use Rattle.library_parts.specs.declared.fault.Wrong.{Wrong}
@@ -21,16 +21,16 @@ use Rattle.library_parts.specs.Told.{Tells}
 -- ---- blocks
 
 -- how many lines stand before what follows a part
-abbrev pub behind_part : ℕ → Part → ℕ
+abbrev pub behind_part : ℕ → LibraryPart → ℕ
 behind_part before p = before + (line_count p.text + 1)
 
 -- how many lines stand before each of parts, if so many stand before the first
-abbrev pub befores : ℕ → List Part → List ℕ
+abbrev pub befores : ℕ → List LibraryPart → List ℕ
 befores before [] = []
 befores before (p ∷ ps) = before ∷ befores (behind_part before p) ps
 
 -- a part behind so many lines as a block
-abbrev pub block : ℕ → Part → Block
+abbrev pub block : ℕ → LibraryPart → Block
 block before p = record { name = p.name; charset = p.label; first_line = before + 1; text = p.text }
 
 abbrev pub same_kind : PartKind → PartKind → Bool
@@ -45,12 +45,12 @@ same_kind Catalog Source = false
 same_kind Catalog Catalog = true
 
 -- the blocks of a kind, in order, behind so many lines
-abbrev pub blocks_of : PartKind → ℕ → List Part → List Block
+abbrev pub blocks_of : PartKind → ℕ → List LibraryPart → List Block
 blocks_of kind before [] = []
 blocks_of kind before (p ∷ ps) = if same_kind kind p.kind then block before p ∷ blocks_of kind (behind_part before p) ps else blocks_of kind (behind_part before p) ps
 
 -- what parts give
-abbrev pub blocks_of_parts : List Part → Blocks
+abbrev pub blocks_of_parts : List LibraryPart → Blocks
 blocks_of_parts ps = record { charmaps = blocks_of Charmap 0 ps; sources = blocks_of Source 0 ps; catalogs = blocks_of Catalog 0 ps; befores = befores 0 ps }
 
 abbrev pub no_blocks : Blocks
@@ -63,11 +63,11 @@ more_blocks s Source block before = record s { sources = s.sources ++ block ∷ 
 more_blocks s Catalog block before = record s { catalogs = s.catalogs ++ block ∷ []; befores = s.befores ++ before ∷ [] }
 
 -- one part more, behind so many lines
-abbrev pub with_block : Blocks → ℕ → Part → Blocks
+abbrev pub with_block : Blocks → ℕ → LibraryPart → Blocks
 with_block s before p = more_blocks s p.kind (block before p) before
 
 -- parts behind so many lines have the sizes that readers of texts take
-abbrev pub AreSized : ℕ → List Part → Type 0
+abbrev pub AreSized : ℕ → List LibraryPart → Type 0
 AreSized before [] = Unit {0}
 AreSized before (p ∷ ps) = (length p.text < 2 ^ 31) × (before + 1 < 2 ^ 31) × AreSized (behind_part before p) ps
 
@@ -103,6 +103,6 @@ part_fault bs (texts.At place reason) = let t = told bs (place, reason) in At t.
 -- ---- what the laws speak of
 
 -- how many lines stand before what follows parts, if so many stand before them
-abbrev pub lines_behind : ℕ → List Part → ℕ
+abbrev pub lines_behind : ℕ → List LibraryPart → ℕ
 lines_behind before [] = before
 lines_behind before (p ∷ ps) = lines_behind (behind_part before p) ps

@@ -5,7 +5,7 @@ ghost use Rattle.lc_base.specs.Blocks.{IsSized};
 ghost use Rattle.library_parts.specs.Places.{AreSized, with_block, blocks_of_parts, no_blocks};
 
 use crate::lines::line_count;
-use crate::part::{Part, PartKind};
+use crate::part::{LibraryPart, PartKind};
 use lc_base::{Block, List};
 use std::alloc::{AllocError, Global};
 
@@ -52,7 +52,7 @@ impl Blocks {
     }
 
     /// Takes a part behind so many lines.
-    fn add(&mut self, alloc: Global, before: u32, part: Part) -> Result<(), AllocError>
+    fn add(&mut self, alloc: Global, before: u32, part: LibraryPart) -> Result<(), AllocError>
         requires { before + 1 < 2 ^ 31 }
         ensures { OnOk result (self.new ≡ with_block self.old before part) }
     {
@@ -65,7 +65,7 @@ impl Blocks {
     }
 
     /// The blocks of parts. Copies no text.
-    pub fn of(alloc: Global, parts: Vec<Part>) -> Result<Blocks, AllocError>
+    pub fn of(alloc: Global, parts: Vec<LibraryPart>) -> Result<Blocks, AllocError>
         requires { AreSized 0 parts.items }
         ensures is { IfOk result (λ b. b ≡ blocks_of_parts parts.items) }
         ensures charmaps { IfOk result (λ b. All IsSized b.charmaps) }

@@ -10,7 +10,7 @@ ghost use Rattle.library_parts.specs.Made.{made_from, made};
 use crate::blocks::Blocks;
 use crate::books::Books;
 use crate::fault::PartFault;
-use crate::part::Part;
+use crate::part::LibraryPart;
 use crate::place::part_fault;
 use crate::seen::{PART_LIMIT, charsets_known, parts_seen};
 use category_store::Library;
@@ -78,7 +78,7 @@ fn made_from(alloc: Global, blocks: &Blocks) -> Result<Made, TextFault>
 /// The refusal is the first fault of the parts in their order, each by its size, its name, that
 /// another has the name, and the number of its kind; then of the charsets; then of the charmaps in
 /// their order, of the sources, of their copies and of their categories; and then of the catalogs.
-pub fn made_of(alloc: Global, parts: Vec<Part>) -> Result<Made, PartFault>
+pub fn made_of(alloc: Global, parts: Vec<LibraryPart>) -> Result<Made, PartFault>
     ensures is { Gives (λ m. m) result (made parts.items) }
     ensures numbered { IfOk result (λ m. IsNumbered m.library) }
     ensures installable { IfOk result (λ m. IsInstallable m.library) }

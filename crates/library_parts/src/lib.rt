@@ -13,5 +13,5 @@ mod seen;
 pub use books::{Books, NamedBook};
 pub use fault::{PartFault, Wrong};
 pub use from_parts::{Made, made_of};
-pub use part::{Part, PartKind};
+pub use part::{LibraryPart, PartKind};
 pub use seen::PART_LIMIT;

@@ -17,7 +17,7 @@ pub enum PartKind {
 }
 
 /// A part of a library.
-pub struct Part {
+pub struct LibraryPart {
     pub kind: PartKind,
     /// The name of the charmap, the locale or the catalog.
     pub name: ByteText,
@@ -28,9 +28,9 @@ pub struct Part {
     pub text: ByteText,
 }
 
-impl Drop for Part {
+impl Drop for LibraryPart {
     fn drop(self) {
-        let Part {
+        let LibraryPart {
             kind: _,
             name: _,
             label: _,
@@ -39,13 +39,13 @@ impl Drop for Part {
     }
 }
 
-impl Part {
+impl LibraryPart {
     /// The block of the part behind so many lines. Takes no memory.
     pub(crate) fn into_block(self, before: u32) -> Block
         requires { before + 1 < 2 ^ 31 }
         ensures { result ≡ block before self }
     {
-        let Part {
+        let LibraryPart {
             kind: _,
             name,
             label,

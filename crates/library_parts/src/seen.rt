@@ -9,7 +9,7 @@ ghost use Rattle.library_parts.specs.declared.part.PartKind.TheVariants.{Source,
 
 use crate::fault::{PartFault, Wrong};
 use crate::lines::line_count;
-use crate::part::{Part, PartKind};
+use crate::part::{LibraryPart, PartKind};
 use lc_base::ByName;
 use script_words::{is_charmap_name, is_formed, is_locale_name, is_part_name};
 use std::alloc::{AllocError, Global};
@@ -41,7 +41,7 @@ impl Drop for Seen {
 }
 
 /// Whether a part has a name and a label that are formed as those of its kind.
-fn is_named(part: &Part) -> bool
+fn is_named(part: &LibraryPart) -> bool
     ensures { result ≡ is_named part.now }
 {
     let name = part.name.as_bytes();
@@ -54,7 +54,7 @@ fn is_named(part: &Part) -> bool
 }
 
 /// The key of a part among those of its kind.
-fn key(alloc: Global, part: &Part) -> Result<Vec<u8>, AllocError>
+fn key(alloc: Global, part: &LibraryPart) -> Result<Vec<u8>, AllocError>
     ensures { IfOk result (λ v. v.items ≡ key part.now) }
 {
     let mut key = Vec::from_slice(alloc, part.name.as_bytes())?;
@@ -107,7 +107,7 @@ impl Seen {
     }
 
     /// What is wrong with a part that has this key.
-    fn wrong_with(&self, part: &Part, bytes: &[u8]) -> Option<Wrong>
+    fn wrong_with(&self, part: &LibraryPart, bytes: &[u8]) -> Option<Wrong>
         requires { bytes.now ≡ key part.now }
         ensures { result ≡ wrong_with self.now part.now }
     {
@@ -128,7 +128,7 @@ impl Seen {
     }
 
     /// Takes the part with this number.
-    fn add(&mut self, alloc: Global, number: usize, part: &Part) -> Result<(), PartFault>
+    fn add(&mut self, alloc: Global, number: usize, part: &LibraryPart) -> Result<(), PartFault>
         ensures { Gives (λ _. self.new) result (part_seen self.old number part.now) }
     {
         let key = key(alloc, part)?;
@@ -142,7 +142,7 @@ impl Seen {
 }
 
 /// What is known of parts, or the first that is wrong.
-pub fn parts_seen(alloc: Global, parts: &[Part]) -> Result<Seen, PartFault>
+pub fn parts_seen(alloc: Global, parts: &[LibraryPart]) -> Result<Seen, PartFault>
     ensures is { Gives (λ s. s) result (parts_seen at_first 0 parts.now) }
     ensures sized { IfOk result (λ s. AreSized 0 parts.now) }
     ensures few_sources { IfOk result (λ s. length (blocks_of Source 0 parts.now) ≤ PART_LIMIT) }
@@ -156,7 +156,7 @@ pub fn parts_seen(alloc: Global, parts: &[Part]) -> Result<Seen, PartFault>
 }
 
 /// Whether a part is a source whose charset is neither built in nor one of these charmaps.
-fn lacks_charset(charmaps: &ByName<usize>, part: &Part) -> bool
+fn lacks_charset(charmaps: &ByName<usize>, part: &LibraryPart) -> bool
     ensures { result ≡ lacks_charset charmaps.now part.now }
 {
     let charset = part.label.as_bytes();
@@ -171,7 +171,7 @@ fn lacks_charset(charmaps: &ByName<usize>, part: &Part) -> bool
 }
 
 /// The first source whose charset is not known.
-pub fn charsets_known(charmaps: &ByName<usize>, parts: &[Part]) -> Result<(), PartFault>
+pub fn charsets_known(charmaps: &ByName<usize>, parts: &[LibraryPart]) -> Result<(), PartFault>
     ensures { Gives (λ x. x) result (charsets_known charmaps.now 0 parts.now) }
 {
     for (number, part) in parts.iter().enumerate() {

@@ -1,7 +1,7 @@
 -- Libraries that are read, built and joined, each behind a pointer of the caller (our own).
 use Rattle.std.specs.Prelude.{◌≡◌, ◌⊎◌, ℕ, zero, suc, List, [], ◌∷◌, ◌++◌, Option, Some, None}
 use Rattle.lc_base.specs.Reading.{Reads}
-use Rattle.library_parts.specs.declared.part.Part.{Part}
+use Rattle.library_parts.specs.declared.part.LibraryPart.{LibraryPart}
 use Rattle.library_parts.specs.declared.part.PartKind.{PartKind}
 use Rattle.library_parts.specs.declared.part.PartKind.TheVariants.{Charmap, Source, Catalog}
 use Rattle.library_parts.specs.Told.{Tells}
@@ -23,7 +23,7 @@ IsReadUnlessMemory text wanted a held held' fault fault' old new =
     IsRead text wanted a held held' fault fault' old new ⊎ IsLeft a held held' fault fault' old new
 
 -- a library is built, or the first fault of its parts told; or it is out of memory
-abbrev pub IsBuiltUnlessMemory : List Part → Tells Stock → LobjAnswer → Option Stock → Option Stock → LobjFault → LobjFault → List ℕ → List ℕ → Type 0
+abbrev pub IsBuiltUnlessMemory : List LibraryPart → Tells Stock → LobjAnswer → Option Stock → Option Stock → LobjFault → LobjFault → List ℕ → List ℕ → Type 0
 IsBuiltUnlessMemory parts wanted a held held' fault fault' old new =
     IsBuilt parts wanted a held held' fault fault' old new ⊎ IsLeft a held held' fault fault' old new
 
@@ -37,7 +37,7 @@ abbrev pub IsJoinedUnlessMemory : Option Stock → LobjAnswer → Option Stock �
 IsJoinedUnlessMemory wanted a held held' = IsJoined wanted a held held' ⊎ (a ≡ answered NO_MEMORY 0) × (held' ≡ held)
 
 -- a builder without parts is made; or it is out of memory, and all is as it was
-abbrev pub IsBegun : LobjAnswer → Option (List Part) → Option (List Part) → Type 0
+abbrev pub IsBegun : LobjAnswer → Option (List LibraryPart) → Option (List LibraryPart) → Type 0
 IsBegun a held held' = (a ≡ answered OK 0) × (held' ≡ Some []) ⊎ (a ≡ answered NO_MEMORY 0) × (held' ≡ held)
 
 -- the kind of parts with a number
@@ -48,13 +48,13 @@ kind_of (suc (suc zero)) = Some Catalog
 kind_of (suc (suc (suc n))) = None
 
 -- a part is added behind the others, if its kind is one; or it is out of memory. Else they are as they were
-abbrev pub IsAdded : Option PartKind → List ℕ → List ℕ → List ℕ → LobjAnswer → List Part → List Part → Type 0
+abbrev pub IsAdded : Option PartKind → List ℕ → List ℕ → List ℕ → LobjAnswer → List LibraryPart → List LibraryPart → Type 0
 IsAdded None name label text a parts parts' = (a ≡ answered NO_ITEM 0) × (parts' ≡ parts)
 IsAdded (Some kind) name label text a parts parts' =
     (a ≡ answered OK 0) × (parts' ≡ parts ++ part_of kind name label text ∷ []) ⊎ (a ≡ answered NO_MEMORY 0) × (parts' ≡ parts)
 
 -- the same of what is behind a pointer
-abbrev pub IsAddedBehind : Option PartKind → List ℕ → List ℕ → List ℕ → LobjAnswer → Option (List Part) → Option (List Part) → Type 0
+abbrev pub IsAddedBehind : Option PartKind → List ℕ → List ℕ → List ℕ → LobjAnswer → Option (List LibraryPart) → Option (List LibraryPart) → Type 0
 IsAddedBehind kind name label text a None held' = Unit {0}
 IsAddedBehind kind name label text a (Some parts) None = ⊥
 IsAddedBehind kind name label text a (Some parts) (Some parts') = IsAdded kind name label text a parts parts'

@@ -1,7 +1,7 @@
 //! Boxed parts of a library by their pointer.
 
 ghost use Rattle.std.specs.Prelude.{◌≡◌, List, Option, Some, IsSome};
-ghost use Rattle.library_parts.specs.declared.part.Part.{Part};
+ghost use Rattle.library_parts.specs.declared.part.LibraryPart.{LibraryPart};
 ghost use Rattle.locale_objects.specs.Builder.{builder_owns, parts_coded};
 
 use crate::hold::Opaque;
@@ -17,7 +17,7 @@ use std::marker::Model;
 pub struct Builder {
     at: *mut Opaque,
     alloc: Global,
-    pub ghost parts: { Option (List Part) } by { parts_coded },
+    pub ghost parts: { Option (List LibraryPart) } by { parts_coded },
 }
 
 impl Model for Builder {

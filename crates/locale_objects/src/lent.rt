@@ -1,7 +1,7 @@
 //! Libraries and builders that C lends for a call.
 
 ghost use Rattle.std.specs.Prelude.{◌≡◌, ℕ, List};
-ghost use Rattle.library_parts.specs.declared.part.Part.{Part};
+ghost use Rattle.library_parts.specs.declared.part.LibraryPart.{LibraryPart};
 ghost use Rattle.shared_objects.specs.Shared.{Stock};
 ghost use Rattle.locale_objects.specs.Lending.{library_lent, library_coded, parts_lent, parts_coded};
 
@@ -45,7 +45,7 @@ pub struct LentBuilder {
     at: *const Opaque,
     pub ghost life: { ℕ },
     pub ghost part: { ℕ },
-    pub ghost value: { List Part } by { parts_coded },
+    pub ghost value: { List LibraryPart } by { parts_coded },
 }
 
 impl Model for LentBuilder {

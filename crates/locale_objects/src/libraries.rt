@@ -13,7 +13,7 @@ use c_values::{
     LobjAnswer, LobjFault, NO_ITEM, NO_MEMORY, OK, TOO_MANY, answered, put_text_fault, put_wrong,
 };
 use lc_base::TextFault;
-use library_parts::{Part, PartFault, PartKind};
+use library_parts::{LibraryPart, PartFault, PartKind};
 use shared_objects::{Draft, JoinFault, Shelf};
 use std::alloc::{AllocError, Global};
 
@@ -46,7 +46,7 @@ pub fn read_into(
 /// Builds a library of parts, and puts it behind a pointer, or tells the first that is wrong.
 pub fn build_into(
     alloc: Global,
-    parts: &[Part],
+    parts: &[LibraryPart],
     out: &mut Hold,
     fault: &mut LobjFault,
     buffer: &mut [u8],

@@ -7,7 +7,7 @@ use Rattle.msg_catalog.specs.declared.book.Message.{Message}
 use Rattle.catalog_handles.specs.declared.handle.CatalogHandle.{CatalogHandle}
 use Rattle.catalog_handles.specs.declared.op.CatalogRefusal.TheVariants as catalog_refusals
 use Rattle.catalog_handles.specs.Entry as catalogs
-use Rattle.category_store.specs.Catalog.{Catalog}
+use Rattle.category_store.specs.LibraryData.{LibraryData}
 use Rattle.category_store.specs.Locale.{posix_locale}
 use Rattle.lc_base.specs.declared.handle.Handle.{Handle}
 use Rattle.lc_base.specs.declared.handle.Named.TheVariants.{Of, Global}
@@ -39,7 +39,7 @@ books = record {
   books = (text_of 1 1 (codes "Hello") ∷ text_of 1 2 (codes "Bye") ∷ text_of 2 1 (codes "Second") ∷ []) ∷ [] ∷ [];
 }
 
-abbrev library : Catalog
+abbrev library : LibraryData
 library = record {
   locales = record posix_locale { name = codes "us" } ∷ [];
   names = (codes "us", 1) ∷ [];

@@ -2,7 +2,7 @@
 use Rattle.std.specs.Prelude.{option_map, IfOk, OnOk}
 use Rattle.std.proofs.Common.{◌≡◌, ℕ, ◌+◌, Option, Some, None, Result, Ok, Err, List, length, refl, sym, ap, subst, ◌∙◌, arith}
 use Rattle.mask_compose.specs.Parts.{Parts}
-use Rattle.category_store.specs.Catalog.{Catalog}
+use Rattle.category_store.specs.LibraryData.{LibraryData}
 use Rattle.lc_base.specs.declared.handle.Named.{Named}
 use Rattle.handle_table.specs.Entry as table
 use Rattle.handle_table.specs.Entry.{History, Setting}
@@ -34,12 +34,12 @@ use Rattle.script_wishes.proofs.WishLemmas.{wish_same}
 
 -- ---- lines without a call
 
-pub refusal_leaves : (c : Setting) (library : Catalog) (books : Books) (later : History → History → Type 0) (at : History → Type 0) (H : History) (caller : Caller) (why : Why) (l : OutLine)
+pub refusal_leaves : (c : Setting) (library : LibraryData) (books : Books) (later : History → History → Type 0) (at : History → Type 0) (H : History) (caller : Caller) (why : Why) (l : OutLine)
     → at H → later H H → l ≡ plain_line caller (said.Refused why) → LeavesLine c library books later at H caller (Err why) l
 refusal_leaves c library books later at H caller why l here stays printed =
     (record { seen = H; first = H; second = H; asked = not_asked }, record { seen = refl; first = stays }, record { line = printed; now_at = here })
 
-pub selection_leaves : (c : Setting) (library : Catalog) (books : Books) (later : History → History → Type 0) (at : History → Type 0) (H : History) (caller : Caller) (number : ℕ) (selected : Named) (l : OutLine)
+pub selection_leaves : (c : Setting) (library : LibraryData) (books : Books) (later : History → History → Type 0) (at : History → Type 0) (H : History) (caller : Caller) (number : ℕ) (selected : Named) (l : OutLine)
     → caller.thread ≡ number → selected ≡ selection H number → at H → later H H → l ≡ plain_line caller (said.Is selected) → LeavesLine c library books later at H caller (Ok AsksSelection) l
 selection_leaves c library books later at H caller number selected l own is here stays printed = (
   record { seen = H; first = H; second = H; asked = not_asked },
@@ -52,7 +52,7 @@ selection_leaves c library books later at H caller number selected l own is here
 
 -- ---- reads of the thread's own object and of the global locale
 
-pub own_leaves : (c : Setting) (library : Catalog) (books : Books) (later : History → History → Type 0) (at : History → Type 0) (H : History) (caller : Caller) (read : Read) (number : ℕ) (object : Parts) (l : OutLine)
+pub own_leaves : (c : Setting) (library : LibraryData) (books : Books) (later : History → History → Type 0) (at : History → Type 0) (H : History) (caller : Caller) (read : Read) (number : ℕ) (object : Parts) (l : OutLine)
     → caller.thread ≡ number → Some object ≡ own H number → at H → later H H → l ≡ object_line library caller read object
     → LeavesLine c library books later at H caller (Ok (Reads read)) l
 own_leaves c library books later at H caller read number object l same is here stays printed =
@@ -60,7 +60,7 @@ own_leaves c library books later at H caller read number object l same is here s
     let m : Moments = record { seen = H; first = H; second = H; asked = not_asked } in
     (m, record { seen = refl; first = stays }, subst (λ (x : Option Parts). Left at (reads c library m caller read x) l) gives (record { line = printed; now_at = here }))
 
-pub global_leaves : (c : Setting) (library : Catalog) (books : Books) (later : History → History → Type 0) (at : History → Type 0) (H : History) (caller : Caller) (read : Read) (number version : ℕ) (object : Parts) (reply : Said) (l : OutLine)
+pub global_leaves : (c : Setting) (library : LibraryData) (books : Books) (later : History → History → Type 0) (at : History → Type 0) (H : History) (caller : Caller) (read : Read) (number version : ℕ) (object : Parts) (reply : Said) (l : OutLine)
     → caller.thread ≡ number → None ≡ own H number → Finds c later at H version object → reply ≡ local library object read → l ≡ line caller places.None (Some version) reply
     → LeavesLine c library books later at H caller (Ok (Reads read)) l
 global_leaves c library books later at H caller read number version object reply l same is found reply_is printed =
@@ -78,7 +78,7 @@ global_leaves c library books later at H caller read number version object reply
       }),
     )
 
-pub name_leaves : (c : Setting) (library : Catalog) (books : Books) (later : History → History → Type 0) (at : History → Type 0) (H : History) (caller : Caller) (categories : CategoryArgument) (version : ℕ) (object : Parts) (name : List ℕ) (l : OutLine)
+pub name_leaves : (c : Setting) (library : LibraryData) (books : Books) (later : History → History → Type 0) (at : History → Type 0) (H : History) (caller : Caller) (categories : CategoryArgument) (version : ℕ) (object : Parts) (name : List ℕ) (l : OutLine)
     → Finds c later at H version object → name ≡ object_name library object categories → l ≡ line caller places.None (Some version) (said.Name name)
     → LeavesLine c library books later at H caller (Ok (AsksName categories)) l
 name_leaves c library books later at H caller categories version object name l found named printed = (
@@ -96,7 +96,7 @@ name_leaves c library books later at H caller categories version object name l f
 
 -- ---- calls
 
-pub call_leaves : (c : Setting) (library : Catalog) (books : Books) (later : History → History → Type 0) (at : History → Type 0) (H : History) (caller : Caller) (categories : CategoryArgument) (op : table.Op) (number place : ℕ) (r : table.Reply) (l : OutLine)
+pub call_leaves : (c : Setting) (library : LibraryData) (books : Books) (later : History → History → Type 0) (at : History → Type 0) (H : History) (caller : Caller) (categories : CategoryArgument) (op : table.Op) (number place : ℕ) (r : table.Reply) (l : OutLine)
     → caller.thread ≡ number → Answers c later at number H op place r → l ≡ placed_line library place caller categories r
     → LeavesLine c library books later at H caller (Ok (Calls categories op)) l
 call_leaves c library books later at H caller categories op number place r l own answered printed =
@@ -115,7 +115,7 @@ call_leaves c library books later at H caller categories op number place r l own
 -- ---- reads of what is named
 
 -- of the object of the thread's open Hold
-pub held_leaves : (c : Setting) (library : Catalog) (books : Books) (later : History → History → Type 0) (at : History → Type 0) (H : History) (caller : Caller) (n : Named) (read : Read) (number : ℕ) (object : Parts) (l : OutLine)
+pub held_leaves : (c : Setting) (library : LibraryData) (books : Books) (later : History → History → Type 0) (at : History → Type 0) (H : History) (caller : Caller) (n : Named) (read : Read) (number : ℕ) (object : Parts) (l : OutLine)
     → caller.thread ≡ number → Some object ≡ held_as (open_holds H number) n → at H → later H H → l ≡ object_line library caller read object
     → LeavesLine c library books later at H caller (Ok (ReadsOf n read)) l
 held_leaves c library books later at H caller n read number object l own is here stays printed =
@@ -127,7 +127,7 @@ held_leaves c library books later at H caller n read number object l own is here
     )
 
 -- where there is none, between a Hold and a Release
-pub unheld_leaves : (c : Setting) (library : Catalog) (books : Books) (later : History → History → Type 0) (at : History → Type 0) (H : History) (caller : Caller) (n : Named) (read : Read) (number : ℕ) (l : OutLine)
+pub unheld_leaves : (c : Setting) (library : LibraryData) (books : Books) (later : History → History → Type 0) (at : History → Type 0) (H : History) (caller : Caller) (n : Named) (read : Read) (number : ℕ) (l : OutLine)
     → caller.thread ≡ number → None ≡ held_as (open_holds H number) n → LeavesReadBetween c library later at H caller n read l
     → LeavesLine c library books later at H caller (Ok (ReadsOf n read)) l
 unheld_leaves c library books later at H caller n read number l own is between =
@@ -138,7 +138,7 @@ unheld_leaves c library books later at H caller n read number l own is between =
     (m, between.1, subst (λ (x : Option Parts). Left at (reads_of c library m caller n read x) l) gives between.2)
 
 -- a Hold that gives an object, and a Release
-pub between_leaves : (c c' : Setting) (library : Catalog) (later : Setting → ℕ → History → History → Type 0) (at at' : History → Type 0) (H : History) (caller : Caller) (n : Named) (read : Read)
+pub between_leaves : (c c' : Setting) (library : LibraryData) (later : Setting → ℕ → History → History → Type 0) (at at' : History → Type 0) (H : History) (caller : Caller) (n : Named) (read : Read)
     (number number' place release : ℕ) (r r' : table.Reply) (object : Parts) (reply : Said) (l : OutLine)
     → caller.thread ≡ number → number' ≡ number → c' ≡ c → Answers c (later c number) at number H (table.Hold n) place r → object_held r ≡ Some object → reply ≡ local library object read
     → ((G : History) → at G → Answers c' (later c' number') at' number' G (table.Release n) release r') → l ≡ line caller (places.Two place release) None reply
@@ -166,7 +166,7 @@ between_leaves c c' library later at at' H caller n read number number' place re
     )
 
 -- a Hold that gives none
-pub unmade_leaves : (c c' : Setting) (library : Catalog) (later : Setting → ℕ → History → History → Type 0) (at : History → Type 0) (H : History) (caller : Caller) (n : Named) (read : Read)
+pub unmade_leaves : (c c' : Setting) (library : LibraryData) (later : Setting → ℕ → History → History → Type 0) (at : History → Type 0) (H : History) (caller : Caller) (n : Named) (read : Read)
     (number number' place : ℕ) (r : table.Reply) (l : OutLine)
     → caller.thread ≡ number → number' ≡ number → c' ≡ c → Answers c (later c number) at number H (table.Hold n) place r → object_held r ≡ None
     → ((G : History) → at G → later c' number' G G) → l ≡ placed_line library place caller All r
@@ -200,7 +200,7 @@ both_ok (Ok x) P Q p q = (p, q)
 both_ok (Err e) P Q p q = tt
 
 -- a line that asks nothing of them leaves the thread at their history
-pub unasked : (c : Setting) (library : Catalog) (books : Books) (later : History → History → Type 0) (catalogs_later : catalogs.History → catalogs.History → Type 0) (at : History → Type 0) (catalogs_at : catalogs.History → Type 0)
+pub unasked : (c : Setting) (library : LibraryData) (books : Books) (later : History → History → Type 0) (catalogs_later : catalogs.History → catalogs.History → Type 0) (at : History → Type 0) (catalogs_at : catalogs.History → Type 0)
     (H : History) (M : catalogs.History) (caller : Caller) (wish : Result Wish Why) (l : OutLine)
     → ((object : Parts) → catalog_op_by library books object wish ≡ None) → catalogs_at M → LeavesLine c library books later at H caller wish l
     → Leaves c library books later catalogs_later at catalogs_at H M caller wish l
@@ -213,7 +213,7 @@ unasked c library books later catalogs_later at catalogs_at H M caller wish l as
     )
 
 -- a catopen by the thread's own object
-pub own_opens : (c : Setting) (library : Catalog) (books : Books) (later : History → History → Type 0) (catalogs_later : catalogs.History → catalogs.History → Type 0) (at : History → Type 0) (catalogs_at : catalogs.History → Type 0)
+pub own_opens : (c : Setting) (library : LibraryData) (books : Books) (later : History → History → Type 0) (catalogs_later : catalogs.History → catalogs.History → Type 0) (at : History → Type 0) (catalogs_at : catalogs.History → Type 0)
     (H : History) (M : catalogs.History) (caller : Caller) (name : List ℕ) (number : ℕ) (object : Parts) (book : Option ℕ) (l : OutLine)
     → caller.thread ≡ number → Some object ≡ own H number → later H H → book ≡ book_for library books object name
     → LeavesAsked c later catalogs_later at catalogs_at caller.thread H M (option_map catalogs.Open book) (λ asked. open_line caller None asked book) l
@@ -231,7 +231,7 @@ own_opens c library books later catalogs_later at catalogs_at H M caller name nu
     )
 
 -- a catopen by the global locale
-pub global_opens : (c c' : Setting) (library : Catalog) (books : Books) (later : Setting → ℕ → History → History → Type 0) (catalogs_later : Setting → ℕ → catalogs.History → catalogs.History → Type 0)
+pub global_opens : (c c' : Setting) (library : LibraryData) (books : Books) (later : Setting → ℕ → History → History → Type 0) (catalogs_later : Setting → ℕ → catalogs.History → catalogs.History → Type 0)
     (at at' : History → Type 0) (catalogs_at : catalogs.History → Type 0) (H : History) (M : catalogs.History) (caller : Caller) (name : List ℕ) (number number' version : ℕ) (object : Parts) (book : Option ℕ) (l : OutLine)
     → caller.thread ≡ number → number' ≡ number → c' ≡ c → None ≡ own H number → Finds c (later c number) at H version object
     → book ≡ book_for library books object name
@@ -261,7 +261,7 @@ global_opens c c' library books later catalogs_later at at' catalogs_at H M call
     )
 
 -- a catgets
-pub message_leaves : (c : Setting) (library : Catalog) (books : Books) (later : History → History → Type 0) (catalogs_later : catalogs.History → catalogs.History → Type 0) (at : History → Type 0) (catalogs_at : catalogs.History → Type 0)
+pub message_leaves : (c : Setting) (library : LibraryData) (books : Books) (later : History → History → Type 0) (catalogs_later : catalogs.History → catalogs.History → Type 0) (at : History → Type 0) (catalogs_at : catalogs.History → Type 0)
     (H : History) (M : catalogs.History) (caller : Caller) (h : Handle) (meant : CatalogHandle) (set message : ℕ) (default : List ℕ) (number place : ℕ) (r : catalogs.Reply) (reply : Said) (l : OutLine)
     → caller.thread ≡ number → later H H → meant ≡ handle_meant h → Asks c later catalogs_later at catalogs_at number H M (catalogs.Get meant) place r
     → reply ≡ message_shown books set message default r → l ≡ line caller (places.Catalog place) None reply
@@ -278,7 +278,7 @@ message_leaves c library books later catalogs_later at catalogs_at H M caller h 
     )
 
 -- a catclose
-pub close_leaves : (c : Setting) (library : Catalog) (books : Books) (later : History → History → Type 0) (catalogs_later : catalogs.History → catalogs.History → Type 0) (at : History → Type 0) (catalogs_at : catalogs.History → Type 0)
+pub close_leaves : (c : Setting) (library : LibraryData) (books : Books) (later : History → History → Type 0) (catalogs_later : catalogs.History → catalogs.History → Type 0) (at : History → Type 0) (catalogs_at : catalogs.History → Type 0)
     (H : History) (M : catalogs.History) (caller : Caller) (h : Handle) (meant : CatalogHandle) (number place : ℕ) (r : catalogs.Reply) (reply : Said) (l : OutLine)
     → caller.thread ≡ number → later H H → meant ≡ handle_meant h → Asks c later catalogs_later at catalogs_at number H M (catalogs.Close meant) place r
     → reply ≡ handle_reply_shown r → l ≡ line caller (places.Catalog place) None reply
@@ -314,7 +314,7 @@ book_asked c later catalogs_later at catalogs_at H M caller number place n versi
 -- ---- turns
 
 -- a line is counted, the wish is granted, and the variable is bound
-pub turn_leaves : {S : Type 0} (c : Setting) (library : Catalog) (books : Books) (number_of : S → ℕ) (later : ℕ → History → History → Type 0) (catalogs_later : ℕ → catalogs.History → catalogs.History → Type 0)
+pub turn_leaves : {S : Type 0} (c : Setting) (library : LibraryData) (books : Books) (number_of : S → ℕ) (later : ℕ → History → History → Type 0) (catalogs_later : ℕ → catalogs.History → catalogs.History → Type 0)
     (at at' : S → History → Type 0) (catalogs_at catalogs_at' : S → catalogs.History → Type 0) (H : History) (M : catalogs.History) (bounds : List Bound) (lines : ℕ) (turn : Turn)
     (before counting served after : S) (caller : Caller) (variables : Bindings) (w : Result Wish Why) (l : OutLine)
     → turn.thread ≡ number_of before → counting ≡ before → after ≡ served → caller ≡ record { round = turn.round; thread = number_of before; index = lines + 1 }

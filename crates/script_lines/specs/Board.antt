@@ -6,7 +6,7 @@ use Rattle.mask_compose.specs.Parts.{Parts}
 use Rattle.catalog_handles.specs.declared.setting.CatalogSetting.{CatalogSetting}
 use Rattle.catalog_handles.specs.Entry as catalogs
 use Rattle.catalog_handles.specs.Answer as catalog_answers
-use Rattle.category_store.specs.Catalog.{Catalog}
+use Rattle.category_store.specs.LibraryData.{LibraryData}
 use Rattle.lc_base.specs.declared.handle.Named.{Named}
 use Rattle.handle_table.specs.Entry as table
 use Rattle.handle_table.specs.Entry.{History, Setting}
@@ -78,41 +78,41 @@ pub record Moments : Type 0 where
 -- ---- what a wish leaves
 
 -- a Hold that gives this object, a read of it, and a Release; the Hold alone where it gives none
-abbrev pub reads_between : Setting → Catalog → Moments → Caller → Named → Read → Option Parts → Outcome
+abbrev pub reads_between : Setting → LibraryData → Moments → Caller → Named → Read → Option Parts → Outcome
 reads_between c library m at n read None = calls c library m.first at All (table.Hold n)
 reads_between c library m at n read (Some object) = record {
   history = with_call c m.second at.thread (table.Release n);
   line = held_line library (length m.first) (length m.second) at read object;
 }
 
-abbrev pub held_or_refused : Setting → Catalog → Moments → Caller → Named → Read → Outcome
+abbrev pub held_or_refused : Setting → LibraryData → Moments → Caller → Named → Read → Outcome
 held_or_refused c library m at n read = reads_between c library m at n read (object_held (answer c m.first at.thread (table.Hold n)))
 
 -- a read of what is named: of the object that the thread's open Hold of it gave, or of the one that a Hold gives
-abbrev pub reads_of : Setting → Catalog → Moments → Caller → Named → Read → Option Parts → Outcome
+abbrev pub reads_of : Setting → LibraryData → Moments → Caller → Named → Read → Option Parts → Outcome
 reads_of c library m at n read (Some object) = without_entry m.seen (object_line library at read object)
 reads_of c library m at n read None = held_or_refused c library m at n read
 
 -- a read of the thread's own object, or of the global locale with its version
-abbrev pub reads : Setting → Catalog → Moments → Caller → Read → Option Parts → Outcome
+abbrev pub reads : Setting → LibraryData → Moments → Caller → Read → Option Parts → Outcome
 reads c library m at read (Some object) = without_entry m.seen (object_line library at read object)
 reads c library m at read None = without_entry m.first (read_line c library m.first at read None)
 
 -- the name of the global locale with its version
-abbrev pub asks_name : Setting → Catalog → Moments → Caller → CategoryArgument → Outcome
+abbrev pub asks_name : Setting → LibraryData → Moments → Caller → CategoryArgument → Outcome
 asks_name c library m at categories = without_entry m.first (name_line c library m.first at categories)
 
 -- what a wish asks of the catalogs: a catopen goes by the thread's own object, or by the global locale
-abbrev pub catalog_op : Setting → Catalog → Books → Moments → ℕ → Result Wish Why → Option catalogs.Op
+abbrev pub catalog_op : Setting → LibraryData → Books → Moments → ℕ → Result Wish Why → Option catalogs.Op
 catalog_op c library books m thread wish = catalog_op_by library books (object_used (own m.seen thread) (global c m.first)) wish
 
 -- a catopen by the thread's own object, or by the global locale with its version
-abbrev pub opens : Setting → Catalog → Books → Moments → Caller → List ℕ → Option Parts → Outcome
+abbrev pub opens : Setting → LibraryData → Books → Moments → Caller → List ℕ → Option Parts → Outcome
 opens c library books m at name (Some object) = without_entry m.second (open_line at None m.asked (book_for library books object name))
 opens c library books m at name None = without_entry m.second (open_line at (Some (sets m.first)) m.asked (book_for library books (global c m.first) name))
 
 -- what a wish leaves: a thread's selection, its own object and its Holds are those that it had seen
-abbrev pub granted_at : Setting → Catalog → Books → Moments → Caller → Result Wish Why → Outcome
+abbrev pub granted_at : Setting → LibraryData → Books → Moments → Caller → Result Wish Why → Outcome
 granted_at c library books m at (Err why) = without_entry m.seen (plain_line at (said.Refused why))
 granted_at c library books m at (Ok (Calls categories op)) = calls c library m.first at categories op
 granted_at c library books m at (Ok (ReadsOf n read)) = reads_of c library m at n read (held_as (open_holds m.seen at.thread) n)
@@ -173,17 +173,17 @@ pub record LeavesAsked (c : Setting) (later : History → History → Type 0) (c
   pub left : LeftCatalogs (catalog_setting c) catalogs_later catalogs_at thread M op (length H) (length behind) asked
 
 -- moments by which the line is that of the wish, and the thread has gone on in the history of the table
-abbrev pub LeavesLine : Setting → Catalog → Books → (History → History → Type 0) → (History → Type 0) → History → Caller → Result Wish Why → OutLine → Type 0
+abbrev pub LeavesLine : Setting → LibraryData → Books → (History → History → Type 0) → (History → Type 0) → History → Caller → Result Wish Why → OutLine → Type 0
 LeavesLine c library books later at H caller wish l =
     (m : Moments) × AreMomentsOf c later caller.thread H wish m × Left at (granted_at c library books m caller wish) l
 
 -- the same of a read of what is named, of which the thread has no open Hold
-abbrev pub LeavesReadBetween : Setting → Catalog → (History → History → Type 0) → (History → Type 0) → History → Caller → Named → Read → OutLine → Type 0
+abbrev pub LeavesReadBetween : Setting → LibraryData → (History → History → Type 0) → (History → Type 0) → History → Caller → Named → Read → OutLine → Type 0
 LeavesReadBetween c library later at H caller n read l =
     (m : Moments) × AreMomentsBetween c later caller.thread H n m × Left at (held_or_refused c library m caller n read) l
 
 -- moments by which the line is that of the wish, and the thread has gone on in the history of the table and in that of the catalogs
-abbrev pub Leaves : Setting → Catalog → Books → (History → History → Type 0) → (catalogs.History → catalogs.History → Type 0) → (History → Type 0) → (catalogs.History → Type 0)
+abbrev pub Leaves : Setting → LibraryData → Books → (History → History → Type 0) → (catalogs.History → catalogs.History → Type 0) → (History → Type 0) → (catalogs.History → Type 0)
     → History → catalogs.History → Caller → Result Wish Why → OutLine → Type 0
 Leaves c library books later catalogs_later at catalogs_at H M caller wish l =
     (m : Moments) × AreMomentsOf c later caller.thread H wish m × Left at (granted_at c library books m caller wish) l
@@ -193,7 +193,7 @@ Leaves c library books later catalogs_later at catalogs_at H M caller wish l =
 abbrev pub turn_caller : ℕ → Turn → Caller
 turn_caller lines turn = record { round = turn.round; thread = turn.thread; index = lines + 1 }
 
-abbrev pub LeavesTurn : Setting → Catalog → Books → (History → History → Type 0) → (catalogs.History → catalogs.History → Type 0) → (History → Type 0) → (catalogs.History → Type 0)
+abbrev pub LeavesTurn : Setting → LibraryData → Books → (History → History → Type 0) → (catalogs.History → catalogs.History → Type 0) → (History → Type 0) → (catalogs.History → Type 0)
     → History → catalogs.History → List Bound → ℕ → Turn → OutLine → Type 0
 LeavesTurn c library books later catalogs_later at catalogs_at H M bounds lines turn l =
     Leaves c library books later catalogs_later at catalogs_at H M (turn_caller lines turn) (wish_of library (bindings_of turn.thread bounds) turn.task) l

@@ -14,7 +14,7 @@ use Rattle.catalog_handles.specs.declared.op.CatalogRefusal.{CatalogRefusal}
 use Rattle.catalog_handles.specs.declared.op.CatalogRefusal.TheVariants as catalog_refusals
 use Rattle.catalog_handles.specs.Entry as catalogs
 use Rattle.catalog_handles.specs.Answer as answers
-use Rattle.category_store.specs.Catalog.{Catalog}
+use Rattle.category_store.specs.LibraryData.{LibraryData}
 use Rattle.lc_base.specs.declared.handle.Handle.{Handle}
 use Rattle.handle_table.specs.declared.op.Refusal.{Refusal}
 use Rattle.handle_table.specs.declared.op.Refusal.TheVariants as refusals
@@ -49,7 +49,7 @@ abbrev pub message_at : Books → ℕ → ℕ → ℕ → Option (List ℕ)
 message_at books n set message = option_and_then (text_at set message) (slice_get books.books n)
 
 -- the catalog that a name names for an object: the one for the locale of its LC_MESSAGES
-abbrev pub book_for : Catalog → Books → Parts → List ℕ → Option ℕ
+abbrev pub book_for : LibraryData → Books → Parts → List ℕ → Option ℕ
 book_for library books object name = book_named books name (part_name library object categories.Messages)
 
 -- the number of a catalog
@@ -76,7 +76,7 @@ abbrev pub object_used : Option Parts → Parts → Parts
 object_used own global = unwrap_or own global
 
 -- the op of a wish of a thread that goes by an object: none where there is no such catalog, and none of a wish of the table
-abbrev pub wished_catalog_op : Catalog → Books → Parts → Wish → Option catalogs.Op
+abbrev pub wished_catalog_op : LibraryData → Books → Parts → Wish → Option catalogs.Op
 wished_catalog_op library books object (OpensCatalog name) = option_map catalogs.Open (book_for library books object name)
 wished_catalog_op library books object (GetsMessage h set message default) = Some (catalogs.Get (handle_meant h))
 wished_catalog_op library books object (ClosesCatalog h) = Some (catalogs.Close (handle_meant h))
@@ -86,7 +86,7 @@ wished_catalog_op library books object (Reads read) = None
 wished_catalog_op library books object AsksSelection = None
 wished_catalog_op library books object (AsksName chosen) = None
 
-abbrev pub catalog_op_by : Catalog → Books → Parts → Result Wish Why → Option catalogs.Op
+abbrev pub catalog_op_by : LibraryData → Books → Parts → Result Wish Why → Option catalogs.Op
 catalog_op_by library books object (Ok wish) = wished_catalog_op library books object wish
 catalog_op_by library books object (Err why) = None
 

@@ -1,7 +1,7 @@
 -- The lines of a script, by the replies of the table (our own).
 use Rattle.std.specs.Prelude.{ℕ, length, Option, Some, None}
 use Rattle.mask_compose.specs.Parts.{Parts}
-use Rattle.category_store.specs.Catalog.{Catalog}
+use Rattle.category_store.specs.LibraryData.{LibraryData}
 use Rattle.handle_table.specs.Entry as table
 use Rattle.handle_table.specs.Entry.{History}
 use Rattle.script_words.specs.declared.categories.CategoryArgument.{CategoryArgument}
@@ -18,7 +18,7 @@ use Rattle.script_reads.specs.Reads.{local}
 -- ---- replies
 
 -- the printed form of a reply of the table; a change of the global locale prints the name of what the command chose
-abbrev pub shown : Catalog → CategoryArgument → table.Reply → Said
+abbrev pub shown : LibraryData → CategoryArgument → table.Reply → Said
 shown library categories (table.Made h) = said.Handle h
 shown library categories table.Freed = said.Freed
 shown library categories (table.Was former now) = said.Was former
@@ -63,24 +63,24 @@ abbrev pub plain_line : Caller → Said → OutLine
 plain_line at reply = line at places.None None reply
 
 -- the line of an entry at a place
-abbrev pub placed_line : Catalog → ℕ → Caller → CategoryArgument → table.Reply → OutLine
+abbrev pub placed_line : LibraryData → ℕ → Caller → CategoryArgument → table.Reply → OutLine
 placed_line library place at categories reply = line at (places.One place) (version_made reply) (shown library categories reply)
 
 -- the line of the next entry
-abbrev pub entry_line : Catalog → History → Caller → CategoryArgument → table.Reply → OutLine
+abbrev pub entry_line : LibraryData → History → Caller → CategoryArgument → table.Reply → OutLine
 entry_line library H at categories reply = placed_line library (length H) at categories reply
 
 -- the line of a read of an object
-abbrev pub object_line : Catalog → Caller → Read → Parts → OutLine
+abbrev pub object_line : LibraryData → Caller → Read → Parts → OutLine
 object_line library at read object = plain_line at (local library object read)
 
 -- the line of a read of an object between a Hold and its Release, which have these places
-abbrev pub held_line : Catalog → ℕ → ℕ → Caller → Read → Parts → OutLine
+abbrev pub held_line : LibraryData → ℕ → ℕ → Caller → Read → Parts → OutLine
 held_line library hold release at read object = line at (places.Two hold release) None (local library object read)
 
 -- a line that reads the global locale: its object as it was at a version, with that version
-abbrev pub global_read_line : Catalog → Caller → Read → ℕ → Parts → OutLine
+abbrev pub global_read_line : LibraryData → Caller → Read → ℕ → Parts → OutLine
 global_read_line library at read version object = line at places.None (Some version) (local library object read)
 
-abbrev pub global_name_line : Catalog → Caller → CategoryArgument → ℕ → Parts → OutLine
+abbrev pub global_name_line : LibraryData → Caller → CategoryArgument → ℕ → Parts → OutLine
 global_name_line library at categories version object = line at places.None (Some version) (said.Name (object_name library object categories))

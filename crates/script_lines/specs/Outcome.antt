@@ -1,7 +1,7 @@
 -- What a line of a thread is, by the histories of the calls of a table and of catalogs that nobody else calls meanwhile (our own).
 use Rattle.std.specs.Prelude.{ℕ, List, ◌∷◌, length, Option, Some, None, Result, Ok, Err}
 use Rattle.mask_compose.specs.Parts.{Parts}
-use Rattle.category_store.specs.Catalog.{Catalog}
+use Rattle.category_store.specs.LibraryData.{LibraryData}
 use Rattle.lc_base.specs.declared.handle.Named.{Named}
 use Rattle.handle_table.specs.Entry as table
 use Rattle.handle_table.specs.Entry.{History, Setting}
@@ -33,54 +33,54 @@ abbrev pub with_call : Setting → History → ℕ → table.Op → History
 with_call c H thread op = entry c H thread op ∷ H
 
 -- a call, whose line prints its answer
-abbrev pub calls : Setting → Catalog → History → Caller → CategoryArgument → table.Op → Outcome
+abbrev pub calls : Setting → LibraryData → History → Caller → CategoryArgument → table.Op → Outcome
 calls c library H at categories op = record {
   history = with_call c H at.thread op;
   line = entry_line library H at categories (answer c H at.thread op);
 }
 
 -- a Hold that gives this object, a read of it, and a Release; the Hold alone where it gives none
-abbrev pub reads_between : Setting → Catalog → History → Caller → Named → Read → Option Parts → Outcome
+abbrev pub reads_between : Setting → LibraryData → History → Caller → Named → Read → Option Parts → Outcome
 reads_between c library H at n read None = calls c library H at All (table.Hold n)
 reads_between c library H at n read (Some object) =
     let held = with_call c H at.thread (table.Hold n) in
     record { history = with_call c held at.thread (table.Release n); line = held_line library (length H) (length held) at read object }
 
-abbrev pub held_or_refused : Setting → Catalog → History → Caller → Named → Read → Outcome
+abbrev pub held_or_refused : Setting → LibraryData → History → Caller → Named → Read → Outcome
 held_or_refused c library H at n read = reads_between c library H at n read (object_held (answer c H at.thread (table.Hold n)))
 
 -- a read of what is named: of the object that the thread's open Hold of it gave, or of the one that a Hold gives
-abbrev pub reads_of : Setting → Catalog → History → Caller → Named → Read → Option Parts → Outcome
+abbrev pub reads_of : Setting → LibraryData → History → Caller → Named → Read → Option Parts → Outcome
 reads_of c library H at n read (Some object) = without_entry H (object_line library at read object)
 reads_of c library H at n read None = held_or_refused c library H at n read
 
 -- a read of the thread's own object, or of the global locale with its version
-abbrev pub read_line : Setting → Catalog → History → Caller → Read → Option Parts → OutLine
+abbrev pub read_line : Setting → LibraryData → History → Caller → Read → Option Parts → OutLine
 read_line c library H at read (Some object) = object_line library at read object
 read_line c library H at read None = global_read_line library at read (sets H) (global c H)
 
 -- the name of the global locale with its version, whatever the thread has selected
-abbrev pub name_line : Setting → Catalog → History → Caller → CategoryArgument → OutLine
+abbrev pub name_line : Setting → LibraryData → History → Caller → CategoryArgument → OutLine
 name_line c library H at categories = global_name_line library at categories (sets H) (global c H)
 
 -- what a wish asks of the catalogs, what they answer after their history, and their history then; the stamp of
 -- the entry counts all of the table
-abbrev pub catalog_op_of : Setting → Catalog → Books → History → ℕ → Result Wish Why → Option catalogs.Op
+abbrev pub catalog_op_of : Setting → LibraryData → Books → History → ℕ → Result Wish Why → Option catalogs.Op
 catalog_op_of c library books H thread wish = catalog_op_by library books (object_used (own H thread) (global c H)) wish
 
-abbrev pub asked_of : Setting → Catalog → Books → History → catalogs.History → ℕ → Result Wish Why → Asked
+abbrev pub asked_of : Setting → LibraryData → Books → History → catalogs.History → ℕ → Result Wish Why → Asked
 asked_of c library books H M thread wish = asked_after (catalog_setting c) M thread (catalog_op_of c library books H thread wish)
 
-abbrev pub catalogs_left : Setting → Catalog → Books → History → catalogs.History → ℕ → Result Wish Why → catalogs.History
+abbrev pub catalogs_left : Setting → LibraryData → Books → History → catalogs.History → ℕ → Result Wish Why → catalogs.History
 catalogs_left c library books H M thread wish = catalogs_after (catalog_setting c) M thread (length H) (catalog_op_of c library books H thread wish)
 
 -- a catopen by the thread's own object, or by the global locale with its version
-abbrev pub opens_line : Setting → Catalog → Books → History → Caller → List ℕ → Asked → Option Parts → OutLine
+abbrev pub opens_line : Setting → LibraryData → Books → History → Caller → List ℕ → Asked → Option Parts → OutLine
 opens_line c library books H at name asked (Some object) = open_line at None asked (book_for library books object name)
 opens_line c library books H at name asked None = open_line at (Some (sets H)) asked (book_for library books (global c H) name)
 
 -- what a wish leaves after a history, where the catalogs have answered this; a refusal without an entry is printed alone
-abbrev pub granted_as : Setting → Catalog → Books → History → Asked → Caller → Result Wish Why → Outcome
+abbrev pub granted_as : Setting → LibraryData → Books → History → Asked → Caller → Result Wish Why → Outcome
 granted_as c library books H asked at (Err why) = without_entry H (plain_line at (said.Refused why))
 granted_as c library books H asked at (Ok (Calls categories op)) = calls c library H at categories op
 granted_as c library books H asked at (Ok (ReadsOf n read)) = reads_of c library H at n read (held_as (open_holds H at.thread) n)
@@ -92,5 +92,5 @@ granted_as c library books H asked at (Ok (GetsMessage h set message default)) =
 granted_as c library books H asked at (Ok (ClosesCatalog h)) = without_entry H (close_line at asked)
 
 -- what a wish leaves after a history of the table and one of the catalogs
-abbrev pub granted : Setting → Catalog → Books → History → catalogs.History → Caller → Result Wish Why → Outcome
+abbrev pub granted : Setting → LibraryData → Books → History → catalogs.History → Caller → Result Wish Why → Outcome
 granted c library books H M at wish = granted_as c library books H (asked_of c library books H M at.thread wish) at wish

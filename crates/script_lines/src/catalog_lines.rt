@@ -5,7 +5,7 @@ ghost use Rattle.std.specs.Option.{option_map};
 ghost use Rattle.handle_table.specs.Entry.{History};
 ghost use Rattle.catalog_handles.specs.Entry as catalogs;
 ghost use Rattle.script_lines.specs.Board.{LeavesAsked, Leaves};
-ghost use Rattle.category_store.specs.Catalog.{Catalog};
+ghost use Rattle.category_store.specs.LibraryData.{LibraryData};
 ghost use Rattle.script_lines.specs.Catalogs.{Books as CatalogBooks, number_of, handle_meant, open_line};
 ghost use Rattle.script_lines.specs.Seen.{caller};
 ghost use Rattle.script_wishes.specs.Wishes.{OpensCatalog, GetsMessage, ClosesCatalog};
@@ -92,7 +92,7 @@ pub fn message_line<B: Board>(
 ) -> Result<OutLine, AllocError>
     requires ready { B.ready 1 board.old side.old }
     requires caller { at.thread ≡ B.Side.number_of side.old }
-    ensures leaves { IfOk result (λ l. (library : Catalog) (H : History) (M : catalogs.History) → B.at board.old side.old H → B.catalogs_at board.old side.old M
+    ensures leaves { IfOk result (λ l. (library : LibraryData) (H : History) (M : catalogs.History) → B.at board.old side.old H → B.catalogs_at board.old side.old M
         → Leaves (B.setting_of board.old) library books.now (B.later (B.setting_of board.old) (B.Side.number_of side.old)) (B.catalogs_later (B.setting_of board.old) (B.Side.number_of side.old)) (B.at board.new side.new) (B.catalogs_at board.new side.new) H M (caller at) (Ok (GetsMessage handle wanted.entry.set wanted.entry.message wanted.entry.default.now)) l) }
     ensures number { OnOk result (B.Side.number_of side.new ≡ B.Side.number_of side.old) }
     ensures setting { OnOk result (B.setting_of board.new ≡ B.setting_of board.old) }
@@ -114,7 +114,7 @@ pub fn close_line<B: Board>(
 ) -> OutLine
     requires ready { B.ready 1 board.old side.old }
     requires caller { at.thread ≡ B.Side.number_of side.old }
-    ensures leaves { (library : Catalog) (books : CatalogBooks) (H : History) (M : catalogs.History) → B.at board.old side.old H → B.catalogs_at board.old side.old M
+    ensures leaves { (library : LibraryData) (books : CatalogBooks) (H : History) (M : catalogs.History) → B.at board.old side.old H → B.catalogs_at board.old side.old M
         → Leaves (B.setting_of board.old) library books (B.later (B.setting_of board.old) (B.Side.number_of side.old)) (B.catalogs_later (B.setting_of board.old) (B.Side.number_of side.old)) (B.at board.new side.new) (B.catalogs_at board.new side.new) H M (caller at) (Ok (ClosesCatalog handle)) result }
     ensures number { B.Side.number_of side.new ≡ B.Side.number_of side.old }
     ensures setting { B.setting_of board.new ≡ B.setting_of board.old }

@@ -4,7 +4,7 @@ use Rattle.std.specs.Prelude.{◌==◌, if◌then◌else◌, zip, All}
 use Rattle.std.proofs.lemmas.Bool.{eqb-true, eqb-false, eq-eqb, ne_eqb}
 use Rattle.std.proofs.lemmas.List.Elements.{All-nil, All-cons, All-head, All-tail, All-append, All-weaker}
 use Rattle.mask_compose.specs.Parts.{Parts}
-use Rattle.category_store.specs.Catalog.{Catalog}
+use Rattle.category_store.specs.LibraryData.{LibraryData}
 use Rattle.lc_base.specs.declared.handle.Named.{Named}
 use Rattle.handle_table.specs.Entry as table
 use Rattle.handle_table.specs.Entry.{Entry, History, Setting}
@@ -56,12 +56,12 @@ after_wish c K t (Ok (GetsMessage h set message default)) = K
 after_wish c K t (Ok (ClosesCatalog h)) = K
 
 -- the line of a read of the thread's own object, or of the global locale, which nobody sets
-abbrev read_alone : Setting → Catalog → Caller → Read → Option Parts → OutLine
+abbrev read_alone : Setting → LibraryData → Caller → Read → Option Parts → OutLine
 read_alone c library at read (Some object) = object_line library at read object
 read_alone c library at read None = global_read_line library at read 0 (posix c)
 
 -- the line of what a thread asks for, without places, by the history of its own calls
-abbrev line_alone : Setting → Catalog → History → Caller → Result Wish Why → OutLine
+abbrev line_alone : Setting → LibraryData → History → Caller → Result Wish Why → OutLine
 line_alone c library H at (Err why) = plain_line at (said.Refused why)
 line_alone c library H at (Ok (Calls categories op)) = placeless (placed_line library 0 at categories (answer c H at.thread op))
 line_alone c library H at (Ok (ReadsOf n read)) = plain_line at said.Held
@@ -81,7 +81,7 @@ abbrev pub asked : TaskLine → Asked
 asked d = record { task = d.task; at = caller_of d.line }
 
 -- the lines of what is asked, each by the own calls of its thread
-abbrev pub lines_alone : Setting → Catalog → Histories → List Bound → List Asked → List OutLine
+abbrev pub lines_alone : Setting → LibraryData → Histories → List Bound → List Asked → List OutLine
 lines_alone c library K bounds [] = []
 lines_alone c library K bounds (a ∷ more) =
     let t : ℕ = a.at.thread in
@@ -340,7 +340,7 @@ module _ (c : Setting) (plan : PlanData) (lines : List OutLine) (M : CatalogHist
   all_alone K before [] w = refl
   all_alone K before (d ∷ after) w =
       let t : ℕ = d.line.thread in
-      let library : Catalog = plan.library in
+      let library : LibraryData = plan.library in
       let asks : Result Wish Why = wish_of library (bindings_of t (bound_by before)) d.task in
       let x : Around = around c plan lines M calls before after in
       let wished : IsOwnWish t (variable_bound d.task) asks = task_own library t (bound_by before) d.task w.own (All-head (λ (e : TaskLine). keeps e.task ≡ true) d after w.keep) in

@@ -6,7 +6,7 @@ use Rattle.lc_base.specs.declared.block.Block.{Block}
 use Rattle.msg_catalog.specs.declared.book.Message.{Message}
 use Rattle.numeric_cat.specs.NumericValues.{NumericValues}
 use Rattle.category_store.specs.Locale.{Locale, posix_locale}
-use Rattle.category_store.specs.Catalog.{Catalog}
+use Rattle.category_store.specs.LibraryData.{LibraryData}
 use Rattle.lc_base.specs.declared.handle.Handle.{Handle}
 use Rattle.lc_base.specs.declared.handle.Named.TheVariants as named
 use Rattle.handle_table.specs.declared.op.Refusal.{Refusal}
@@ -46,7 +46,7 @@ locale name = record posix_locale { name = name; available = 2; numeric = values
 abbrev later_locale : Locale
 later_locale = record posix_locale { name = codes "a"; available = 2; numeric = record values { decimal_point = codes ":" } }
 
-abbrev pub library : Catalog
+abbrev pub library : LibraryData
 library = record {
   locales = locale (codes "a") ∷ locale (codes "b") ∷ later_locale ∷ [];
   names = (codes "a", 1) ∷ (codes "b", 2) ∷ [];

@@ -19,7 +19,7 @@ use Rattle.category_store.specs.Blocks.{Placed as PlacedBlock, locale_block, lat
 use Rattle.category_store.specs.Sources.{charsets, charset_named, source_of, sources_of}
 use Rattle.locale_sources.specs.Copies.{copy_fault}
 use Rattle.category_store.specs.Compiled.{locales_of}
-use Rattle.category_store.specs.Catalog.{Catalog}
+use Rattle.category_store.specs.LibraryData.{LibraryData}
 use Rattle.category_store.specs.Library.{keys_after, keys_of, catalog_of, unless_fault, catalog_from, catalog_over, catalog, later}
 use Rattle.script_commands.specs.declared.command.Placed.{Placed}
 use Rattle.script_commands.specs.Known.{has_key}
@@ -138,10 +138,10 @@ all_found named n (s ∷ ss) key has =
 
 -- ---- libraries
 
-abbrev read : Catalog → Reads Catalog
+abbrev read : LibraryData → Reads LibraryData
 read c = Ok c
 
-ok_is : (x y : Catalog) → read x ≡ read y → x ≡ y
+ok_is : (x y : LibraryData) → read x ≡ read y → x ≡ y
 ok_is x y e = cc
 
 is_there : {A B : Type 0} (f : A → B) (o : Option A) → is_some o ≡ true → IsSome (option_map f o)
@@ -152,7 +152,7 @@ ok_at : {A : Type 0} (P : A → Type 0) (r : Reads A) (a : A) → r ≡ Ok a →
 ok_at P r a e h = subst (λ (x : Reads _). IfOk x P) e h
 
 -- each key of the later versions is one of the library's
-key_there : (charmaps locales : List Block) (versions : List Later) (native : Option Name) (library : Catalog) (key : Name) → catalog charmaps locales versions native ≡ Ok library → has_key versions key ≡ true
+key_there : (charmaps locales : List Block) (versions : List Later) (native : Option Name) (library : LibraryData) (key : Name) → catalog charmaps locales versions native ≡ Ok library → has_key versions key ≡ true
     → IsSome (later library key)
 key_there charmaps locales versions native library key e has =
     let sets = value_of (charsets charmaps) (λ sets. catalog_over sets locales versions native) library e in
@@ -160,11 +160,11 @@ key_there charmaps locales versions native library key e has =
     let compiled = value_of (unless_fault (copy_fault sources.0) (locales_of sources.0)) (λ made. Ok (catalog_of sources.0 native made)) library sources.2 in
     let placed : is_of_block key (by_place locales versions) ≡ true = of_merged key (map locale_block locales) (map later_block versions) (of_versions key versions has) in
     let read : is_of_source key sources.0 ≡ true = ok_at (PassesKey key (by_place locales versions)) (sources_of sets.0 (by_place locales versions)) sources.0 sources.1 (of_sources key sets.0 (by_place locales versions)) placed in
-    subst (λ (c : Catalog). IsSome (later c key)) (ok_is (catalog_of sources.0 native compiled.0) library compiled.2)
+    subst (λ (c : LibraryData). IsSome (later c key)) (ok_is (catalog_of sources.0 native compiled.0) library compiled.2)
     (is_there _ (first_named (keys_of sources.0) key) (all_found [] 1 sources.0 key read))
 
 -- so each key that is installed has its version
-pub have_versions : (bundle : Bundle) (library : Catalog) → catalog bundle.charmaps bundle.locales bundle.later bundle.native ≡ Ok library → HasItsKeys bundle → All (HasVersion library) bundle.commands
+pub have_versions : (bundle : Bundle) (library : LibraryData) → catalog bundle.charmaps bundle.locales bundle.later bundle.native ≡ Ok library → HasItsKeys bundle → All (HasVersion library) bundle.commands
 have_versions bundle library e keyed =
     All-weaker (HasItsBlock bundle.later) (HasVersion library)
     (λ (p : Placed) has key is. key_there bundle.charmaps bundle.locales bundle.later bundle.native library key e (has key is)) bundle.commands keyed

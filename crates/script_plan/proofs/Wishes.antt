@@ -5,7 +5,7 @@ use Rattle.std.proofs.lemmas.Bool.{eqb-true, eq-eqb, false≢true, or_left}
 use Rattle.std.proofs.lemmas.List.Elements.{All-nil, All-cons, All-head, All-tail, All-map}
 use Rattle.lc_base.specs.Reading.{◌>>=◌}
 use Rattle.mask_compose.specs.Parts.{Parts}
-use Rattle.category_store.specs.Catalog.{Catalog}
+use Rattle.category_store.specs.LibraryData.{LibraryData}
 use Rattle.lc_base.specs.declared.handle.Handle.{Handle}
 use Rattle.lc_base.specs.declared.handle.Named.{Named}
 use Rattle.lc_base.specs.declared.handle.Named.TheVariants as names
@@ -117,17 +117,17 @@ new_numbered : (t : ℕ) (variable : Option Variable) (mask : ℕ) (base : Optio
 new_numbered t variable mask base (Err why) own = tt
 new_numbered t variable mask base (Ok ns) own = new_private t mask ns base own
 
-new_masked : (library : Catalog) (t : ℕ) (variable : Option Variable) (locale : List ℕ) (base : Option Named) (r : Result ℕ Why) → IsOwnBase t (Ok base)
+new_masked : (library : LibraryData) (t : ℕ) (variable : Option Variable) (locale : List ℕ) (base : Option Named) (r : Result ℕ Why) → IsOwnBase t (Ok base)
     → IsOwnWish t variable (called AllCategories (r >>= λ mask. named_numbers library locale mask >>= λ ns. Ok (table.New mask ns base)))
 new_masked library t variable locale base (Err why) own = tt
 new_masked library t variable locale base (Ok mask) own = new_numbered t variable mask base (named_numbers library locale mask) own
 
-new_own : (library : Catalog) (t : ℕ) (variable : Option Variable) (bits : ℕ) (locale : List ℕ) (r : Result (Option Named) Why) → IsOwnBase t r
+new_own : (library : LibraryData) (t : ℕ) (variable : Option Variable) (bits : ℕ) (locale : List ℕ) (r : Result (Option Named) Why) → IsOwnBase t r
     → IsOwnWish t variable (called AllCategories (r >>= λ n. mask_of bits >>= λ mask. named_numbers library locale mask >>= λ ns. Ok (table.New mask ns n)))
 new_own library t variable bits locale (Err why) own = tt
 new_own library t variable bits locale (Ok base) own = new_masked library t variable locale base (mask_of bits) own
 
-command_own : (library : Catalog) (t : ℕ) (bs : Bindings) (command : Command) → All (IsBoundBy t) bs → keeps_to_itself command ≡ true
+command_own : (library : LibraryData) (t : ℕ) (bs : Bindings) (command : Command) → All (IsBoundBy t) bs → keeps_to_itself command ≡ true
     → IsOwnWish t (variable_bound (Runs command)) (wish library bs command)
 command_own library t bs (commands.New variable bits locale base) own is = new_own library t (Some (locale_variable variable)) bits locale (base_named bs base) (base_own t bs base own is)
 command_own library t bs (commands.Dup variable from) own is =
@@ -155,7 +155,7 @@ keeps (Runs command) = keeps_to_itself command
 keeps (Releases h) = false
 keeps Ends = true
 
-pub task_own : (library : Catalog) (t : ℕ) (bounds : List Bound) (task : Task) → All IsOwnBound bounds → keeps task ≡ true → IsOwnWish t (variable_bound task) (wish_of library (bindings_of t bounds) task)
+pub task_own : (library : LibraryData) (t : ℕ) (bounds : List Bound) (task : Task) → All IsOwnBound bounds → keeps task ≡ true → IsOwnWish t (variable_bound task) (wish_of library (bindings_of t bounds) task)
 task_own library t bounds (Runs command) own is = command_own library t (bindings_of t bounds) command (bindings_own t bounds own) is
 task_own library t bounds (Releases h) own is = absurd (false≢true is)
 task_own library t bounds Ends own is = record { own = refl; quiet = refl }
@@ -166,22 +166,22 @@ abbrev IsOwnHandle : ℕ → Option Handle → Type 0
 IsOwnHandle t None = Unit {0}
 IsOwnHandle t (Some h) = h.owner ≡ t
 
-abbrev handle_shown : Catalog → CategoryArgument → table.Reply → Option Handle
+abbrev handle_shown : LibraryData → CategoryArgument → table.Reply → Option Handle
 handle_shown library categories reply = handle_said (shown library categories reply)
 
-made_own : (library : Catalog) (categories : CategoryArgument) (H : History) (t : ℕ) (row : Option ℕ) → IsOwnHandle t (handle_shown library categories (made_in H t row))
+made_own : (library : LibraryData) (categories : CategoryArgument) (H : History) (t : ℕ) (row : Option ℕ) → IsOwnHandle t (handle_shown library categories (made_in H t row))
 made_own library categories H t None = tt
 made_own library categories H t (Some row) = refl
 
-based_own : (library : Catalog) (categories : CategoryArgument) (t : ℕ) (n : Named) → is_own (t ∷ []) (handle_named n) ≡ true → IsOwnHandle t (handle_shown library categories (of_handle n (λ h. table.Made h)))
+based_own : (library : LibraryData) (categories : CategoryArgument) (t : ℕ) (n : Named) → is_own (t ∷ []) (handle_named n) ≡ true → IsOwnHandle t (handle_shown library categories (of_handle n (λ h. table.Made h)))
 based_own library categories t names.Global own = tt
 based_own library categories t (names.Of h) own = sym (thread_is t h.owner own)
 
-pinned_own : (library : Catalog) (categories : CategoryArgument) (t : ℕ) (n : Named) (count : Handle → ℕ) → IsOwnHandle t (handle_shown library categories (of_handle n (λ h. table.Pinned (count h))))
+pinned_own : (library : LibraryData) (categories : CategoryArgument) (t : ℕ) (n : Named) (count : Handle → ℕ) → IsOwnHandle t (handle_shown library categories (of_handle n (λ h. table.Pinned (count h))))
 pinned_own library categories t names.Global count = tt
 pinned_own library categories t (names.Of h) count = tt
 
-accepted_own : (c : Setting) (library : Catalog) (categories : CategoryArgument) (H : History) (t : ℕ) (op : table.Op) → IsPrivate t op → IsOwnHandle t (handle_shown library categories (reply_to c H t op))
+accepted_own : (c : Setting) (library : LibraryData) (categories : CategoryArgument) (H : History) (t : ℕ) (op : table.Op) → IsPrivate t op → IsOwnHandle t (handle_shown library categories (reply_to c H t op))
 accepted_own c library categories H t (table.New mask ns None) private = made_own library categories H t (free_row c H t)
 accepted_own c library categories H t (table.New mask ns (Some n)) private = based_own library categories t n private.own
 accepted_own c library categories H t (table.Dup n) private = made_own library categories H t (free_row c H t)
@@ -191,12 +191,12 @@ accepted_own c library categories H t (table.Use n) private = tt
 accepted_own c library categories H t table.End private = tt
 accepted_own c library categories H t _ private = absurd (false≢true private.quiet)
 
-unless_own : (library : Catalog) (categories : CategoryArgument) (t : ℕ) (reason : Option Refusal) (reply : table.Reply) → IsOwnHandle t (handle_shown library categories reply)
+unless_own : (library : LibraryData) (categories : CategoryArgument) (t : ℕ) (reason : Option Refusal) (reply : table.Reply) → IsOwnHandle t (handle_shown library categories reply)
     → IsOwnHandle t (handle_shown library categories (unless reason reply))
 unless_own library categories t (Some refusal) reply own = tt
 unless_own library categories t None reply own = own
 
-answer_own : (c : Setting) (library : Catalog) (categories : CategoryArgument) (H : History) (t : ℕ) (op : table.Op) → IsPrivate t op → IsOwnHandle t (handle_shown library categories (answer c H t op))
+answer_own : (c : Setting) (library : LibraryData) (categories : CategoryArgument) (H : History) (t : ℕ) (op : table.Op) → IsPrivate t op → IsOwnHandle t (handle_shown library categories (answer c H t op))
 answer_own c library categories H t op private =
     unless_own library categories t (first_reason (reasons c H t op)) (reply_to c H t op) (accepted_own c library categories H t op private)
 

@@ -3,7 +3,7 @@ use Rattle.std.specs.Prelude.{◌≡◌, ℕ, List, [], ◌∷◌, length, Ok, I
 use Rattle.std.specs.List.{All}
 use Rattle.lc_base.specs.declared.block.Block.{Block}
 use Rattle.lc_base.specs.Reading.{Reads, ◌>>=◌}
-use Rattle.category_store.specs.Catalog.{Catalog}
+use Rattle.category_store.specs.LibraryData.{LibraryData}
 use Rattle.category_store.specs.Library.{catalog, later}
 use Rattle.category_store.specs.Shelf.{IsNumbered, IsInstallable}
 use Rattle.msg_catalog.specs.declared.book.Message.{Message}
@@ -18,7 +18,7 @@ use Rattle.script_plan.specs.declared.plan.Counts.{Counts}
 -- a bundle, what its charmaps, locales and later versions make, and the messages of each of its catalogs
 pub record PlanData : Type 0 where
   pub bundle : Bundle
-  pub library : Catalog
+  pub library : LibraryData
   pub books : List (List Message)
 
 -- the messages of catalogs, one catalog after another, or their first fault (XCU gencat)
@@ -58,7 +58,7 @@ counts_of text = plan_of text >>= λ plan. Ok (counts plan.bundle)
 -- ---- what holds of each plan
 
 -- what a command installs is there: it is never looked up in vain
-abbrev pub HasVersion : Catalog → Placed → Type 0
+abbrev pub HasVersion : LibraryData → Placed → Type 0
 HasVersion library p = (key : List ℕ) → p.command ≡ Install key → IsSome (later library key)
 
 -- the bundle is accepted, its names and keys are numbered, and each key that it installs has its version

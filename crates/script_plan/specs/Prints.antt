@@ -5,7 +5,7 @@
 use Rattle.std.specs.Prelude.{◌≡◌, ℕ, zero, suc, ◌+◌, ◌<◌, ◌≤◌, ◌⊎◌, ◌==◌, nat_lt, nat_le, if◌then◌else◌, List, [], ◌∷◌, ◌++◌, length, map, filter, flat_map, find, zip, count_by, option_to_list, All, Option, Some, None, unwrap_or, Result, Ok, Err}
 use Rattle.std.specs.List.Sorted.{IsStrictlyIncreasing}
 use Rattle.mask_compose.specs.Parts.{Parts}
-use Rattle.category_store.specs.Catalog.{Catalog}
+use Rattle.category_store.specs.LibraryData.{LibraryData}
 use Rattle.lc_base.specs.declared.handle.Named.{Named}
 use Rattle.handle_table.specs.Entry as table
 use Rattle.handle_table.specs.Entry.{History, Setting}
@@ -98,11 +98,11 @@ abbrev pub call_of : ℕ → ℕ × table.Op → PlacedCall
 call_of thread placed = record { place = placed.0; thread = thread; op = placed.1 }
 
 -- the calls of a line, each at its place: the op of its command, a Hold and then a Release, or a closing call
-abbrev pub calls_of : Catalog → List Bound → TaskLine → List PlacedCall
+abbrev pub calls_of : LibraryData → List Bound → TaskLine → List PlacedCall
 calls_of library bounds d = map (call_of d.line.thread) (zip (places_in d.line.places) (ops_of (wish_of library (bindings_of d.line.thread bounds) d.task)))
 
 -- the calls of lines, after other lines of which the newest stands first
-abbrev pub calls_after : Catalog → List TaskLine → List TaskLine → List PlacedCall
+abbrev pub calls_after : LibraryData → List TaskLine → List TaskLine → List PlacedCall
 calls_after library before [] = []
 calls_after library before (d ∷ after) = calls_of library (bound_by before) d ++ calls_after library (d ∷ before) after
 

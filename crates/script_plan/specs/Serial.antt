@@ -1,6 +1,6 @@
 -- What a script prints that is run round by round and in a round thread by thread, by the histories of its calls (our own).
 use Rattle.std.specs.Prelude.{ℕ, ◌+◌, ◌==◌, List, [], ◌∷◌, ◌++◌, length, count_by, Result}
-use Rattle.category_store.specs.Catalog.{Catalog}
+use Rattle.category_store.specs.LibraryData.{LibraryData}
 use Rattle.category_store.specs.Library.{opening}
 use Rattle.handle_table.specs.Entry.{History, Setting}
 use Rattle.catalog_handles.specs.Entry.{History as CatalogHistory}
@@ -42,13 +42,13 @@ pub record TurnOutcome : Type 0 where
   pub line : OutLine
 
 -- what the wish of a turn leaves
-abbrev pub outcome_of : Setting → Catalog → Books → Run → Caller → Result Wish Why → TurnOutcome
+abbrev pub outcome_of : Setting → LibraryData → Books → Run → Caller → Result Wish Why → TurnOutcome
 outcome_of c library books run at wish =
     let done = granted c library books run.history run.catalogs at wish in
     record { history = done.history; catalogs = catalogs_left c library books run.history run.catalogs at.thread wish; line = done.line }
 
 -- what a turn leaves
-abbrev pub outcome : Setting → Catalog → Books → Run → Turn → TurnOutcome
+abbrev pub outcome : Setting → LibraryData → Books → Run → Turn → TurnOutcome
 outcome c library books run turn = outcome_of c library books run (next_caller run turn) (wish_of library (bindings_of turn.thread run.bindings) turn.task)
 
 -- the script after one more turn, which left this
@@ -61,7 +61,7 @@ with_outcome run turn done = record {
 }
 
 -- the script after more turns
-abbrev pub played : Setting → Catalog → Books → Run → List Turn → Run
+abbrev pub played : Setting → LibraryData → Books → Run → List Turn → Run
 played c library books run [] = run
 played c library books run (turn ∷ turns) = played c library books (with_outcome run turn (outcome c library books run turn)) turns
 

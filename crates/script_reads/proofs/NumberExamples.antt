@@ -6,7 +6,7 @@ use Rattle.digit_groups.specs.Groups.{separated}
 use Rattle.digit_groups.specs.Numbers.{number_behind}
 use Rattle.int_format.specs.Formats.{flags_behind, conversion_with, piece, pieces}
 use Rattle.int_format.specs.Ints.{pieces_text, missing}
-use Rattle.category_store.specs.Catalog.{Catalog}
+use Rattle.category_store.specs.LibraryData.{LibraryData}
 use Rattle.category_store.specs.Locale.{posix_locale}
 use Rattle.script_commands.specs.declared.command.Read.TheVariants.{Number}
 use Rattle.script_out.specs.declared.output.Said.{Said}
@@ -15,7 +15,7 @@ use Rattle.script_out.specs.declared.output.Why.TheVariants as whys
 use Rattle.script_reads.specs.Reads.{local}
 
 -- a locale with commas between thousands, and an object that has its LC_NUMERIC and nothing else of it
-abbrev library : Catalog
+abbrev library : LibraryData
 library = record {
   locales = record posix_locale { name = codes "a"; numeric = record { decimal_point = codes "."; thousands_sep = codes ","; grouping = pos 3 ∷ pos 3 ∷ [] } } ∷ [];
   names = (codes "a", 1) ∷ [];

@@ -24,7 +24,7 @@ use Rattle.time_cat.specs.declared.parsed.Parsed.{Parsed}
 use Rattle.strptime_fields.specs.Items.{item}
 use Rattle.strptime_fields.specs.Reading.{number as read_number, longest}
 use Rattle.strptime_fields.specs.Scans.{followed}
-use Rattle.category_store.specs.Catalog.{Catalog}
+use Rattle.category_store.specs.LibraryData.{LibraryData}
 use Rattle.category_store.specs.Locale.{posix_locale}
 use Rattle.lc_base.specs.Amounts.{MoneyAmount}
 use Rattle.script_words.specs.declared.given.UncheckedTime.{UncheckedTime}
@@ -52,7 +52,7 @@ dollars = record posix_values {
   local = before;
 }
 
-abbrev library : Catalog
+abbrev library : LibraryData
 library = record {
   locales = record posix_locale { name = codes "a"; ctype = classes; monetary = dollars } ∷ [];
   names = (codes "a", 1) ∷ [];

@@ -25,7 +25,7 @@ use Rattle.langinfo.specs.declared.field.ConvText.{ConvText}
 use Rattle.langinfo.specs.declared.field.ConvText.TheVariants.{Bytes, Sizes}
 use Rattle.langinfo.specs.Items.{info}
 use Rattle.langinfo.specs.Conv.{conv}
-use Rattle.category_store.specs.Catalog.{Catalog}
+use Rattle.category_store.specs.LibraryData.{LibraryData}
 use Rattle.category_store.specs.Library.{locale_at}
 use Rattle.script_words.specs.declared.given.UncheckedTime.{UncheckedTime}
 use Rattle.script_commands.specs.declared.command.Read.{Read}
@@ -37,25 +37,25 @@ use Rattle.script_out.specs.declared.output.Why.TheVariants as whys
 
 -- ---- the categories of an object, each as its locale has it
 
-abbrev pub ctype_in : Catalog → Parts → CtypeValues
+abbrev pub ctype_in : LibraryData → Parts → CtypeValues
 ctype_in library object = (locale_at library object.ctype).ctype
 
-abbrev pub numeric_in : Catalog → Parts → NumericValues
+abbrev pub numeric_in : LibraryData → Parts → NumericValues
 numeric_in library object = (locale_at library object.numeric).numeric
 
-abbrev pub monetary_in : Catalog → Parts → MonetaryValues
+abbrev pub monetary_in : LibraryData → Parts → MonetaryValues
 monetary_in library object = (locale_at library object.monetary).monetary
 
-abbrev pub time_in : Catalog → Parts → TimeValues
+abbrev pub time_in : LibraryData → Parts → TimeValues
 time_in library object = (locale_at library object.time).time
 
-abbrev pub messages_in : Catalog → Parts → MessagesValues
+abbrev pub messages_in : LibraryData → Parts → MessagesValues
 messages_in library object = (locale_at library object.messages).messages
 
 -- ---- nl_langinfo and localeconv
 
 -- the text of an item
-abbrev pub info_said : Catalog → Parts → Item → Said
+abbrev pub info_said : LibraryData → Parts → Item → Said
 info_said library object item =
     said.Text (info (ctype_in library object) (numeric_in library object) (monetary_in library object) (time_in library object) (messages_in library object) item)
 
@@ -85,7 +85,7 @@ conv_numbers fields = map (λ (f : List ℕ × ℕ). f.1) fields
 abbrev pub fields_said : Lconv → Said
 fields_said l = said.Conv (conv_texts l.texts) (conv_numbers l.numbers)
 
-abbrev pub conv_said : Catalog → Parts → Said
+abbrev pub conv_said : LibraryData → Parts → Said
 conv_said library object = fields_said (conv (numeric_in library object) (monetary_in library object))
 
 -- ---- iswctype
@@ -115,7 +115,7 @@ text_said (Err refusal) = refused_said refusal
 
 -- ---- strfmon
 
-abbrev pub money_said : Catalog → Parts → ℕ → List ℕ → List MoneyAmount → Said
+abbrev pub money_said : LibraryData → Parts → ℕ → List ℕ → List MoneyAmount → Said
 money_said library object max format amounts = text_said (money (monetary_in library object) format amounts max)
 
 -- ---- strftime
@@ -129,13 +129,13 @@ abbrev pub moment_said : TimeValues → ℕ → List ℕ → Result TmValues TmR
 moment_said values max format (Ok tm) = text_said (answer values tm format max)
 moment_said values max format (Err range) = said.Refused (whys.TmRange range.field)
 
-abbrev pub time_said : Catalog → Parts → ℕ → List ℕ → UncheckedTime → Said
+abbrev pub time_said : LibraryData → Parts → ℕ → List ℕ → UncheckedTime → Said
 time_said library object max format t = moment_said (time_in library object) max format (time_given t)
 
 -- ---- fprintf of whole numbers
 
 -- the text, unless it is longer than max; a wrong conversion and a missing number go before that
-abbrev pub number_said : Catalog → Parts → ℕ → List ℕ → List ℤ → Said
+abbrev pub number_said : LibraryData → Parts → ℕ → List ℕ → List ℤ → Said
 number_said library object max format numbers = text_said (at_most max (ints (numeric_in library object) format numbers))
 
 -- ---- strptime
@@ -145,13 +145,13 @@ abbrev pub scanned_said : Scanned → Said
 scanned_said (Ok found) = said.Parsed found.0 found.1
 scanned_said (Err refusal) = refused_said refusal
 
-abbrev pub parse_said : Catalog → Parts → List ℕ → List ℕ → Said
+abbrev pub parse_said : LibraryData → Parts → List ℕ → List ℕ → Said
 parse_said library object format text = scanned_said (scan (time_in library object) format text)
 
 -- ---- reads
 
 -- what a read replies of an object
-abbrev pub local : Catalog → Parts → Read → Said
+abbrev pub local : LibraryData → Parts → Read → Said
 local library object (reads.Info item) = info_said library object item
 local library object reads.Conv = conv_said library object
 local library object (reads.Class class value) = class_said (class_answer (ctype_in library object).classes class value)

@@ -8,7 +8,7 @@ use Rattle.std.proofs.lemmas.List.Concat.{flat_map-append}
 use Rattle.std.proofs.lemmas.List.Elements.{All-nil, All-cons, All-head, All-tail, All-append, All-weaker, All-map, All-filter, filter-append}
 use Rattle.std.proofs.lemmas.List.Sorted.{IsPermutation-reverse, sum_by-IsPermutation}
 use Rattle.mask_compose.specs.Parts.{Parts}
-use Rattle.category_store.specs.Catalog.{Catalog}
+use Rattle.category_store.specs.LibraryData.{LibraryData}
 use Rattle.lc_base.specs.declared.handle.Named.{Named}
 use Rattle.handle_table.specs.Entry as table
 use Rattle.handle_table.specs.Entry.{Entry, History, Setting}
@@ -135,15 +135,15 @@ module _ (n : ℕ) (V : CatalogHistory) (ts : List Timed) (callers : catalog_ans
 
 -- ---- the printed lines show these places
 
-between_shows : (c : Setting) (library : Catalog) (m : Moments) (at : Caller) (n : Named) (read : Read) (object : Option Parts) → catalog_places_in (reads_between c library m at n read object).line.places ≡ []
+between_shows : (c : Setting) (library : LibraryData) (m : Moments) (at : Caller) (n : Named) (read : Read) (object : Option Parts) → catalog_places_in (reads_between c library m at n read object).line.places ≡ []
 between_shows c library m at n read None = refl
 between_shows c library m at n read (Some object) = refl
 
-of_shows : (c : Setting) (library : Catalog) (m : Moments) (at : Caller) (n : Named) (read : Read) (object : Option Parts) → catalog_places_in (reads_of c library m at n read object).line.places ≡ []
+of_shows : (c : Setting) (library : LibraryData) (m : Moments) (at : Caller) (n : Named) (read : Read) (object : Option Parts) → catalog_places_in (reads_of c library m at n read object).line.places ≡ []
 of_shows c library m at n read (Some object) = refl
 of_shows c library m at n read None = between_shows c library m at n read (object_held (answer c m.first at.thread (table.Hold n)))
 
-read_shows : (c : Setting) (library : Catalog) (m : Moments) (at : Caller) (read : Read) (object : Option Parts) → catalog_places_in (reads c library m at read object).line.places ≡ []
+read_shows : (c : Setting) (library : LibraryData) (m : Moments) (at : Caller) (read : Read) (object : Option Parts) → catalog_places_in (reads c library m at read object).line.places ≡ []
 read_shows c library m at read (Some object) = refl
 read_shows c library m at read None = refl
 
@@ -151,12 +151,12 @@ open_shows : (at : Caller) (version : Option ℕ) (asked : Asked) (n : Option �
 open_shows at version asked None = refl
 open_shows at version asked (Some n) = refl
 
-opens_shows : (c : Setting) (library : Catalog) (books : Books) (m : Moments) (at : Caller) (name : List ℕ) (object : Option Parts)
+opens_shows : (c : Setting) (library : LibraryData) (books : Books) (m : Moments) (at : Caller) (name : List ℕ) (object : Option Parts)
     → catalog_places_in (opens c library books m at name object).line.places ≡ asked_place (option_map catalogs.Open (book_for library books (object_used object (global c m.first)) name)) m.asked
 opens_shows c library books m at name (Some object) = open_shows at None m.asked (book_for library books object name)
 opens_shows c library books m at name None = open_shows at (Some (sets m.first)) m.asked (book_for library books (global c m.first) name)
 
-granted_shows : (c : Setting) (library : Catalog) (books : Books) (m : Moments) (at : Caller) (w : Result Wish Why)
+granted_shows : (c : Setting) (library : LibraryData) (books : Books) (m : Moments) (at : Caller) (w : Result Wish Why)
     → catalog_places_in (granted_at c library books m at w).line.places ≡ asked_place (catalog_op c library books m at.thread w) m.asked
 granted_shows c library books m at (Err why) = refl
 granted_shows c library books m at (Ok (Calls categories op)) = refl
@@ -294,7 +294,7 @@ closing_tasks bundle M =
     (releases_close (bundle.rounds + 1) t (open_holds M t))
     (All-cons (λ (u : Turn). IsClosingTask u.task) (closing_turn (bundle.rounds + 1) t Ends) [] tt (All-nil (λ (u : Turn). IsClosingTask u.task))))
 
-closer_asks : (c : Setting) (library : Catalog) (books : Books) (m : Moments) (thread : ℕ) (b : Bindings) (task : Task) → IsClosingTask task → catalog_op c library books m thread (wish_of library b task) ≡ None
+closer_asks : (c : Setting) (library : LibraryData) (books : Books) (m : Moments) (thread : ℕ) (b : Bindings) (task : Task) → IsClosingTask task → catalog_op c library books m thread (wish_of library b task) ≡ None
 closer_asks c library books m thread b (Runs command) is = absurd is
 closer_asks c library books m thread b (Releases h) is = refl
 closer_asks c library books m thread b Ends is = refl

@@ -5,7 +5,7 @@ use Rattle.std.proofs.lemmas.Bool.{cases_lt, eqb-true}
 use Rattle.std.proofs.lemmas.List.{length-map, length-reverse, reverse-reverse}
 use Rattle.std.proofs.lemmas.List.Elements.{All-nil, All-cons, All-head, All-tail, All-append, All-map, All-filter}
 use Rattle.mask_compose.specs.Parts.{Parts}
-use Rattle.category_store.specs.Catalog.{Catalog}
+use Rattle.category_store.specs.LibraryData.{LibraryData}
 use Rattle.lc_base.specs.declared.handle.Named.{Named}
 use Rattle.handle_table.specs.Entry as table
 use Rattle.handle_table.specs.Entry.{History, Setting}
@@ -38,15 +38,15 @@ use Rattle.script_run.proofs.Versions.{right_part, back_one}
 abbrev KeepsPlaces : ℕ → Result Wish Why → Places → Type 0
 KeepsPlaces thread w at = map place_of (wished_calls thread (places_in at) w) ≡ places_in at
 
-between_kept : (c : Setting) (library : Catalog) (m : Moments) (at : Caller) (n : Named) (read : Read) (object : Option Parts) → KeepsPlaces at.thread (Ok (ReadsOf n read)) (reads_between c library m at n read object).line.places
+between_kept : (c : Setting) (library : LibraryData) (m : Moments) (at : Caller) (n : Named) (read : Read) (object : Option Parts) → KeepsPlaces at.thread (Ok (ReadsOf n read)) (reads_between c library m at n read object).line.places
 between_kept c library m at n read None = refl
 between_kept c library m at n read (Some object) = refl
 
-of_kept : (c : Setting) (library : Catalog) (m : Moments) (at : Caller) (n : Named) (read : Read) (object : Option Parts) → KeepsPlaces at.thread (Ok (ReadsOf n read)) (reads_of c library m at n read object).line.places
+of_kept : (c : Setting) (library : LibraryData) (m : Moments) (at : Caller) (n : Named) (read : Read) (object : Option Parts) → KeepsPlaces at.thread (Ok (ReadsOf n read)) (reads_of c library m at n read object).line.places
 of_kept c library m at n read (Some object) = refl
 of_kept c library m at n read None = between_kept c library m at n read (object_held (answer c m.first at.thread (table.Hold n)))
 
-read_kept : (c : Setting) (library : Catalog) (m : Moments) (at : Caller) (read : Read) (object : Option Parts) → KeepsPlaces at.thread (Ok (Reads read)) (reads c library m at read object).line.places
+read_kept : (c : Setting) (library : LibraryData) (m : Moments) (at : Caller) (read : Read) (object : Option Parts) → KeepsPlaces at.thread (Ok (Reads read)) (reads c library m at read object).line.places
 read_kept c library m at read (Some object) = refl
 read_kept c library m at read None = refl
 
@@ -54,11 +54,11 @@ open_kept : (at : Caller) (name : List ℕ) (version : Option ℕ) (asked : Aske
 open_kept at name version asked None = refl
 open_kept at name version asked (Some n) = refl
 
-opens_kept : (c : Setting) (library : Catalog) (books : Books) (m : Moments) (at : Caller) (name : List ℕ) (object : Option Parts) → KeepsPlaces at.thread (Ok (OpensCatalog name)) (opens c library books m at name object).line.places
+opens_kept : (c : Setting) (library : LibraryData) (books : Books) (m : Moments) (at : Caller) (name : List ℕ) (object : Option Parts) → KeepsPlaces at.thread (Ok (OpensCatalog name)) (opens c library books m at name object).line.places
 opens_kept c library books m at name (Some object) = open_kept at name None m.asked (book_for library books object name)
 opens_kept c library books m at name None = open_kept at name (Some (sets m.first)) m.asked (book_for library books (global c m.first) name)
 
-granted_kept : (c : Setting) (library : Catalog) (books : Books) (m : Moments) (at : Caller) (w : Result Wish Why) → KeepsPlaces at.thread w (granted_at c library books m at w).line.places
+granted_kept : (c : Setting) (library : LibraryData) (books : Books) (m : Moments) (at : Caller) (w : Result Wish Why) → KeepsPlaces at.thread w (granted_at c library books m at w).line.places
 granted_kept c library books m at (Err why) = refl
 granted_kept c library books m at (Ok (Calls categories op)) = refl
 granted_kept c library books m at (Ok (ReadsOf n read)) = of_kept c library m at n read (held_as (open_holds m.seen at.thread) n)

@@ -7,7 +7,7 @@ use Rattle.std.proofs.lemmas.List.{length-append}
 use Rattle.std.proofs.lemmas.List.Elements.{All-nil, All-cons, filter-append}
 use Rattle.std.proofs.lemmas.List.Folds.{list_any-append}
 use Rattle.mask_compose.specs.Parts.{Parts}
-use Rattle.category_store.specs.Catalog.{Catalog}
+use Rattle.category_store.specs.LibraryData.{LibraryData}
 use Rattle.lc_base.specs.declared.handle.Handle.{Handle}
 use Rattle.lc_base.specs.declared.handle.Named.{Named}
 use Rattle.lc_base.specs.declared.handle.Named.TheVariants.{Global, Of}
@@ -61,7 +61,7 @@ moments_by W seen l moment asked = record { seen = seen; first = oldest moment W
 
 -- the line of a wish of a thread that had seen S leads to the history of an outcome, where the catalogs are asked for the op and
 -- answer this, with a stamp
-pub record IsStep (c : Setting) (library : Catalog) (books : Books) (at : Caller) (wish : Result Wish Why) (S : History) (done : Outcome) (moment stamp : ℕ) (op : Option catalogs.Op) (asked : Asked) : Type 0 where
+pub record IsStep (c : Setting) (library : LibraryData) (books : Books) (at : Caller) (wish : Result Wish Why) (S : History) (done : Outcome) (moment stamp : ℕ) (op : Option catalogs.Op) (asked : Asked) : Type 0 where
   pub later : GoesOnFrom done.history S
   pub since : length S ≤ moment
   pub until : moment ≤ ended done.line stamp
@@ -162,7 +162,7 @@ one_more_hold os op reply =
 -- ---- the shapes of a line
 
 -- a line without a place, of what its thread had seen
-stays : (c : Setting) (library : Catalog) (books : Books) (at : Caller) (wish : Result Wish Why) (S : History) (version : Option ℕ) (reply : Said) (op : Option catalogs.Op) (asked : Asked)
+stays : (c : Setting) (library : LibraryData) (books : Books) (at : Caller) (wish : Result Wish Why) (S : History) (version : Option ℕ) (reply : Said) (op : Option catalogs.Op) (asked : Asked)
     → ((seen : History) → entries_by at.thread seen ≡ entries_by at.thread S
     → line at places.None version reply ≡ (granted_at c library books (moments_by S seen (line at places.None version reply) (length S) asked) at wish).line)
     → ((seen : History) → entries_by at.thread seen ≡ entries_by at.thread S → op ≡ catalog_op c library books (moments_by S seen (line at places.None version reply) (length S) asked) at.thread wish)
@@ -181,7 +181,7 @@ stays c library books at wish S version reply op asked same asks = record {
 }
 
 -- a line without a place, of what stands now
-looks : (c : Setting) (library : Catalog) (books : Books) (at : Caller) (wish : Result Wish Why) (S first : History) (version : Option ℕ) (reply : Said) (op : Option catalogs.Op) (asked : Asked) → MayFollow c at.thread first S
+looks : (c : Setting) (library : LibraryData) (books : Books) (at : Caller) (wish : Result Wish Why) (S first : History) (version : Option ℕ) (reply : Said) (op : Option catalogs.Op) (asked : Asked) → MayFollow c at.thread first S
     → ((seen : History) → entries_by at.thread seen ≡ entries_by at.thread S
     → line at places.None version reply ≡ (granted_at c library books (moments_by first seen (line at places.None version reply) (length first) asked) at wish).line)
     → ((seen : History) → entries_by at.thread seen ≡ entries_by at.thread S → op ≡ catalog_op c library books (moments_by first seen (line at places.None version reply) (length first) asked) at.thread wish)
@@ -207,7 +207,7 @@ first_back : (c : Setting) (t : ℕ) (first second : History) → MayFollow c t 
 first_back c t first second g = ap (oldest (length first)) g.later.1 ∙ oldest_grows (length first) g.later.0 first (omega arith) ∙ oldest_all first
 
 -- a line without a place, of what stood before the thread had seen more
-passes : (c : Setting) (library : Catalog) (books : Books) (at : Caller) (wish : Result Wish Why) (S first second : History) (version : Option ℕ) (reply : Said) (op : Option catalogs.Op) (asked : Asked)
+passes : (c : Setting) (library : LibraryData) (books : Books) (at : Caller) (wish : Result Wish Why) (S first second : History) (version : Option ℕ) (reply : Said) (op : Option catalogs.Op) (asked : Asked)
     → MayFollow c at.thread first S → MayFollow c at.thread second first
     → ((seen : History) → entries_by at.thread seen ≡ entries_by at.thread S
     → line at places.None version reply ≡ (granted_at c library books (moments_by second seen (line at places.None version reply) (length first) asked) at wish).line)
@@ -231,7 +231,7 @@ passes c library books at wish S first second version reply op asked f g same as
     }
 
 -- the same of a line of the catalogs, with its stamp
-passes_asked : (c : Setting) (library : Catalog) (books : Books) (at : Caller) (wish : Result Wish Why) (S first second : History) (place stamp : ℕ) (version : Option ℕ) (reply : Said) (op : Option catalogs.Op) (asked : Asked)
+passes_asked : (c : Setting) (library : LibraryData) (books : Books) (at : Caller) (wish : Result Wish Why) (S first second : History) (place stamp : ℕ) (version : Option ℕ) (reply : Said) (op : Option catalogs.Op) (asked : Asked)
     → MayFollow c at.thread first S → MayFollow c at.thread second first → length first ≤ stamp → stamp ≤ length second
     → ((seen : History) → entries_by at.thread seen ≡ entries_by at.thread S
     → line at (places.Catalog place) version reply ≡ (granted_at c library books (moments_by second seen (line at (places.Catalog place) version reply) (length first) asked) at wish).line)
@@ -255,7 +255,7 @@ passes_asked c library books at wish S first second place stamp version reply op
     }
 
 -- a line with a place
-enters : (c : Setting) (library : Catalog) (books : Books) (at : Caller) (wish : Result Wish Why) (S first : History) (op : Op) (rest : List Op) (version : Option ℕ) (reply : Said) (asked : Asked)
+enters : (c : Setting) (library : LibraryData) (books : Books) (at : Caller) (wish : Result Wish Why) (S first : History) (op : Op) (rest : List Op) (version : Option ℕ) (reply : Said) (asked : Asked)
     → MayFollow c at.thread first S → ops_of wish ≡ op ∷ rest
     → ((seen : History) → entries_by at.thread seen ≡ entries_by at.thread S
     → line at (places.One (length first)) version reply
@@ -337,7 +337,7 @@ between_holds c t (Of h) first second o is g =
     ∙ ap (λ (r : Reply). holds_after (os ++ last ∷ []) (Release (Of h)) r) (released_between c t h second os o g.legal standing) in
     subst (λ (xs : List OpenHold). length xs ≤ length os) (sym left) (without_last h os o)
 
-between : (c : Setting) (library : Catalog) (books : Books) (at : Caller) (S first second : History) (n : Named) (read : Read) (o : Parts) (asked : Asked)
+between : (c : Setting) (library : LibraryData) (books : Books) (at : Caller) (S first second : History) (n : Named) (read : Read) (o : Parts) (asked : Asked)
     → MayFollow c at.thread first S → MayFollow c at.thread second (with_call c first at.thread (Hold n)) → object_held (answer c first at.thread (Hold n)) ≡ Some o
     → ((seen : History) → entries_by at.thread seen ≡ entries_by at.thread S
     → held_line library (length first) (length second) at read o
@@ -394,7 +394,7 @@ moment_of m at (Ok (OpensCatalog name)) = length m.first
 moment_of m at (Ok (GetsMessage h set message default)) = length m.first
 moment_of m at (Ok (ClosesCatalog h)) = length m.first
 
-pub call_step : (c : Setting) (library : Catalog) (books : Books) (at : Caller) (m : Moments) (chosen : CategoryArgument) (op : Op) → MayFollow c at.thread m.first m.seen
+pub call_step : (c : Setting) (library : LibraryData) (books : Books) (at : Caller) (m : Moments) (chosen : CategoryArgument) (op : Op) → MayFollow c at.thread m.first m.seen
     → IsStep c library books at (Ok (Calls chosen op)) m.seen (calls c library m.first at chosen op) (length m.first) (length m.first) None m.asked
 call_step c library books at m chosen op f =
     let r : Reply = answer c m.first at.thread op in
@@ -402,7 +402,7 @@ call_step c library books at m chosen op f =
     (λ seen same. ap (λ (F : History). (calls c library F at chosen op).line) (sym (below_newest (record { who = at.thread; op = op; reply = r }) m.first)))
     (λ n. refl)
 
-own_step : (c : Setting) (library : Catalog) (books : Books) (at : Caller) (m : Moments) (read : Read) (x : Option Parts) → own m.seen at.thread ≡ x → MayFollow c at.thread m.first m.seen
+own_step : (c : Setting) (library : LibraryData) (books : Books) (at : Caller) (m : Moments) (read : Read) (x : Option Parts) → own m.seen at.thread ≡ x → MayFollow c at.thread m.first m.seen
     → IsStep c library books at (Ok (Reads read)) m.seen (reads c library m at read x) (read_moment m x) (read_moment m x) None m.asked
 own_step c library books at m read (Some o) is f =
     stays c library books at (Ok (Reads read)) m.seen None (local library o read) None m.asked
@@ -425,7 +425,7 @@ module _ (cs : CatalogSetting) (catalogs_later : CatalogHistory → CatalogHisto
   stamp_by thread low high asked (Some op) left moment = left.stamp
 
   -- a catopen: by the thread's own object, or by the global locale, of a catalog that there is or not
-  open_own_step : (c : Setting) (library : Catalog) (books : Books) (at : Caller) (m : Moments) (name : List ℕ) (o : Parts) (n : Option ℕ) → own m.seen at.thread ≡ Some o → book_for library books o name ≡ n
+  open_own_step : (c : Setting) (library : LibraryData) (books : Books) (at : Caller) (m : Moments) (name : List ℕ) (o : Parts) (n : Option ℕ) → own m.seen at.thread ≡ Some o → book_for library books o name ≡ n
       → MayFollow c at.thread m.first m.seen → MayFollow c at.thread m.second m.first
       → (left : LeftCatalogs cs catalogs_later catalogs_at at.thread M (option_map catalogs.Open n) (length m.first) (length m.second) m.asked)
       → IsStep c library books at (Ok (OpensCatalog name)) m.seen (without_entry m.second (open_line at None m.asked n)) (length m.first)
@@ -447,7 +447,7 @@ module _ (cs : CatalogSetting) (catalogs_later : CatalogHistory → CatalogHisto
       ap (option_map catalogs.Open) (sym found)
       ∙ ap (λ (x : Option Parts). option_map catalogs.Open (book_for library books (object_used x (global c (oldest (length m.first) m.second))) name)) (sym (own_says at.thread seen m.seen same ∙ is)))
 
-  open_global_step : (c : Setting) (library : Catalog) (books : Books) (at : Caller) (m : Moments) (name : List ℕ) (n : Option ℕ) → own m.seen at.thread ≡ None → book_for library books (global c m.first) name ≡ n
+  open_global_step : (c : Setting) (library : LibraryData) (books : Books) (at : Caller) (m : Moments) (name : List ℕ) (n : Option ℕ) → own m.seen at.thread ≡ None → book_for library books (global c m.first) name ≡ n
       → MayFollow c at.thread m.first m.seen → MayFollow c at.thread m.second m.first
       → (left : LeftCatalogs cs catalogs_later catalogs_at at.thread M (option_map catalogs.Open n) (length m.first) (length m.second) m.asked)
       → IsStep c library books at (Ok (OpensCatalog name)) m.seen (without_entry m.second (open_line at (Some (sets m.first)) m.asked n)) (length m.first)
@@ -477,7 +477,7 @@ module _ (cs : CatalogSetting) (catalogs_later : CatalogHistory → CatalogHisto
       ∙ ap (λ (F : History). option_map catalogs.Open (book_for library books (global c F) name)) (sym back)
       ∙ ap (λ (x : Option Parts). option_map catalogs.Open (book_for library books (object_used x (global c (oldest (length m.first) m.second))) name)) (sym (own_says at.thread seen m.seen same ∙ is)))
 
-  open_step : (c : Setting) (library : Catalog) (books : Books) (at : Caller) (m : Moments) (name : List ℕ) (x : Option Parts) → own m.seen at.thread ≡ x
+  open_step : (c : Setting) (library : LibraryData) (books : Books) (at : Caller) (m : Moments) (name : List ℕ) (x : Option Parts) → own m.seen at.thread ≡ x
       → MayFollow c at.thread m.first m.seen → MayFollow c at.thread m.second m.first
       → let op = option_map catalogs.Open (book_for library books (object_used x (global c m.first)) name) in
       (left : LeftCatalogs cs catalogs_later catalogs_at at.thread M op (length m.first) (length m.second) m.asked)
@@ -485,7 +485,7 @@ module _ (cs : CatalogSetting) (catalogs_later : CatalogHistory → CatalogHisto
   open_step c library books at m name (Some o) is f g left = open_own_step c library books at m name o (book_for library books o name) is refl f g left
   open_step c library books at m name None is f g left = open_global_step c library books at m name (book_for library books (global c m.first) name) is refl f g left
 
-between_step : (c : Setting) (library : Catalog) (books : Books) (at : Caller) (m : Moments) (n : Named) (read : Read) (y : Option Parts) → object_held (answer c m.first at.thread (Hold n)) ≡ y
+between_step : (c : Setting) (library : LibraryData) (books : Books) (at : Caller) (m : Moments) (n : Named) (read : Read) (y : Option Parts) → object_held (answer c m.first at.thread (Hold n)) ≡ y
     → held_as (open_holds m.seen at.thread) n ≡ None → MayFollow c at.thread m.first m.seen → MayFollow c at.thread m.second (with_call c m.first at.thread (Hold n))
     → IsStep c library books at (Ok (ReadsOf n read)) m.seen (reads_between c library m at n read y) (length m.first) (length m.first) None m.asked
 between_step c library books at m n read None held free f g =
@@ -518,7 +518,7 @@ between_step c library books at m n read (Some o) held free f g =
     ∙ ap (λ (x : Option Parts). (reads_between c library now at n read x).line) (sym (ap (λ (F : History). object_held (answer c F at.thread (Hold n))) (sym first) ∙ held))
     ∙ ap (λ (x : Option Parts). (reads_of c library now at n read x).line) (sym (ap (λ (os : List OpenHold). held_as os n) (holds_says at.thread seen m.seen same) ∙ free)))
 
-held_step : (c : Setting) (library : Catalog) (books : Books) (at : Caller) (m : Moments) (n : Named) (read : Read) (x : Option Parts) → held_as (open_holds m.seen at.thread) n ≡ x
+held_step : (c : Setting) (library : LibraryData) (books : Books) (at : Caller) (m : Moments) (n : Named) (read : Read) (x : Option Parts) → held_as (open_holds m.seen at.thread) n ≡ x
     → MayFollow c at.thread m.first m.seen → (held_as (open_holds m.seen at.thread) n ≡ None → MayFollow c at.thread m.second (with_call c m.first at.thread (Hold n)))
     → IsStep c library books at (Ok (ReadsOf n read)) m.seen (reads_of c library m at n read x) (read_moment m x) (read_moment m x) None m.asked
 held_step c library books at m n read (Some o) is f g =
@@ -531,7 +531,7 @@ held_step c library books at m n read None is f g =
     between_step c library books at m n read (object_held (answer c m.first at.thread (Hold n))) refl is f (g is)
 
 module _ (cs : CatalogSetting) (catalogs_later : CatalogHistory → CatalogHistory → Type 0) (catalogs_at : CatalogHistory → Type 0) (M : CatalogHistory) where
-  pub granted_step : (c : Setting) (library : Catalog) (books : Books) (at : Caller) (m : Moments) (wish : Result Wish Why) (S : History) → AreMomentsOf c (MayFollow c at.thread) at.thread S wish m
+  pub granted_step : (c : Setting) (library : LibraryData) (books : Books) (at : Caller) (m : Moments) (wish : Result Wish Why) (S : History) → AreMomentsOf c (MayFollow c at.thread) at.thread S wish m
       → (left : LeftCatalogs cs catalogs_later catalogs_at at.thread M (catalog_op c library books m at.thread wish) (length m.first) (length m.second) m.asked)
       → IsStep c library books at wish m.seen (granted_at c library books m at wish) (moment_of m at wish)
       (stamp_by cs catalogs_later catalogs_at M at.thread (length m.first) (length m.second) m.asked (catalog_op c library books m at.thread wish) left (moment_of m at wish))

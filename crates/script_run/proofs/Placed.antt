@@ -7,7 +7,7 @@ use Rattle.std.proofs.lemmas.Bool.{cases_lt, eq-eqb, ne_eqb, le-leb, lt-leb, leb
 use Rattle.std.proofs.lemmas.List.Elements.{All-nil, All-cons, All-head, All-tail, All-append, All-weaker, filter-append}
 use Rattle.std.proofs.lemmas.List.Sorted.{IsPermutation-reverse, sum_by-IsPermutation}
 use Rattle.mask_compose.specs.Parts.{Parts}
-use Rattle.category_store.specs.Catalog.{Catalog}
+use Rattle.category_store.specs.LibraryData.{LibraryData}
 use Rattle.lc_base.specs.declared.handle.Named.{Named}
 use Rattle.handle_table.specs.Entry as table
 use Rattle.handle_table.specs.Entry.{History, Setting}
@@ -37,15 +37,15 @@ abbrev pub StartsAt : ℕ → List ℕ → Type 0
 StartsAt n [] = Unit {0}
 StartsAt n (place ∷ more) = place ≡ n
 
-between_starts : (c : Setting) (library : Catalog) (m : Moments) (at : Caller) (n : Named) (read : Read) (object : Option Parts) → StartsAt (length m.first) (places_in (reads_between c library m at n read object).line.places)
+between_starts : (c : Setting) (library : LibraryData) (m : Moments) (at : Caller) (n : Named) (read : Read) (object : Option Parts) → StartsAt (length m.first) (places_in (reads_between c library m at n read object).line.places)
 between_starts c library m at n read None = refl
 between_starts c library m at n read (Some object) = refl
 
-of_starts : (c : Setting) (library : Catalog) (m : Moments) (at : Caller) (n : Named) (read : Read) (held : Option Parts) → StartsAt (length m.first) (places_in (reads_of c library m at n read held).line.places)
+of_starts : (c : Setting) (library : LibraryData) (m : Moments) (at : Caller) (n : Named) (read : Read) (held : Option Parts) → StartsAt (length m.first) (places_in (reads_of c library m at n read held).line.places)
 of_starts c library m at n read (Some object) = tt
 of_starts c library m at n read None = between_starts c library m at n read (object_held (answer c m.first at.thread (table.Hold n)))
 
-read_starts : (c : Setting) (library : Catalog) (m : Moments) (at : Caller) (read : Read) (object : Option Parts) → StartsAt (length m.first) (places_in (reads c library m at read object).line.places)
+read_starts : (c : Setting) (library : LibraryData) (m : Moments) (at : Caller) (read : Read) (object : Option Parts) → StartsAt (length m.first) (places_in (reads c library m at read object).line.places)
 read_starts c library m at read (Some object) = tt
 read_starts c library m at read None = tt
 
@@ -54,11 +54,11 @@ open_starts : (n : ℕ) (at : Caller) (version : Option ℕ) (asked : Asked) (k 
 open_starts n at version asked None = tt
 open_starts n at version asked (Some k) = tt
 
-opens_starts : (c : Setting) (library : Catalog) (books : Books) (m : Moments) (at : Caller) (name : List ℕ) (object : Option Parts) → StartsAt (length m.first) (places_in (opens c library books m at name object).line.places)
+opens_starts : (c : Setting) (library : LibraryData) (books : Books) (m : Moments) (at : Caller) (name : List ℕ) (object : Option Parts) → StartsAt (length m.first) (places_in (opens c library books m at name object).line.places)
 opens_starts c library books m at name (Some object) = open_starts (length m.first) at None m.asked (book_for library books object name)
 opens_starts c library books m at name None = open_starts (length m.first) at (Some (sets m.first)) m.asked (book_for library books (global c m.first) name)
 
-granted_starts : (c : Setting) (library : Catalog) (books : Books) (m : Moments) (at : Caller) (w : Result Wish Why) → StartsAt (length m.first) (places_in (granted_at c library books m at w).line.places)
+granted_starts : (c : Setting) (library : LibraryData) (books : Books) (m : Moments) (at : Caller) (w : Result Wish Why) → StartsAt (length m.first) (places_in (granted_at c library books m at w).line.places)
 granted_starts c library books m at (Err why) = tt
 granted_starts c library books m at (Ok (Calls categories op)) = refl
 granted_starts c library books m at (Ok (ReadsOf n read)) = of_starts c library m at n read (held_as (open_holds m.seen at.thread) n)

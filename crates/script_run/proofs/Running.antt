@@ -5,7 +5,7 @@ use Rattle.std.specs.List.{range_with_len}
 use Rattle.std.proofs.lemmas.Bool.{false≢true}
 use Rattle.std.proofs.lemmas.List.Elements.{All-nil}
 use Rattle.mask_compose.specs.Offer.{Offered}
-use Rattle.category_store.specs.Catalog.{Catalog}
+use Rattle.category_store.specs.LibraryData.{LibraryData}
 use Rattle.category_store.specs.Library.{opening}
 use Rattle.turn_gate.specs.declared.entry.Terms.{Terms}
 use Rattle.turn_gate.specs.Callers.{Gate}
@@ -33,16 +33,16 @@ use Rattle.script_run.specs.Beside.{stock, stock_of}
 use Rattle.script_run.specs.Rounds.{IsFor, IsForAsked, plan_made, SeatData, AreClosing}
 use Rattle.script_run.proofs.Closing.{closed_prints}
 
-plan_is : (plan : PlanData) (bundle : Bundle) (library : Catalog) (books : Books) → bundle ≡ plan.bundle → library ≡ plan.library → books ≡ books_of plan → plan_made bundle library books ≡ plan
+plan_is : (plan : PlanData) (bundle : Bundle) (library : LibraryData) (books : Books) → bundle ≡ plan.bundle → library ≡ plan.library → books ≡ books_of plan → plan_made bundle library books ≡ plan
 plan_is plan bundle library books same of shelf =
-    ap (λ (b : Bundle). plan_made b library books) same ∙ ap (λ (l : Catalog). plan_made plan.bundle l books) of ∙ ap (λ (b : Books). plan_made plan.bundle plan.library b) shelf
+    ap (λ (b : Bundle). plan_made b library books) same ∙ ap (λ (l : LibraryData). plan_made plan.bundle l books) of ∙ ap (λ (b : Books). plan_made plan.bundle plan.library b) shelf
 
 -- the catalogs are those of the bundle
 pub blocks_are : (plan : PlanData) (bundle : Bundle) (books : Books) → bundle ≡ plan.bundle → books ≡ books_of plan → books.blocks ≡ bundle.catalogs
 blocks_are plan bundle books same shelf = ap (λ (b : Books). b.blocks) shelf ∙ ap (λ (b : Bundle). b.catalogs) (sym same)
 
 -- the library and the catalogs of a plan that is made of them
-pub stock_made : (bundle : Bundle) (library : Catalog) (books : Books) → books.blocks ≡ bundle.catalogs → stock_of (plan_made bundle library books) ≡ stock library books
+pub stock_made : (bundle : Bundle) (library : LibraryData) (books : Books) → books.blocks ≡ bundle.catalogs → stock_of (plan_made bundle library books) ≡ stock library books
 stock_made bundle library books same = ap (λ (blocks : List Block). stock library (record { blocks = blocks; books = books.books })) (sym same)
 
 -- what is agreed with the catalogs
@@ -80,7 +80,7 @@ setting_is plan terms count rows generations quota offers are many shelf =
     ∙ ap (λ (os : List Offered). (made_terms (length plan.bundle.threads) rows generations os quota).setting) shelf
 
 -- the lines of a run are such as the plan may print
-pub run_prints : (plan : PlanData) (bundle : Bundle) (library : Catalog) (books : Books) (gate : Gates) (count rows generations quota : ℕ) (offers : List Offered) (seats : List SeatData) (lines : List OutLine) (table : TableData)
+pub run_prints : (plan : PlanData) (bundle : Bundle) (library : LibraryData) (books : Books) (gate : Gates) (count rows generations quota : ℕ) (offers : List Offered) (seats : List SeatData) (lines : List OutLine) (table : TableData)
     → bundle ≡ plan.bundle → library ≡ plan.library → books ≡ books_of plan → gate.locales.terms ≡ made_terms count rows generations offers quota → gate.catalogs.terms ≡ asked_terms count rows generations quota
     → count ≡ length bundle.threads → 0 < length bundle.threads → offers ≡ opening library
     → quota ≡ 2 * length bundle.commands + 1 → AreClosing gate (plan_made bundle library books) seats [] lines

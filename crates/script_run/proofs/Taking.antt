@@ -4,7 +4,7 @@ use Rattle.std.specs.Prelude.{◌≢◌, ◌==◌, filter, All, slice_index_or}
 use Rattle.std.proofs.lemmas.List.{length-map, length-reverse}
 use Rattle.std.proofs.lemmas.List.Elements.{All-weaker, All-filter, All-map}
 use Rattle.std.proofs.lemmas.List.Sums.{length-filter, count_by-le-length}
-use Rattle.category_store.specs.Catalog.{Catalog}
+use Rattle.category_store.specs.LibraryData.{LibraryData}
 use Rattle.category_store.specs.Library.{opening}
 use Rattle.category_store.specs.Shelf.{IsNumbered, IsInstallable}
 use Rattle.handle_table.specs.Entry as table
@@ -43,7 +43,7 @@ no_end (table.Fetch owner k) apart = tt
 no_end (table.Pins n) apart = tt
 no_end table.End apart = absurd (apart refl)
 
-task_may : (c : Setting) (library : Catalog) (command : Command) → IsNumbered library → IsInstallable library → c.opening ≡ opening library → IsInRange c.threads command → TaskMay library (MayCall c) (Runs command)
+task_may : (c : Setting) (library : LibraryData) (command : Command) → IsNumbered library → IsInstallable library → c.opening ≡ opening library → IsInRange c.threads command → TaskMay library (MayCall c) (Runs command)
 task_may c library command numbered installable own range = λ b. command_may c (MayCall c) (λ op fits apart. (fits, no_end op apart)) library b command numbered installable own range
 
 -- the turns of a thread in a round may be asked for

@@ -6,7 +6,7 @@ use Rattle.std.proofs.lemmas.Bool.{eq-eqb, lt-ltb, leb-true, ltb-true}
 use Rattle.std.proofs.lemmas.List.{length-reverse, reverse-append}
 use Rattle.std.proofs.lemmas.List.Elements.{All-nil, All-cons, All-head, All-tail, All-append, All-map, All-weaker, filter-append}
 use Rattle.mask_compose.specs.Parts.{Parts}
-use Rattle.category_store.specs.Catalog.{Catalog}
+use Rattle.category_store.specs.LibraryData.{LibraryData}
 use Rattle.lc_base.specs.declared.handle.Named.{Named}
 use Rattle.handle_table.specs.Entry as table
 use Rattle.handle_table.specs.Entry.{History, Setting}
@@ -39,7 +39,7 @@ use Rattle.script_run.proofs.LineAnswered.{MakesEntries}
 -- ---- the version of one line
 
 -- the line of an entry
-entry_version : (c : Setting) (library : Catalog) (W : History) (u : Timed) (categories : CategoryArgument) (op : table.Op) (more : List PlacedCall) → let first = oldest u.moment W in
+entry_version : (c : Setting) (library : LibraryData) (W : History) (u : Timed) (categories : CategoryArgument) (op : table.Op) (more : List PlacedCall) → let first = oldest u.moment W in
     u.task_line.line ≡ entry_line library first (caller_of u.task_line.line) categories (answer c first u.task_line.line.thread op)
     → All (IsEntryOf c W) (call_of u.task_line.line.thread (length first, op) ∷ more)
     → UpTo (sets (oldest (end_of u) W)) u.task_line.line.global
@@ -64,7 +64,7 @@ newest_version W u m since is some =
     subst (UpTo (sets (oldest (end_of u) W))) (sym (ap (λ (k : OutLine). k.global) is ∙ some))
     (some_up (sets (oldest (end_of u) W)) (sets (oldest u.moment W)) (sets_within u.moment (end_of u) W since))
 
-between_version : (c : Setting) (library : Catalog) (W : History) (before : List TaskLine) (u : Timed) (n : Named) (read : Read) (object : Option Parts)
+between_version : (c : Setting) (library : LibraryData) (W : History) (before : List TaskLine) (u : Timed) (n : Named) (read : Read) (object : Option Parts)
     → MakesEntries c W u (Ok (ReadsOf n read))
     → u.task_line.line ≡ (reads_between c library (moments_in W before u) (caller_of u.task_line.line) n read object).line
     → UpTo (sets (oldest (end_of u) W)) u.task_line.line.global
@@ -74,7 +74,7 @@ between_version c library W before u n read None entries is =
 between_version c library W before u n read (Some object) entries is =
     silent_version (sets (oldest (end_of u) W)) u.task_line.line (reads_between c library (moments_in W before u) (caller_of u.task_line.line) n read (Some object)).line is refl
 
-of_version : (c : Setting) (library : Catalog) (W : History) (before : List TaskLine) (u : Timed) (n : Named) (read : Read) (object : Option Parts)
+of_version : (c : Setting) (library : LibraryData) (W : History) (before : List TaskLine) (u : Timed) (n : Named) (read : Read) (object : Option Parts)
     → MakesEntries c W u (Ok (ReadsOf n read))
     → u.task_line.line ≡ (reads_of c library (moments_in W before u) (caller_of u.task_line.line) n read object).line
     → UpTo (sets (oldest (end_of u) W)) u.task_line.line.global
@@ -83,7 +83,7 @@ of_version c library W before u n read (Some object) entries is =
 of_version c library W before u n read None entries is =
     between_version c library W before u n read (object_held (answer c (oldest u.moment W) u.task_line.line.thread (table.Hold n))) entries is
 
-read_version : (c : Setting) (library : Catalog) (W : History) (before : List TaskLine) (u : Timed) (read : Read) (object : Option Parts) → u.moment ≤ end_of u
+read_version : (c : Setting) (library : LibraryData) (W : History) (before : List TaskLine) (u : Timed) (read : Read) (object : Option Parts) → u.moment ≤ end_of u
     → u.task_line.line ≡ (reads c library (moments_in W before u) (caller_of u.task_line.line) read object).line
     → UpTo (sets (oldest (end_of u) W)) u.task_line.line.global
 read_version c library W before u read (Some object) since is =
@@ -96,7 +96,7 @@ open_global : (at : Caller) (version : Option ℕ) (asked : Asked) (n : Option �
 open_global at version asked None = refl
 open_global at version asked (Some n) = refl
 
-opens_version : (c : Setting) (library : Catalog) (books : Books) (W : History) (before : List TaskLine) (u : Timed) (name : List ℕ) (object : Option Parts) → u.moment ≤ end_of u
+opens_version : (c : Setting) (library : LibraryData) (books : Books) (W : History) (before : List TaskLine) (u : Timed) (name : List ℕ) (object : Option Parts) → u.moment ≤ end_of u
     → u.task_line.line ≡ (opens c library books (moments_in W before u) (caller_of u.task_line.line) name object).line
     → UpTo (sets (oldest (end_of u) W)) u.task_line.line.global
 opens_version c library books W before u name (Some object) since is =
@@ -106,7 +106,7 @@ opens_version c library books W before u name None since is =
     newest_version W u (opens c library books (moments_in W before u) (caller_of u.task_line.line) name None).line since is
     (open_global (caller_of u.task_line.line) (Some (sets (oldest u.moment W))) u.asked (book_for library books (global c (oldest u.moment W)) name))
 
-granted_version : (c : Setting) (library : Catalog) (books : Books) (W : History) (before : List TaskLine) (u : Timed) (w : Result Wish Why) → u.moment ≤ end_of u → MakesEntries c W u w
+granted_version : (c : Setting) (library : LibraryData) (books : Books) (W : History) (before : List TaskLine) (u : Timed) (w : Result Wish Why) → u.moment ≤ end_of u → MakesEntries c W u w
     → u.task_line.line ≡ (granted_at c library books (moments_in W before u) (caller_of u.task_line.line) w).line
     → UpTo (sets (oldest (end_of u) W)) u.task_line.line.global
 granted_version c library books W before u (Err why) since entries is =

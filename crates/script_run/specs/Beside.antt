@@ -1,6 +1,6 @@
 -- Threads of a script that run concurrently, and at which point of it they are.
 use Rattle.std.specs.Prelude.{◌≡◌, ℕ, ◌+◌, ◌*◌, ◌^◌, ◌<◌, ◌≤◌, List, [], ◌∷◌, ◌++◌, ◌==◌, length, filter, reverse, All, None}
-use Rattle.category_store.specs.Catalog.{Catalog}
+use Rattle.category_store.specs.LibraryData.{LibraryData}
 use Rattle.category_store.specs.Library.{opening}
 use Rattle.category_store.specs.Shelf.{IsNumbered, IsInstallable}
 use Rattle.category_store.specs.declared.share.Share.{Share}
@@ -63,10 +63,10 @@ pub record IsWorker (gate : Gates) (plan : PlanData) (t : ScriptThread Seated) (
 
 -- the library, and the catalogs of messages
 pub record Stock : Type 0 where
-  pub library : Catalog
+  pub library : LibraryData
   pub books : Books
 
-abbrev pub stock : Catalog → Books → Stock
+abbrev pub stock : LibraryData → Books → Stock
 stock library books = record { library = library; books = books }
 
 -- those of a plan

@@ -1,7 +1,7 @@
 -- The threads of a script between its rounds, while a round runs, and while they are closed (our own).
 use Rattle.std.specs.Prelude.{◌≡◌, ℕ, ◌+◌, ◌*◌, ◌<◌, ◌≤◌, List, [], ◌++◌, length, reverse, flat_map, All, OnOk, IsOk, slice_index_or}
 use Rattle.std.specs.List.{range_with_len}
-use Rattle.category_store.specs.Catalog.{Catalog}
+use Rattle.category_store.specs.LibraryData.{LibraryData}
 use Rattle.category_store.specs.Library.{opening}
 use Rattle.category_store.specs.declared.share.Share.{Share}
 use Rattle.turn_gate.specs.Callers.{Gate, Caller, IsSeatOf}
@@ -38,7 +38,7 @@ abbrev pub EachTwo : {A : Type 0} → List A → List A → (ℕ → A → A →
 EachTwo xs ys P = (i : ℕ) (d : _) → i < length xs → P i (slice_index_or xs i d) (slice_index_or ys i d)
 
 -- the plan of a bundle, its library and its catalogs
-abbrev pub plan_made : Bundle → Catalog → Books → PlanData
+abbrev pub plan_made : Bundle → LibraryData → Books → PlanData
 plan_made bundle library books = record { bundle = bundle; library = library; books = books.books }
 
 -- a worker as its table sees it

@@ -2,7 +2,7 @@
 use Rattle.std.proofs.Common.{◌≡◌, ℕ, ◌+◌, ◌≤◌, List, ◌∷◌, Option, Some, None, Result, Ok, Err, length, refl, sym, ap, subst, ◌∙◌, arith}
 use Rattle.std.specs.Prelude.{option_map}
 use Rattle.mask_compose.specs.Parts.{Parts}
-use Rattle.category_store.specs.Catalog.{Catalog}
+use Rattle.category_store.specs.LibraryData.{LibraryData}
 use Rattle.lc_base.specs.declared.handle.Named.{Named}
 use Rattle.handle_table.specs.Entry as table
 use Rattle.handle_table.specs.Entry.{History, Setting}
@@ -28,7 +28,7 @@ use Rattle.script_serial.specs.Alone.{AloneSideData, AloneData}
 use Rattle.script_serial.specs.Session.{IsAt, CatalogsAreAt}
 
 -- what a read between leaves, by the moments of its two calls
-between_alone : (c : Setting) (library : Catalog) (at : History → Type 0) (H : History) (caller : Caller) (n : Named) (read : Read) (m : Moments) (object : Option Parts) (l : OutLine)
+between_alone : (c : Setting) (library : LibraryData) (at : History → Type 0) (H : History) (caller : Caller) (n : Named) (read : Read) (m : Moments) (object : Option Parts) (l : OutLine)
     → m.first ≡ H → m.second ≡ with_call c m.first caller.thread (table.Hold n)
     → Left at (reads_between_at c library m caller n read object) l → Left at (reads_between c library H caller n read object) l
 between_alone c library at H caller n read m None l first second left = subst (λ (G : History). Left at (reads_between c library G caller n read None) l) first left
@@ -36,7 +36,7 @@ between_alone c library at H caller n read m (Some object) l first second left =
     subst (λ (G : History). Left at (reads_between c library G caller n read (Some object)) l) first
     (subst (λ (K : History). Left at (record { history = with_call c K caller.thread (table.Release n); line = held_line library (length m.first) (length K) caller read object }) l) second left)
 
-held_alone : (c : Setting) (library : Catalog) (at : History → Type 0) (H : History) (caller : Caller) (n : Named) (read : Read) (m : Moments) (held : Option Parts) (l : OutLine)
+held_alone : (c : Setting) (library : LibraryData) (at : History → Type 0) (H : History) (caller : Caller) (n : Named) (read : Read) (m : Moments) (held : Option Parts) (l : OutLine)
     → m.seen ≡ H → m.first ≡ H → (held ≡ None → m.second ≡ with_call c m.first caller.thread (table.Hold n))
     → Left at (reads_of_at c library m caller n read held) l → Left at (reads_of c library H caller n read held) l
 held_alone c library at H caller n read m (Some object) l seen first second left = subst (λ (G : History). Left at (without_entry G (object_line library caller read object)) l) seen left
@@ -44,7 +44,7 @@ held_alone c library at H caller n read m None l seen first second left =
     subst (λ (G : History). Left at (reads_between c library H caller n read (object_held (answer c G caller.thread (table.Hold n)))) l) first
     (between_alone c library at H caller n read m (object_held (answer c m.first caller.thread (table.Hold n))) l first (second refl) left)
 
-read_alone : (c : Setting) (library : Catalog) (at : History → Type 0) (H : History) (caller : Caller) (read : Read) (m : Moments) (object : Option Parts) (l : OutLine)
+read_alone : (c : Setting) (library : LibraryData) (at : History → Type 0) (H : History) (caller : Caller) (read : Read) (m : Moments) (object : Option Parts) (l : OutLine)
     → m.seen ≡ H → m.first ≡ H → Left at (reads_at c library m caller read object) l → Left at (without_entry H (read_line c library H caller read object)) l
 read_alone c library at H caller read m (Some object) l seen first left = subst (λ (G : History). Left at (without_entry G (object_line library caller read object)) l) seen left
 read_alone c library at H caller read m None l seen first left = subst (λ (G : History). Left at (without_entry G (read_line c library G caller read None)) l) first left
@@ -81,7 +81,7 @@ seen_alone c thread H (Ok (OpensCatalog name)) m are = (are.moments.seen, are.mo
 seen_alone c thread H (Ok (GetsMessage h set message default)) m are = (are.moments.seen, are.moments.first ∙ are.moments.seen)
 seen_alone c thread H (Ok (ClosesCatalog h)) m are = (are.moments.seen, are.moments.first ∙ are.moments.seen)
 
-asked_alone : (c : Setting) (library : Catalog) (books : Books) (catalogs_at : CatalogHistory → Type 0) (H : History) (M : CatalogHistory) (thread : ℕ) (w : Result Wish Why) (m : Moments)
+asked_alone : (c : Setting) (library : LibraryData) (books : Books) (catalogs_at : CatalogHistory → Type 0) (H : History) (M : CatalogHistory) (thread : ℕ) (w : Result Wish Why) (m : Moments)
     → AreMomentsOf c (λ (G K : History). G ≡ K) thread H w m → LeftCatalogs (catalog_setting c) IsSame catalogs_at thread M (catalog_op c library books m thread w) (length m.first) (length m.second) m.asked
     → LeftCatalogs (catalog_setting c) IsSame catalogs_at thread M (catalog_op_of c library books H thread w) (length m.first) (length m.second) m.asked
 asked_alone c library books catalogs_at H M thread w m are left =
@@ -95,7 +95,7 @@ open_alone : (c : CatalogSetting) (catalogs_at : CatalogHistory → Type 0) (thr
 open_alone c catalogs_at thread M caller version None low high asked left = refl
 open_alone c catalogs_at thread M caller version (Some n) low high asked left = ap (λ (a : Asked). open_line caller version a (Some n)) (asked_is c catalogs_at thread M (catalog.Open n) low high asked left)
 
-opens_alone : (c : Setting) (library : Catalog) (books : Books) (at : History → Type 0) (catalogs_at : CatalogHistory → Type 0) (H : History) (M : CatalogHistory) (caller : Caller) (name : List ℕ) (m : Moments) (object : Option Parts) (l : OutLine)
+opens_alone : (c : Setting) (library : LibraryData) (books : Books) (at : History → Type 0) (catalogs_at : CatalogHistory → Type 0) (H : History) (M : CatalogHistory) (caller : Caller) (name : List ℕ) (m : Moments) (object : Option Parts) (l : OutLine)
     → m.first ≡ H → m.second ≡ H
     → let op = option_map catalog.Open (book_for library books (object_used object (global c H)) name) in
     LeftCatalogs (catalog_setting c) IsSame catalogs_at caller.thread M op (length m.first) (length m.second) m.asked → Left at (opens c library books m caller name object) l
@@ -109,7 +109,7 @@ opens_alone c library books at catalogs_at H M caller name m None l first second
     (subst (λ (G : History). Left at (without_entry m.second (open_line caller (Some (sets G)) m.asked (book_for library books (global c G) name))) l) first left))
 
 -- the line, and the history of the table then
-pub alone : (c : Setting) (library : Catalog) (books : Books) (at : History → Type 0) (catalogs_at : CatalogHistory → Type 0) (H : History) (M : CatalogHistory) (caller : Caller) (w : Result Wish Why) (l : OutLine)
+pub alone : (c : Setting) (library : LibraryData) (books : Books) (at : History → Type 0) (catalogs_at : CatalogHistory → Type 0) (H : History) (M : CatalogHistory) (caller : Caller) (w : Result Wish Why) (l : OutLine)
     → Leaves c library books (λ (G K : History). G ≡ K) (λ (N K : CatalogHistory). N ≡ K) at catalogs_at H M caller w l → Left at (granted c library books H M caller w) l
 alone c library books at catalogs_at H M caller (Err why) l leaves = subst (λ (G : History). Left at (without_entry G (plain_line caller (said.Refused why))) l) leaves.1.seen leaves.2
 alone c library books at catalogs_at H M caller (Ok (Calls categories op)) l leaves = subst (λ (G : History). Left at (calls c library G caller categories op) l) (leaves.1.first ∙ leaves.1.seen) leaves.2
@@ -144,7 +144,7 @@ alone c library books at catalogs_at H M caller (Ok (ClosesCatalog h)) l leaves 
     (subst (λ (G : History). Left at (without_entry G (close_line caller m.asked)) l) (leaves.1.second ∙ leaves.1.moments.first ∙ leaves.1.moments.seen) leaves.2)
 
 -- and the history of the catalogs, whose next stamp counts the table's entries
-asked_left : (c : Setting) (library : Catalog) (books : Books) (at : History → Type 0) (catalogs_at : CatalogHistory → Type 0) (H : History) (M : CatalogHistory) (caller : Caller) (w : Result Wish Why) (m : Moments)
+asked_left : (c : Setting) (library : LibraryData) (books : Books) (at : History → Type 0) (catalogs_at : CatalogHistory → Type 0) (H : History) (M : CatalogHistory) (caller : Caller) (w : Result Wish Why) (m : Moments)
     → AreMomentsOf c (λ (G K : History). G ≡ K) caller.thread H w m → m.second ≡ m.first
     → LeftCatalogs (catalog_setting c) IsSame catalogs_at caller.thread M (catalog_op c library books m caller.thread w) (length m.first) (length m.second) m.asked → catalogs_at (catalogs_left c library books H M caller.thread w)
 asked_left c library books at catalogs_at H M caller w m are second left =
@@ -152,7 +152,7 @@ asked_left c library books at catalogs_at H M caller w m are second left =
     left_alone (catalog_setting c) catalogs_at caller.thread M (length H) (catalog_op_of c library books H caller.thread w) (length m.first) (length m.second) m.asked (ap (λ (G : History). length G) first)
     (ap (λ (G : History). length G) (second ∙ first)) (asked_alone c library books catalogs_at H M caller.thread w m are left)
 
-pub alone_catalogs : (c : Setting) (library : Catalog) (books : Books) (at : History → Type 0) (catalogs_at : CatalogHistory → Type 0) (H : History) (M : CatalogHistory) (caller : Caller) (w : Result Wish Why) (l : OutLine)
+pub alone_catalogs : (c : Setting) (library : LibraryData) (books : Books) (at : History → Type 0) (catalogs_at : CatalogHistory → Type 0) (H : History) (M : CatalogHistory) (caller : Caller) (w : Result Wish Why) (l : OutLine)
     → Leaves c library books (λ (G K : History). G ≡ K) (λ (N K : CatalogHistory). N ≡ K) at catalogs_at H M caller w l → catalogs_at (catalogs_left c library books H M caller.thread w)
 alone_catalogs c library books at catalogs_at H M caller (Err why) l leaves = leaves.3
 alone_catalogs c library books at catalogs_at H M caller (Ok (Calls categories op)) l leaves = leaves.3

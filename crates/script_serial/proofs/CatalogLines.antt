@@ -5,7 +5,7 @@ use Rattle.catalog_handles.specs.declared.setting.CatalogSetting.{CatalogSetting
 use Rattle.catalog_handles.specs.Entry as catalog
 use Rattle.catalog_handles.specs.Entry.{Entry, History as CatalogHistory}
 use Rattle.catalog_handles.specs.Answer.{entry, IsLegal}
-use Rattle.category_store.specs.Catalog.{Catalog}
+use Rattle.category_store.specs.LibraryData.{LibraryData}
 use Rattle.handle_table.specs.Entry.{History, Setting}
 use Rattle.handle_table.specs.History.{global}
 use Rattle.script_lines.specs.Catalogs.{Books, Asked, book_for, catalogs_after, open_line}
@@ -27,11 +27,11 @@ pub open_version : (at : Caller) (version : Option ℕ) (asked : Asked) (n : Opt
 open_version at version asked None = refl
 open_version at version asked (Some n) = refl
 
-pub opens_caller : (c : Setting) (library : Catalog) (books : Books) (H : History) (at : Caller) (name : List ℕ) (asked : Asked) (object : Option Parts) → caller_of (opens_line c library books H at name asked object) ≡ at
+pub opens_caller : (c : Setting) (library : LibraryData) (books : Books) (H : History) (at : Caller) (name : List ℕ) (asked : Asked) (object : Option Parts) → caller_of (opens_line c library books H at name asked object) ≡ at
 opens_caller c library books H at name asked (Some object) = open_caller at None asked (book_for library books object name)
 opens_caller c library books H at name asked None = open_caller at _ asked (book_for library books (global c H) name)
 
-pub opens_places : (c : Setting) (library : Catalog) (books : Books) (H : History) (at : Caller) (name : List ℕ) (asked : Asked) (object : Option Parts) → places_in (opens_line c library books H at name asked object).places ≡ []
+pub opens_places : (c : Setting) (library : LibraryData) (books : Books) (H : History) (at : Caller) (name : List ℕ) (asked : Asked) (object : Option Parts) → places_in (opens_line c library books H at name asked object).places ≡ []
 opens_places c library books H at name asked (Some object) = open_places at None asked (book_for library books object name)
 opens_places c library books H at name asked None = open_places at _ asked (book_for library books (global c H) name)
 

@@ -10,7 +10,7 @@ use Rattle.std.proofs.lemmas.List.Folds.{find-append}
 use Rattle.std.proofs.lemmas.List.FromFn.{length-range_with_len}
 use Rattle.std.proofs.lemmas.List.Kept.{AllPairs-from_increasing}
 use Rattle.mask_compose.specs.Parts.{Parts}
-use Rattle.category_store.specs.Catalog.{Catalog}
+use Rattle.category_store.specs.LibraryData.{LibraryData}
 use Rattle.lc_base.specs.declared.handle.Named.{Named}
 use Rattle.handle_table.specs.Entry as table
 use Rattle.handle_table.specs.Entry.{Entry, History, Setting}
@@ -179,7 +179,7 @@ between_same : (x : Around) (H : History) (M : CatalogHistory) (at : Caller) (l 
     → l ≡ (reads_between x.setting x.plan.library H at n read (object_held (answer x.setting H at.thread (table.Hold n)))).line
 between_same x H M at l n read k (inl r) =
     let c : Setting = x.setting in
-    let library : Catalog = x.plan.library in
+    let library : LibraryData = x.plan.library in
     let at_two = two_are k r.hold r.release (ap (λ (m : OutLine). m.places) r.is) in
     let held : object_held (answer c H at.thread (table.Hold n)) ≡ Some r.object =
     ap (λ (G : History). object_held (answer c G at.thread (table.Hold n))) (sym k.here)
@@ -193,7 +193,7 @@ between_same x H M at l n read k (inl r) =
     ∙ ap (λ (o : Option Parts). (reads_between c library H at n read o).line) (sym held)
 between_same x H M at l n read k (inr r) =
     let c : Setting = x.setting in
-    let library : Catalog = x.plan.library in
+    let library : LibraryData = x.plan.library in
     let one : r.place ≡ length H = one_is k r.place (ap (λ (m : OutLine). m.places) r.is) in
     let before : past x r.place ≡ H = ap (past x) one ∙ k.here in
     let refused : object_held (answer c H at.thread (table.Hold n)) ≡ None = ap (λ (G : History). object_held (answer c G at.thread (table.Hold n))) (sym before) ∙ r.held in
@@ -299,7 +299,7 @@ granted_same : (x : Around) (H : History) (M : CatalogHistory) (at : Caller) (l 
 granted_same x H M at l (Err why) k is = record { line = is; catalogs = k.catalogs }
 granted_same x H M at l (Ok (Calls categories op)) k r =
     let c : Setting = x.setting in
-    let library : Catalog = x.plan.library in
+    let library : LibraryData = x.plan.library in
     let one : r.place ≡ length H = one_is k r.place (ap (λ (m : OutLine). m.places) r.is) in
     record {
       line =
@@ -490,7 +490,7 @@ rest_of c plan all V calls run before (turn ∷ turns) more (l ∷ lines) w =
 all_of : (xs others lines : List OutLine) → lines ≡ xs ++ others → others ≡ [] → lines ≡ xs
 all_of xs others lines is none = is ∙ ap (λ (ls : List OutLine). xs ++ ls) none ∙ append-nil xs
 
-joined : (c : Setting) (library : Catalog) (books : Books) (xs ys : List Turn) (lines others : List OutLine) → lines ≡ added c library books begun xs ++ others → others ≡ added c library books (played c library books begun xs) ys
+joined : (c : Setting) (library : LibraryData) (books : Books) (xs ys : List Turn) (lines others : List OutLine) → lines ≡ added c library books begun xs ++ others → others ≡ added c library books (played c library books begun xs) ys
     → lines ≡ added c library books begun (xs ++ ys)
 joined c library books xs ys lines others first rest =
     first ∙ ap (λ (ls : List OutLine). added c library books begun xs ++ ls) rest ∙ sym (added_append c library books begun xs ys)
@@ -498,7 +498,7 @@ joined c library books xs ys lines others first rest =
 pub only_serial : (rows generations : ℕ) (plan : PlanData) (lines : List OutLine) → PrintsInOrder (setting plan rows generations) plan lines → lines ≡ serial_lines rows generations plan
 only_serial rows generations plan lines w =
     let c : Setting = setting plan rows generations in
-    let library : Catalog = plan.library in
+    let library : LibraryData = plan.library in
     let books : Books = books_of plan in
     let V : CatalogHistory = w.prints.catalogs in
     let commands : List Turn = command_turns plan.bundle in

@@ -4,7 +4,7 @@ use Rattle.std.specs.Prelude.{◌≢◌, ◌==◌, ◌&&◌}
 use Rattle.std.proofs.lemmas.List.Sums.{sum_by_push}
 use Rattle.std.proofs.lemmas.Bool.{eq-eqb, ne_eqb, and_left}
 use Rattle.mask_compose.specs.Parts.{Parts}
-use Rattle.category_store.specs.Catalog.{Catalog}
+use Rattle.category_store.specs.LibraryData.{LibraryData}
 use Rattle.lc_base.specs.declared.handle.Named.{Named}
 use Rattle.handle_table.specs.Entry as table
 use Rattle.handle_table.specs.Entry.{History, Setting, is_accepted}
@@ -25,20 +25,20 @@ use Rattle.catalog_handles.specs.Entry.{History as CatalogHistory}
 
 -- ---- whose line it is
 
-between_thread : (c : Setting) (library : Catalog) (H : History) (at : Caller) (n : Named) (read : Read) (object : Option Parts) → (reads_between c library H at n read object).line.thread ≡ at.thread
+between_thread : (c : Setting) (library : LibraryData) (H : History) (at : Caller) (n : Named) (read : Read) (object : Option Parts) → (reads_between c library H at n read object).line.thread ≡ at.thread
 between_thread c library H at n read None = refl
 between_thread c library H at n read (Some object) = refl
 
-of_whose : (c : Setting) (library : Catalog) (H : History) (at : Caller) (n : Named) (read : Read) (held : Option Parts) → (reads_of c library H at n read held).line.thread ≡ at.thread
+of_whose : (c : Setting) (library : LibraryData) (H : History) (at : Caller) (n : Named) (read : Read) (held : Option Parts) → (reads_of c library H at n read held).line.thread ≡ at.thread
 of_whose c library H at n read (Some object) = refl
 of_whose c library H at n read None = between_thread c library H at n read (object_held (answer c H at.thread (table.Hold n)))
 
-read_thread : (c : Setting) (library : Catalog) (H : History) (at : Caller) (read : Read) (object : Option Parts) → (read_line c library H at read object).thread ≡ at.thread
+read_thread : (c : Setting) (library : LibraryData) (H : History) (at : Caller) (read : Read) (object : Option Parts) → (read_line c library H at read object).thread ≡ at.thread
 read_thread c library H at read (Some object) = refl
 read_thread c library H at read None = refl
 
 -- the line of an outcome is its caller's
-pub granted_thread : (c : Setting) (library : Catalog) (books : Books) (H : History) (M : CatalogHistory) (at : Caller) (w : Result Wish Why) → (granted c library books H M at w).line.thread ≡ at.thread
+pub granted_thread : (c : Setting) (library : LibraryData) (books : Books) (H : History) (M : CatalogHistory) (at : Caller) (w : Result Wish Why) → (granted c library books H M at w).line.thread ≡ at.thread
 granted_thread c library books H M at (Err why) = refl
 granted_thread c library books H M at (Ok (Calls categories op)) = refl
 granted_thread c library books H M at (Ok (ReadsOf n read)) = of_whose c library H at n read (held_as (open_holds H at.thread) n)
@@ -77,15 +77,15 @@ knows_call c H t who op other k =
       holds = k.holds ∙ sym (ap (λ (b : Bool). cond b (holds_after (open_holds H t.number) op r) (open_holds H t.number)) apart);
     }
 
-knows_between : (c : Setting) (library : Catalog) (H : History) (t : AloneSideData) (at : Caller) (n : Named) (read : Read) (object : Option Parts) → at.thread ≢ t.number → Knows t H → Knows t (reads_between c library H at n read object).history
+knows_between : (c : Setting) (library : LibraryData) (H : History) (t : AloneSideData) (at : Caller) (n : Named) (read : Read) (object : Option Parts) → at.thread ≢ t.number → Knows t H → Knows t (reads_between c library H at n read object).history
 knows_between c library H t at n read None other k = knows_call c H t at.thread (table.Hold n) other k
 knows_between c library H t at n read (Some object) other k = knows_call c (with_call c H at.thread (table.Hold n)) t at.thread (table.Release n) other (knows_call c H t at.thread (table.Hold n) other k)
 
-knows_of : (c : Setting) (library : Catalog) (H : History) (t : AloneSideData) (at : Caller) (n : Named) (read : Read) (held : Option Parts) → at.thread ≢ t.number → Knows t H → Knows t (reads_of c library H at n read held).history
+knows_of : (c : Setting) (library : LibraryData) (H : History) (t : AloneSideData) (at : Caller) (n : Named) (read : Read) (held : Option Parts) → at.thread ≢ t.number → Knows t H → Knows t (reads_of c library H at n read held).history
 knows_of c library H t at n read (Some object) other k = k
 knows_of c library H t at n read None other k = knows_between c library H t at n read (object_held (answer c H at.thread (table.Hold n))) other k
 
-pub knows_granted : (c : Setting) (library : Catalog) (books : Books) (H : History) (M : CatalogHistory) (t : AloneSideData) (at : Caller) (w : Result Wish Why) → at.thread ≢ t.number → Knows t H → Knows t (granted c library books H M at w).history
+pub knows_granted : (c : Setting) (library : LibraryData) (books : Books) (H : History) (M : CatalogHistory) (t : AloneSideData) (at : Caller) (w : Result Wish Why) → at.thread ≢ t.number → Knows t H → Knows t (granted c library books H M at w).history
 knows_granted c library books H M t at (Err why) other k = k
 knows_granted c library books H M t at (Ok (Calls categories op)) other k = knows_call c H t at.thread op other k
 knows_granted c library books H M t at (Ok (ReadsOf n read)) other k = knows_of c library H t at n read (held_as (open_holds H at.thread) n) other k

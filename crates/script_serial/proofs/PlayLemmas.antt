@@ -6,7 +6,7 @@ use Rattle.lc_base.specs.declared.block.Block.{Block}
 use Rattle.mask_compose.specs.Offer.{Offered}
 use Rattle.msg_catalog.specs.declared.book.Message.{Message}
 use Rattle.script_lines.specs.Catalogs.{Books}
-use Rattle.category_store.specs.Catalog.{Catalog}
+use Rattle.category_store.specs.LibraryData.{LibraryData}
 use Rattle.category_store.specs.Library.{opening}
 use Rattle.handle_table.specs.Entry.{History, Setting}
 use Rattle.script_serial.specs.Alone.{AloneData}
@@ -141,14 +141,14 @@ no_lines plan rows generations none =
     ap (λ (ts : List Turn). (played c plan.library (books_of plan) (commands_played c plan) ts).lines) closes ∙ ap (λ (r : Run). r.lines) commands
 
 -- the catalogs whose blocks are those of a bundle are those of a plan with it
-pub books_are : (bundle : Bundle) (library : Catalog) (books : Books) → books.blocks ≡ bundle.catalogs → books ≡ books_of (record { bundle = bundle; library = library; books = books.books })
+pub books_are : (bundle : Bundle) (library : LibraryData) (books : Books) → books.blocks ≡ bundle.catalogs → books ≡ books_of (record { bundle = bundle; library = library; books = books.books })
 books_are bundle library books same = ap (λ (blocks : List Block). record { blocks = blocks; books = books.books }) same
 
 abbrev made_setting : ℕ → ℕ → ℕ → List Offered → Setting
 made_setting threads rows generations offers = record { threads = threads; rows = rows; generations = generations; opening = offers }
 
 -- the lines that are printed are those of the plan
-pub serial_lines_are : (plan : PlanData) (rows generations count : ℕ) (bundle : Bundle) (library : Catalog) (books : List (List Message)) (c : Setting) (lines : List OutLine)
+pub serial_lines_are : (plan : PlanData) (rows generations count : ℕ) (bundle : Bundle) (library : LibraryData) (books : List (List Message)) (c : Setting) (lines : List OutLine)
     → c ≡ record { threads = count; rows = rows; generations = generations; opening = opening library } → count ≡ length bundle.threads → bundle ≡ plan.bundle → library ≡ plan.library → books ≡ plan.books
     → lines ≡ (closed c (record { bundle = bundle; library = library; books = books }) (commands_played c (record { bundle = bundle; library = library; books = books }))).lines → lines ≡ serial_lines rows generations plan
 serial_lines_are plan rows generations count bundle library books c lines own many same of read is =

@@ -5,7 +5,7 @@ use Rattle.std.proofs.Math.Seq.{drop-cons}
 use Rattle.std.proofs.lemmas.List.{get_or-map, get_or-set_same, get_or-set_other, length-map, length-set}
 use Rattle.std.proofs.lemmas.Bool.{ne_eqb}
 use Rattle.std.proofs.lemmas.Bool.Decides.{eqb_tells}
-use Rattle.category_store.specs.Catalog.{Catalog}
+use Rattle.category_store.specs.LibraryData.{LibraryData}
 use Rattle.category_store.specs.Library.{opening}
 use Rattle.lc_base.specs.declared.handle.Handle.{Handle}
 use Rattle.handle_table.specs.Entry.{Setting, History}
@@ -52,7 +52,7 @@ caller_is t run turn f own =
     ap (λ (n : ℕ). record { round = turn.round; thread = turn.thread; index = n + 1 }) (f.lines ∙ ap (λ (k : ℕ). lines_of_thread k run.lines) (sym own))
 
 -- a thread that has no turn
-pub follows_other : (c : Setting) (library : Catalog) (books : Books) (run : Run) (t : ThreadData) (turn : Turn) → turn.thread ≢ t.side.number → Follows t run → Follows t (with_outcome run turn (outcome c library books run turn))
+pub follows_other : (c : Setting) (library : LibraryData) (books : Books) (run : Run) (t : ThreadData) (turn : Turn) → turn.thread ≢ t.side.number → Follows t run → Follows t (with_outcome run turn (outcome c library books run turn))
 follows_other c library books run t turn other f =
     let at : Caller = next_caller run turn in
     let done : TurnOutcome = outcome c library books run turn in
@@ -64,7 +64,7 @@ follows_other c library books run t turn other f =
     }
 
 -- the thread that has it, by what its line leaves
-pub follows_own : (c : Setting) (library : Catalog) (books : Books) (run : Run) (t u : ThreadData) (turn : Turn) → turn.thread ≡ t.side.number → u.side.number ≡ t.side.number → Follows t run
+pub follows_own : (c : Setting) (library : LibraryData) (books : Books) (run : Run) (t u : ThreadData) (turn : Turn) → turn.thread ≡ t.side.number → u.side.number ≡ t.side.number → Follows t run
     → Knows u.side (outcome c library books run turn).history
     → BindsAs u.side.number u.variables (bindings_after t.side.number run.bindings turn.task (outcome c library books run turn).line.reply)
     → u.lines ≡ t.lines + 1
@@ -84,16 +84,16 @@ follows_own c library books run t u turn own number f knows binds lines =
 -- ---- all turns
 
 -- the script after so many turns, and what the turns that are left make of it
-pub record PlaysOn (c : Setting) (library : Catalog) (books : Books) (turns : List Turn) (start : Run) (board : AloneData) (threads : List ThreadData) (lines : List OutLine) (i : ℕ) (run : Run) : Type 0 where
+pub record PlaysOn (c : Setting) (library : LibraryData) (books : Books) (turns : List Turn) (start : Run) (board : AloneData) (threads : List ThreadData) (lines : List OutLine) (i : ℕ) (run : Run) : Type 0 where
   pub at : AreAt board threads run
   pub printed : run.lines ≡ lines
   pub rest : played c library books run (drop i turns) ≡ played c library books start turns
 
 -- the run after one more turn
-abbrev pub next : Setting → Catalog → Books → Run → Turn → Run
+abbrev pub next : Setting → LibraryData → Books → Run → Turn → Run
 next c library books run turn = with_outcome run turn (outcome c library books run turn)
 
-pub plays_on : (c : Setting) (library : Catalog) (books : Books) (turns : List Turn) (start : Run) (board board' : AloneData) (threads threads' : List ThreadData) (lines lines' : List OutLine) (i : ℕ) (run : Run) (turn : Turn)
+pub plays_on : (c : Setting) (library : LibraryData) (books : Books) (turns : List Turn) (start : Run) (board board' : AloneData) (threads threads' : List ThreadData) (lines lines' : List OutLine) (i : ℕ) (run : Run) (turn : Turn)
     → i < length turns → turn ≡ get_or turns i turn
     → PlaysOn c library books turns start board threads lines i run
     → lines' ≡ lines ++ (outcome c library books run turn).line ∷ []
@@ -120,7 +120,7 @@ elsewhere {X} P xs i x lt here others = λ k d l.
       | inr apart ↦ subst (P k) (sym (get_or-set_other xs i k x d apart.1)) (others k d (omega (arith, l, long)) apart.1)
     ]
 
-pub all_follow : (c : Setting) (library : Catalog) (books : Books) (run : Run) (turn : Turn) (threads : List ThreadData) (u : ThreadData) (lines : ℕ)
+pub all_follow : (c : Setting) (library : LibraryData) (books : Books) (run : Run) (turn : Turn) (threads : List ThreadData) (u : ThreadData) (lines : ℕ)
     → turn.thread < length threads → AreNumbered lines threads → All (λ (t : ThreadData). Follows t run) threads → Follows u (next c library books run turn)
     → All (λ (t : ThreadData). Follows t (next c library books run turn)) (slice_set threads turn.thread u)
 all_follow c library books run turn threads u lines lt numbered follow own =
@@ -135,11 +135,11 @@ still_numbered threads u i lines lt numbered number few =
 -- ---- what a turn leaves
 
 -- a line is that of the turn's outcome, and the board and the thread are at the script after it
-pub record IsTurned (c : Setting) (library : Catalog) (books : Books) (run : Run) (board : AloneData) (t : ThreadData) (turn : Turn) (l : OutLine) : Type 0 where
+pub record IsTurned (c : Setting) (library : LibraryData) (books : Books) (run : Run) (board : AloneData) (t : ThreadData) (turn : Turn) (l : OutLine) : Type 0 where
   pub line : l ≡ (outcome c library books run turn).line
   pub there : IsWith board t (next c library books run turn)
 
-pub turned : (c : Setting) (library : Catalog) (books : Books) (run : Run) (old new : AloneData) (t u : ThreadData) (turn : Turn) (l : OutLine)
+pub turned : (c : Setting) (library : LibraryData) (books : Books) (run : Run) (old new : AloneData) (t u : ThreadData) (turn : Turn) (l : OutLine)
     → turn.thread ≡ t.side.number → u.side.number ≡ t.side.number → u.lines ≡ t.lines + 1
     → ((H : History) (M : CatalogHistory) (bounds : List Bound) → IsAt old.table t.side H → CatalogsAreAt old M → BindsAs t.side.number t.variables bounds
     → LeavesTurn c library books (λ (G K : History). G ≡ K) (λ (N K : CatalogHistory). N ≡ K) (IsAt new.table u.side) (CatalogsAreAt new) H M bounds t.lines turn l)
@@ -175,7 +175,7 @@ two_steps old new t u same ready leaves =
 -- ---- what a turn needs
 
 -- what the turn of a thread asks for
-pub record CanTake (library : Catalog) (board : AloneData) (t : ThreadData) (turn : Turn) : Type 0 where
+pub record CanTake (library : LibraryData) (board : AloneData) (t : ThreadData) (turn : Turn) : Type 0 where
   pub ready : IsReady 2 board t.side
   pub shelf : board.table.setting.opening ≡ opening library
   pub own : turn.thread ≡ t.side.number
@@ -191,7 +191,7 @@ fits_at threads turns i item fit lt is =
     let long : length (map turn_seen turns) ≡ length turns = length-map turns turn_seen in
     subst (TurnFits threads) (sym (turn_at turns i item lt is)) (fit i (turn_seen item) (omega arith))
 
-pub can_take : (library : Catalog) (start board : AloneData) (before threads : List ThreadData) (count lines i : ℕ) (turn : Turn) (d : ThreadData)
+pub can_take : (library : LibraryData) (start board : AloneData) (before threads : List ThreadData) (count lines i : ℕ) (turn : Turn) (d : ThreadData)
     → CanPlay library start before count → GoesOn (2 * i) start board → length threads ≡ length before → AreNumbered (lines + i) threads → lines + count < 2 ^ 32 → i < count
     → TurnFits (length before) turn → CanTake library board (get_or threads turn.thread d) turn
 can_take library start board before threads count lines i turn d can on same numbered few lt fits =
@@ -213,7 +213,7 @@ can_take library start board before threads count lines i turn d can on same num
     }
 
 -- the turn at a place of a list that can be played
-pub taking : (library : Catalog) (start board : AloneData) (before threads : List ThreadData) (turns : List LentTurn) (lines now i : ℕ) (item : LentTurn) (d : ThreadData)
+pub taking : (library : LibraryData) (start board : AloneData) (before threads : List ThreadData) (turns : List LentTurn) (lines now i : ℕ) (item : LentTurn) (d : ThreadData)
     → CanPlay library start before (length turns) → GoesOn (2 * i) start board → length threads ≡ length before → AreNumbered now threads → now ≡ lines + i → lines + length turns < 2 ^ 32
     → All (TurnFits (length before)) (map turn_seen turns) → i < length turns → item ≡ get_or turns i item → CanTake library board (get_or threads item.thread d) (turn_seen item)
 taking library start board before threads turns lines now i item d can on same numbered printed few fit lt is =
@@ -243,7 +243,7 @@ goes_on start board board' i before after =
     record { setting = after.setting ∙ before.setting; steps = omega arith }
 
 -- the script after one more turn, where the thread at its place has left this
-pub after_turn : (library : Catalog) (books : Books) (turns : List LentTurn) (start : Run) (c : Setting) (board board' : AloneData) (threads : List ThreadData) (d u : ThreadData) (lines lines' : List OutLine) (l : OutLine) (i most : ℕ) (run : Run) (item : LentTurn)
+pub after_turn : (library : LibraryData) (books : Books) (turns : List LentTurn) (start : Run) (c : Setting) (board board' : AloneData) (threads : List ThreadData) (d u : ThreadData) (lines lines' : List OutLine) (l : OutLine) (i most : ℕ) (run : Run) (item : LentTurn)
     → board.table.setting ≡ c → i < length turns → item ≡ get_or turns i item → item.thread < length threads → AreNumbered most threads
     → ((r : Run) → IsWith board (get_or threads item.thread d) r → IsTurned board.table.setting library books r board' u (turn_seen item) l)
     → lines' ≡ lines ++ l ∷ []

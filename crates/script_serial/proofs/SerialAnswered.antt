@@ -7,7 +7,7 @@ use Rattle.std.proofs.lemmas.List.Elements.{All-nil, All-cons, All-head, All-tai
 use Rattle.std.proofs.lemmas.List.FromFn.{length-range_with_len}
 use Rattle.std.proofs.lemmas.Grind.{flat_map-append}
 use Rattle.mask_compose.specs.Parts.{Parts}
-use Rattle.category_store.specs.Catalog.{Catalog}
+use Rattle.category_store.specs.LibraryData.{LibraryData}
 use Rattle.lc_base.specs.declared.handle.Named.{Named}
 use Rattle.handle_table.specs.Entry as table
 use Rattle.handle_table.specs.Entry.{History, Setting}
@@ -180,7 +180,7 @@ abbrev pub AreByRound : List Turn → Type 0
 AreByRound [] = Unit {0}
 AreByRound (turn ∷ turns) = All (λ (u : Turn). turn.round ≤ u.round) turns × AreByRound turns
 
-pub added_rounds : (c : Setting) (library : Catalog) (books : Books) (round : ℕ) (run : Run) (turns : List Turn) → All (λ (u : Turn). round ≤ u.round) turns → All (λ (l : OutLine). round ≤ l.round) (added c library books run turns)
+pub added_rounds : (c : Setting) (library : LibraryData) (books : Books) (round : ℕ) (run : Run) (turns : List Turn) → All (λ (u : Turn). round ≤ u.round) turns → All (λ (l : OutLine). round ≤ l.round) (added c library books run turns)
 added_rounds c library books round run [] from = All-nil (λ (l : OutLine). round ≤ l.round)
 added_rounds c library books round run (turn ∷ turns) from =
     let done : TurnOutcome = outcome c library books run turn in
@@ -188,7 +188,7 @@ added_rounds c library books round run (turn ∷ turns) from =
     (subst (λ (r : ℕ). round ≤ r) (sym (line_round c library books run turn)) (All-head (λ (u : Turn). round ≤ u.round) turn turns from))
     (added_rounds c library books round (with_outcome run turn done) turns (All-tail (λ (u : Turn). round ≤ u.round) turn turns from))
 
-pub grown : (c : Setting) (library : Catalog) (books : Books) (run : Run) (turn : Turn) → length run.history ≤ length (outcome c library books run turn).history
+pub grown : (c : Setting) (library : LibraryData) (books : Books) (run : Run) (turn : Turn) → length run.history ≤ length (outcome c library books run turn).history
 grown c library books run turn =
     let on = turn_on c library books run turn in
     let long = length-append on.more run.history in
@@ -202,19 +202,19 @@ none_below n = All-nil (λ (p : ℕ). n ≤ p)
 one_below : (n p : ℕ) → n ≤ p → All (λ (q : ℕ). n ≤ q) (p ∷ [])
 one_below n p le = All-cons (λ (q : ℕ). n ≤ q) p [] le (none_below n)
 
-between_places_from : (c : Setting) (library : Catalog) (H : History) (at : Caller) (n : Named) (read : Read) (object : Option Parts) → All (λ (p : ℕ). length H ≤ p) (places_in (reads_between c library H at n read object).line.places)
+between_places_from : (c : Setting) (library : LibraryData) (H : History) (at : Caller) (n : Named) (read : Read) (object : Option Parts) → All (λ (p : ℕ). length H ≤ p) (places_in (reads_between c library H at n read object).line.places)
 between_places_from c library H at n read None = one_below (length H) (length H) (le_refl (length H))
 between_places_from c library H at n read (Some object) = All-cons (λ (q : ℕ). length H ≤ q) (length H) (suc (length H) ∷ []) (le_refl (length H)) (one_below (length H) (suc (length H)) (omega arith))
 
-of_places_from : (c : Setting) (library : Catalog) (H : History) (at : Caller) (n : Named) (read : Read) (held : Option Parts) → All (λ (p : ℕ). length H ≤ p) (places_in (reads_of c library H at n read held).line.places)
+of_places_from : (c : Setting) (library : LibraryData) (H : History) (at : Caller) (n : Named) (read : Read) (held : Option Parts) → All (λ (p : ℕ). length H ≤ p) (places_in (reads_of c library H at n read held).line.places)
 of_places_from c library H at n read (Some object) = none_below (length H)
 of_places_from c library H at n read None = between_places_from c library H at n read (object_held (answer c H at.thread (table.Hold n)))
 
-read_places_from : (c : Setting) (library : Catalog) (H : History) (at : Caller) (read : Read) (object : Option Parts) → All (λ (p : ℕ). length H ≤ p) (places_in (read_line c library H at read object).places)
+read_places_from : (c : Setting) (library : LibraryData) (H : History) (at : Caller) (read : Read) (object : Option Parts) → All (λ (p : ℕ). length H ≤ p) (places_in (read_line c library H at read object).places)
 read_places_from c library H at read (Some object) = none_below (length H)
 read_places_from c library H at read None = none_below (length H)
 
-pub granted_places_from : (c : Setting) (library : Catalog) (books : Books) (H : History) (M : CatalogHistory) (at : Caller) (w : Result Wish Why) → All (λ (p : ℕ). length H ≤ p) (places_in (granted c library books H M at w).line.places)
+pub granted_places_from : (c : Setting) (library : LibraryData) (books : Books) (H : History) (M : CatalogHistory) (at : Caller) (w : Result Wish Why) → All (λ (p : ℕ). length H ≤ p) (places_in (granted c library books H M at w).line.places)
 granted_places_from c library books H M at (Err why) = none_below (length H)
 granted_places_from c library books H M at (Ok (Calls categories op)) = one_below (length H) (length H) (le_refl (length H))
 granted_places_from c library books H M at (Ok (ReadsOf n read)) = of_places_from c library H at n read (held_as (open_holds H at.thread) n)
@@ -225,7 +225,7 @@ granted_places_from c library books H M at (Ok (OpensCatalog name)) = subst (All
 granted_places_from c library books H M at (Ok (GetsMessage h set message default)) = none_below (length H)
 granted_places_from c library books H M at (Ok (ClosesCatalog h)) = none_below (length H)
 
-added_from : (c : Setting) (library : Catalog) (books : Books) (n : ℕ) (run : Run) (turns : List Turn) → n ≤ length run.history → All (λ (p : ℕ). n ≤ p) (all_places (added c library books run turns))
+added_from : (c : Setting) (library : LibraryData) (books : Books) (n : ℕ) (run : Run) (turns : List Turn) → n ≤ length run.history → All (λ (p : ℕ). n ≤ p) (all_places (added c library books run turns))
 added_from c library books n run [] le = none_below n
 added_from c library books n run (turn ∷ turns) le =
     let done : TurnOutcome = outcome c library books run turn in
@@ -235,7 +235,7 @@ added_from c library books n run (turn ∷ turns) le =
     (All-weaker (λ (p : ℕ). length run.history ≤ p) (λ (p : ℕ). n ≤ p) (λ p from. omega (arith, from, le)) (places_in done.line.places) (granted_places_from c library books run.history run.catalogs (next_caller run turn) (wish_in library run turn)))
     (added_from c library books n next turns (omega (arith, le, more)))
 
-lines_added : (turns : List Turn) (c : Setting) (library : Catalog) (books : Books) (run : Run) → lines_of (with_tasks turns (added c library books run turns)) ≡ added c library books run turns
+lines_added : (turns : List Turn) (c : Setting) (library : LibraryData) (books : Books) (run : Run) → lines_of (with_tasks turns (added c library books run turns)) ≡ added c library books run turns
 lines_added [] c library books run = refl
 lines_added (turn ∷ turns) c library books run =
     let done : TurnOutcome = outcome c library books run turn in

@@ -5,7 +5,7 @@ use Rattle.std.specs.Option.{option_or}
 use Rattle.std.proofs.lemmas.Bool.{eq-eqb, ne_eqb}
 use Rattle.std.proofs.lemmas.List.Folds.{find-append}
 use Rattle.mask_compose.specs.Parts.{Parts}
-use Rattle.category_store.specs.Catalog.{Catalog}
+use Rattle.category_store.specs.LibraryData.{LibraryData}
 use Rattle.lc_base.specs.declared.handle.Named.{Named}
 use Rattle.handle_table.specs.Entry as table
 use Rattle.handle_table.specs.Entry.{Entry, History, Setting}
@@ -87,17 +87,17 @@ pub past_is : (c : Setting) (F H : History) → IsLegal c F → GoesOnFrom H F �
 past_is c F H legal on =
     ap (λ (G : History). history_below c (calls_from G) (length H)) on.is ∙ all_past c on.more H (subst (IsLegal c) on.is legal)
 
-between_on : (c : Setting) (library : Catalog) (H : History) (at : Caller) (n : Named) (read : Read) (object : Option Parts) → GoesOnFrom H (reads_between c library H at n read object).history
+between_on : (c : Setting) (library : LibraryData) (H : History) (at : Caller) (n : Named) (read : Read) (object : Option Parts) → GoesOnFrom H (reads_between c library H at n read object).history
 between_on c library H at n read None = one_entry H (entry c H at.thread (table.Hold n))
 between_on c library H at n read (Some object) =
     let held : History = with_call c H at.thread (table.Hold n) in
     goes_on H held (with_call c held at.thread (table.Release n)) (one_entry H (entry c H at.thread (table.Hold n))) (one_entry held (entry c held at.thread (table.Release n)))
 
-of_on : (c : Setting) (library : Catalog) (H : History) (at : Caller) (n : Named) (read : Read) (held : Option Parts) → GoesOnFrom H (reads_of c library H at n read held).history
+of_on : (c : Setting) (library : LibraryData) (H : History) (at : Caller) (n : Named) (read : Read) (held : Option Parts) → GoesOnFrom H (reads_of c library H at n read held).history
 of_on c library H at n read (Some object) = goes_nowhere H
 of_on c library H at n read None = between_on c library H at n read (object_held (answer c H at.thread (table.Hold n)))
 
-pub granted_on : (c : Setting) (library : Catalog) (books : Books) (H : History) (M : CatalogHistory) (at : Caller) (w : Result Wish Why) → GoesOnFrom H (granted c library books H M at w).history
+pub granted_on : (c : Setting) (library : LibraryData) (books : Books) (H : History) (M : CatalogHistory) (at : Caller) (w : Result Wish Why) → GoesOnFrom H (granted c library books H M at w).history
 granted_on c library books H M at (Err why) = goes_nowhere H
 granted_on c library books H M at (Ok (Calls categories op)) = one_entry H (entry c H at.thread op)
 granted_on c library books H M at (Ok (ReadsOf n read)) = of_on c library H at n read (held_as (open_holds H at.thread) n)
@@ -108,13 +108,13 @@ granted_on c library books H M at (Ok (OpensCatalog name)) = goes_nowhere H
 granted_on c library books H M at (Ok (GetsMessage h set message default)) = goes_nowhere H
 granted_on c library books H M at (Ok (ClosesCatalog h)) = goes_nowhere H
 
-abbrev pub wish_in : Catalog → Run → Turn → Result Wish Why
+abbrev pub wish_in : LibraryData → Run → Turn → Result Wish Why
 wish_in library run turn = wish_of library (bindings_of turn.thread run.bindings) turn.task
 
-pub turn_on : (c : Setting) (library : Catalog) (books : Books) (run : Run) (turn : Turn) → GoesOnFrom run.history (outcome c library books run turn).history
+pub turn_on : (c : Setting) (library : LibraryData) (books : Books) (run : Run) (turn : Turn) → GoesOnFrom run.history (outcome c library books run turn).history
 turn_on c library books run turn = granted_on c library books run.history run.catalogs (next_caller run turn) (wish_in library run turn)
 
-pub played_on : (c : Setting) (library : Catalog) (books : Books) (run : Run) (turns : List Turn) → GoesOnFrom run.history (played c library books run turns).history
+pub played_on : (c : Setting) (library : LibraryData) (books : Books) (run : Run) (turns : List Turn) → GoesOnFrom run.history (played c library books run turns).history
 played_on c library books run [] = goes_nowhere run.history
 played_on c library books run (turn ∷ turns) =
     let done : TurnOutcome = outcome c library books run turn in
@@ -125,16 +125,16 @@ played_on c library books run (turn ∷ turns) =
 legal_call : (c : Setting) (H : History) (thread : ℕ) (op : table.Op) → IsLegal c H → IsLegal c (with_call c H thread op)
 legal_call c H thread op legal = (refl, legal)
 
-between_legal : (c : Setting) (library : Catalog) (H : History) (at : Caller) (n : Named) (read : Read) (object : Option Parts) → IsLegal c H → IsLegal c (reads_between c library H at n read object).history
+between_legal : (c : Setting) (library : LibraryData) (H : History) (at : Caller) (n : Named) (read : Read) (object : Option Parts) → IsLegal c H → IsLegal c (reads_between c library H at n read object).history
 between_legal c library H at n read None legal = legal_call c H at.thread (table.Hold n) legal
 between_legal c library H at n read (Some object) legal =
     legal_call c (with_call c H at.thread (table.Hold n)) at.thread (table.Release n) (legal_call c H at.thread (table.Hold n) legal)
 
-of_legal : (c : Setting) (library : Catalog) (H : History) (at : Caller) (n : Named) (read : Read) (held : Option Parts) → IsLegal c H → IsLegal c (reads_of c library H at n read held).history
+of_legal : (c : Setting) (library : LibraryData) (H : History) (at : Caller) (n : Named) (read : Read) (held : Option Parts) → IsLegal c H → IsLegal c (reads_of c library H at n read held).history
 of_legal c library H at n read (Some object) legal = legal
 of_legal c library H at n read None legal = between_legal c library H at n read (object_held (answer c H at.thread (table.Hold n))) legal
 
-pub granted_legal : (c : Setting) (library : Catalog) (books : Books) (H : History) (M : CatalogHistory) (at : Caller) (w : Result Wish Why) → IsLegal c H → IsLegal c (granted c library books H M at w).history
+pub granted_legal : (c : Setting) (library : LibraryData) (books : Books) (H : History) (M : CatalogHistory) (at : Caller) (w : Result Wish Why) → IsLegal c H → IsLegal c (granted c library books H M at w).history
 granted_legal c library books H M at (Err why) legal = legal
 granted_legal c library books H M at (Ok (Calls categories op)) legal = legal_call c H at.thread op legal
 granted_legal c library books H M at (Ok (ReadsOf n read)) legal = of_legal c library H at n read (held_as (open_holds H at.thread) n) legal
@@ -145,7 +145,7 @@ granted_legal c library books H M at (Ok (OpensCatalog name)) legal = legal
 granted_legal c library books H M at (Ok (GetsMessage h set message default)) legal = legal
 granted_legal c library books H M at (Ok (ClosesCatalog h)) legal = legal
 
-pub played_legal : (c : Setting) (library : Catalog) (books : Books) (run : Run) (turns : List Turn) → IsLegal c run.history → IsLegal c (played c library books run turns).history
+pub played_legal : (c : Setting) (library : LibraryData) (books : Books) (run : Run) (turns : List Turn) → IsLegal c run.history → IsLegal c (played c library books run turns).history
 played_legal c library books run [] legal = legal
 played_legal c library books run (turn ∷ turns) legal =
     played_legal c library books (with_outcome run turn (outcome c library books run turn)) turns
@@ -159,21 +159,21 @@ Gains H at w done = calls_from done.history ≡ calls_from H ++ wished_calls at.
 no_gain : (H : History) → calls_from H ≡ calls_from H ++ []
 no_gain H = sym (append-nil (calls_from H))
 
-between_gains : (c : Setting) (library : Catalog) (H : History) (at : Caller) (n : Named) (read : Read) (object : Option Parts) → Gains H at (Ok (ReadsOf n read)) (reads_between c library H at n read object)
+between_gains : (c : Setting) (library : LibraryData) (H : History) (at : Caller) (n : Named) (read : Read) (object : Option Parts) → Gains H at (Ok (ReadsOf n read)) (reads_between c library H at n read object)
 between_gains c library H at n read None = refl
 between_gains c library H at n read (Some object) =
     let held : History = with_call c H at.thread (table.Hold n) in
     append_assoc (calls_from H) (call_at H (entry c H at.thread (table.Hold n)) ∷ []) (call_at held (entry c held at.thread (table.Release n)) ∷ [])
 
-of_gains : (c : Setting) (library : Catalog) (H : History) (at : Caller) (n : Named) (read : Read) (held : Option Parts) → Gains H at (Ok (ReadsOf n read)) (reads_of c library H at n read held)
+of_gains : (c : Setting) (library : LibraryData) (H : History) (at : Caller) (n : Named) (read : Read) (held : Option Parts) → Gains H at (Ok (ReadsOf n read)) (reads_of c library H at n read held)
 of_gains c library H at n read (Some object) = no_gain H
 of_gains c library H at n read None = between_gains c library H at n read (object_held (answer c H at.thread (table.Hold n)))
 
-read_gains : (c : Setting) (library : Catalog) (H : History) (at : Caller) (read : Read) (object : Option Parts) → Gains H at (Ok (Reads read)) (record { history = H; line = read_line c library H at read object })
+read_gains : (c : Setting) (library : LibraryData) (H : History) (at : Caller) (read : Read) (object : Option Parts) → Gains H at (Ok (Reads read)) (record { history = H; line = read_line c library H at read object })
 read_gains c library H at read (Some object) = no_gain H
 read_gains c library H at read None = no_gain H
 
-pub granted_gains : (c : Setting) (library : Catalog) (books : Books) (H : History) (M : CatalogHistory) (at : Caller) (w : Result Wish Why) → Gains H at w (granted c library books H M at w)
+pub granted_gains : (c : Setting) (library : LibraryData) (books : Books) (H : History) (M : CatalogHistory) (at : Caller) (w : Result Wish Why) → Gains H at w (granted c library books H M at w)
 granted_gains c library books H M at (Err why) = no_gain H
 granted_gains c library books H M at (Ok (Calls categories op)) = refl
 granted_gains c library books H M at (Ok (ReadsOf n read)) = of_gains c library H at n read (held_as (open_holds H at.thread) n)
@@ -189,21 +189,21 @@ granted_gains c library books H M at (Ok (ClosesCatalog h)) = no_gain H
 abbrev pub task_line_of : Turn → OutLine → TaskLine
 task_line_of turn l = record { task = turn.task; line = l }
 
-pub line_thread : (c : Setting) (library : Catalog) (books : Books) (run : Run) (turn : Turn) → (outcome c library books run turn).line.thread ≡ turn.thread
+pub line_thread : (c : Setting) (library : LibraryData) (books : Books) (run : Run) (turn : Turn) → (outcome c library books run turn).line.thread ≡ turn.thread
 line_thread c library books run turn = ap (λ (at : Caller). at.thread) (granted_caller c library books run.history run.catalogs (next_caller run turn) (wish_in library run turn))
 
-pub line_round : (c : Setting) (library : Catalog) (books : Books) (run : Run) (turn : Turn) → (outcome c library books run turn).line.round ≡ turn.round
+pub line_round : (c : Setting) (library : LibraryData) (books : Books) (run : Run) (turn : Turn) → (outcome c library books run turn).line.round ≡ turn.round
 line_round c library books run turn = ap (λ (at : Caller). at.round) (granted_caller c library books run.history run.catalogs (next_caller run turn) (wish_in library run turn))
 
 -- what variables stand for after one more line
-pub bound_next : (c : Setting) (library : Catalog) (books : Books) (run : Run) (before : List TaskLine) (turn : Turn) → bound_by before ≡ run.bindings
+pub bound_next : (c : Setting) (library : LibraryData) (books : Books) (run : Run) (before : List TaskLine) (turn : Turn) → bound_by before ≡ run.bindings
     → bound_by (task_line_of turn (outcome c library books run turn).line ∷ before) ≡ (with_outcome run turn (outcome c library books run turn)).bindings
 bound_next c library books run before turn bounds =
     let l : OutLine = (outcome c library books run turn).line in
     ap (λ (thread : ℕ). bindings_after thread (bound_by before) turn.task l.reply) (line_thread c library books run turn)
     ∙ ap (λ (bs : List Bound). bindings_after turn.thread bs turn.task l.reply) bounds
 
-pub calls_here : (c : Setting) (library : Catalog) (books : Books) (run : Run) (before : List TaskLine) (turn : Turn) → bound_by before ≡ run.bindings
+pub calls_here : (c : Setting) (library : LibraryData) (books : Books) (run : Run) (before : List TaskLine) (turn : Turn) → bound_by before ≡ run.bindings
     → calls_of library (bound_by before) (task_line_of turn (outcome c library books run turn).line)
     ≡ wished_calls turn.thread (places_in (outcome c library books run turn).line.places) (wish_in library run turn)
 calls_here c library books run before turn bounds =
@@ -212,7 +212,7 @@ calls_here c library books run before turn bounds =
     ∙ ap (λ (bs : List Bound). wished_calls turn.thread at (wish_of library (bindings_of turn.thread bs) turn.task)) bounds
 
 -- the calls of the lines of turns are those of the history
-pub calls_played : (c : Setting) (library : Catalog) (books : Books) (run : Run) (before : List TaskLine) (turns : List Turn) → bound_by before ≡ run.bindings
+pub calls_played : (c : Setting) (library : LibraryData) (books : Books) (run : Run) (before : List TaskLine) (turns : List Turn) → bound_by before ≡ run.bindings
     → calls_from run.history ++ calls_after library before (with_tasks turns (added c library books run turns)) ≡ calls_from (played c library books run turns).history
 calls_played c library books run before [] bounds = append-nil (calls_from run.history)
 calls_played c library books run before (turn ∷ turns) bounds =
@@ -226,7 +226,7 @@ calls_played c library books run before (turn ∷ turns) bounds =
     ∙ calls_played c library books next (d ∷ before) turns (bound_next c library books run before turn bounds)
 
 -- the tasks of turns go with their lines alone
-pub with_tasks_first : (c : Setting) (library : Catalog) (books : Books) (run : Run) (turns : List Turn) (more : List OutLine) → with_tasks turns (added c library books run turns ++ more) ≡ with_tasks turns (added c library books run turns)
+pub with_tasks_first : (c : Setting) (library : LibraryData) (books : Books) (run : Run) (turns : List Turn) (more : List OutLine) → with_tasks turns (added c library books run turns ++ more) ≡ with_tasks turns (added c library books run turns)
 with_tasks_first c library books run [] more = refl
 with_tasks_first c library books run (turn ∷ turns) more =
     let done : TurnOutcome = outcome c library books run turn in

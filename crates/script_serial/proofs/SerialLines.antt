@@ -5,7 +5,7 @@ use Rattle.std.specs.List.{range_with_len}
 use Rattle.std.proofs.lemmas.List.{map-append, append-nil}
 use Rattle.std.proofs.lemmas.Grind.{flat_map-append}
 use Rattle.mask_compose.specs.Parts.{Parts}
-use Rattle.category_store.specs.Catalog.{Catalog}
+use Rattle.category_store.specs.LibraryData.{LibraryData}
 use Rattle.lc_base.specs.declared.handle.Named.{Named}
 use Rattle.handle_table.specs.Entry as table
 use Rattle.handle_table.specs.Entry.{History, Setting}
@@ -27,19 +27,19 @@ use Rattle.catalog_handles.specs.Entry.{History as CatalogHistory}
 
 -- ---- whose line it is
 
-between_caller : (c : Setting) (library : Catalog) (H : History) (at : Caller) (n : Named) (read : Read) (object : Option Parts) → caller_of (reads_between c library H at n read object).line ≡ at
+between_caller : (c : Setting) (library : LibraryData) (H : History) (at : Caller) (n : Named) (read : Read) (object : Option Parts) → caller_of (reads_between c library H at n read object).line ≡ at
 between_caller c library H at n read None = refl
 between_caller c library H at n read (Some object) = refl
 
-of_caller : (c : Setting) (library : Catalog) (H : History) (at : Caller) (n : Named) (read : Read) (held : Option Parts) → caller_of (reads_of c library H at n read held).line ≡ at
+of_caller : (c : Setting) (library : LibraryData) (H : History) (at : Caller) (n : Named) (read : Read) (held : Option Parts) → caller_of (reads_of c library H at n read held).line ≡ at
 of_caller c library H at n read (Some object) = refl
 of_caller c library H at n read None = between_caller c library H at n read (object_held (answer c H at.thread (table.Hold n)))
 
-read_caller : (c : Setting) (library : Catalog) (H : History) (at : Caller) (read : Read) (object : Option Parts) → caller_of (read_line c library H at read object) ≡ at
+read_caller : (c : Setting) (library : LibraryData) (H : History) (at : Caller) (read : Read) (object : Option Parts) → caller_of (read_line c library H at read object) ≡ at
 read_caller c library H at read (Some object) = refl
 read_caller c library H at read None = refl
 
-pub granted_caller : (c : Setting) (library : Catalog) (books : Books) (H : History) (M : CatalogHistory) (at : Caller) (w : Result Wish Why) → caller_of (granted c library books H M at w).line ≡ at
+pub granted_caller : (c : Setting) (library : LibraryData) (books : Books) (H : History) (M : CatalogHistory) (at : Caller) (w : Result Wish Why) → caller_of (granted c library books H M at w).line ≡ at
 granted_caller c library books H M at (Err why) = refl
 granted_caller c library books H M at (Ok (Calls categories op)) = refl
 granted_caller c library books H M at (Ok (ReadsOf n read)) = of_caller c library H at n read (held_as (open_holds H at.thread) n)
@@ -59,7 +59,7 @@ pub next_is : (run : Run) (turn : Turn) → next_caller run turn ≡ caller_afte
 next_is run turn = ap (λ (n : ℕ). record { round = turn.round; thread = turn.thread; index = n + 1 }) (same_count turn.thread 0 run.lines)
 
 -- the callers of the lines are those of the turns
-pub callers_played : (c : Setting) (library : Catalog) (books : Books) (run : Run) (turns : List Turn) → map caller_of (played c library books run turns).lines ≡ map caller_of run.lines ++ callers_after (map caller_of run.lines) turns
+pub callers_played : (c : Setting) (library : LibraryData) (books : Books) (run : Run) (turns : List Turn) → map caller_of (played c library books run turns).lines ≡ map caller_of run.lines ++ callers_after (map caller_of run.lines) turns
 callers_played c library books run [] = sym (append-nil (map caller_of run.lines))
 callers_played c library books run (turn ∷ turns) =
     let before : List Caller = map caller_of run.lines in
@@ -74,24 +74,24 @@ callers_played c library books run (turn ∷ turns) =
     ∙ ap (λ (xs : List Caller). xs ++ callers_after xs turns) longer
     ∙ append_assoc before (caller_after before turn ∷ []) (callers_after (before ++ caller_after before turn ∷ []) turns)
 
-pub played_append : (c : Setting) (library : Catalog) (books : Books) (run : Run) (xs ys : List Turn) → played c library books run (xs ++ ys) ≡ played c library books (played c library books run xs) ys
+pub played_append : (c : Setting) (library : LibraryData) (books : Books) (run : Run) (xs ys : List Turn) → played c library books run (xs ++ ys) ≡ played c library books (played c library books run xs) ys
 played_append c library books run [] ys = refl
 played_append c library books run (x ∷ xs) ys = played_append c library books (with_outcome run x (outcome c library books run x)) xs ys
 
 -- ---- the lines that turns add
 
-abbrev pub added : Setting → Catalog → Books → Run → List Turn → List OutLine
+abbrev pub added : Setting → LibraryData → Books → Run → List Turn → List OutLine
 added c library books run [] = []
 added c library books run (turn ∷ turns) = (outcome c library books run turn).line ∷ added c library books (with_outcome run turn (outcome c library books run turn)) turns
 
-pub played_lines : (c : Setting) (library : Catalog) (books : Books) (run : Run) (turns : List Turn) → (played c library books run turns).lines ≡ run.lines ++ added c library books run turns
+pub played_lines : (c : Setting) (library : LibraryData) (books : Books) (run : Run) (turns : List Turn) → (played c library books run turns).lines ≡ run.lines ++ added c library books run turns
 played_lines c library books run [] = sym (append-nil run.lines)
 played_lines c library books run (turn ∷ turns) =
     let done : TurnOutcome = outcome c library books run turn in
     played_lines c library books (with_outcome run turn done) turns
     ∙ append_assoc run.lines (done.line ∷ []) (added c library books (with_outcome run turn done) turns)
 
-pub added_append : (c : Setting) (library : Catalog) (books : Books) (run : Run) (xs ys : List Turn) → added c library books run (xs ++ ys) ≡ added c library books run xs ++ added c library books (played c library books run xs) ys
+pub added_append : (c : Setting) (library : LibraryData) (books : Books) (run : Run) (xs ys : List Turn) → added c library books run (xs ++ ys) ≡ added c library books run xs ++ added c library books (played c library books run xs) ys
 added_append c library books run [] ys = refl
 added_append c library books run (x ∷ xs) ys =
     let done : TurnOutcome = outcome c library books run x in
@@ -118,20 +118,20 @@ no_place n = append-nil (first_places n)
 abbrev Grows : History → Outcome → Type 0
 Grows H done = first_places (length H) ++ places_in done.line.places ≡ first_places (length done.history)
 
-between_places : (c : Setting) (library : Catalog) (H : History) (at : Caller) (n : Named) (read : Read) (object : Option Parts) → Grows H (reads_between c library H at n read object)
+between_places : (c : Setting) (library : LibraryData) (H : History) (at : Caller) (n : Named) (read : Read) (object : Option Parts) → Grows H (reads_between c library H at n read object)
 between_places c library H at n read None = one_place (length H)
 between_places c library H at n read (Some object) = two_places (length H)
 
-of_places : (c : Setting) (library : Catalog) (H : History) (at : Caller) (n : Named) (read : Read) (held : Option Parts) → Grows H (reads_of c library H at n read held)
+of_places : (c : Setting) (library : LibraryData) (H : History) (at : Caller) (n : Named) (read : Read) (held : Option Parts) → Grows H (reads_of c library H at n read held)
 of_places c library H at n read (Some object) = no_place (length H)
 of_places c library H at n read None = between_places c library H at n read (object_held (answer c H at.thread (table.Hold n)))
 
-read_places : (c : Setting) (library : Catalog) (H : History) (at : Caller) (read : Read) (object : Option Parts) → Grows H (record { history = H; line = read_line c library H at read object })
+read_places : (c : Setting) (library : LibraryData) (H : History) (at : Caller) (read : Read) (object : Option Parts) → Grows H (record { history = H; line = read_line c library H at read object })
 read_places c library H at read (Some object) = no_place (length H)
 read_places c library H at read None = no_place (length H)
 
 -- a line has the next places, one for each entry that it makes
-pub granted_places : (c : Setting) (library : Catalog) (books : Books) (H : History) (M : CatalogHistory) (at : Caller) (w : Result Wish Why) → Grows H (granted c library books H M at w)
+pub granted_places : (c : Setting) (library : LibraryData) (books : Books) (H : History) (M : CatalogHistory) (at : Caller) (w : Result Wish Why) → Grows H (granted c library books H M at w)
 granted_places c library books H M at (Err why) = no_place (length H)
 granted_places c library books H M at (Ok (Calls categories op)) = one_place (length H)
 granted_places c library books H M at (Ok (ReadsOf n read)) = of_places c library H at n read (held_as (open_holds H at.thread) n)
@@ -145,7 +145,7 @@ granted_places c library books H M at (Ok (ClosesCatalog h)) = no_place (length 
 abbrev pub IsCounted : Run → Type 0
 IsCounted run = all_places run.lines ≡ first_places (length run.history)
 
-pub one_turn : (c : Setting) (library : Catalog) (books : Books) (run : Run) (turn : Turn) → IsCounted run → IsCounted (with_outcome run turn (outcome c library books run turn))
+pub one_turn : (c : Setting) (library : LibraryData) (books : Books) (run : Run) (turn : Turn) → IsCounted run → IsCounted (with_outcome run turn (outcome c library books run turn))
 one_turn c library books run turn counted =
     let done : TurnOutcome = outcome c library books run turn in
     flat_map-append (λ (l : OutLine). places_in l.places) run.lines (done.line ∷ [])
@@ -153,6 +153,6 @@ one_turn c library books run turn counted =
     ∙ ap (λ (xs : List ℕ). xs ++ places_in done.line.places) counted
     ∙ granted_places c library books run.history run.catalogs (next_caller run turn) (wish_of library (bindings_of turn.thread run.bindings) turn.task)
 
-pub all_turns_counted : (c : Setting) (library : Catalog) (books : Books) (run : Run) (turns : List Turn) → IsCounted run → IsCounted (played c library books run turns)
+pub all_turns_counted : (c : Setting) (library : LibraryData) (books : Books) (run : Run) (turns : List Turn) → IsCounted run → IsCounted (played c library books run turns)
 all_turns_counted c library books run [] counted = counted
 all_turns_counted c library books run (turn ∷ turns) counted = all_turns_counted c library books (with_outcome run turn (outcome c library books run turn)) turns (one_turn c library books run turn counted)

@@ -2,7 +2,7 @@
 use Rattle.std.proofs.Common.{◌≡◌, ℕ, List, [], ◌∷◌, length, Option, Some, None, Result, Ok, Err, refl, sym, ap, subst, ◌∙◌}
 use Rattle.std.proofs.lemmas.Option.{same_Some}
 use Rattle.mask_compose.specs.Parts.{Parts}
-use Rattle.category_store.specs.Catalog.{Catalog}
+use Rattle.category_store.specs.LibraryData.{LibraryData}
 use Rattle.lc_base.specs.declared.handle.Named.{Named}
 use Rattle.handle_table.specs.Entry as table
 use Rattle.handle_table.specs.Entry.{History, Setting}
@@ -41,23 +41,23 @@ one_place place version m is = absurd (cc is)
 this_version : (version m : ℕ) → Some m ≡ Some version → version ≡ m
 this_version version m is = sym (same_Some m version is)
 
-between_newest : (c : Setting) (library : Catalog) (H : History) (at : Caller) (n : Named) (read : Read) (object : Option Parts) → PrintsNewest H (reads_between c library H at n read object).line
+between_newest : (c : Setting) (library : LibraryData) (H : History) (at : Caller) (n : Named) (read : Read) (object : Option Parts) → PrintsNewest H (reads_between c library H at n read object).line
 between_newest c library H at n read None version none is = one_place (length H) version (sets H) none
 between_newest c library H at n read (Some object) version none is = no_version version (sets H) is
 
-of_newest : (c : Setting) (library : Catalog) (H : History) (at : Caller) (n : Named) (read : Read) (held : Option Parts) → PrintsNewest H (reads_of c library H at n read held).line
+of_newest : (c : Setting) (library : LibraryData) (H : History) (at : Caller) (n : Named) (read : Read) (held : Option Parts) → PrintsNewest H (reads_of c library H at n read held).line
 of_newest c library H at n read (Some object) version none is = no_version version (sets H) is
 of_newest c library H at n read None version none is = between_newest c library H at n read (object_held (answer c H at.thread (table.Hold n))) version none is
 
-read_newest : (c : Setting) (library : Catalog) (H : History) (at : Caller) (read : Read) (object : Option Parts) → PrintsNewest H (read_line c library H at read object)
+read_newest : (c : Setting) (library : LibraryData) (H : History) (at : Caller) (read : Read) (object : Option Parts) → PrintsNewest H (read_line c library H at read object)
 read_newest c library H at read (Some object) version none is = no_version version (sets H) is
 read_newest c library H at read None version none is = this_version version (sets H) is
 
-opens_newest : (c : Setting) (library : Catalog) (books : Books) (H : History) (at : Caller) (name : List ℕ) (asked : Asked) (object : Option Parts) → PrintsNewest H (opens_line c library books H at name asked object)
+opens_newest : (c : Setting) (library : LibraryData) (books : Books) (H : History) (at : Caller) (name : List ℕ) (asked : Asked) (object : Option Parts) → PrintsNewest H (opens_line c library books H at name asked object)
 opens_newest c library books H at name asked (Some object) version none is = no_version version (sets H) (sym (open_version at None asked (book_for library books object name)) ∙ is)
 opens_newest c library books H at name asked None version none is = this_version version (sets H) (sym (open_version at (Some (sets H)) asked (book_for library books (global c H) name)) ∙ is)
 
-granted_newest : (c : Setting) (library : Catalog) (books : Books) (H : History) (M : CatalogHistory) (at : Caller) (w : Result Wish Why) → PrintsNewest H (granted c library books H M at w).line
+granted_newest : (c : Setting) (library : LibraryData) (books : Books) (H : History) (M : CatalogHistory) (at : Caller) (w : Result Wish Why) → PrintsNewest H (granted c library books H M at w).line
 granted_newest c library books H M at (Err why) version none is = no_version version (sets H) is
 granted_newest c library books H M at (Ok (Calls categories op)) version none is = one_place (length H) version (sets H) none
 granted_newest c library books H M at (Ok (ReadsOf n read)) version none is = of_newest c library H at n read (held_as (open_holds H at.thread) n) version none is
@@ -68,7 +68,7 @@ granted_newest c library books H M at (Ok (OpensCatalog name)) version none is =
 granted_newest c library books H M at (Ok (GetsMessage h set message default)) version none is = no_version version (sets H) is
 granted_newest c library books H M at (Ok (ClosesCatalog h)) version none is = no_version version (sets H) is
 
-are_newest : (c : Setting) (library : Catalog) (books : Books) (F : History) (run : Run) (turns : List Turn) → IsLegal c F → F ≡ (played c library books run turns).history → IsCounted run
+are_newest : (c : Setting) (library : LibraryData) (books : Books) (F : History) (run : Run) (turns : List Turn) → IsLegal c F → F ≡ (played c library books run turns).history → IsCounted run
     → AreNewest c (calls_from F) run.lines (added c library books run turns)
 are_newest c library books F run [] legal final counted = tt
 are_newest c library books F run (turn ∷ turns) legal final counted =

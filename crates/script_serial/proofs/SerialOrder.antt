@@ -5,7 +5,7 @@ use Rattle.std.specs.Prelude.{option_map, All}
 use Rattle.std.specs.List.{range_with_len}
 use Rattle.std.proofs.lemmas.List.Elements.{All-nil, All-cons, All-weaker}
 use Rattle.mask_compose.specs.Parts.{Parts}
-use Rattle.category_store.specs.Catalog.{Catalog}
+use Rattle.category_store.specs.LibraryData.{LibraryData}
 use Rattle.lc_base.specs.declared.handle.Named.{Named}
 use Rattle.handle_table.specs.Entry as table
 use Rattle.handle_table.specs.Entry.{History, Setting}
@@ -42,7 +42,7 @@ op_rises : (c : CatalogSetting) (M : CatalogHistory) (thread n : ℕ) (op : Opti
 op_rises c M thread n None rising le = (rising, le)
 op_rises c M thread n (Some op) rising le = ((le, rising), omega arith)
 
-pub played_rises : (c : Setting) (library : Catalog) (books : Books) (run : Run) (turns : List Turn) → IsRising run.catalogs → last_stamp run.catalogs ≤ length run.history
+pub played_rises : (c : Setting) (library : LibraryData) (books : Books) (run : Run) (turns : List Turn) → IsRising run.catalogs → last_stamp run.catalogs ≤ length run.history
     → IsRising (played c library books run turns).catalogs
 played_rises c library books run [] rising le = rising
 played_rises c library books run (turn ∷ turns) rising le =
@@ -68,26 +68,26 @@ open_at : (c : CatalogSetting) (F M : CatalogHistory) (n : ℕ) (at : Caller) (v
 open_at c F M n at version None on = none_at F n
 open_at c F M n at version (Some k) on = one_at c F M at.thread n (catalog.Open k) on
 
-opens_at : (c : Setting) (library : Catalog) (books : Books) (F : CatalogHistory) (H : History) (M : CatalogHistory) (at : Caller) (name : List ℕ) (object : Option Parts)
+opens_at : (c : Setting) (library : LibraryData) (books : Books) (F : CatalogHistory) (H : History) (M : CatalogHistory) (at : Caller) (name : List ℕ) (object : Option Parts)
     → let op = option_map catalog.Open (book_for library books (object_used object (global c H)) name) in
     GoOnFrom (catalogs_after (catalog_setting c) M at.thread (length H) op) F
     → AreAt F (length H) (opens_line c library books H at name (asked_after (catalog_setting c) M at.thread op) object)
 opens_at c library books F H M at name (Some object) on = open_at (catalog_setting c) F M (length H) at None (book_for library books object name) on
 opens_at c library books F H M at name None on = open_at (catalog_setting c) F M (length H) at (Some (sets H)) (book_for library books (global c H) name) on
 
-between_at : (c : Setting) (library : Catalog) (F : CatalogHistory) (n : ℕ) (H : History) (at : Caller) (named : Named) (read : Read) (object : Option Parts) → AreAt F n (reads_between c library H at named read object).line
+between_at : (c : Setting) (library : LibraryData) (F : CatalogHistory) (n : ℕ) (H : History) (at : Caller) (named : Named) (read : Read) (object : Option Parts) → AreAt F n (reads_between c library H at named read object).line
 between_at c library F n H at named read None = none_at F n
 between_at c library F n H at named read (Some object) = none_at F n
 
-of_at : (c : Setting) (library : Catalog) (F : CatalogHistory) (n : ℕ) (H : History) (at : Caller) (named : Named) (read : Read) (held : Option Parts) → AreAt F n (reads_of c library H at named read held).line
+of_at : (c : Setting) (library : LibraryData) (F : CatalogHistory) (n : ℕ) (H : History) (at : Caller) (named : Named) (read : Read) (held : Option Parts) → AreAt F n (reads_of c library H at named read held).line
 of_at c library F n H at named read (Some object) = none_at F n
 of_at c library F n H at named read None = between_at c library F n H at named read (object_held (answer c H at.thread (table.Hold named)))
 
-read_at : (c : Setting) (library : Catalog) (F : CatalogHistory) (n : ℕ) (H : History) (at : Caller) (read : Read) (object : Option Parts) → AreAt F n (read_line c library H at read object)
+read_at : (c : Setting) (library : LibraryData) (F : CatalogHistory) (n : ℕ) (H : History) (at : Caller) (read : Read) (object : Option Parts) → AreAt F n (read_line c library H at read object)
 read_at c library F n H at read None = none_at F n
 read_at c library F n H at read (Some object) = none_at F n
 
-granted_at : (c : Setting) (library : Catalog) (books : Books) (F : CatalogHistory) (H : History) (M : CatalogHistory) (at : Caller) (w : Result Wish Why)
+granted_at : (c : Setting) (library : LibraryData) (books : Books) (F : CatalogHistory) (H : History) (M : CatalogHistory) (at : Caller) (w : Result Wish Why)
     → GoOnFrom (catalogs_left c library books H M at.thread w) F → AreAt F (length H) (granted c library books H M at w).line
 granted_at c library books F H M at (Err why) on = none_at F (length H)
 granted_at c library books F H M at (Ok (Calls categories op)) on = none_at F (length H)
@@ -108,7 +108,7 @@ below from (suc n) =
     (All-weaker (λ (p : ℕ). p < from + 1 + n) (λ (p : ℕ). p < from + suc n) (λ p lt. omega (arith, lt)) (range_with_len (from + 1) n) (below (from + 1) n))
 
 -- a turn's line made its calls behind those before it
-spans : (c : Setting) (library : Catalog) (books : Books) (F : CatalogHistory) (run : Run) (turn : Turn)
+spans : (c : Setting) (library : LibraryData) (books : Books) (F : CatalogHistory) (run : Run) (turn : Turn)
     → let done = outcome c library books run turn in GoOnFrom done.catalogs F → Spans (stamp_at F) (length run.history) (length done.history) done.line
 spans c library books F run turn on =
     let done : TurnOutcome = outcome c library books run turn in
@@ -128,7 +128,7 @@ spans c library books F run turn on =
           (granted_at c library books F H run.catalogs at (wish_in library run turn) on);
     }
 
-pub lines_follow : (c : Setting) (library : Catalog) (books : Books) (run : Run) (turns : List Turn)
+pub lines_follow : (c : Setting) (library : LibraryData) (books : Books) (run : Run) (turns : List Turn)
     → let last = played c library books run turns in Follow (stamp_at last.catalogs) (length run.history) (added c library books run turns) (length last.history)
 lines_follow c library books run [] = omega arith
 lines_follow c library books run (turn ∷ turns) =

@@ -5,7 +5,7 @@ use Rattle.std.specs.List.{range_with_len}
 use Rattle.std.proofs.lemmas.Bool.{cases_lt, lt-ltb, le-ltb, lt-leb, le-leb, eqb-true}
 use Rattle.std.proofs.lemmas.List.Elements.{All-nil, All-cons, All-head, All-tail, All-append, All-weaker, All-map}
 use Rattle.std.proofs.lemmas.List.FromFn.{length-range_with_len}
-use Rattle.category_store.specs.Catalog.{Catalog}
+use Rattle.category_store.specs.LibraryData.{LibraryData}
 use Rattle.handle_table.specs.Entry.{History, Setting}
 use Rattle.script_commands.specs.declared.command.Placed.{Placed}
 use Rattle.script_lang.specs.declared.bundle.Bundle.{Bundle}
@@ -69,7 +69,7 @@ abbrev AreLinesByRound : List OutLine → Type 0
 AreLinesByRound [] = Unit {0}
 AreLinesByRound (l ∷ lines) = All (λ (m : OutLine). l.round ≤ m.round) lines × AreLinesByRound lines
 
-lines_by_round : (c : Setting) (library : Catalog) (books : Books) (run : Run) (turns : List Turn) → AreByRound turns → AreLinesByRound (added c library books run turns)
+lines_by_round : (c : Setting) (library : LibraryData) (books : Books) (run : Run) (turns : List Turn) → AreByRound turns → AreLinesByRound (added c library books run turns)
 lines_by_round c library books run [] by = tt
 lines_by_round c library books run (turn ∷ turns) by =
     let next : Run = with_outcome run turn (outcome c library books run turn) in

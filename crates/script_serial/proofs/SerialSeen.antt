@@ -2,7 +2,7 @@
 use Rattle.std.proofs.Common.{◌≡◌, ℕ, suc, Bool, true, false, ◌&&◌, List, [], ◌∷◌, length, Option, Some, None, Result, Ok, Err, refl, sym, ap, subst, ◌∙◌, le_refl, add-one}
 use Rattle.std.specs.Prelude.{◌==◌, if◌then◌else◌}
 use Rattle.mask_compose.specs.Parts.{Parts}
-use Rattle.category_store.specs.Catalog.{Catalog}
+use Rattle.category_store.specs.LibraryData.{LibraryData}
 use Rattle.lc_base.specs.declared.handle.Named.{Named}
 use Rattle.handle_table.specs.Entry as table
 use Rattle.handle_table.specs.Entry.{Entry, History, Setting, is_accepted}
@@ -73,20 +73,20 @@ two_next false d e H G = refl
 abbrev Follows : ℕ → History → ℕ → Outcome → Type 0
 Follows t H thread done = next_of (thread == t) (places_in done.line.places) (length (own_past H t)) ≡ length (own_past done.history t)
 
-between_next : (t : ℕ) (c : Setting) (library : Catalog) (H : History) (at : Caller) (n : Named) (read : Read) (object : Option Parts) → Follows t H at.thread (reads_between c library H at n read object)
+between_next : (t : ℕ) (c : Setting) (library : LibraryData) (H : History) (at : Caller) (n : Named) (read : Read) (object : Option Parts) → Follows t H at.thread (reads_between c library H at n read object)
 between_next t c library H at n read None = one_next (at.thread == t) (entry c H at.thread (table.Hold n)) H (own_past H t)
 between_next t c library H at n read (Some object) =
     two_next (at.thread == t) (entry c (with_call c H at.thread (table.Hold n)) at.thread (table.Release n)) (entry c H at.thread (table.Hold n)) H (own_past H t)
 
-of_next : (t : ℕ) (c : Setting) (library : Catalog) (H : History) (at : Caller) (n : Named) (read : Read) (held : Option Parts) → Follows t H at.thread (reads_of c library H at n read held)
+of_next : (t : ℕ) (c : Setting) (library : LibraryData) (H : History) (at : Caller) (n : Named) (read : Read) (held : Option Parts) → Follows t H at.thread (reads_of c library H at n read held)
 of_next t c library H at n read (Some object) = none_next (at.thread == t) (length (own_past H t))
 of_next t c library H at n read None = between_next t c library H at n read (object_held (answer c H at.thread (table.Hold n)))
 
-read_next : (t : ℕ) (c : Setting) (library : Catalog) (H : History) (at : Caller) (read : Read) (object : Option Parts) → Follows t H at.thread (record { history = H; line = read_line c library H at read object })
+read_next : (t : ℕ) (c : Setting) (library : LibraryData) (H : History) (at : Caller) (read : Read) (object : Option Parts) → Follows t H at.thread (record { history = H; line = read_line c library H at read object })
 read_next t c library H at read (Some object) = none_next (at.thread == t) (length (own_past H t))
 read_next t c library H at read None = none_next (at.thread == t) (length (own_past H t))
 
-pub granted_next : (t : ℕ) (c : Setting) (library : Catalog) (books : Books) (H : History) (M : CatalogHistory) (at : Caller) (w : Result Wish Why) → Follows t H at.thread (granted c library books H M at w)
+pub granted_next : (t : ℕ) (c : Setting) (library : LibraryData) (books : Books) (H : History) (M : CatalogHistory) (at : Caller) (w : Result Wish Why) → Follows t H at.thread (granted c library books H M at w)
 granted_next t c library books H M at (Err why) = none_next (at.thread == t) (length (own_past H t))
 granted_next t c library books H M at (Ok (Calls categories op)) = one_next (at.thread == t) (entry c H at.thread op) H (own_past H t)
 granted_next t c library books H M at (Ok (ReadsOf n read)) = of_next t c library H at n read (held_as (open_holds H at.thread) n)
@@ -99,26 +99,26 @@ granted_next t c library books H M at (Ok (ClosesCatalog h)) = none_next (at.thr
 
 -- ---- versions
 
-between_version : (c : Setting) (library : Catalog) (H : History) (at : Caller) (n : Named) (read : Read) (object : Option Parts)
+between_version : (c : Setting) (library : LibraryData) (H : History) (at : Caller) (n : Named) (read : Read) (object : Option Parts)
     → let done = reads_between c library H at n read object in UpTo (sets done.history) done.line.global
 between_version c library H at n read None = call_version c H at.thread (table.Hold n)
 between_version c library H at n read (Some object) = none_up (sets (reads_between c library H at n read (Some object)).history)
 
-of_version : (c : Setting) (library : Catalog) (H : History) (at : Caller) (n : Named) (read : Read) (held : Option Parts)
+of_version : (c : Setting) (library : LibraryData) (H : History) (at : Caller) (n : Named) (read : Read) (held : Option Parts)
     → let done = reads_of c library H at n read held in UpTo (sets done.history) done.line.global
 of_version c library H at n read (Some object) = none_up (sets H)
 of_version c library H at n read None = between_version c library H at n read (object_held (answer c H at.thread (table.Hold n)))
 
-read_version : (c : Setting) (library : Catalog) (H : History) (at : Caller) (read : Read) (object : Option Parts) → UpTo (sets H) (read_line c library H at read object).global
+read_version : (c : Setting) (library : LibraryData) (H : History) (at : Caller) (read : Read) (object : Option Parts) → UpTo (sets H) (read_line c library H at read object).global
 read_version c library H at read (Some object) = none_up (sets H)
 read_version c library H at read None = some_up (sets H) (sets H) (le_refl (sets H))
 
-opens_version : (c : Setting) (library : Catalog) (books : Books) (H : History) (at : Caller) (name : List ℕ) (asked : Asked) (object : Option Parts) → UpTo (sets H) (opens_line c library books H at name asked object).global
+opens_version : (c : Setting) (library : LibraryData) (books : Books) (H : History) (at : Caller) (name : List ℕ) (asked : Asked) (object : Option Parts) → UpTo (sets H) (opens_line c library books H at name asked object).global
 opens_version c library books H at name asked (Some object) = subst (UpTo (sets H)) (sym (open_version at None asked (book_for library books object name))) (none_up (sets H))
 opens_version c library books H at name asked None = subst (UpTo (sets H)) (sym (open_version at (Some (sets H)) asked (book_for library books (global c H) name))) (some_up (sets H) (sets H) (le_refl (sets H)))
 
 -- a line prints no version after that of its history
-pub granted_version : (c : Setting) (library : Catalog) (books : Books) (H : History) (M : CatalogHistory) (at : Caller) (w : Result Wish Why)
+pub granted_version : (c : Setting) (library : LibraryData) (books : Books) (H : History) (M : CatalogHistory) (at : Caller) (w : Result Wish Why)
     → let done = granted c library books H M at w in UpTo (sets done.history) done.line.global
 granted_version c library books H M at (Err why) = none_up (sets H)
 granted_version c library books H M at (Ok (Calls categories op)) = call_version c H at.thread op

@@ -1,6 +1,6 @@
 -- A table with its catalogs and its threads, and at which point of a script they are.
 use Rattle.std.specs.Prelude.{◌≡◌, ℕ, ◌+◌, ◌*◌, ◌<◌, ◌≤◌, List, length, slice_index_or, All}
-use Rattle.category_store.specs.Catalog.{Catalog}
+use Rattle.category_store.specs.LibraryData.{LibraryData}
 use Rattle.category_store.specs.Library.{opening}
 use Rattle.handle_table.specs.Entry.{History}
 use Rattle.handle_table.specs.Table.{TableData, StandsFor, steps}
@@ -66,7 +66,7 @@ abbrev pub AreNumbered : ℕ → List ThreadData → Type 0
 AreNumbered lines threads = (i : ℕ) (d : Thread AloneSideData) → i < length threads → IsNumberedThread lines i (slice_index_or threads i d)
 
 -- the table is of these threads and of the library's names, and so many turns can be answered
-pub record CanPlay (library : Catalog) (alone : AloneData) (ts : List ThreadData) (turns : ℕ) : Type 0 where
+pub record CanPlay (library : LibraryData) (alone : AloneData) (ts : List ThreadData) (turns : ℕ) : Type 0 where
   pub opening : alone.table.setting.opening ≡ opening library
   pub threads : alone.table.setting.threads ≡ length ts
   pub steps : ops_answered alone + 2 * turns ≤ 2147483647

@@ -4,7 +4,7 @@ use Rattle.std.specs.Prelude.{◌≢◌, IfOk, IfSome}
 use Rattle.lc_base.specs.declared.category.Category.{Category}
 use Rattle.lc_base.specs.Reading.{◌>>=◌}
 use Rattle.mask_compose.specs.Offer.{Offered, AreOnShelf}
-use Rattle.category_store.specs.Catalog.{Catalog}
+use Rattle.category_store.specs.LibraryData.{LibraryData}
 use Rattle.category_store.specs.Library.{numbers, opening, later}
 use Rattle.lc_base.specs.declared.handle.Handle.{Handle}
 use Rattle.lc_base.specs.declared.handle.Named.{Named}
@@ -48,7 +48,7 @@ base_same b d (Some target) same = ap (λ (r : Result Named Why). r >>= λ n. Ok
 on_same : (b d : Bindings) (op : Named → table.Op) (target : Target) → Same b d → called categories.All (op_on op (named b target)) ≡ called categories.All (op_on op (named d target))
 on_same b d op target same = ap (λ (r : Result Named Why). called categories.All (op_on op r)) (named_same b d target same)
 
-command_same : (library : Catalog) (b d : Bindings) (command : Command) → Same b d → wish library b command ≡ wish library d command
+command_same : (library : LibraryData) (b d : Bindings) (command : Command) → Same b d → wish library b command ≡ wish library d command
 command_same library b d (commands.New variable bits locale base) same =
     ap (λ (r : Result (Option Named) Why). called categories.All (r >>= λ n. mask_of bits >>= λ mask. named_numbers library locale mask >>= λ ns. Ok (table.New mask ns n))) (base_same b d base same)
 command_same library b d (commands.Dup variable from) same = on_same b d table.Dup from same
@@ -70,7 +70,7 @@ command_same library b d (commands.CatGets catalog set message default) same =
     ap (λ (r : Result Handle Why). r >>= λ h. Ok (GetsMessage h set message default)) (catalog_same b d catalog same)
 command_same library b d (commands.CatClose catalog) same = ap (λ (r : Result Handle Why). r >>= λ h. Ok (ClosesCatalog h)) (catalog_same b d catalog same)
 
-pub wish_same : (library : Catalog) (b d : Bindings) (task : Task) → Same b d → wish_of library b task ≡ wish_of library d task
+pub wish_same : (library : LibraryData) (b d : Bindings) (task : Task) → Same b d → wish_of library b task ≡ wish_of library d task
 wish_same library b d (Runs command) same = command_same library b d command same
 wish_same library b d (Releases h) same = refl
 wish_same library b d Ends same = refl
@@ -95,28 +95,28 @@ on_may may op (Ok n) fits = fits n
 on_may may op (Err why) fits = tt
 
 -- numbers on the library's shelf are on the table's
-shelf_is : (c : Setting) (library : Catalog) (ns : List ℕ) → c.opening ≡ opening library → AreOnShelf (opening library) ns → AreOnShelf c.opening ns
+shelf_is : (c : Setting) (library : LibraryData) (ns : List ℕ) → c.opening ≡ opening library → AreOnShelf (opening library) ns → AreOnShelf c.opening ns
 shelf_is c library ns own on = subst (λ (offers : List Offered). AreOnShelf offers ns) (sym own) on
 
-given_fit : (library : Catalog) (r : Result (List ℕ) Category) → IfOk r (AreOnShelf (opening library)) → IfOk (numbers_or_no_data r) (AreOnShelf (opening library))
+given_fit : (library : LibraryData) (r : Result (List ℕ) Category) → IfOk r (AreOnShelf (opening library)) → IfOk (numbers_or_no_data r) (AreOnShelf (opening library))
 given_fit library (Ok ns) on = on
 given_fit library (Err category) on = tt
 
-numbers_fit : (c : Setting) (library : Catalog) (locale : List ℕ) (mask : ℕ) → IsNumbered library → c.opening ≡ opening library → (ns : List ℕ) → named_numbers library locale mask ≡ Ok ns → AreOnShelf c.opening ns
+numbers_fit : (c : Setting) (library : LibraryData) (locale : List ℕ) (mask : ℕ) → IsNumbered library → c.opening ≡ opening library → (ns : List ℕ) → named_numbers library locale mask ≡ Ok ns → AreOnShelf c.opening ns
 numbers_fit c library locale mask numbered own ns e =
     shelf_is c library ns own (subst (λ (r : Result (List ℕ) Why). IfOk r (AreOnShelf (opening library))) e (given_fit library (numbers library locale mask) (numbered locale mask)))
 
-new_may : (c : Setting) (may : table.Op → Type 0) → Admits c may → (library : Catalog) (b : Bindings) (bits : ℕ) (locale : List ℕ) (base : Option Target) → IsNumbered library → c.opening ≡ opening library → IfOk (new_op library b bits locale base) may
+new_may : (c : Setting) (may : table.Op → Type 0) → Admits c may → (library : LibraryData) (b : Bindings) (bits : ℕ) (locale : List ℕ) (base : Option Target) → IsNumbered library → c.opening ≡ opening library → IfOk (new_op library b bits locale base) may
 new_may c may admits library b bits locale base numbered own =
     after_step may (base_named b base) (λ n. mask_of bits >>= λ mask. named_numbers library locale mask >>= λ ns. Ok (table.New mask ns n)) (λ n e.
     after_step may (mask_of bits) (λ mask. named_numbers library locale mask >>= λ ns. Ok (table.New mask ns n)) (λ mask m.
     after_step may (named_numbers library locale mask) (λ ns. Ok (table.New mask ns n)) (λ ns k. admits (table.New mask ns n) (numbers_fit c library locale mask numbered own ns k) (λ e. absurd (cc e)))))
 
-set_may : (c : Setting) (may : table.Op → Type 0) → Admits c may → (library : Catalog) (mask : ℕ) (locale : List ℕ) → IsNumbered library → c.opening ≡ opening library → IfOk (set_op library mask locale) may
+set_may : (c : Setting) (may : table.Op → Type 0) → Admits c may → (library : LibraryData) (mask : ℕ) (locale : List ℕ) → IsNumbered library → c.opening ≡ opening library → IfOk (set_op library mask locale) may
 set_may c may admits library mask locale numbered own =
     after_step may (named_numbers library locale mask) (λ ns. Ok (table.SetGlobal mask ns)) (λ ns k. admits (table.SetGlobal mask ns) (numbers_fit c library locale mask numbered own ns k) (λ e. absurd (cc e)))
 
-version_may : (c : Setting) (may : table.Op → Type 0) → Admits c may → (library : Catalog) (version : Option (ℕ × Offered)) → c.opening ≡ opening library → IfSome version (λ v. (1 ≤ v.0) × (v.0 < length (opening library))) → IfOk (install_of version) may
+version_may : (c : Setting) (may : table.Op → Type 0) → Admits c may → (library : LibraryData) (version : Option (ℕ × Offered)) → c.opening ≡ opening library → IfSome version (λ v. (1 ≤ v.0) × (v.0 < length (opening library))) → IfOk (install_of version) may
 version_may c may admits library None own within = tt
 version_may c may admits library (Some version) own within =
     admits (table.Install version.0 version.1) (within.0, subst (λ (offers : List Offered). version.0 < length offers) (sym own) within.1) (λ e. absurd (cc e))
@@ -126,7 +126,7 @@ catalog_may : (may : table.Op → Type 0) (r : Result Handle Why) (f : Handle �
 catalog_may may (Ok h) f fits = fits h
 catalog_may may (Err why) f fits = tt
 
-pub command_may : (c : Setting) (may : table.Op → Type 0) → Admits c may → (library : Catalog) (b : Bindings) (command : Command) → IsNumbered library → IsInstallable library → c.opening ≡ opening library → IsInRange c.threads command → IfOk (wish library b command) (Fitting may)
+pub command_may : (c : Setting) (may : table.Op → Type 0) → Admits c may → (library : LibraryData) (b : Bindings) (command : Command) → IsNumbered library → IsInstallable library → c.opening ≡ opening library → IsInRange c.threads command → IfOk (wish library b command) (Fitting may)
 command_may c may admits library b (commands.New variable bits locale base) numbered installable own range = call_may may categories.All (new_op library b bits locale base) (new_may c may admits library b bits locale base numbered own)
 command_may c may admits library b (commands.Dup variable from) numbered installable own range = on_may may table.Dup (named b from) (λ n. admits (table.Dup n) tt (λ e. absurd (cc e)))
 command_may c may admits library b (commands.Free target) numbered installable own range = on_may may table.Free (named b target) (λ n. admits (table.Free n) tt (λ e. absurd (cc e)))
@@ -149,7 +149,7 @@ command_may c may admits library b (commands.CatGets catalog set message default
 command_may c may admits library b (commands.CatClose catalog) numbered installable own range = catalog_may may (catalog_named b catalog) ClosesCatalog (λ h. tt)
 
 -- a table that its runner has alone answers whatever fits
-pub task_fits : (c : Setting) (library : Catalog) (task : Task) → IsNumbered library → IsInstallable library → c.opening ≡ opening library → TaskFits c.threads task → TaskMay library (Fits c) task
+pub task_fits : (c : Setting) (library : LibraryData) (task : Task) → IsNumbered library → IsInstallable library → c.opening ≡ opening library → TaskFits c.threads task → TaskMay library (Fits c) task
 task_fits c library (Runs command) numbered installable own fits = λ b. command_may c (Fits c) (λ op f e. f) library b command numbered installable own fits
 task_fits c library (Releases h) numbered installable own fits = λ b. tt
 task_fits c library Ends numbered installable own fits = λ b. tt

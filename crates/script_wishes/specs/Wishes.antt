@@ -4,7 +4,7 @@ use Rattle.lc_base.specs.declared.category.Category.{Category}
 use Rattle.lc_base.specs.Mask.{category_bit}
 use Rattle.lc_base.specs.Reading.{◌>>=◌}
 use Rattle.mask_compose.specs.Offer.{Offered}
-use Rattle.category_store.specs.Catalog.{Catalog}
+use Rattle.category_store.specs.LibraryData.{LibraryData}
 use Rattle.category_store.specs.Library.{numbers, later}
 use Rattle.lc_base.specs.declared.handle.Handle.{Handle}
 use Rattle.lc_base.specs.declared.handle.Named.{Named}
@@ -59,19 +59,19 @@ abbrev pub numbers_or_no_data : Result (List ℕ) Category → Result (List ℕ)
 numbers_or_no_data (Ok ns) = Ok ns
 numbers_or_no_data (Err category) = Err (whys.Table (refusals.NoData category))
 
-abbrev pub named_numbers : Catalog → List ℕ → ℕ → Result (List ℕ) Why
+abbrev pub named_numbers : LibraryData → List ℕ → ℕ → Result (List ℕ) Why
 named_numbers library locale mask = numbers_or_no_data (numbers library locale mask)
 
 -- newlocale: the base is looked for first, then the mask, and then the locale
-abbrev pub new_op : Catalog → Bindings → ℕ → List ℕ → Option Target → Asks
+abbrev pub new_op : LibraryData → Bindings → ℕ → List ℕ → Option Target → Asks
 new_op library bindings bits locale base =
     base_named bindings base >>= λ n. mask_of bits >>= λ mask. named_numbers library locale mask >>= λ ns. Ok (table.New mask ns n)
 
 -- setlocale, which looks up only the categories that it sets
-abbrev pub set_op : Catalog → ℕ → List ℕ → Asks
+abbrev pub set_op : LibraryData → ℕ → List ℕ → Asks
 set_op library mask locale = named_numbers library locale mask >>= λ ns. Ok (table.SetGlobal mask ns)
 
-abbrev pub setlocale_op : Catalog → CategoryArgument → List ℕ → Asks
+abbrev pub setlocale_op : LibraryData → CategoryArgument → List ℕ → Asks
 setlocale_op library categories locale = set_op library (categories_mask categories) locale
 
 -- what a key installs. No accepted bundle installs a key without a block (`HasItsKeys`), so the first row never arises (`HasVersion`)
@@ -79,7 +79,7 @@ abbrev pub install_of : Option (ℕ × Offered) → Asks
 install_of None = Err whys.Unset
 install_of (Some version) = Ok (table.Install version.0 version.1)
 
-abbrev pub install_op : Catalog → List ℕ → Asks
+abbrev pub install_op : LibraryData → List ℕ → Asks
 install_op library key = install_of (later library key)
 
 -- the handle of a catalog that a command names: a variable that nothing bound is Unset
@@ -125,7 +125,7 @@ abbrev pub close_of : Bindings → OpenCatalog → Result Wish Why
 close_of bindings catalog = catalog_named bindings catalog >>= λ h. Ok (ClosesCatalog h)
 
 -- what each command asks for, or why it is refused without an entry
-abbrev pub wish : Catalog → Bindings → Command → Result Wish Why
+abbrev pub wish : LibraryData → Bindings → Command → Result Wish Why
 wish library b (commands.New variable bits locale base) = called All (new_op library b bits locale base)
 wish library b (commands.Dup variable from) = called All (op_on table.Dup (named b from))
 wish library b (commands.Free target) = called All (op_on table.Free (named b target))
@@ -146,7 +146,7 @@ wish library b (commands.CatGets catalog set message default) = message_of b cat
 wish library b (commands.CatClose catalog) = close_of b catalog
 
 -- what a task asks for
-abbrev pub wish_of : Catalog → Bindings → Task → Result Wish Why
+abbrev pub wish_of : LibraryData → Bindings → Task → Result Wish Why
 wish_of library b (Runs command) = wish library b command
 wish_of library b (Releases h) = Ok (Calls All (table.Release (names.Of h)))
 wish_of library b Ends = Ok (Calls All table.End)
@@ -182,5 +182,5 @@ Fitting may (GetsMessage h set message default) = Unit {0}
 Fitting may (ClosesCatalog h) = Unit {0}
 
 -- what a task asks for, whatever its variables stand for, is such
-abbrev pub TaskMay : Catalog → (table.Op → Type 0) → Task → Type 0
+abbrev pub TaskMay : LibraryData → (table.Op → Type 0) → Task → Type 0
 TaskMay library may task = (b : Bindings) → IfOk (wish_of library b task) (Fitting may)

@@ -9,7 +9,7 @@ use Rattle.monetary_cat.specs.Monetary as monetary
 use Rattle.time_cat.specs.Values as time
 use Rattle.mask_compose.specs.Parts.{Parts}
 use Rattle.category_store.specs.Locale.{Locale, posix_locale}
-use Rattle.category_store.specs.Catalog.{Catalog}
+use Rattle.category_store.specs.LibraryData.{LibraryData}
 use Rattle.script_lang.specs.declared.bundle.Bundle.{Bundle}
 use Rattle.script_lang.specs.Accepted.{bundle_of}
 use Rattle.shared_objects.specs.Shared.{Shared, Stock}
@@ -23,7 +23,7 @@ abbrev locale : List ℕ → ℕ → Locale
 locale name mask = record posix_locale { name = name; available = mask }
 
 -- a locale with all categories, and the native one, which has LC_NUMERIC alone
-abbrev library : Catalog
+abbrev library : LibraryData
 library = record {
   locales = locale (codes "us") 31 ∷ locale (codes "half") 2 ∷ [];
   names = (codes "us", 1) ∷ (codes "half", 2) ∷ [];

@@ -14,7 +14,7 @@ use Rattle.monetary_cat.specs.Monetary.{MonetaryValues}
 use Rattle.time_cat.specs.TimeValues.{TimeValues}
 use Rattle.messages_cat.specs.MessagesValues.{MessagesValues}
 use Rattle.category_store.specs.Locale.{Locale}
-use Rattle.category_store.specs.Catalog.{Catalog}
+use Rattle.category_store.specs.LibraryData.{LibraryData}
 use Rattle.category_store.specs.Library.{catalog, locale_at, numbers, posix_object, opening}
 use Rattle.script_lang.specs.declared.bundle.Bundle.{Bundle}
 use Rattle.script_lang.specs.Accepted.{bundle_of}
@@ -23,37 +23,37 @@ use Rattle.shared_objects.specs.Shared.{Shared}
 -- ---- a library that is read
 
 -- the library of a bundle; its script is no part of it
-abbrev pub catalog_of : Bundle → Reads Catalog
+abbrev pub catalog_of : Bundle → Reads LibraryData
 catalog_of b = catalog b.charmaps b.locales b.later b.native
 
 -- the library of a text in the form of a bundle, or its first fault
-abbrev pub catalog_in : List ℕ → Reads Catalog
+abbrev pub catalog_in : List ℕ → Reads LibraryData
 catalog_in text = bundle_of text >>= catalog_of
 
 -- the POSIX object over a library
-abbrev pub first_object : Catalog → Shared
+abbrev pub first_object : LibraryData → Shared
 first_object library = record { library = library; object = posix_object }
 
 -- ---- newlocale
 
 -- what the name with a number offers
-abbrev pub offer_of : Catalog → ℕ → Offered
+abbrev pub offer_of : LibraryData → ℕ → Offered
 offer_of library number = unwrap_or (slice_get (opening library) number) no_offer
 
 -- whether the mask has a category that the offer of its name lacks
-abbrev pub is_lacking : Catalog → ℕ → List ℕ → Category → Bool
+abbrev pub is_lacking : LibraryData → ℕ → List ℕ → Category → Bool
 is_lacking library mask ns category = includes mask category && not (includes (offer_of library (number_for ns category)).available category)
 
 -- the first category of the mask that the offer of its name lacks, or none
-abbrev pub lacking : Catalog → ℕ → List ℕ → Option Category
+abbrev pub lacking : LibraryData → ℕ → List ℕ → Option Category
 lacking library mask ns = find (is_lacking library mask ns) categories
 
 -- the part that the offer of a category's name has
-abbrev pub picked_part : Catalog → List ℕ → Category → ℕ
+abbrev pub picked_part : LibraryData → List ℕ → Category → ℕ
 picked_part library ns category = part_of (offer_of library (number_for ns category)).object category
 
 -- the parts that the offers of names have
-abbrev pub picked : Catalog → List ℕ → Parts
+abbrev pub picked : LibraryData → List ℕ → Parts
 picked library ns = record {
   ctype = picked_part library ns Ctype;
   numeric = picked_part library ns Numeric;
@@ -68,16 +68,16 @@ unless_lacking (Some category) parts = Err category
 unless_lacking None parts = Ok parts
 
 -- the parts of names in the categories of the mask, and those of the base in the others
-abbrev pub composed_from : Catalog → ℕ → List ℕ → Parts → Result Parts Category
+abbrev pub composed_from : LibraryData → ℕ → List ℕ → Parts → Result Parts Category
 composed_from library mask ns base = unless_lacking (lacking library mask ns) (composed mask (picked library ns) base)
 
 -- the parts of the numbers that a name has, or the first category whose name no block has
-abbrev pub from_numbers : Catalog → ℕ → Parts → Result (List ℕ) Category → Result Parts Category
+abbrev pub from_numbers : LibraryData → ℕ → Parts → Result (List ℕ) Category → Result Parts Category
 from_numbers library mask base (Ok ns) = composed_from library mask ns base
 from_numbers library mask base (Err category) = Err category
 
 -- the parts of a name, a mask and a base, or the first category of the mask without data
-abbrev pub new_parts : Catalog → ℕ → List ℕ → Parts → Result Parts Category
+abbrev pub new_parts : LibraryData → ℕ → List ℕ → Parts → Result Parts Category
 new_parts library mask name base = from_numbers library mask base (numbers library name mask)
 
 -- ---- the categories of an object, each as its locale has it

@@ -4,13 +4,13 @@ ghost use Rattle.std.specs.Prelude.{◌≡◌, ◌++◌, [], ◌∷◌, IfOk, On
 ghost use Rattle.shared_objects.specs.Parts.{part_of};
 
 use lc_base::ByteText;
-use library_parts::{Part, PartKind};
+use library_parts::{LibraryPart, PartKind};
 use std::alloc::{AllocError, Global};
 use std::marker::Model;
 
 /// The parts of a library that is yet to be made, in the order in which they were added.
 pub struct Draft {
-    parts: Vec<Part>,
+    parts: Vec<LibraryPart>,
 }
 
 impl Drop for Draft {
@@ -21,9 +21,9 @@ impl Drop for Draft {
 
 impl Model for Draft {
     ghost use Rattle.std.specs.Prelude.{List};
-    ghost use Rattle.library_parts.specs.declared.part.Part.{Part};
+    ghost use Rattle.library_parts.specs.declared.part.LibraryPart.{LibraryPart};
 
-    ghost Value = { List Part };
+    ghost Value = { List LibraryPart };
 
     ghost view = { λ d. d.parts.items };
 }
@@ -39,7 +39,7 @@ impl Draft {
     }
 
     /// The parts.
-    pub fn parts(&self) -> &[Part]
+    pub fn parts(&self) -> &[LibraryPart]
         ensures { result.now ≡ self.now }
     {
         self.parts.as_slice()
@@ -70,10 +70,10 @@ fn new_part(
     name: &[u8],
     label: &[u8],
     text: &[u8],
-) -> Result<Part, AllocError>
+) -> Result<LibraryPart, AllocError>
     ensures { IfOk result (λ p. p ≡ part_of kind name.now label.now text.now) }
 {
-    Ok(Part {
+    Ok(LibraryPart {
         kind,
         name: ByteText::of(alloc, name)?,
         label: ByteText::of(alloc, label)?,
@@ -82,7 +82,7 @@ fn new_part(
 }
 
 /// Copies of parts.
-pub(crate) fn copied_parts(alloc: Global, parts: &[Part]) -> Result<Vec<Part>, AllocError>
+pub(crate) fn copied_parts(alloc: Global, parts: &[LibraryPart]) -> Result<Vec<LibraryPart>, AllocError>
     ensures { IfOk result (λ copies. copies.items ≡ parts.now) }
 {
     let mut copies = Vec::new(alloc);

@@ -5,7 +5,7 @@ ghost use Rattle.shared_objects.specs.Locales.{mark_step, mark_from, mark_of};
 ghost use Rattle.shared_objects.specs.Parts.{kind_number, part_mark, parts_mark, joined_mark};
 ghost use Rattle.shared_objects.specs.declared.mark.TheConstants.{MODULUS};
 
-use library_parts::{Part, PartKind};
+use library_parts::{LibraryPart, PartKind};
 
 /// The modulus of marks, a prime near 2^55.
 pub const MODULUS: u64 = 36028797018963913;
@@ -51,7 +51,7 @@ fn kind_number(kind: PartKind) -> u8
 }
 
 /// The mark of parts and a part behind them.
-fn part_mark(mark: u64, part: &Part) -> u64
+fn part_mark(mark: u64, part: &LibraryPart) -> u64
     requires { mark < MODULUS }
     ensures is { result ≡ part_mark mark part.now }
     ensures small { result < MODULUS }
@@ -63,7 +63,7 @@ fn part_mark(mark: u64, part: &Part) -> u64
 }
 
 /// The mark of parts.
-pub(crate) fn parts_mark(parts: &[Part]) -> u64
+pub(crate) fn parts_mark(parts: &[LibraryPart]) -> u64
     ensures { result ≡ parts_mark 1 parts.now }
 {
     let mut mark = 1;

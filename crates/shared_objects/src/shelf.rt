@@ -20,7 +20,7 @@ use crate::shelved::Shelved;
 use crate::view::View;
 use category_store::{Library, Share};
 use lc_base::{Category, Mask, TextFault};
-use library_parts::{Books, Made, PART_LIMIT, Part, PartFault, made_of};
+use library_parts::{Books, Made, PART_LIMIT, LibraryPart, PartFault, made_of};
 use mask_compose::Object;
 use script_lang::Bundle;
 use std::alloc::{AllocError, Global};
@@ -83,7 +83,7 @@ impl Shelf {
     /// The library of parts: charmaps, locale sources and message catalogs.
     ///
     /// The refusal is the first fault, with the number of the part that has it.
-    pub fn build(alloc: Global, parts: &[Part]) -> Result<Shelf, PartFault>
+    pub fn build(alloc: Global, parts: &[LibraryPart]) -> Result<Shelf, PartFault>
         ensures { told.Gives (λ s. s) result (stock_built parts.now) }
     {
         let made = made_of(alloc, copied_parts(alloc, parts)?)?;

@@ -31,10 +31,10 @@ impl Drop for Shelved {
 
 impl Model for Shelved {
     ghost use Rattle.std.specs.Prelude.{◌≡◌};
-    ghost use Rattle.category_store.specs.Catalog.{Catalog};
+    ghost use Rattle.category_store.specs.LibraryData.{LibraryData};
     ghost use Rattle.category_store.specs.Library.{opening};
 
-    ghost Value = { Catalog };
+    ghost Value = { LibraryData };
 
     ghost view = { λ s. s.library };
 

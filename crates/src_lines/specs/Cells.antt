@@ -5,11 +5,11 @@ use Rattle.src_lines.specs.declared.atom.Atom.{Atom}
 use Rattle.src_lines.specs.declared.atom.Atom.TheVariants.{Bare, Number, Made}
 use Rattle.src_lines.specs.declared.cells.AtomRef.{AtomRef}
 use Rattle.src_lines.specs.declared.cells.AtomRef.TheVariants.{Bare as BareRef, Number as NumberRef, Escaped as EscapedRef, Name as NameRef}
-use Rattle.src_lines.specs.declared.cells.Mark.{Mark}
-use Rattle.src_lines.specs.declared.cells.Mark.TheVariants.{AsItself, AsNumber, AsEscaped, InName, NameEnd}
+use Rattle.src_lines.specs.declared.cells.CellMark.{CellMark}
+use Rattle.src_lines.specs.declared.cells.CellMark.TheVariants.{AsItself, AsNumber, AsEscaped, InName, NameEnd}
 
 -- the atoms of cells, where the bytes of a name came before
-abbrev pub atoms_after : List ℕ → List Mark → List ℕ → List Atom
+abbrev pub atoms_after : List ℕ → List CellMark → List ℕ → List Atom
 atoms_after name [] bs = []
 atoms_after name (m ∷ ms) [] = []
 atoms_after name (AsItself ∷ ms) (b ∷ bs) = Bare b ∷ atoms_after [] ms bs
@@ -19,11 +19,11 @@ atoms_after name (InName ∷ ms) (b ∷ bs) = atoms_after (name ++ b ∷ []) ms 
 atoms_after name (NameEnd ∷ ms) (b ∷ bs) = Made (Name name) ∷ atoms_after [] ms bs
 
 -- the atoms of cells
-abbrev pub atoms_of : List Mark → List ℕ → List Atom
+abbrev pub atoms_of : List CellMark → List ℕ → List Atom
 atoms_of ms bs = atoms_after [] ms bs
 
 -- whether each name has its end, where a name may be open
-abbrev pub are_whole : Bool → List Mark → Bool
+abbrev pub are_whole : Bool → List CellMark → Bool
 are_whole open_name [] = not open_name
 are_whole open_name (AsItself ∷ ms) = not open_name && are_whole false ms
 are_whole open_name (AsNumber ∷ ms) = not open_name && are_whole false ms
@@ -32,7 +32,7 @@ are_whole open_name (InName ∷ ms) = are_whole true ms
 are_whole open_name (NameEnd ∷ ms) = are_whole false ms
 
 -- whole cells: a mark for each byte, and no name without its end
-pub record IsWhole (ms : List Mark) (bs : List ℕ) : Type 0 where
+pub record IsWhole (ms : List CellMark) (bs : List ℕ) : Type 0 where
   pub same : length ms ≡ length bs
   pub ended : are_whole false ms ≡ true
 
@@ -44,7 +44,7 @@ atom_seen (EscapedRef b) = Made (Byte b)
 atom_seen (NameRef name) = Made (Name name.now)
 
 -- how many cells of a name come first
-abbrev pub leading : List Mark → ℕ
+abbrev pub leading : List CellMark → ℕ
 leading [] = 0
 leading (AsItself ∷ ms) = 0
 leading (AsNumber ∷ ms) = 0
@@ -53,7 +53,7 @@ leading (InName ∷ ms) = leading ms + 1
 leading (NameEnd ∷ ms) = 0
 
 -- the atom of a cell behind the bytes of a name
-abbrev pub marked : Mark → List ℕ → ℕ → Atom
+abbrev pub marked : CellMark → List ℕ → ℕ → Atom
 marked AsItself name b = Bare b
 marked AsNumber name b = Number b
 marked AsEscaped name b = Made (Byte b)
@@ -61,14 +61,14 @@ marked InName name b = Made (Name name)
 marked NameEnd name b = Made (Name name)
 
 -- whether a cell ends an atom, and whether it ends a name
-abbrev pub ends_atom : Mark → Bool
+abbrev pub ends_atom : CellMark → Bool
 ends_atom AsItself = true
 ends_atom AsNumber = true
 ends_atom AsEscaped = true
 ends_atom InName = false
 ends_atom NameEnd = true
 
-abbrev pub ends_name : Mark → Bool
+abbrev pub ends_name : CellMark → Bool
 ends_name AsItself = false
 ends_name AsNumber = false
 ends_name AsEscaped = false

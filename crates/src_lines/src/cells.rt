@@ -2,7 +2,7 @@
 
 ghost use Rattle.std.specs.Prelude.{◌≡◌, ◌+◌, ◌<◌, ◌≤◌, ◌∷◌, ◌++◌, [], length, map, count_by, replicate, option_map, IfOk, OnOk, IfSome, IsNone, IsTrue, ◌↔◌};
 ghost use Rattle.std.specs.List.{list_any};
-ghost use Rattle.src_lines.specs.declared.cells.Mark.TheVariants.{InName, NameEnd};
+ghost use Rattle.src_lines.specs.declared.cells.CellMark.TheVariants.{InName, NameEnd};
 ghost use Rattle.src_lines.specs.Atoms.{piece, up_to};
 ghost use Rattle.src_lines.specs.Cells.{atom_seen, atoms_of, IsWhole, leading, ends_atom, ends_name, marked};
 ghost use Rattle.src_lines.specs.Pieces.{only_bytes};
@@ -15,7 +15,7 @@ use std::marker::Model;
 
 /// What a byte is.
 #[derive(Clone, Copy)]
-pub enum Mark {
+pub enum CellMark {
     /// A byte that stands bare.
     AsItself,
     /// A byte that is written as a number.
@@ -31,7 +31,7 @@ pub enum Mark {
 /// Atoms of a line, in two bytes of memory for each byte.
 #[derive(Drop)]
 pub struct Atoms {
-    marks: Vec<Mark>,
+    marks: Vec<CellMark>,
     bytes: Vec<u8>,
 }
 
@@ -60,7 +60,7 @@ pub enum AtomRef<'a> {
 /// Atoms that are still to come.
 #[derive(Drop)]
 pub struct AtomWalk<'a> {
-    marks: &'a [Mark],
+    marks: &'a [CellMark],
     bytes: &'a [u8],
 }
 
@@ -77,9 +77,9 @@ impl<'a> Model for AtomWalk<'a> {
 
 /// Adds a cell.
 fn push_cell(
-    marks: &mut Vec<Mark>,
+    marks: &mut Vec<CellMark>,
     bytes: &mut Vec<u8>,
-    mark: Mark,
+    mark: CellMark,
     byte: u8,
 ) -> Result<(), AllocError>
     ensures { OnOk result ((marks.new.items ≡ marks.old.items ++ mark ∷ []) × (bytes.new.items ≡ bytes.old.items ++ byte ∷ [])) }
@@ -90,36 +90,36 @@ fn push_cell(
 }
 
 /// Adds the cells of a name.
-fn push_name(marks: &mut Vec<Mark>, bytes: &mut Vec<u8>, name: &[u8]) -> Result<(), AllocError>
+fn push_name(marks: &mut Vec<CellMark>, bytes: &mut Vec<u8>, name: &[u8]) -> Result<(), AllocError>
     ensures { OnOk result ((marks.new.items ≡ (marks.old.items ++ replicate (length name.now) InName) ++ NameEnd ∷ []) × (bytes.new.items ≡ (bytes.old.items ++ name.now) ++ 0 ∷ [])) }
 {
     bytes.extend_from_slice(name)?;
     let len = marks.len() + name.len();
-    marks.resize(len, Mark::InName)?;
-    push_cell(marks, bytes, Mark::NameEnd, 0)
+    marks.resize(len, CellMark::InName)?;
+    push_cell(marks, bytes, CellMark::NameEnd, 0)
 }
 
 /// Adds the cells of an atom.
-fn push_atom(marks: &mut Vec<Mark>, bytes: &mut Vec<u8>, atom: Atom) -> Result<(), AllocError>
+fn push_atom(marks: &mut Vec<CellMark>, bytes: &mut Vec<u8>, atom: Atom) -> Result<(), AllocError>
     requires { IsWhole marks.old.items bytes.old.items }
     ensures is { OnOk result (atoms_of marks.new.items bytes.new.items ≡ atoms_of marks.old.items bytes.old.items ++ atom ∷ []) }
     ensures whole { OnOk result (IsWhole marks.new.items bytes.new.items) }
 {
     match atom {
-        Atom::Bare(byte) => push_cell(marks, bytes, Mark::AsItself, byte),
-        Atom::Number(byte) => push_cell(marks, bytes, Mark::AsNumber, byte),
-        Atom::Made(OperandPiece::Byte(byte)) => push_cell(marks, bytes, Mark::AsEscaped, byte),
+        Atom::Bare(byte) => push_cell(marks, bytes, CellMark::AsItself, byte),
+        Atom::Number(byte) => push_cell(marks, bytes, CellMark::AsNumber, byte),
+        Atom::Made(OperandPiece::Byte(byte)) => push_cell(marks, bytes, CellMark::AsEscaped, byte),
         Atom::Made(OperandPiece::Name(name)) => push_name(marks, bytes, name.as_bytes()),
     }
 }
 
 /// How many cells of a name come first.
-fn name_len(marks: &[Mark]) -> usize
+fn name_len(marks: &[CellMark]) -> usize
     ensures is { result ≡ leading marks.now }
     ensures within { result ≤ length marks.now }
 {
     for (i, mark) in marks.iter().enumerate() {
-        if *mark != Mark::InName {
+        if *mark != CellMark::InName {
             return i;
         }
     }
@@ -127,48 +127,48 @@ fn name_len(marks: &[Mark]) -> usize
 }
 
 /// Whether a cell ends an atom.
-fn ends_atom(mark: Mark) -> bool
+fn ends_atom(mark: CellMark) -> bool
     ensures { result ≡ ends_atom mark }
 {
     match mark {
-        Mark::AsItself | Mark::AsNumber | Mark::AsEscaped | Mark::NameEnd => true,
-        Mark::InName => false,
+        CellMark::AsItself | CellMark::AsNumber | CellMark::AsEscaped | CellMark::NameEnd => true,
+        CellMark::InName => false,
     }
 }
 
 /// How many cells end an atom.
-fn end_count(marks: &[Mark]) -> usize
+fn end_count(marks: &[CellMark]) -> usize
     ensures { result ≡ count_by ends_atom marks.now }
 {
     marks.iter().filter(|mark| ends_atom(**mark)).count()
 }
 
 /// Whether a cell ends a name.
-fn ends_name(mark: Mark) -> bool
+fn ends_name(mark: CellMark) -> bool
     ensures { result ≡ ends_name mark }
 {
     match mark {
-        Mark::AsItself | Mark::AsNumber | Mark::AsEscaped | Mark::InName => false,
-        Mark::NameEnd => true,
+        CellMark::AsItself | CellMark::AsNumber | CellMark::AsEscaped | CellMark::InName => false,
+        CellMark::NameEnd => true,
     }
 }
 
 /// Whether there is a name.
-fn has_name(marks: &[Mark]) -> bool
+fn has_name(marks: &[CellMark]) -> bool
     ensures { result ≡ list_any ends_name marks.now }
 {
     marks.iter().any(|mark| ends_name(*mark))
 }
 
 /// The atom of a cell behind the bytes of a name.
-fn marked<'a>(mark: Mark, name: &'a [u8], byte: u8) -> AtomRef<'a>
+fn marked<'a>(mark: CellMark, name: &'a [u8], byte: u8) -> AtomRef<'a>
     ensures { atom_seen result ≡ marked mark name.now byte }
 {
     match mark {
-        Mark::AsItself => AtomRef::Bare(byte),
-        Mark::AsNumber => AtomRef::Number(byte),
-        Mark::AsEscaped => AtomRef::Escaped(byte),
-        Mark::InName | Mark::NameEnd => AtomRef::Name(name),
+        CellMark::AsItself => AtomRef::Bare(byte),
+        CellMark::AsNumber => AtomRef::Number(byte),
+        CellMark::AsEscaped => AtomRef::Escaped(byte),
+        CellMark::InName | CellMark::NameEnd => AtomRef::Name(name),
     }
 }
 

@@ -4,7 +4,7 @@ use Rattle.std.specs.Prelude.{◌==◌, not}
 use Rattle.std.specs.List.{list_all}
 use Rattle.std.proofs.lemmas.Bool.Decides.{nat_tests}
 use Rattle.monetary_cat.specs.Monetary.{MonetaryValues, text_of}
-use Rattle.strfmon.specs.declared.format.Conversion.{Conversion}
+use Rattle.strfmon.specs.declared.format.MoneyConversion.{MoneyConversion}
 use Rattle.lc_base.specs.Amounts.{MoneyAmount}
 use Rattle.std.proofs.lemmas.List.{length-append, length-replicate, append_assoc}
 use Rattle.digit_groups.specs.Groups.{grouped}
@@ -26,7 +26,7 @@ length-fraction_text v p a some =
     let is : fraction_text v p a ≡ radix_of v ++ fraction_digits p a = rw no refl in
     omega (arith, ap length is, length-append (radix_of v) (fraction_digits p a), length-fraction_digits p a)
 
-pub length-text_with : (v : MonetaryValues) (c : Conversion) (a : MoneyAmount) (own other : Look) (digits : ℕ) → length (whole_digits (precision_of v c) a) ≡ digits →
+pub length-text_with : (v : MonetaryValues) (c : MoneyConversion) (a : MoneyAmount) (own other : Look) (digits : ℕ) → length (whole_digits (precision_of v c) a) ≡ digits →
     length (text_with v c a own other) ≡
     pad_count (aligned_digits c digits) (parts_text own own.before) (parts_text other other.before) + length (parts_text own own.before)
     + fill_count v c digits (aligned_digits c digits)
@@ -43,7 +43,7 @@ whole_count p a d r =
     let n : ℕ = magnitude p a / 10 ^ fraction_kept p a in
     length-last_digits (digit_count n) n ∙ ap (λ k. digit_count k) (sym r.whole_is)
 
-text_laid_out : (v : MonetaryValues) (c : Conversion) (a : MoneyAmount) (own other : Look) (digits before fill after : ℕ) → length (whole_digits (precision_of v c) a) ≡ digits →
+text_laid_out : (v : MonetaryValues) (c : MoneyConversion) (a : MoneyAmount) (own other : Look) (digits before fill after : ℕ) → length (whole_digits (precision_of v c) a) ≡ digits →
     before ≡ pad_count (aligned_digits c digits) (parts_text own own.before) (parts_text other other.before) →
     fill ≡ fill_count v c digits (aligned_digits c digits) →
     after ≡ pad_count (aligned_digits c digits) (parts_text own own.after) (parts_text other other.after) →
@@ -51,11 +51,11 @@ text_laid_out : (v : MonetaryValues) (c : Conversion) (a : MoneyAmount) (own oth
 unfolding text_with
 text_laid_out v c a own other digits before fill after d b f g = rw (b, f, g, ← d) refl
 
-both_looks : (v : MonetaryValues) (c : Conversion) (a : MoneyAmount) (own other : Look) → own ≡ look_of v c (is_negative a) → other ≡ look_of v c (not (is_negative a)) → text_with v c a own other ≡ aligned_text v c a
+both_looks : (v : MonetaryValues) (c : MoneyConversion) (a : MoneyAmount) (own other : Look) → own ≡ look_of v c (is_negative a) → other ≡ look_of v c (not (is_negative a)) → text_with v c a own other ≡ aligned_text v c a
 both_looks v c a own other o p = ap (λ l. text_with v c a l other) o ∙ ap (λ l. text_with v c a (look_of v c (is_negative a)) l) p
 
 -- the text of an amount is that of its decimal
-pub shown_amount : (v : MonetaryValues) (c : Conversion) (a : MoneyAmount) (d : Decimal) (l : Look) (before fill after : ℕ) → IsRounded d (precision_of v c) a → d.precision ≡ precision_of v c → shown_parts v c d l before fill after ≡ text_parts v c a l before fill after
+pub shown_amount : (v : MonetaryValues) (c : MoneyConversion) (a : MoneyAmount) (d : Decimal) (l : Look) (before fill after : ℕ) → IsRounded d (precision_of v c) a → d.precision ≡ precision_of v c → shown_parts v c d l before fill after ≡ text_parts v c a l before fill after
 shown_amount v c a d l before fill after r p = rw (r.kept_is, r.magnitude_is, r.whole_is, p) refl
 
 -- the bytes of the text of a decimal
@@ -71,7 +71,7 @@ length-shown_fraction v d some short =
 pub six_before : (a b c d e f rest : List ℕ) → a ++ (b ++ (c ++ (d ++ (e ++ (f ++ rest))))) ≡ (a ++ b ++ c ++ d ++ e ++ f) ++ rest
 six_before a b c d e f rest = simp append_assoc refl
 
-pub length-shown_parts : (v : MonetaryValues) (c : Conversion) (d : Decimal) (l : Look) (before fill after : ℕ) →
+pub length-shown_parts : (v : MonetaryValues) (c : MoneyConversion) (d : Decimal) (l : Look) (before fill after : ℕ) →
     length (shown_parts v c d l before fill after) ≡ before + length (parts_text l l.before) + fill + length (shown_number v c d) + length (parts_text l l.after) + after
 length-shown_parts v c d l before fill after = simp (length-append, length-replicate) refl
 
@@ -82,7 +82,7 @@ length-in_field : (left : Bool) (w : ℕ) (t : List ℕ) → length (in_field le
 length-in_field true w t = let is : in_field true w t ≡ t ++ spaces (w - length t) = refl in omega (arith, ap length is, length-append t (spaces (w - length t)), length-replicate {A = ℕ} (w - length t) 32)
 length-in_field false w t = let is : in_field false w t ≡ spaces (w - length t) ++ t = refl in omega (arith, ap length is, length-append (spaces (w - length t)) t, length-replicate {A = ℕ} (w - length t) 32)
 
-pub laid_text : (v : MonetaryValues) (c : Conversion) (a : MoneyAmount) (own other : Look) (digits before fill after width field : ℕ) →
+pub laid_text : (v : MonetaryValues) (c : MoneyConversion) (a : MoneyAmount) (own other : Look) (digits before fill after width field : ℕ) →
     own ≡ look_of v c (is_negative a) → other ≡ look_of v c (not (is_negative a)) → length (whole_digits (precision_of v c) a) ≡ digits →
     before ≡ pad_count (aligned_digits c digits) (parts_text own own.before) (parts_text other other.before) →
     fill ≡ fill_count v c digits (aligned_digits c digits) →
@@ -93,7 +93,7 @@ laid_text v c a own other digits before fill after width field o p d b f g w n =
     let text : text_parts v c a own before fill after ≡ text_with v c a own other = text_laid_out v c a own other digits before fill after d b f g in
     in_field_of c.flags.left c.width field (text_parts v c a own before fill after) (aligned_text v c a) (text ∙ both_looks v c a own other o p) (n ∙ ap (λ k. c.width - k) (w ∙ ap length (sym text)))
 
-pub laid_width : (v : MonetaryValues) (c : Conversion) (a : MoneyAmount) (own other : Look) (width field : ℕ) → own ≡ look_of v c (is_negative a) → other ≡ look_of v c (not (is_negative a)) →
+pub laid_width : (v : MonetaryValues) (c : MoneyConversion) (a : MoneyAmount) (own other : Look) (width field : ℕ) → own ≡ look_of v c (is_negative a) → other ≡ look_of v c (not (is_negative a)) →
     width ≡ length (text_with v c a own other) → field ≡ c.width - width → width + field ≡ length (conversion_text v c a)
 laid_width v c a own other width field o p w n =
     let long : length (conversion_text v c a) ≡ max c.width (length (aligned_text v c a)) = length-in_field c.flags.left c.width (aligned_text v c a) in

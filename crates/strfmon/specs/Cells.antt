@@ -1,10 +1,10 @@
 -- What stands before and behind the number (XBD 7.3.3 cs_precedes, sep_by_space and sign_posn; which text each triple gives is our own choice where the standard leaves one).
 use Rattle.std.specs.Prelude.{ℕ, ◌+◌, ◌*◌, List, [], ◌∷◌, slice_get, unwrap_or}
-use Rattle.strfmon.specs.declared.cells.Part.{Part}
-use Rattle.strfmon.specs.declared.cells.Part.TheVariants.{Open, Sign, Symbol, Space, Close}
+use Rattle.strfmon.specs.declared.cells.MoneyPart.{MoneyPart}
+use Rattle.strfmon.specs.declared.cells.MoneyPart.TheVariants.{Open, Sign, Symbol, Space, Close}
 
 -- by cs_precedes, in it by sign_posn, and in it by sep_by_space: what stands before the number, and what behind it
-abbrev pub cells : List (List Part × List Part)
+abbrev pub cells : List (List MoneyPart × List MoneyPart)
 cells =
     (Open ∷ [], Symbol ∷ Close ∷ []) ∷
     (Open ∷ [], Space ∷ Symbol ∷ Close ∷ []) ∷
@@ -38,9 +38,9 @@ cells =
     (Symbol ∷ Space ∷ Sign ∷ [], []) ∷ []
 
 -- a cell of a list; past its end nothing stands beside the number
-abbrev pub cell_at : List (List Part × List Part) → ℕ → List Part × List Part
+abbrev pub cell_at : List (List MoneyPart × List MoneyPart) → ℕ → List MoneyPart × List MoneyPart
 cell_at cells n = unwrap_or (slice_get cells n) ([], [])
 
 -- the cell of three numbers
-unfoldable pub cell : ℕ → ℕ → ℕ → List Part × List Part
+unfoldable pub cell : ℕ → ℕ → ℕ → List MoneyPart × List MoneyPart
 cell precedes position separation = cell_at cells (15 * precedes + 3 * position + separation)

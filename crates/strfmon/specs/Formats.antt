@@ -6,15 +6,15 @@ use Rattle.digit_groups.specs.Numbers.{further, leading_number}
 use Rattle.digit_groups.specs.Conversions.{of_byte, number_after}
 unfoldable pub use Rattle.digit_groups.specs.Formats.{piece, pieces}
 use Rattle.strfmon.specs.declared.format.Signs.TheVariants.{Plus, Parentheses}
-use Rattle.strfmon.specs.declared.format.Mark.{Mark}
-use Rattle.strfmon.specs.declared.format.Mark.TheVariants.{NoGroups, SignTexts, InParentheses, NoSymbol, LeftAligned}
+use Rattle.strfmon.specs.declared.format.MoneyFlag.{MoneyFlag}
+use Rattle.strfmon.specs.declared.format.MoneyFlag.TheVariants.{NoGroups, SignTexts, InParentheses, NoSymbol, LeftAligned}
 use Rattle.strfmon.specs.declared.format.Flags.{Flags}
-use Rattle.strfmon.specs.declared.format.Conversion.{Conversion}
+use Rattle.strfmon.specs.declared.format.MoneyConversion.{MoneyConversion}
 
 -- ---- flags
 
 -- the flags of one byte
-abbrev pub marks : List (ℕ × Mark)
+abbrev pub marks : List (ℕ × MoneyFlag)
 marks =
     (94, NoGroups) ∷
     (43, SignTexts) ∷
@@ -22,14 +22,14 @@ marks =
     (33, NoSymbol) ∷
     (45, LeftAligned) ∷ []
 
-abbrev pub mark_of : ℕ → Option Mark
+abbrev pub mark_of : ℕ → Option MoneyFlag
 mark_of c = of_byte marks c
 
 abbrev pub no_flags : Flags
 no_flags = record { fill = None; no_groups = false; signs = None; no_symbol = false; left = false }
 
 -- a flag more, which was not given before; `+` and `(` are one choice
-abbrev pub with_mark : Flags → Mark → Option Flags
+abbrev pub with_mark : Flags → MoneyFlag → Option Flags
 with_mark f NoGroups = if f.no_groups then None else Some (record f { no_groups = true })
 with_mark f SignTexts = if is_some f.signs then None else Some (record f { signs = Some Plus })
 with_mark f InParentheses = if is_some f.signs then None else Some (record f { signs = Some Parentheses })
@@ -41,7 +41,7 @@ abbrev pub with_fill : Flags → ℕ → Option Flags
 with_fill f c = if is_none f.fill && is_in_range 32 126 c then Some (record f { fill = Some c }) else None
 
 -- the flags with the one of a byte
-abbrev pub with_byte : Flags → Option Mark → Option (Flags × ℕ)
+abbrev pub with_byte : Flags → Option MoneyFlag → Option (Flags × ℕ)
 with_byte f None = Some (f, 0)
 with_byte f (Some mark) = option_map (λ g. (g, 1)) (with_mark f mark)
 
@@ -77,7 +77,7 @@ is_international [] = None
 is_international (c ∷ cs) = if c == 105 then Some true else if c == 110 then Some false else None
 
 -- the conversion that bytes behind a `%` begin with: flags, width, `#n`, `.p` and the letter, and how many bytes it takes
-unfoldable pub conversion : List ℕ → Option (Conversion × ℕ)
+unfoldable pub conversion : List ℕ → Option (MoneyConversion × ℕ)
 conversion bs = do
   f ← flags bs
   w ← leading_number (drop f.1 bs)
@@ -87,5 +87,5 @@ conversion bs = do
   Some (record { flags = f.0; width = w.0; whole_digits = n.0; precision = p.0; international = international }, f.1 + w.1 + n.1 + p.1 + 1)
 
 -- the conversion of a letter with nothing before it
-abbrev pub plain : Bool → Conversion
+abbrev pub plain : Bool → MoneyConversion
 plain international = record { flags = no_flags; width = 0; whole_digits = None; precision = None; international = international }

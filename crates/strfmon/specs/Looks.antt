@@ -5,9 +5,9 @@ use Rattle.monetary_cat.specs.declared.keys.MonText.TheVariants.{IntCurrSymbol, 
 use Rattle.monetary_cat.specs.declared.keys.MonNumber.TheVariants.{PCsPrecedes, PSepBySpace, NCsPrecedes, NSepBySpace, PSignPosn, NSignPosn, IntPCsPrecedes, IntNCsPrecedes, IntPSepBySpace, IntNSepBySpace, IntPSignPosn, IntNSignPosn}
 use Rattle.strfmon.specs.declared.format.Signs.{Signs}
 use Rattle.strfmon.specs.declared.format.Signs.TheVariants.{Plus, Parentheses}
-use Rattle.strfmon.specs.declared.format.Conversion.{Conversion}
-use Rattle.strfmon.specs.declared.cells.Part.{Part}
-use Rattle.strfmon.specs.declared.cells.Part.TheVariants.{Open, Sign, Symbol, Space, Close}
+use Rattle.strfmon.specs.declared.format.MoneyConversion.{MoneyConversion}
+use Rattle.strfmon.specs.declared.cells.MoneyPart.{MoneyPart}
+use Rattle.strfmon.specs.declared.cells.MoneyPart.TheVariants.{Open, Sign, Symbol, Space, Close}
 use Rattle.strfmon.specs.declared.look.Placing.{Placing}
 use Rattle.strfmon.specs.Cells.{cell}
 
@@ -68,10 +68,10 @@ abbrev pub sign_of : MonetaryValues → Bool → Bool → List ℕ
 sign_of v parentheses negative = if negative then minus_sign v else plus_sign v parentheses
 
 -- the symbol, and what stands between it and the number: a space, or the fourth byte of the international symbol
-abbrev pub symbol_of : MonetaryValues → Conversion → List ℕ
+abbrev pub symbol_of : MonetaryValues → MoneyConversion → List ℕ
 symbol_of v c = if c.flags.no_symbol then [] else if c.international then take 3 (text_of v IntCurrSymbol) else text_of v CurrencySymbol
 
-abbrev pub space_of : MonetaryValues → Conversion → List ℕ
+abbrev pub space_of : MonetaryValues → MoneyConversion → List ℕ
 space_of v c = if c.international then drop 3 (text_of v IntCurrSymbol) else codes " "
 
 -- sign_posn; parentheses are its 0 for negative amounts, and others have their empty sign in front
@@ -88,11 +88,11 @@ pub record Look : Type 0 where
   pub sign : List ℕ
   pub symbol : List ℕ
   pub space : List ℕ
-  pub before : List Part
-  pub after : List Part
+  pub before : List MoneyPart
+  pub after : List MoneyPart
 
 -- how an amount of this sign looks in a conversion
-unfoldable pub look_of : MonetaryValues → Conversion → Bool → Look
+unfoldable pub look_of : MonetaryValues → MoneyConversion → Bool → Look
 look_of v c negative =
     let parentheses = wants_parentheses c.flags.signs in
     let numbers = numbers_of v c.international negative in
@@ -103,7 +103,7 @@ look_of v c negative =
     record { sign = sign; symbol = symbol; space = space_of v c; before = parts.0; after = parts.1 }
 
 -- the text of a part
-abbrev pub part_text : Look → Part → List ℕ
+abbrev pub part_text : Look → MoneyPart → List ℕ
 part_text l Open = codes "("
 part_text l Sign = l.sign
 part_text l Symbol = l.symbol
@@ -111,6 +111,6 @@ part_text l Space = l.space
 part_text l Close = codes ")"
 
 -- the text of parts
-abbrev pub parts_text : Look → List Part → List ℕ
+abbrev pub parts_text : Look → List MoneyPart → List ℕ
 parts_text l [] = []
 parts_text l (p ∷ ps) = part_text l p ++ parts_text l ps

@@ -6,7 +6,7 @@ unfoldable pub use Rattle.digit_groups.specs.Formats.{pieces_text, missing}
 use Rattle.monetary_cat.specs.Monetary.{MonetaryValues, text_of, number_of}
 use Rattle.monetary_cat.specs.declared.keys.MonText.TheVariants.{MonDecimalPoint, MonThousandsSep}
 use Rattle.monetary_cat.specs.declared.keys.MonNumber.TheVariants.{IntFracDigits, FracDigits}
-use Rattle.strfmon.specs.declared.format.Conversion.{Conversion}
+use Rattle.strfmon.specs.declared.format.MoneyConversion.{MoneyConversion}
 use Rattle.strfmon.specs.declared.fault.MoneyFault.{MoneyFault}
 use Rattle.strfmon.specs.declared.fault.MoneyFault.TheVariants as faults
 use Rattle.lc_base.specs.Amounts.{MoneyAmount}
@@ -19,11 +19,11 @@ use Rattle.strfmon.specs.Looks.{Look, look_of, parts_text, given}
 -- ---- the number
 
 -- fraction digits: those of the conversion, else those of the locale, else two (our own)
-abbrev pub precision_of : MonetaryValues → Conversion → ℕ
+abbrev pub precision_of : MonetaryValues → MoneyConversion → ℕ
 precision_of v c = unwrap_or c.precision (given (number_of v (if c.international then IntFracDigits else FracDigits)) 2)
 
 -- the sizes of groups; `^` groups nothing
-abbrev pub sizes_of : MonetaryValues → Conversion → List ℤ
+abbrev pub sizes_of : MonetaryValues → MoneyConversion → List ℤ
 sizes_of v c = if c.flags.no_groups then [] else v.mon_grouping
 
 -- the radix, which is `.` where the locale has none (our own)
@@ -35,20 +35,20 @@ abbrev pub fraction_text : MonetaryValues → ℕ → MoneyAmount → List ℕ
 fraction_text v p a = if p == 0 then [] else radix_of v ++ fraction_digits p a
 
 -- the digits in groups, the radix and the fraction
-abbrev pub number_text : MonetaryValues → Conversion → MoneyAmount → List ℕ
+abbrev pub number_text : MonetaryValues → MoneyConversion → MoneyAmount → List ℕ
 number_text v c a = grouped (whole_digits (precision_of v c) a) (sizes_of v c) (text_of v MonThousandsSep) ++ fraction_text v (precision_of v c) a
 
 -- ---- alignment by `#n`
 
 -- how many whole digits are aligned to, where there are at most so many: more digits pass `#n` over, with its padding (our own)
-abbrev pub aligned_digits : Conversion → ℕ → Option ℕ
+abbrev pub aligned_digits : MoneyConversion → ℕ → Option ℕ
 aligned_digits c digits = elim c.whole_digits [
   | None ↦ None
   | Some n ↦ if nat_le digits n then Some n else None
 ]
 
 -- the fill: the bytes that so many grouped digits have more than these
-abbrev pub fill_count : MonetaryValues → Conversion → ℕ → Option ℕ → ℕ
+abbrev pub fill_count : MonetaryValues → MoneyConversion → ℕ → Option ℕ → ℕ
 fill_count v c digits None = 0
 fill_count v c digits (Some n) =
     grouped_width n (sizes_of v c) (length (text_of v MonThousandsSep)) - grouped_width digits (sizes_of v c) (length (text_of v MonThousandsSep))
@@ -77,7 +77,7 @@ abbrev pub is_negative : MoneyAmount → Bool
 is_negative a = int_lt a.units (pos 0)
 
 -- what stands before the number, the fill, the number and what stands behind it, with so many spaces and fill bytes
-abbrev pub text_parts : MonetaryValues → Conversion → MoneyAmount → Look → ℕ → ℕ → ℕ → List ℕ
+abbrev pub text_parts : MonetaryValues → MoneyConversion → MoneyAmount → Look → ℕ → ℕ → ℕ → List ℕ
 text_parts v c a look before fill after =
     spaces before
     ++ parts_text look look.before
@@ -87,7 +87,7 @@ text_parts v c a look before fill after =
     ++ spaces after
 
 -- the same, aligned with the look of the other sign
-unfoldable pub text_with : MonetaryValues → Conversion → MoneyAmount → Look → Look → List ℕ
+unfoldable pub text_with : MonetaryValues → MoneyConversion → MoneyAmount → Look → Look → List ℕ
 text_with v c a own other =
     let digits = length (whole_digits (precision_of v c) a) in
     let aligned = aligned_digits c digits in
@@ -97,11 +97,11 @@ text_with v c a own other =
     (pad_count aligned (parts_text own own.after) (parts_text other other.after))
 
 -- the text of an amount but for its field
-abbrev pub aligned_text : MonetaryValues → Conversion → MoneyAmount → List ℕ
+abbrev pub aligned_text : MonetaryValues → MoneyConversion → MoneyAmount → List ℕ
 aligned_text v c a = text_with v c a (look_of v c (is_negative a)) (look_of v c (not (is_negative a)))
 
 -- the text of an amount
-abbrev pub conversion_text : MonetaryValues → Conversion → MoneyAmount → List ℕ
+abbrev pub conversion_text : MonetaryValues → MoneyConversion → MoneyAmount → List ℕ
 conversion_text v c a = in_field c.flags.left c.width (aligned_text v c a)
 
 -- ---- a format

@@ -4,7 +4,7 @@ use Rattle.digit_groups.specs.Groups.{grouped}
 use Rattle.monetary_cat.specs.Monetary.{MonetaryValues, text_of}
 use Rattle.monetary_cat.specs.declared.keys.MonText.TheVariants.{MonThousandsSep}
 use Rattle.strfmon.specs.declared.decimal.Decimal.{Decimal}
-use Rattle.strfmon.specs.declared.format.Conversion.{Conversion}
+use Rattle.strfmon.specs.declared.format.MoneyConversion.{MoneyConversion}
 use Rattle.digit_groups.specs.Digits.{digit_count, last_digits}
 use Rattle.strfmon.specs.Looks.{Look, parts_text}
 use Rattle.strfmon.specs.Money.{sizes_of, radix_of, spaces}
@@ -14,11 +14,11 @@ abbrev pub shown_fraction : MonetaryValues → Decimal → List ℕ
 shown_fraction v d = if d.precision == 0 then [] else radix_of v ++ (last_digits d.kept d.magnitude ++ replicate (d.precision - d.kept) 48)
 
 -- the digits in groups, the radix and the fraction
-abbrev pub shown_number : MonetaryValues → Conversion → Decimal → List ℕ
+abbrev pub shown_number : MonetaryValues → MoneyConversion → Decimal → List ℕ
 shown_number v c d = grouped (last_digits (digit_count d.whole) d.whole) (sizes_of v c) (text_of v MonThousandsSep) ++ shown_fraction v d
 
 -- the number with what stands beside it, and so many spaces and fill bytes
-abbrev pub shown_parts : MonetaryValues → Conversion → Decimal → Look → ℕ → ℕ → ℕ → List ℕ
+abbrev pub shown_parts : MonetaryValues → MoneyConversion → Decimal → Look → ℕ → ℕ → ℕ → List ℕ
 shown_parts v c d look before fill after =
     spaces before
     ++ parts_text look look.before

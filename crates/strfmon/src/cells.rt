@@ -3,11 +3,11 @@
 ghost use Rattle.std.specs.Prelude.{◌≡◌, ◌^◌, ◌<◌, ◌≤◌, length, map};
 ghost use Rattle.strfmon.specs.Cells.{cell, cell_at};
 
-use Part::{Close, Open, Sign, Space, Symbol};
+use MoneyPart::{Close, Open, Sign, Space, Symbol};
 
 /// A part of the text beside a number.
 #[derive(Clone, Copy)]
-pub enum Part {
+pub enum MoneyPart {
     /// `(`
     Open,
     /// The sign.
@@ -22,7 +22,7 @@ pub enum Part {
 
 /// What stands before the number, and what behind it: by cs_precedes from 0 to 1, in it by
 /// sign_posn from 0 to 4, and in it by sep_by_space from 0 to 2.
-const CELLS: [(&[Part], &[Part]); 30] = [
+const CELLS: [(&[MoneyPart], &[MoneyPart]); 30] = [
     (&[Open], &[Symbol, Close]),
     (&[Open], &[Space, Symbol, Close]),
     (&[Open], &[Symbol, Close]),
@@ -58,9 +58,9 @@ const CELLS: [(&[Part], &[Part]); 30] = [
 /// A cell of a table; past its end nothing stands beside the number.
 #[inline(always)]
 fn cell_at(
-    cells: &[(&'static [Part], &'static [Part])],
+    cells: &[(&'static [MoneyPart], &'static [MoneyPart])],
     index: usize,
-) -> (&'static [Part], &'static [Part])
+) -> (&'static [MoneyPart], &'static [MoneyPart])
     ensures { (result.0.now, result.1.now) ≡ cell_at (map (λ e. (e.0.now, e.1.now)) cells.now) index }
 {
     match cells.get(index) {
@@ -76,7 +76,7 @@ pub fn cell(
     precedes: usize,
     position: usize,
     separation: usize,
-) -> (&'static [Part], &'static [Part])
+) -> (&'static [MoneyPart], &'static [MoneyPart])
     requires precedes { precedes < 2 ^ 32 }
     requires position { position < 2 ^ 32 }
     requires separation { separation < 2 ^ 32 }

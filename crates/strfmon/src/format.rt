@@ -16,7 +16,7 @@ pub enum Signs {
 
 /// A flag of one byte.
 #[derive(Clone, Copy)]
-pub enum Mark {
+pub enum MoneyFlag {
     /// `^`: digits without groups.
     NoGroups,
     /// `+`: the locale's signs.
@@ -42,7 +42,7 @@ pub struct Flags {
 
 /// The conversion of one amount.
 #[derive(Clone, Copy)]
-pub struct Conversion {
+pub struct MoneyConversion {
     pub flags: Flags,
     /// The least number of bytes.
     pub width: u8,
@@ -63,43 +63,43 @@ const NO_FLAGS: Flags = Flags {
 };
 
 #[inline(always)]
-fn mark_of(byte: u8) -> Option<Mark>
+fn mark_of(byte: u8) -> Option<MoneyFlag>
     ensures { result ≡ mark_of byte }
 {
     match byte {
-        b'^' => Some(Mark::NoGroups),
-        b'+' => Some(Mark::SignTexts),
-        b'(' => Some(Mark::InParentheses),
-        b'!' => Some(Mark::NoSymbol),
-        b'-' => Some(Mark::LeftAligned),
+        b'^' => Some(MoneyFlag::NoGroups),
+        b'+' => Some(MoneyFlag::SignTexts),
+        b'(' => Some(MoneyFlag::InParentheses),
+        b'!' => Some(MoneyFlag::NoSymbol),
+        b'-' => Some(MoneyFlag::LeftAligned),
         _ => None,
     }
 }
 
 /// The flags with one more, if it was not given before.
 #[inline(always)]
-fn with_mark(flags: Flags, mark: Mark) -> Option<Flags>
+fn with_mark(flags: Flags, mark: MoneyFlag) -> Option<Flags>
     ensures { result ≡ with_mark flags mark }
 {
     let mut more = flags;
     let given = match mark {
-        Mark::NoGroups => {
+        MoneyFlag::NoGroups => {
             more.no_groups = true;
             flags.no_groups
         }
-        Mark::SignTexts => {
+        MoneyFlag::SignTexts => {
             more.signs = Some(Signs::Plus);
             flags.signs.is_some()
         }
-        Mark::InParentheses => {
+        MoneyFlag::InParentheses => {
             more.signs = Some(Signs::Parentheses);
             flags.signs.is_some()
         }
-        Mark::NoSymbol => {
+        MoneyFlag::NoSymbol => {
             more.no_symbol = true;
             flags.no_symbol
         }
-        Mark::LeftAligned => {
+        MoneyFlag::LeftAligned => {
             more.left = true;
             flags.left
         }
@@ -170,7 +170,7 @@ fn is_international(bytes: &[u8]) -> Option<bool>
 
 /// The conversion that bytes behind a `%` begin with, and how many bytes it takes.
 #[inline(never)]
-fn conversion_of(bytes: &[u8]) -> Option<(Conversion, usize)>
+fn conversion_of(bytes: &[u8]) -> Option<(MoneyConversion, usize)>
     ensures is { result ≡ conversion bytes.now }
     ensures within { IfSome result (λ r. r.1 ≤ length bytes.now) }
 {
@@ -182,7 +182,7 @@ fn conversion_of(bytes: &[u8]) -> Option<(Conversion, usize)>
     let (precision, more) = number_after(b'.', 1, &bytes[at..])?;
     at += more;
     let international = is_international(&bytes[at..])?;
-    let conversion = Conversion {
+    let conversion = MoneyConversion {
         flags,
         width,
         whole_digits,
@@ -194,10 +194,10 @@ fn conversion_of(bytes: &[u8]) -> Option<(Conversion, usize)>
 
 /// The conversion of a letter with nothing before it.
 #[inline(always)]
-pub fn plain_conversion(international: bool) -> Conversion
+pub fn plain_conversion(international: bool) -> MoneyConversion
     ensures { result ≡ plain international }
 {
-    Conversion {
+    MoneyConversion {
         flags: NO_FLAGS,
         width: 0,
         whole_digits: None,
@@ -208,11 +208,11 @@ pub fn plain_conversion(international: bool) -> Conversion
 
 /// Whether a conversion is that of a letter with nothing before it.
 #[inline(always)]
-pub fn is_plain(c: &Conversion) -> bool
+pub fn is_plain(c: &MoneyConversion) -> bool
     ensures { IsTrue result → c.now ≡ plain c.now.international }
 {
     match *c {
-        Conversion {
+        MoneyConversion {
             flags: Flags {
                 fill: None,
                 no_groups: false,
@@ -231,7 +231,7 @@ pub fn is_plain(c: &Conversion) -> bool
 
 /// The same as `conversion_of`, at once where a letter stands behind the `%`.
 #[inline(always)]
-pub fn quick_conversion(bytes: &[u8]) -> Option<(Conversion, usize)>
+pub fn quick_conversion(bytes: &[u8]) -> Option<(MoneyConversion, usize)>
     ensures is { result ≡ conversion bytes.now }
     ensures within { IfSome result (λ r. r.1 ≤ length bytes.now) }
 {

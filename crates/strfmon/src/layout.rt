@@ -12,7 +12,7 @@ ghost use Rattle.lc_base.specs.Amounts.{MoneyAmount};
 ghost use Rattle.strfmon.specs.Seen.{seen};
 
 use crate::decimal::{Decimal, decimal_of, is_negative};
-use crate::format::Conversion;
+use crate::format::MoneyConversion;
 use crate::look::{Look, given, look_of};
 use digit_groups::grouped_width;
 use lc_base::Amount;
@@ -44,7 +44,7 @@ pub struct Laid<'a> {
 
 /// The fraction digits of a conversion.
 #[inline(always)]
-fn precision_of(m: &Monetary, c: &Conversion) -> usize
+fn precision_of(m: &Monetary, c: &MoneyConversion) -> usize
     ensures is { result ≡ precision_of m.now c.now }
     ensures small { result < 2 ^ 32 }
 {
@@ -61,7 +61,7 @@ fn precision_of(m: &Monetary, c: &Conversion) -> usize
 
 /// The sizes of groups.
 #[inline(always)]
-pub fn sizes_of<'a>(m: &'a Monetary, c: &Conversion) -> &'a [i32]
+pub fn sizes_of<'a>(m: &'a Monetary, c: &MoneyConversion) -> &'a [i32]
     ensures { result.now ≡ sizes_of m.now c.now }
 {
     if c.flags.no_groups { &[] } else { m.grouping() }
@@ -77,7 +77,7 @@ pub fn radix_of(m: &Monetary) -> &[u8]
 }
 
 /// The whole digits to align so many to.
-fn aligned_digits(c: &Conversion, digits: usize) -> Option<usize>
+fn aligned_digits(c: &MoneyConversion, digits: usize) -> Option<usize>
     ensures is { result ≡ aligned_digits c.now digits }
     ensures few { IfSome result (λ n. n ≤ 255) }
 {
@@ -86,7 +86,7 @@ fn aligned_digits(c: &Conversion, digits: usize) -> Option<usize>
 }
 
 /// How many fill bytes stand before so many whole digits.
-fn fill_count(m: &Monetary, c: &Conversion, digits: usize, aligned: Option<usize>) -> u128
+fn fill_count(m: &Monetary, c: &MoneyConversion, digits: usize, aligned: Option<usize>) -> u128
     requires few { digits ≤ 255 }
     requires aligned { ForSome aligned (λ n. n ≤ 255) }
     ensures is { result ≡ fill_count m.now c.now digits aligned }
@@ -103,7 +103,7 @@ fn fill_count(m: &Monetary, c: &Conversion, digits: usize, aligned: Option<usize
 /// How many bytes longer the look of the other sign is than so many, before the number and behind it.
 fn other_sign_pads(
     m: &Monetary,
-    c: &Conversion,
+    c: &MoneyConversion,
     negative: bool,
     own_before: u128,
     own_after: u128,
@@ -127,7 +127,7 @@ fn other_sign_pads(
 #[inline(always)]
 fn pads_of(
     m: &Monetary,
-    c: &Conversion,
+    c: &MoneyConversion,
     negative: bool,
     aligned: Option<usize>,
     own_before: u128,
@@ -159,7 +159,7 @@ fn fraction_width(m: &Monetary, precision: usize) -> u128
 
 /// The layout of an amount of this sign.
 #[inline(always)]
-fn layout_of(m: &Monetary, c: &Conversion, own: &Look, negative: bool, decimal: Decimal) -> Widths
+fn layout_of(m: &Monetary, c: &MoneyConversion, own: &Look, negative: bool, decimal: Decimal) -> Widths
     requires few { decimal.digits ≤ 20 }
     requires precision { decimal.precision ≡ precision_of m.now c.now }
     requires small { decimal.precision < 2 ^ 32 }
@@ -198,7 +198,7 @@ fn field_spaces(width: u8, text: u128) -> u128
 
 /// An amount laid out in a conversion.
 #[inline(always)]
-pub fn laid_out<'a>(m: &'a Monetary, c: &Conversion, amount: Amount) -> Laid<'a>
+pub fn laid_out<'a>(m: &'a Monetary, c: &MoneyConversion, amount: Amount) -> Laid<'a>
     ensures digits { result.decimal.digits ≡ digit_count result.decimal.whole }
     ensures short { result.decimal.kept ≤ result.decimal.precision }
     ensures text { with_spaces c.now.flags.left result.field (shown_parts m.now c.now result.decimal (seen result.look) result.layout.before result.layout.fill result.layout.after) ≡ conversion_text m.now c.now amount }

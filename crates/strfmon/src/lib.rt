@@ -15,7 +15,7 @@ mod write;
 
 use digit_groups::{FormatConversion, format_into, write_format};
 pub use fault::MoneyFault;
-use format::{Conversion, quick_conversion};
+use format::{MoneyConversion, quick_conversion};
 pub use lc_base::Amount;
 use lc_base::{ByteText, FormatRefusal};
 use monetary_cat::Monetary;
@@ -63,7 +63,7 @@ pub fn strfmon_into(
     ensures emptied { OnErr result (out.new.items ≡ []) }
 {
     let room = first_room(format, amounts.len(), max);
-    match format_into::<Conversion>(out, m, format, amounts, room, max) {
+    match format_into::<MoneyConversion>(out, m, format, amounts, room, max) {
         Ok(()) => Ok(()),
         Err(fault) => {
             out.clear();
@@ -87,7 +87,7 @@ pub fn strfmon_to(
 ) -> Result<usize, Unwritten>
     ensures { Written buffer.old buffer.new result (money_text m.now format.now amounts.now) }
 {
-    write_format::<Conversion>(buffer, m, format, amounts)
+    write_format::<MoneyConversion>(buffer, m, format, amounts)
 }
 
 /// How many bytes a text of a format with so many amounts has at first room for. A conversion has two
@@ -101,7 +101,7 @@ fn first_room(format: &[u8], amounts: usize, max: usize) -> usize {
         .min(max)
 }
 
-impl FormatConversion for Conversion {
+impl FormatConversion for MoneyConversion {
     ghost use Rattle.std.specs.Prelude.{true};
     ghost use Rattle.lc_base.specs.declared.refusal.FormatRefusal.TheVariants.{MissingAmount};
     ghost use Rattle.strfmon.specs.Formats.{conversion};
@@ -120,7 +120,7 @@ impl FormatConversion for Conversion {
     ghost lacks = { λ at. MissingAmount at };
 
     #[inline(always)]
-    fn read(bytes: &[u8]) -> Option<(Conversion, usize)> {
+    fn read(bytes: &[u8]) -> Option<(MoneyConversion, usize)> {
         quick_conversion(bytes)
     }
 

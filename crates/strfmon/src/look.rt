@@ -4,8 +4,8 @@ ghost use Rattle.std.specs.Prelude.{◌≡◌, ◌+◌, ◌*◌, ◌^◌, ◌<�
 ghost use Rattle.strfmon.specs.Looks.{given, local_numbers, international_numbers, numbers_of, wants_parentheses, minus_sign, plus_sign, sign_of, symbol_of, space_of, position_of, separation_of, look_of, parts_text, part_text};
 ghost use Rattle.strfmon.specs.Seen.{seen};
 
-use crate::cells::{Part, cell};
-use crate::format::{Conversion, Signs};
+use crate::cells::{MoneyPart, cell};
+use crate::format::{MoneyConversion, Signs};
 use digit_groups::write_before;
 use monetary_cat::{MonNumber, MonText, Monetary};
 
@@ -23,8 +23,8 @@ pub struct Look<'a> {
     pub sign: &'a [u8],
     pub symbol: &'a [u8],
     pub space: &'a [u8],
-    pub before: &'static [Part],
-    pub after: &'static [Part],
+    pub before: &'static [MoneyPart],
+    pub after: &'static [MoneyPart],
 }
 
 /// A number, or what stands for it where the locale does not say.
@@ -134,7 +134,7 @@ fn split_symbol(symbol: &[u8]) -> (&[u8], &[u8])
 }
 
 #[inline(always)]
-fn symbol_of<'a>(m: &'a Monetary, c: &Conversion) -> &'a [u8]
+fn symbol_of<'a>(m: &'a Monetary, c: &MoneyConversion) -> &'a [u8]
     ensures { result.now ≡ symbol_of m.now c.now }
 {
     if c.flags.no_symbol {
@@ -147,7 +147,7 @@ fn symbol_of<'a>(m: &'a Monetary, c: &Conversion) -> &'a [u8]
 }
 
 #[inline(always)]
-fn space_of<'a>(m: &'a Monetary, c: &Conversion) -> &'a [u8]
+fn space_of<'a>(m: &'a Monetary, c: &MoneyConversion) -> &'a [u8]
     ensures { result.now ≡ space_of m.now c.now }
 {
     if c.international {
@@ -184,7 +184,7 @@ fn separation_of(symbol: &[u8], sign: &[u8], position: usize, separation: usize)
 /// How an amount of this sign looks in a conversion.
 #[tactic(auto, unfolding(crate::specs::Looks::look_of))]
 #[inline(always)]
-pub fn look_of<'a>(m: &'a Monetary, c: &Conversion, negative: bool) -> Look<'a>
+pub fn look_of<'a>(m: &'a Monetary, c: &MoneyConversion, negative: bool) -> Look<'a>
     ensures is { seen result ≡ look_of m.now c.now negative }
     ensures before { length result.before.now ≤ 3 }
     ensures after { length result.after.now ≤ 3 }
@@ -207,21 +207,21 @@ pub fn look_of<'a>(m: &'a Monetary, c: &Conversion, negative: bool) -> Look<'a>
 
 impl<'a> Look<'a> {
     #[inline(always)]
-    fn part(&self, part: Part) -> &'a [u8]
+    fn part(&self, part: MoneyPart) -> &'a [u8]
         ensures { result.now ≡ part_text (seen self.now) part }
     {
         match part {
-            Part::Open => b"(",
-            Part::Sign => self.sign,
-            Part::Symbol => self.symbol,
-            Part::Space => self.space,
-            Part::Close => b")",
+            MoneyPart::Open => b"(",
+            MoneyPart::Sign => self.sign,
+            MoneyPart::Symbol => self.symbol,
+            MoneyPart::Space => self.space,
+            MoneyPart::Close => b")",
         }
     }
 
     /// How many bytes parts have.
     #[inline(always)]
-    pub fn width(&self, parts: &[Part]) -> u128
+    pub fn width(&self, parts: &[MoneyPart]) -> u128
         ensures is { result ≡ length (parts_text (seen self.now) parts.now) }
         ensures fits { result ≤ 2 ^ 64 * length parts.now }
     {
@@ -234,7 +234,7 @@ impl<'a> Look<'a> {
 
     /// Writes parts over the bytes before `end`, and says where they begin.
     #[inline(always)]
-    pub fn write(&self, parts: &[Part], target: &mut [u8], end: usize) -> usize
+    pub fn write(&self, parts: &[MoneyPart], target: &mut [u8], end: usize) -> usize
         requires room { length (parts_text (seen self.now) parts.now) ≤ end }
         requires within { end ≤ length target.old }
         ensures begins { result + length (parts_text (seen self.now) parts.now) ≡ end }

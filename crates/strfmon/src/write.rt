@@ -8,7 +8,7 @@ ghost use Rattle.strfmon.specs.Seen.{seen};
 ghost use Rattle.text_buffer.specs.Written.{over};
 
 use crate::decimal::Decimal;
-use crate::format::{Conversion, is_plain, plain_conversion};
+use crate::format::{MoneyConversion, is_plain, plain_conversion};
 use crate::layout::{Laid, laid_out, radix_of, sizes_of};
 use crate::look::Look;
 use digit_groups::{write_before, write_digits, write_grouped, write_repeated};
@@ -49,7 +49,7 @@ fn write_number(
     target: &mut [u8],
     end: usize,
     m: &Monetary,
-    c: &Conversion,
+    c: &MoneyConversion,
     decimal: Decimal,
 ) -> usize
     requires digits { decimal.digits ≡ digit_count decimal.whole }
@@ -78,7 +78,7 @@ fn write_text(
     target: &mut [u8],
     end: usize,
     m: &Monetary,
-    c: &Conversion,
+    c: &MoneyConversion,
     look: &Look,
     spread: Spread,
     decimal: Decimal,
@@ -104,7 +104,7 @@ fn write_in_field(
     target: &mut [u8],
     end: usize,
     m: &Monetary,
-    c: &Conversion,
+    c: &MoneyConversion,
     look: &Look,
     spread: Spread,
     decimal: Decimal,
@@ -130,7 +130,7 @@ fn write_in_field(
 fn fill_field(
     target: &mut [u8],
     m: &Monetary,
-    c: &Conversion,
+    c: &MoneyConversion,
     look: &Look,
     spread: Spread,
     decimal: Decimal,
@@ -164,7 +164,7 @@ fn spread_of(laid: &Laid) -> Spread
 /// Writes the text of an amount to the front of a buffer, if it has room for all of it, and says how
 /// many bytes the text has.
 #[inline(always)]
-fn put_conversion(target: &mut [u8], m: &Monetary, c: &Conversion, amount: Amount) -> u128
+fn put_conversion(target: &mut [u8], m: &Monetary, c: &MoneyConversion, amount: Amount) -> u128
     ensures width { result ≡ length (conversion_text m.now c.now amount) }
     ensures written { result ≤ length target.old → target.new ≡ over target.old 0 (conversion_text m.now c.now amount) }
     ensures kept { length target.old < result → target.new ≡ target.old }
@@ -187,7 +187,7 @@ fn put_conversion(target: &mut [u8], m: &Monetary, c: &Conversion, amount: Amoun
 
 /// The same of a conversion that is more than a letter, in code of its own.
 #[inline(never)]
-fn put_other(target: &mut [u8], m: &Monetary, c: &Conversion, amount: Amount) -> u128
+fn put_other(target: &mut [u8], m: &Monetary, c: &MoneyConversion, amount: Amount) -> u128
     ensures width { result ≡ length (conversion_text m.now c.now amount) }
     ensures written { result ≤ length target.old → target.new ≡ over target.old 0 (conversion_text m.now c.now amount) }
     ensures kept { length target.old < result → target.new ≡ target.old }
@@ -199,7 +199,7 @@ fn put_other(target: &mut [u8], m: &Monetary, c: &Conversion, amount: Amount) ->
 /// many bytes the text has. A letter with nothing before it is told apart, since no flags, widths and
 /// digits need to be looked at then.
 #[inline(always)]
-pub fn put_amount(target: &mut [u8], m: &Monetary, c: &Conversion, amount: Amount) -> u128
+pub fn put_amount(target: &mut [u8], m: &Monetary, c: &MoneyConversion, amount: Amount) -> u128
     ensures width { result ≡ length (conversion_text m.now c.now amount) }
     ensures written { result ≤ length target.old → target.new ≡ over target.old 0 (conversion_text m.now c.now amount) }
     ensures kept { length target.old < result → target.new ≡ target.old }
@@ -213,7 +213,7 @@ pub fn put_amount(target: &mut [u8], m: &Monetary, c: &Conversion, amount: Amoun
 
 /// How many bytes the text of an amount has.
 #[inline(never)]
-pub fn width_of(m: &Monetary, c: &Conversion, amount: Amount) -> u128
+pub fn width_of(m: &Monetary, c: &MoneyConversion, amount: Amount) -> u128
     ensures { result ≡ length (conversion_text m.now c.now amount) }
 {
     let laid = laid_out(m, c, amount);

@@ -3,7 +3,7 @@ use Rattle.std.proofs.Common.{◌≡◌, ℕ, zero, suc, ◌+◌, ◌*◌, ◌�
 use Rattle.std.specs.Prelude.{find, option_map}
 use Rattle.std.proofs.Math.Nat.{mul-le-mul_left}
 use Rattle.std.proofs.lemmas.List.Sums.{sum_by-cons}
-use Rattle.time_cat.specs.declared.conversion.Conversion.{Conversion}
+use Rattle.time_cat.specs.declared.conversion.TimeConversion.{TimeConversion}
 use Rattle.time_cat.specs.declared.conversion.Shows.{Shows}
 use Rattle.time_cat.specs.declared.conversion.Shows.TheVariants.{Name, Number, Alternative, Format, EraFormat, EraName, EraYear, EraFull, SlashedDate, DashedDate, ShortTime, FullTime, Offset, Zone, Sign}
 use Rattle.time_cat.specs.declared.conversion.TimeText.{TimeText}
@@ -83,7 +83,7 @@ read_of_most : (each : ℕ) (inner : List ℕ → ℕ) (o : Option (List ℕ)) �
 read_of_most each inner None at_most few = omega arith
 read_of_most each inner (Some format) at_most few = few_read each inner format (at_most format) (few format refl)
 
-read_for_most : (each : ℕ) (v : TimeValues) (t : TmValues) (inner : List ℕ → ℕ) (o : Option Conversion) → AtMost each inner → AreFew v t → read_for v t inner o ≤ 16 * each
+read_for_most : (each : ℕ) (v : TimeValues) (t : TmValues) (inner : List ℕ → ℕ) (o : Option TimeConversion) → AtMost each inner → AreFew v t → read_for v t inner o ≤ 16 * each
 read_for_most each v t inner None at_most few = omega arith
 read_for_most each v t inner (Some c) at_most few = read_of_most each inner (format_for v t c.shows) at_most (λ format is. few c.shows format is)
 

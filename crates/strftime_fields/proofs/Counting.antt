@@ -1,7 +1,7 @@
 -- How many conversions are read of what is left of a format.
 use Rattle.std.proofs.Common.{◌≡◌, ℕ, zero, suc, ◌+◌, ◌-◌, ◌<◌, ◌≤◌, true, false, cond, leb, List, [], ◌∷◌, length, Option, Some, None, Result, Ok, Err, refl, ap, subst, arith}
 use Rattle.std.proofs.lemmas.Bool.{le-leb, lt-leb}
-use Rattle.time_cat.specs.declared.conversion.Conversion.{Conversion}
+use Rattle.time_cat.specs.declared.conversion.TimeConversion.{TimeConversion}
 use Rattle.time_cat.specs.declared.conversion.Shows.TheVariants.{Format}
 use Rattle.time_cat.specs.declared.conversion.TimeText.{TimeText}
 use Rattle.time_cat.specs.Conversions.{conversion}
@@ -77,10 +77,10 @@ no_levels_read max levels v t before format none = rw none refl
 
 -- ---- what a conversion reads behind it
 
-pub plain_read : (v : TimeValues) (t : TmValues) (inner : List ℕ → ℕ) (o : Option Conversion) (c : Conversion) → o ≡ Some c → format_for v t c.shows ≡ None → read_for v t inner o ≡ 0
+pub plain_read : (v : TimeValues) (t : TmValues) (inner : List ℕ → ℕ) (o : Option TimeConversion) (c : TimeConversion) → o ≡ Some c → format_for v t c.shows ≡ None → read_for v t inner o ≡ 0
 plain_read v t inner o c some none = rw some (rw none refl)
 
-pub format_read : (v : TimeValues) (t : TmValues) (inner : List ℕ → ℕ) (o : Option Conversion) (c : Conversion) (format : List ℕ) → o ≡ Some c → format_for v t c.shows ≡ Some format → read_for v t inner o ≡ inner format
+pub format_read : (v : TimeValues) (t : TmValues) (inner : List ℕ → ℕ) (o : Option TimeConversion) (c : TimeConversion) (format : List ℕ) → o ≡ Some c → format_for v t c.shows ≡ Some format → read_for v t inner o ≡ inner format
 format_read v t inner o c format some is = rw some (rw is refl)
 
 -- ---- counts
@@ -129,7 +129,7 @@ counted_byte at s short c piece is =
     let here : IsShort at s (Byte c) = subst (λ (x : Short). IsShort at s x) is piece in
     ap counted here
 
-pub counted_plain : (at : ℕ) (s : Step) (short : Short) (letter : ℕ) (found : Conversion) → IsShort at s short → short ≡ Plain letter found → counted s ≡ 1
+pub counted_plain : (at : ℕ) (s : Step) (short : Short) (letter : ℕ) (found : TimeConversion) → IsShort at s short → short ≡ Plain letter found → counted s ≡ 1
 counted_plain at s short letter found piece is =
     let here : IsShort at s (Plain letter found) = subst (λ (x : Short). IsShort at s x) is piece in
     ap counted here.0

@@ -1,7 +1,7 @@
 -- What the pieces of a format give that are left at a place, and how many conversions they are.
 use Rattle.std.proofs.Common.{◌≡◌, ℕ, zero, suc, ◌+◌, ◌-◌, ◌<◌, Bool, true, false, List, [], ◌∷◌, ◌++◌, Option, Some, None, refl, sym, ap, ◌∙◌, append-nil, subst, arith, length, drop, ◌≤◌}
 use Rattle.std.proofs.lemmas.List.{drop_all, drop-drop, length-drop}
-use Rattle.time_cat.specs.declared.conversion.Conversion.{Conversion}
+use Rattle.time_cat.specs.declared.conversion.TimeConversion.{TimeConversion}
 use Rattle.time_cat.specs.declared.conversion.Shows.TheVariants.{Format}
 use Rattle.time_cat.specs.declared.conversion.TimeText.{TimeText}
 use Rattle.time_cat.specs.Conversions.{conversion}
@@ -71,10 +71,10 @@ no_levels levels v t format none = rw none refl
 
 -- ---- what a conversion gives
 
-pub plain_conversion : (v : TimeValues) (t : TmValues) (expand : List ℕ → List ℕ) (o : Option Conversion) (c : Conversion) → o ≡ Some c → format_for v t c.shows ≡ None → converted v t expand o ≡ plain_text v t c.shows
+pub plain_conversion : (v : TimeValues) (t : TmValues) (expand : List ℕ → List ℕ) (o : Option TimeConversion) (c : TimeConversion) → o ≡ Some c → format_for v t c.shows ≡ None → converted v t expand o ≡ plain_text v t c.shows
 plain_conversion v t expand o c some none = rw some (rw none refl)
 
-pub format_conversion : (v : TimeValues) (t : TmValues) (expand : List ℕ → List ℕ) (o : Option Conversion) (c : Conversion) (format : List ℕ) → o ≡ Some c → format_for v t c.shows ≡ Some format → converted v t expand o ≡ expand format
+pub format_conversion : (v : TimeValues) (t : TmValues) (expand : List ℕ → List ℕ) (o : Option TimeConversion) (c : TimeConversion) (format : List ℕ) → o ≡ Some c → format_for v t c.shows ≡ Some format → converted v t expand o ≡ expand format
 format_conversion v t expand o c format some is = rw some (rw is refl)
 
 -- ---- pieces that are told at first sight

@@ -1,6 +1,6 @@
 -- How many conversions are read on the way to a text (our own rule).
 use Rattle.std.specs.Prelude.{◌≡◌, ℕ, zero, suc, ◌+◌, ◌≤◌, Bool, nat_le, List, [], ◌∷◌, length, Option, Some, None, Result, Ok, Err, if◌then◌else◌}
-use Rattle.time_cat.specs.declared.conversion.Conversion.{Conversion}
+use Rattle.time_cat.specs.declared.conversion.TimeConversion.{TimeConversion}
 use Rattle.time_cat.specs.Conversions.{conversion}
 use Rattle.time_cat.specs.Formats.{Piece, Literal, Converted, Wrong, pieces, bad_place}
 use Rattle.time_cat.specs.Times.{TmValues}
@@ -16,7 +16,7 @@ abbrev pub read_of : (List ℕ → ℕ) → Option (List ℕ) → ℕ
 read_of reads None = 0
 read_of reads (Some format) = reads format
 
-abbrev pub read_for : TimeValues → TmValues → (List ℕ → ℕ) → Option Conversion → ℕ
+abbrev pub read_for : TimeValues → TmValues → (List ℕ → ℕ) → Option TimeConversion → ℕ
 read_for v t reads None = 0
 read_for v t reads (Some c) = read_of reads (format_for v t c.shows)
 

@@ -4,7 +4,7 @@ ghost use Rattle.std.specs.Prelude.{◌≡◌, ◌≤◌, ℕ, length, drop, IfS
 ghost use Rattle.time_cat.specs.Formats.{step};
 ghost use Rattle.strftime_fields.specs.Reading.{IsShort};
 
-use time_cat::{Conversion, TimeText, conversion_of};
+use time_cat::{TimeConversion, TimeText, conversion_of};
 
 /// A piece of a format that needs no second look.
 #[derive(Clone, Copy)]
@@ -12,7 +12,7 @@ pub enum Short {
     /// A byte that stands for itself.
     Byte(u8),
     /// A conversion without a modifier.
-    Plain { letter: u8, found: Conversion },
+    Plain { letter: u8, found: TimeConversion },
 }
 
 /// What a first look at the piece did that bytes begin with.

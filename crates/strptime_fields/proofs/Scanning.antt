@@ -2,7 +2,7 @@
 use Rattle.std.proofs.Common.{◌≡◌, ℕ, ◌+◌, ◌≤◌, Bool, true, false, cond, eqb, List, [], ◌∷◌, length, Option, Some, None, Ok, refl, sym, ap, subst, arith}
 use Rattle.std.specs.List.{list_all}
 use Rattle.std.proofs.lemmas.Bool.{eqb-true, false≢true}
-use Rattle.time_cat.specs.declared.conversion.Conversion.{Conversion}
+use Rattle.time_cat.specs.declared.conversion.TimeConversion.{TimeConversion}
 use Rattle.time_cat.specs.declared.step.Step.TheVariants.{Byte, Conv}
 use Rattle.time_cat.specs.Conversions.{conversion}
 use Rattle.time_cat.specs.Formats.{Piece, Literal, Converted, pieces, rest_of, is_modifier, step_of, modified_step, conversion_step, step}
@@ -25,11 +25,11 @@ no_modifier : (modifier letter : ℕ) (i : Item) → item modifier letter ≡ So
 unfolding item
 no_modifier modifier letter i some = no_modifier_by modifier letter (eqb modifier 0) _ i refl some
 
-two_by : (at letter rank next d : ℕ) (o : Option Conversion) → Conv 0 letter rank next ≡ step_of 0 d (at + 2) o → next ≡ at + 2
+two_by : (at letter rank next d : ℕ) (o : Option TimeConversion) → Conv 0 letter rank next ≡ step_of 0 d (at + 2) o → next ≡ at + 2
 two_by at letter rank next d None is = absurd cc
 two_by at letter rank next d (Some c) is = cc
 
-three_by : (at letter rank next d f : ℕ) (o : Option Conversion) → is_modifier d ≡ true → Conv 0 letter rank next ≡ step_of d f (at + 3) o → next ≡ at + 2
+three_by : (at letter rank next d f : ℕ) (o : Option TimeConversion) → is_modifier d ≡ true → Conv 0 letter rank next ≡ step_of d f (at + 3) o → next ≡ at + 2
 three_by at letter rank next d f None modifier is = absurd cc
 three_by at letter rank next d f (Some c) modifier is =
     let none : d ≡ 0 = cc in

@@ -1,6 +1,6 @@
 -- The pieces of a format go on behind each step.
 use Rattle.std.proofs.Common.{◌≡◌, ℕ, zero, suc, ◌+◌, ◌-◌, ◌<◌, Bool, true, false, eqb, cond, List, [], ◌∷◌, length, drop, Option, Some, None, refl, sym, ap, ◌∙◌, arith, add-one, length-drop}
-use Rattle.time_cat.specs.declared.conversion.Conversion.{Conversion}
+use Rattle.time_cat.specs.declared.conversion.TimeConversion.{TimeConversion}
 use Rattle.time_cat.specs.declared.step.Step.{Step}
 use Rattle.time_cat.specs.declared.step.Step.TheVariants.{Byte}
 use Rattle.time_cat.specs.Conversions.{conversion}
@@ -20,7 +20,7 @@ Goes format at left s = onward at s (λ skip. pieces_from (at + 1) skip left) �
 inside : (format : List ℕ) (at c : ℕ) (cs : List ℕ) → drop at format ≡ c ∷ cs → at < length format
 inside format at c cs e = omega (arith, ap length e, length-drop at format)
 
-found_one : (format : List ℕ) (at letter d : ℕ) (ds : List ℕ) (o : Option Conversion) → drop (at + 1) format ≡ d ∷ ds → Goes format at (d ∷ ds) (step_of 0 letter (at + 2) o)
+found_one : (format : List ℕ) (at letter d : ℕ) (ds : List ℕ) (o : Option TimeConversion) → drop (at + 1) format ≡ d ∷ ds → Goes format at (d ∷ ds) (step_of 0 letter (at + 2) o)
 unfolding rest_of
 found_one format at letter d ds None e is = sym is
 found_one format at letter d ds (Some c) e is =
@@ -29,7 +29,7 @@ found_one format at letter d ds (Some c) e is =
     let two : at + 2 ≡ at + 1 + 1 = omega arith in
     (omega arith, omega (arith, inside format (at + 1) d ds e), sym is ∙ rw (one, two, behind) refl)
 
-found_two : (format : List ℕ) (at modifier letter d f : ℕ) (fs : List ℕ) (o : Option Conversion) → drop (at + 1) format ≡ d ∷ f ∷ fs → Goes format at (d ∷ f ∷ fs) (step_of modifier letter (at + 3) o)
+found_two : (format : List ℕ) (at modifier letter d f : ℕ) (fs : List ℕ) (o : Option TimeConversion) → drop (at + 1) format ≡ d ∷ f ∷ fs → Goes format at (d ∷ f ∷ fs) (step_of modifier letter (at + 3) o)
 unfolding rest_of
 found_two format at modifier letter d f fs None e is = sym is
 found_two format at modifier letter d f fs (Some c) e is =

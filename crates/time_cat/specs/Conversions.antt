@@ -6,7 +6,7 @@ use Rattle.time_cat.specs.declared.conversion.Layout.TheVariants as layouts
 use Rattle.time_cat.specs.declared.conversion.TimeText.TheVariants as formats
 use Rattle.time_cat.specs.declared.conversion.Shows.{Shows}
 use Rattle.time_cat.specs.declared.conversion.Shows.TheVariants.{Name, Number, Alternative, Format, EraFormat, EraName, EraYear, EraFull, SlashedDate, DashedDate, ShortTime, FullTime, Offset, Zone, Sign}
-use Rattle.time_cat.specs.declared.conversion.Conversion.{Conversion}
+use Rattle.time_cat.specs.declared.conversion.TimeConversion.{TimeConversion}
 
 -- a conversion: its modifier (the bytes of E and O are 69 and 79, and 0 is none), its letter, its rank and what it gives
 abbrev pub ConversionRow : Type 0
@@ -88,9 +88,9 @@ abbrev pub first_row : List ConversionRow → ℕ → ℕ → Option ConversionR
 first_row rows modifier letter = find (λ (r : ConversionRow). r.0 == modifier && r.1 == letter) rows
 
 -- the rank of a row, and what it gives
-abbrev pub conversion_in : ConversionRow → Conversion
+abbrev pub conversion_in : ConversionRow → TimeConversion
 conversion_in r = record { rank = r.2; shows = r.3 }
 
 -- the conversion of a letter behind a modifier
-unfoldable pub conversion : ℕ → ℕ → Option Conversion
+unfoldable pub conversion : ℕ → ℕ → Option TimeConversion
 conversion modifier letter = option_map conversion_in (first_row conversions modifier letter)

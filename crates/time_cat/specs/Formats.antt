@@ -1,6 +1,6 @@
 -- Formats of times: the conversions and other bytes that stand in them (XSH strftime).
 use Rattle.std.specs.Prelude.{◌≡◌, ℕ, zero, suc, ◌+◌, ◌-◌, ◌==◌, ◌<◌, ◌≤◌, Bool, true, false, nat_le, ◌||◌, List, [], ◌∷◌, length, drop, Option, Some, None, if◌then◌else◌}
-use Rattle.time_cat.specs.declared.conversion.Conversion.{Conversion}
+use Rattle.time_cat.specs.declared.conversion.TimeConversion.{TimeConversion}
 use Rattle.time_cat.specs.declared.step.Step.{Step}
 use Rattle.time_cat.specs.declared.step.Step.TheVariants.{End, Byte, Conv, Bad}
 use Rattle.time_cat.specs.Conversions.{conversion}
@@ -10,7 +10,7 @@ abbrev pub is_modifier : ℕ → Bool
 is_modifier letter = letter == 69 || letter == 79
 
 -- the step of a conversion that ends before a place, where it is one
-abbrev pub step_of : ℕ → ℕ → ℕ → Option Conversion → Step
+abbrev pub step_of : ℕ → ℕ → ℕ → Option TimeConversion → Step
 step_of modifier letter next None = Bad
 step_of modifier letter next (Some c) = Conv modifier letter c.rank next
 

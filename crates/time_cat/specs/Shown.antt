@@ -10,7 +10,7 @@ use Rattle.time_cat.specs.declared.conversion.Layout.{Layout}
 use Rattle.time_cat.specs.declared.conversion.Layout.TheVariants.{Bare, Two, Three, Spaced}
 use Rattle.time_cat.specs.declared.conversion.Shows.{Shows}
 use Rattle.time_cat.specs.declared.conversion.Shows.TheVariants.{Name, Number, Alternative, Format, EraFormat, EraName, EraYear, EraFull, SlashedDate, DashedDate, ShortTime, FullTime, Offset, Zone, Sign}
-use Rattle.time_cat.specs.declared.conversion.Conversion.{Conversion}
+use Rattle.time_cat.specs.declared.conversion.TimeConversion.{TimeConversion}
 use Rattle.time_cat.specs.Conversions.{conversion}
 use Rattle.time_cat.specs.Formats.{Piece, Literal, Converted, Wrong, pieces, is_conversion, bad_place}
 use Rattle.time_cat.specs.Eras.{Hit, era}
@@ -174,7 +174,7 @@ formatted expand plain None = plain
 formatted expand plain (Some format) = expand format
 
 -- what a conversion gives, where a format gives what expand says
-abbrev pub converted : TimeValues → TmValues → (List ℕ → List ℕ) → Option Conversion → List ℕ
+abbrev pub converted : TimeValues → TmValues → (List ℕ → List ℕ) → Option TimeConversion → List ℕ
 converted v t expand None = []
 converted v t expand (Some c) = formatted expand (plain_text v t c.shows) (format_for v t c.shows)
 

@@ -112,7 +112,7 @@ pub enum Shows {
 
 /// A conversion of a format.
 #[derive(Clone, Copy)]
-pub struct Conversion {
+pub struct TimeConversion {
     /// A format of the locale holds only conversions of lower rank than its own.
     pub rank: u8,
     pub shows: Shows,
@@ -120,16 +120,16 @@ pub struct Conversion {
 
 /// A conversion of a rank, with what it gives.
 #[inline(always)]
-fn row(rank: u8, shows: Shows) -> Option<Conversion>
+fn row(rank: u8, shows: Shows) -> Option<TimeConversion>
     ensures { result ≡ Some (record { rank = rank; shows = shows }) }
 {
-    Some(Conversion { rank, shows })
+    Some(TimeConversion { rank, shows })
 }
 
 /// The conversion of a letter without a modifier.
 #[tactic(auto, unfolding(crate::specs::Conversions::conversion))]
 #[inline(always)]
-fn plain_conversion(letter: u8) -> Option<Conversion>
+fn plain_conversion(letter: u8) -> Option<TimeConversion>
     ensures { result ≡ conversion 0 letter }
 {
     match letter {
@@ -176,7 +176,7 @@ fn plain_conversion(letter: u8) -> Option<Conversion>
 
 /// The conversion of a letter behind `E`.
 #[tactic(auto, unfolding(crate::specs::Conversions::conversion))]
-fn era_conversion(letter: u8) -> Option<Conversion>
+fn era_conversion(letter: u8) -> Option<TimeConversion>
     ensures { result ≡ conversion 69 letter }
 {
     match letter {
@@ -195,7 +195,7 @@ fn era_conversion(letter: u8) -> Option<Conversion>
 
 /// The conversion of a letter behind `O`.
 #[tactic(auto, unfolding(crate::specs::Conversions::conversion))]
-fn digit_conversion(letter: u8) -> Option<Conversion>
+fn digit_conversion(letter: u8) -> Option<TimeConversion>
     ensures { result ≡ conversion 79 letter }
 {
     match letter {
@@ -219,7 +219,7 @@ fn digit_conversion(letter: u8) -> Option<Conversion>
 /// The conversion of a letter behind a modifier (`E`, `O` or 0), if there is one.
 #[tactic(auto, unfolding(crate::specs::Conversions::conversion))]
 #[inline(always)]
-pub fn conversion_of(modifier: u8, letter: u8) -> Option<Conversion>
+pub fn conversion_of(modifier: u8, letter: u8) -> Option<TimeConversion>
     ensures { result ≡ conversion modifier letter }
 {
     match modifier {

@@ -4,7 +4,7 @@ ghost use Rattle.std.specs.Prelude.{◌≡◌, ◌+◌, ◌≤◌, ◌<◌, leng
 ghost use Rattle.time_cat.specs.Conversions.{conversion};
 ghost use Rattle.time_cat.specs.Formats.{step, step_of, is_modifier, counted, IsStep};
 
-use crate::conversion::{Conversion, conversion_of};
+use crate::conversion::{TimeConversion, conversion_of};
 use crate::steps::Steps;
 use std::sync::ledger::Ledger;
 
@@ -35,7 +35,7 @@ fn step_of(modifier: u8, letter: u8, next: usize) -> Step
 {
     match conversion_of(modifier, letter) {
         None => Step::Bad,
-        Some(Conversion { rank, .. }) => Step::Conv {
+        Some(TimeConversion { rank, .. }) => Step::Conv {
             modifier,
             letter,
             rank,

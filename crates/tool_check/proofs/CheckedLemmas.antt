@@ -4,7 +4,7 @@ use Rattle.lc_base.specs.declared.place.Place.{Place}
 use Rattle.lc_base.specs.declared.reason.Reason.{Reason}
 use Rattle.lc_base.specs.Reading.{Reads}
 use Rattle.charset.specs.CodedSet.{CodedSet, set_name}
-use Rattle.category_store.specs.Catalog.{Catalog}
+use Rattle.category_store.specs.LibraryData.{LibraryData}
 use Rattle.tool_messages.proofs.MessageLemmas.{head_says}
 use Rattle.tool_files.specs.declared.sources.FilePath.{FilePath}
 use Rattle.tool_files.specs.declared.sources.Sources.{Sources}
@@ -85,7 +85,7 @@ refused_checked : (asked : Bool) (path : List ℕ) (sources : Sources) (findings
 refused_checked asked path sources findings first (Accepted summary) is = absurd is
 refused_checked asked path sources findings first (Refused messages) is = all_say path findings sources first messages is
 
-found_of_checked : (asked : Bool) (path : List ℕ) (sources : Sources) (findings : List Finding) (reads : Reads Catalog) (found : Checked)
+found_of_checked : (asked : Bool) (path : List ℕ) (sources : Sources) (findings : List Finding) (reads : Reads LibraryData) (found : Checked)
     → IsFoundOf asked path sources findings reads found → IsChecked asked path found
 found_of_checked asked path sources findings (Ok library) found is = accepted_checked asked path findings found is
 found_of_checked asked path sources findings (Err fault) found is = refused_checked asked path sources findings _ found is

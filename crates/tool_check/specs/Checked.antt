@@ -2,7 +2,7 @@
 use Rattle.std.specs.Prelude.{◌≡◌, ℕ, ◌<◌, Bool, true, false, List, [], ◌∷◌, ◌++◌, length, All, Result, Ok, Err, if◌then◌else◌}
 use Rattle.lc_base.specs.Reading.{Reads}
 use Rattle.charset.specs.CodedSet.{CodedSet}
-use Rattle.category_store.specs.Catalog.{Catalog}
+use Rattle.category_store.specs.LibraryData.{LibraryData}
 use Rattle.tool_messages.specs.Message.{BeginsWith}
 use Rattle.tool_files.specs.declared.sources.FilePath.{FilePath}
 use Rattle.tool_files.specs.declared.sources.Sources.{Sources}
@@ -52,7 +52,7 @@ IsRefusedOf path sources findings first (Accepted summary) = ⊥
 IsRefusedOf path sources findings first (Refused messages) = AreAllMessages path findings sources first messages
 
 -- what is found of sources that give this, and of which the first has these findings
-abbrev pub IsFoundOf : Bool → List ℕ → Sources → List Finding → Reads Catalog → Checked → Type 0
+abbrev pub IsFoundOf : Bool → List ℕ → Sources → List Finding → Reads LibraryData → Checked → Type 0
 IsFoundOf asked path sources findings (Ok library) = IsAcceptedOf asked path findings
 IsFoundOf asked path sources findings (Err fault) = IsRefusedOf path sources findings (record { place = fault.0; reason = fault.1 })
 

@@ -2,7 +2,7 @@
 use Rattle.std.proofs.Common.{◌≡◌, ◌≤◌, ◌<◌, ◌+◌, ◌-◌, ℕ, zero, suc, List, [], ◌∷◌, length, get_or, take, drop, Some, None, Result, Ok, Err, refl, sym, ap, ◌∙◌, arith, drop-cons, add-one}
 use Rattle.std.proofs.lemmas.List.{take_rest, drop_all, drop-drop}
 use Rattle.numeric_cat.specs.NumericValues.{NumericValues}
-use Rattle.tool_decimals.specs.declared.conversion.Part.{Part}
+use Rattle.tool_decimals.specs.declared.conversion.DecimalPart.{DecimalPart}
 use Rattle.tool_decimals.specs.Conversions.{part}
 use Rattle.tool_decimals.specs.Formats.{Refusal, NoNumber, BadFormat, MissingNumber, NotWhole, TooBig, Refuses, and_then, part_text, text_behind, with_text, words_behind}
 use Rattle.tool_decimals.specs.declared.fault.NumbersFault.{NumbersFault}
@@ -20,7 +20,7 @@ abbrev behind : NumericValues → ℕ → ℕ → List ℕ → List (List ℕ) �
 behind n used at cs words answer = and_then answer (λ text. text_behind n text used (at + 1) cs words)
 
 -- a part in front of a format
-part_first : (n : NumericValues) (front : List ℕ) (c : ℕ) (cs : List ℕ) (used at : ℕ) (p : Part) (words : List (List ℕ)) → part c cs ≡ Some (p, used) →
+part_first : (n : NumericValues) (front : List ℕ) (c : ℕ) (cs : List ℕ) (used at : ℕ) (p : DecimalPart) (words : List (List ℕ)) → part c cs ≡ Some (p, used) →
     text_behind n front 0 at (c ∷ cs) words ≡ behind n used at cs (words_behind p words) (with_text front (part_text n p at (c ∷ take used cs) words))
 unfolding text_behind
 part_first n front c cs used at p words is = rw (text_behind, is) refl
@@ -51,7 +51,7 @@ take_first : (used c : ℕ) (cs : List ℕ) → take (1 + used) (c ∷ cs) ≡ c
 take_first used c cs = let e : 1 + used ≡ suc used = omega arith in rw e refl
 
 -- a part in front of the rest of a format
-part_there : (n : NumericValues) (front format : List ℕ) (at used : ℕ) (p : Part) (words : List (List ℕ)) → at < length format → part (get_or format at 0) (drop (at + 1) format) ≡ Some (p, used) →
+part_there : (n : NumericValues) (front format : List ℕ) (at used : ℕ) (p : DecimalPart) (words : List (List ℕ)) → at < length format → part (get_or format at 0) (drop (at + 1) format) ≡ Some (p, used) →
     text_behind n front 0 at (drop at format) words ≡ behind n used at (drop (at + 1) format) (words_behind p words) (with_text front (part_text n p at (take (1 + used) (drop at format)) words))
 part_there n front format at used p words below is =
     let e : drop at format ≡ get_or format at 0 ∷ drop (at + 1) format = first_at format at below in
@@ -64,7 +64,7 @@ none_first : (n : NumericValues) (front : List ℕ) (c : ℕ) (cs : List ℕ) (a
 unfolding text_behind
 none_first n front c cs at words is = rw (text_behind, is) refl
 
-pub one_more_part : (n : NumericValues) (front front' format : List ℕ) (at used : ℕ) (p : Part) (words : List (List ℕ)) → at < length format →
+pub one_more_part : (n : NumericValues) (front front' format : List ℕ) (at used : ℕ) (p : DecimalPart) (words : List (List ℕ)) → at < length format →
     Some (p, used) ≡ part (get_or format at 0) (drop (at + 1) format) → with_text front (part_text n p at (take (1 + used) (drop at format)) words) ≡ Ok front' →
     text_behind n front' 0 (at + (1 + used)) (drop (at + (1 + used)) format) (words_behind p words) ≡ text_behind n front 0 at (drop at format) words
 one_more_part n front front' format at used p words below is text =
@@ -78,7 +78,7 @@ pub no_part : (n : NumericValues) (front format : List ℕ) (at : ℕ) (words : 
 no_part n front format at words below is =
     ap (λ (bs : List ℕ). text_behind n front 0 at bs words) (first_at format at below) ∙ none_first n front (get_or format at 0) (drop (at + 1) format) at words (sym is)
 
-pub no_text : (e : NumbersFault) (n : NumericValues) (front format : List ℕ) (at used : ℕ) (p : Part) (words : List (List ℕ)) → at < length format →
+pub no_text : (e : NumbersFault) (n : NumericValues) (front format : List ℕ) (at used : ℕ) (p : DecimalPart) (words : List (List ℕ)) → at < length format →
     Some (p, used) ≡ part (get_or format at 0) (drop (at + 1) format) → Refuses e (with_text front (part_text n p at (take (1 + used) (drop at format)) words)) →
     Refuses e (text_behind n front 0 at (drop at format) words)
 no_text e n front format at used p words below is refused =

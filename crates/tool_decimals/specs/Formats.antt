@@ -3,9 +3,9 @@ use Rattle.std.specs.Prelude.{◌≡◌, ℕ, zero, suc, ◌+◌, nat_le, List, 
 use Rattle.numeric_cat.specs.NumericValues.{NumericValues}
 use Rattle.int_format.specs.Ints.{at_most, ints}
 use Rattle.script_words.specs.Numbers.{number_of_word}
-use Rattle.tool_decimals.specs.declared.conversion.Conversion.{Conversion}
-use Rattle.tool_decimals.specs.declared.conversion.Part.{Part}
-use Rattle.tool_decimals.specs.declared.conversion.Part.TheVariants.{Literal, Whole, Decimal}
+use Rattle.tool_decimals.specs.declared.conversion.DecimalConversion.{DecimalConversion}
+use Rattle.tool_decimals.specs.declared.conversion.DecimalPart.{DecimalPart}
+use Rattle.tool_decimals.specs.declared.conversion.DecimalPart.TheVariants.{Literal, Whole, Decimal}
 use Rattle.tool_decimals.specs.declared.fault.NumbersFault.{NumbersFault}
 use Rattle.tool_decimals.specs.declared.fault.NumbersFault.TheVariants as faults
 use Rattle.tool_decimals.specs.Conversions.{part}
@@ -37,14 +37,14 @@ whole_text n bytes word = elim (number_of_word word) [
 ]
 
 -- the text of a word by a conversion of decimals
-abbrev pub fraction_text : NumericValues → Conversion → List ℕ → Result (List ℕ) Refusal
+abbrev pub fraction_text : NumericValues → DecimalConversion → List ℕ → Result (List ℕ) Refusal
 fraction_text n c word = elim (decimal_of_word word) [
   | None ↦ Err (NoNumber word)
   | Some d ↦ Ok (decimal_text n c d)
 ]
 
 -- the text of a part, which has these bytes, at a place of the format, with the words that are left
-abbrev pub part_text : NumericValues → Part → ℕ → List ℕ → List (List ℕ) → Result (List ℕ) Refusal
+abbrev pub part_text : NumericValues → DecimalPart → ℕ → List ℕ → List (List ℕ) → Result (List ℕ) Refusal
 part_text n (Literal b) at bytes words = Ok (b ∷ [])
 part_text n Whole at bytes [] = Err (MissingNumber at)
 part_text n Whole at bytes (w ∷ words) = whole_text n bytes w
@@ -57,7 +57,7 @@ behind_first [] = []
 behind_first (w ∷ words) = words
 
 -- the words that a part leaves
-abbrev pub words_behind : Part → List (List ℕ) → List (List ℕ)
+abbrev pub words_behind : DecimalPart → List (List ℕ) → List (List ℕ)
 words_behind (Literal b) words = words
 words_behind Whole words = behind_first words
 words_behind (Decimal c) words = behind_first words

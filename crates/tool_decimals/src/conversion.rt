@@ -7,7 +7,7 @@ use digit_groups::{leading_number, number_after};
 
 /// A flag.
 #[derive(Clone, Copy)]
-pub enum Mark {
+pub enum DecimalFlag {
     /// `'`: whole digits in groups.
     Groups,
     /// `-`: to the left of its field.
@@ -32,7 +32,7 @@ pub struct Flags {
 
 /// The conversion `f` of one number.
 #[derive(Clone, Copy)]
-pub struct Conversion {
+pub struct DecimalConversion {
     pub flags: Flags,
     /// The least number of bytes.
     pub width: u8,
@@ -42,13 +42,13 @@ pub struct Conversion {
 
 /// A part of a format.
 #[derive(Clone, Copy)]
-pub enum Part {
+pub enum DecimalPart {
     /// A byte that is copied.
     Literal(u8),
     /// The conversion of a whole number.
     Whole,
     /// The conversion of a decimal.
-    Decimal(Conversion),
+    Decimal(DecimalConversion),
 }
 
 const NO_FLAGS: Flags = Flags {
@@ -59,30 +59,30 @@ const NO_FLAGS: Flags = Flags {
     zeros: false,
 };
 
-fn mark_of(byte: u8) -> Option<Mark>
+fn mark_of(byte: u8) -> Option<DecimalFlag>
     ensures { result ≡ mark_of byte }
 {
     match byte {
-        b'\'' => Some(Mark::Groups),
-        b'-' => Some(Mark::LeftAligned),
-        b'+' => Some(Mark::PlusSign),
-        b' ' => Some(Mark::SpaceSign),
-        b'0' => Some(Mark::Zeros),
+        b'\'' => Some(DecimalFlag::Groups),
+        b'-' => Some(DecimalFlag::LeftAligned),
+        b'+' => Some(DecimalFlag::PlusSign),
+        b' ' => Some(DecimalFlag::SpaceSign),
+        b'0' => Some(DecimalFlag::Zeros),
         _ => None,
     }
 }
 
 /// The flags with one more.
-fn with_mark(flags: Flags, mark: Mark) -> Flags
+fn with_mark(flags: Flags, mark: DecimalFlag) -> Flags
     ensures { result ≡ with_mark flags mark }
 {
     let mut more = flags;
     match mark {
-        Mark::Groups => more.groups = true,
-        Mark::LeftAligned => more.left = true,
-        Mark::PlusSign => more.plus = true,
-        Mark::SpaceSign => more.space = true,
-        Mark::Zeros => more.zeros = true,
+        DecimalFlag::Groups => more.groups = true,
+        DecimalFlag::LeftAligned => more.left = true,
+        DecimalFlag::PlusSign => more.plus = true,
+        DecimalFlag::SpaceSign => more.space = true,
+        DecimalFlag::Zeros => more.zeros = true,
     }
     more
 }
@@ -122,13 +122,13 @@ fn letter_of(bytes: &[u8]) -> Option<(bool, usize)>
 }
 
 /// The part of a conversion.
-fn part_with(is_decimal: bool, conversion: Conversion) -> Part
+fn part_with(is_decimal: bool, conversion: DecimalConversion) -> DecimalPart
     ensures { result ≡ part_with is_decimal conversion }
 {
     if is_decimal {
-        Part::Decimal(conversion)
+        DecimalPart::Decimal(conversion)
     } else {
-        Part::Whole
+        DecimalPart::Whole
     }
 }
 
@@ -138,12 +138,12 @@ fn behind_precision(
     width: u8,
     precision: Option<u8>,
     bytes: &[u8],
-) -> Option<(Part, usize)>
+) -> Option<(DecimalPart, usize)>
     ensures is { result ≡ behind_precision flags width precision bytes.now }
     ensures within { IfSome result (λ r. r.1 ≤ length bytes.now) }
 {
     let (is_decimal, last) = letter_of(bytes)?;
-    let conversion = Conversion {
+    let conversion = DecimalConversion {
         flags,
         width,
         precision,
@@ -152,7 +152,7 @@ fn behind_precision(
 }
 
 /// The conversion whose flags and width stand in front of these bytes.
-fn behind_width(flags: Flags, width: u8, bytes: &[u8]) -> Option<(Part, usize)>
+fn behind_width(flags: Flags, width: u8, bytes: &[u8]) -> Option<(DecimalPart, usize)>
     ensures is { result ≡ behind_width flags width bytes.now }
     ensures within { IfSome result (λ r. r.1 ≤ length bytes.now) }
 {
@@ -162,7 +162,7 @@ fn behind_width(flags: Flags, width: u8, bytes: &[u8]) -> Option<(Part, usize)>
 }
 
 /// The conversion whose flags stand in front of these bytes.
-fn behind_flags(flags: Flags, bytes: &[u8]) -> Option<(Part, usize)>
+fn behind_flags(flags: Flags, bytes: &[u8]) -> Option<(DecimalPart, usize)>
     ensures is { result ≡ behind_flags flags bytes.now }
     ensures within { IfSome result (λ r. r.1 ≤ length bytes.now) }
 {
@@ -172,7 +172,7 @@ fn behind_flags(flags: Flags, bytes: &[u8]) -> Option<(Part, usize)>
 }
 
 /// The conversion that bytes behind a `%` begin with, and how many bytes it takes.
-fn conversion_of(bytes: &[u8]) -> Option<(Part, usize)>
+fn conversion_of(bytes: &[u8]) -> Option<(DecimalPart, usize)>
     ensures is { result ≡ conversion bytes.now }
     ensures within { IfSome result (λ r. r.1 ≤ length bytes.now) }
 {
@@ -183,15 +183,15 @@ fn conversion_of(bytes: &[u8]) -> Option<(Part, usize)>
 
 /// The part that a byte begins, and how many of the bytes behind it belong to it.
 #[tactic(auto, unfolding(crate::specs::Conversions::part))]
-pub fn part_of(byte: u8, behind: &[u8]) -> Option<(Part, usize)>
+pub fn part_of(byte: u8, behind: &[u8]) -> Option<(DecimalPart, usize)>
     ensures is { result ≡ part byte behind.now }
     ensures within { IfSome result (λ r. r.1 ≤ length behind.now) }
 {
     if byte != b'%' {
-        return Some((Part::Literal(byte), 0));
+        return Some((DecimalPart::Literal(byte), 0));
     }
     match behind {
-        [b'%', ..] => Some((Part::Literal(b'%'), 1)),
+        [b'%', ..] => Some((DecimalPart::Literal(b'%'), 1)),
         _ => conversion_of(behind),
     }
 }

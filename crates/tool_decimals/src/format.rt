@@ -4,7 +4,7 @@ ghost use Rattle.std.specs.Prelude.{◌≡◌, ◌++◌, ◌+◌, ◌<◌, ◌�
 ghost use Rattle.tool_decimals.specs.Conversions.{part};
 ghost use Rattle.tool_decimals.specs.Formats.{Answers, Refuses, first_wrong, fraction_text, numbers_text, part_text, text_behind, whole_text, with_text, within, words_behind};
 
-use crate::conversion::{Conversion, Part, part_of};
+use crate::conversion::{DecimalConversion, DecimalPart, part_of};
 use crate::decimal::decimal_of_word;
 use crate::fault::NumbersFault;
 use crate::layout::decimal_text;
@@ -80,7 +80,7 @@ fn text_of<'a>(
 
 /// The part at a place, and how many bytes behind that belong to it.
 #[tactic(auto, using(crate::proofs::FormatLemmas::rest_of))]
-fn part_at(format: &[u8], at: usize) -> Option<(Part, usize)>
+fn part_at(format: &[u8], at: usize) -> Option<(DecimalPart, usize)>
     requires { at < length format.now }
     ensures is { result ≡ part (slice_index format.now at) (drop (at + 1) format.now) }
     ensures within { IfSome result (λ r. at + (1 + r.1) ≤ length format.now) }
@@ -104,7 +104,7 @@ fn push_part<'a>(
     alloc: Global,
     out: &mut Vec<u8>,
     numeric: &Numeric,
-    part: Part,
+    part: DecimalPart,
     at: usize,
     bytes: &[u8],
     words: &[&'a str],
@@ -117,11 +117,11 @@ fn push_part<'a>(
 }
 
 /// The words that a part leaves.
-fn words_behind<'a, 'b>(part: Part, words: &'b [&'a str]) -> &'b [&'a str]
+fn words_behind<'a, 'b>(part: DecimalPart, words: &'b [&'a str]) -> &'b [&'a str]
     ensures { map (λ w. w.now) result.now ≡ words_behind part (map (λ w. w.now) words.entry.now) }
 {
     match (part, words) {
-        (Part::Literal(_), _) | (_, []) => words,
+        (DecimalPart::Literal(_), _) | (_, []) => words,
         (_, [_, others @ ..]) => others,
     }
 }
@@ -130,7 +130,7 @@ fn words_behind<'a, 'b>(part: Part, words: &'b [&'a str]) -> &'b [&'a str]
 fn part_text<'a>(
     alloc: Global,
     numeric: &Numeric,
-    part: Part,
+    part: DecimalPart,
     at: usize,
     bytes: &[u8],
     words: &[&'a str],
@@ -138,10 +138,10 @@ fn part_text<'a>(
     ensures { Answers (λ text. text) result (part_text numeric.now part at bytes.now (map (λ w. w.now) words.entry.now)) }
 {
     match (part, words) {
-        (Part::Literal(byte), _) => Ok(ByteText::of(alloc, &[byte])?),
+        (DecimalPart::Literal(byte), _) => Ok(ByteText::of(alloc, &[byte])?),
         (_, []) => Err(NumbersFault::MissingNumber { at }),
-        (Part::Whole, [word, ..]) => whole_text(alloc, numeric, bytes, word),
-        (Part::Decimal(conversion), [word, ..]) => {
+        (DecimalPart::Whole, [word, ..]) => whole_text(alloc, numeric, bytes, word),
+        (DecimalPart::Decimal(conversion), [word, ..]) => {
             fraction_text(alloc, numeric, &conversion, word)
         }
     }
@@ -170,7 +170,7 @@ fn whole_text<'a>(
 fn fraction_text<'a>(
     alloc: Global,
     numeric: &Numeric,
-    conversion: &Conversion,
+    conversion: &DecimalConversion,
     word: &'a str,
 ) -> Result<ByteText, NumbersFault<'a>>
     ensures { Answers (λ text. text) result (fraction_text numeric.now conversion.now word.now) }

@@ -4,7 +4,7 @@ ghost use Rattle.std.specs.Prelude.{◌≡◌, ◌++◌, ◌+◌, ◌-◌, lengt
 ghost use Rattle.tool_decimals.specs.Decimals.{number_of};
 ghost use Rattle.tool_decimals.specs.Texts.{body_text, decimal_text, padded, places, sign_text, sizes_of, split_text};
 
-use crate::conversion::Conversion;
+use crate::conversion::DecimalConversion;
 use crate::decimal::Decimal;
 use crate::rounding::{push_zeros, rounded, without_zeros};
 use digit_groups::group_into;
@@ -16,14 +16,14 @@ use std::alloc::{AllocError, Global};
 const PLACES: u8 = 6;
 
 /// The number of fraction digits.
-fn places(conversion: &Conversion) -> usize
+fn places(conversion: &DecimalConversion) -> usize
     ensures { result ≡ places conversion.now }
 {
     usize::from(conversion.precision.unwrap_or(PLACES))
 }
 
 /// What stands for the sign.
-fn sign_of(conversion: &Conversion, number: &Decimal<'_>) -> &'static [u8]
+fn sign_of(conversion: &DecimalConversion, number: &Decimal<'_>) -> &'static [u8]
     ensures { result.now ≡ sign_text conversion.now (number_of number.now) }
 {
     if number.is_below_zero() {
@@ -38,7 +38,7 @@ fn sign_of(conversion: &Conversion, number: &Decimal<'_>) -> &'static [u8]
 }
 
 /// The sizes of groups.
-fn sizes_of<'a>(numeric: &'a Numeric, conversion: &Conversion) -> &'a [i32]
+fn sizes_of<'a>(numeric: &'a Numeric, conversion: &DecimalConversion) -> &'a [i32]
     ensures { result.now ≡ sizes_of numeric.now conversion.now }
 {
     if conversion.flags.groups {
@@ -77,7 +77,7 @@ fn split_text(
 fn body_text(
     alloc: Global,
     numeric: &Numeric,
-    conversion: &Conversion,
+    conversion: &DecimalConversion,
     number: &Decimal<'_>,
 ) -> Result<Vec<u8>, AllocError>
     ensures { IfOk result (λ v. v.items ≡ body_text numeric.now conversion.now (number_of number.now)) }
@@ -104,7 +104,7 @@ fn push_spaces(out: &mut Vec<u8>, count: usize) -> Result<(), AllocError>
 /// Adds a sign and digits with so many bytes that fill the field.
 fn push_padded(
     out: &mut Vec<u8>,
-    conversion: &Conversion,
+    conversion: &DecimalConversion,
     count: usize,
     sign: &[u8],
     body: &[u8],
@@ -140,7 +140,7 @@ fn padding(width: u8, sign: &[u8], body: &[u8]) -> usize
 pub fn decimal_text(
     alloc: Global,
     numeric: &Numeric,
-    conversion: &Conversion,
+    conversion: &DecimalConversion,
     number: &Decimal<'_>,
 ) -> Result<ByteText, AllocError>
     ensures { IfOk result (λ text. text ≡ decimal_text numeric.now conversion.now (number_of number.now)) }

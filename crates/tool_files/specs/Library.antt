@@ -9,7 +9,7 @@ use Rattle.lc_base.specs.declared.reason.Limit.TheVariants.{Locales}
 use Rattle.lc_base.specs.Reading.{Reads}
 use Rattle.charset.specs.CodedSet.{CodedSet, utf8, posix}
 use Rattle.charmap_reader.specs.Charmap.{charmap}
-use Rattle.category_store.specs.Catalog.{Catalog}
+use Rattle.category_store.specs.LibraryData.{LibraryData}
 use Rattle.category_store.specs.Library.{catalog}
 
 -- whether the text and the number of the first line of a block are below 2 to the power of 31
@@ -25,7 +25,7 @@ abbrev pub too_many : Place × Reason
 too_many = (record { line = 1; column = 1 }, OverLimit Locales)
 
 -- the library of the locales in these blocks, or its first fault
-abbrev pub library : List Block → List Block → Reads Catalog
+abbrev pub library : List Block → List Block → Reads LibraryData
 library charmaps locales = if are_taken charmaps locales then catalog charmaps locales [] None else Err too_many
 
 -- the charset of the first charmap, or its first fault; without a charmap UTF-8, and that of the POSIX locale where there is no

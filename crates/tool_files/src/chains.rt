@@ -21,7 +21,7 @@ const FILES_MOST: usize = 64;
 
 /// A category that is copied of a source.
 #[derive(Clone, Copy)]
-pub struct Part {
+pub struct CopiedCategory {
     /// The number of the source, from 0.
     number: usize,
     category: Category,
@@ -35,7 +35,7 @@ pub fn follow_all<R: Files>(
     reading: &Reading<'_>,
     names: &[CopiedName],
     loaded: &mut Loaded,
-    parts: &mut Vec<Part>,
+    parts: &mut Vec<CopiedCategory>,
 ) -> Result<(), Problem>
     ensures { IfErr result IsSpoken }
 {
@@ -55,7 +55,7 @@ fn follow<R: Files>(
     category: Category,
     name: CopiedName,
     loaded: &mut Loaded,
-    parts: &mut Vec<Part>,
+    parts: &mut Vec<CopiedCategory>,
 ) -> Result<(), Problem>
     ensures { IfErr result IsSpoken }
 {
@@ -97,7 +97,7 @@ fn next_name(
     category: Category,
     name: &[u8],
     loaded: &Loaded,
-    parts: &mut Vec<Part>,
+    parts: &mut Vec<CopiedCategory>,
 ) -> Result<Option<CopiedName>, AllocError> {
     let number = number_named(loaded.sources.locales.as_slice(), name);
     if number == 0 || has_part(parts.as_slice(), number, category) {
@@ -105,7 +105,7 @@ fn next_name(
     }
     match loaded.sources.locales.as_slice().get(number) {
         Some(block) => {
-            parts.push(Part { number, category })?;
+            parts.push(CopiedCategory { number, category })?;
             name_in(alloc, block, category, &loaded.charset)
         }
         None => Ok(None),
@@ -145,7 +145,7 @@ fn number_named(locales: &[Block], name: &[u8]) -> usize {
     locales.len()
 }
 
-fn has_part(parts: &[Part], number: usize, category: Category) -> bool {
+fn has_part(parts: &[CopiedCategory], number: usize, category: Category) -> bool {
     for part in parts {
         if part.number == number && part.category == category {
             return true;
@@ -211,7 +211,7 @@ fn add_next<R: Files>(
 }
 
 /// Keeps of each source but the first just what is copied of it.
-pub fn keep_parts(alloc: Global, sources: &mut Sources, parts: &[Part]) -> Result<(), AllocError> {
+pub fn keep_parts(alloc: Global, sources: &mut Sources, parts: &[CopiedCategory]) -> Result<(), AllocError> {
     let blocks = mem::replace(&mut sources.locales, List::of(Vec::new(alloc))).into_vec();
     let mut kept = Vec::new(alloc);
     let mut number = 0usize;
@@ -228,7 +228,7 @@ fn kept_block(
     alloc: Global,
     block: Block,
     number: usize,
-    parts: &[Part],
+    parts: &[CopiedCategory],
 ) -> Result<Block, AllocError> {
     if number == 0 {
         return Ok(block);

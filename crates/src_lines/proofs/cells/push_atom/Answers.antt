@@ -1,6 +1,6 @@
 use Rattle.std.proofs.Common.{[], ◌∷◌, refl}
 use Rattle.std.proofs.lemmas.Result.{on_ok_weaker}
-use Rattle.src_lines.specs.declared.cells.Mark.TheVariants.{AsItself, AsNumber, AsEscaped}
+use Rattle.src_lines.specs.declared.cells.CellMark.TheVariants.{AsItself, AsNumber, AsEscaped}
 use Rattle.src_lines.proofs.Celling.{appended, stays_whole, name_appended, name_stays_whole}
 use Rattle.src_lines.proofs.cells.push_atom.Goals as goal
 

@@ -1,6 +1,6 @@
 use Rattle.std.proofs.Common.{◌∙◌, ℕ, length, ap, subst, sym, arith, length-append}
 use Rattle.category_store.specs.Joined.{later_else, KeepsNumbers, StandsBehind, NamesLater, InstallsLater}
-use Rattle.category_store.specs.Catalog.{Catalog}
+use Rattle.category_store.specs.LibraryData.{LibraryData}
 use Rattle.category_store.specs.Shelf.{IsNumbered}
 use Rattle.category_store.specs.Within.{AreWithin, IsWithin}
 use Rattle.category_store.proofs.JoinedLemmas.{joined_sound, keeps_numbers, stands_behind, names_later, installs_later}
@@ -29,13 +29,13 @@ returns-clause-behind c = subst (StandsBehind (length c.args.earlier.now.locales
 
 pub returns-clause-named : goal.returns-clause-named
 returns-clause-named c =
-    let first = λ (l : Catalog). AreWithin (length l.locales) l.first in
+    let first = λ (l : LibraryData). AreWithin (length l.locales) l.first in
     subst (NamesLater c.args.earlier.now c.args.later.now) (sym (returns-clause-library c))
     (names_later c.args.earlier.now c.args.later.now (subst first c.earlier.view_is c.earlier.invariant.first) (subst first c.later.view_is c.later.invariant.first))
 
 pub returns-clause-keyed : goal.returns-clause-keyed
 returns-clause-keyed c =
-    let keys = λ (l : Catalog). AreWithin (length l.locales) l.keys in
+    let keys = λ (l : LibraryData). AreWithin (length l.locales) l.keys in
     subst (InstallsLater c.args.earlier.now c.args.later.now) (sym (returns-clause-library c))
     (installs_later c.args.earlier.now c.args.later.now (subst keys c.earlier.view_is c.earlier.invariant.keys) (subst keys c.later.view_is c.later.invariant.keys))
 

@@ -1,12 +1,12 @@
 use Rattle.std.proofs.Common.{ℕ, List, [], ◌∷◌, ◌++◌, map, take, ap, sym, ◌∙◌, arith}
 use Rattle.mask_compose.specs.Offer.{Offered}
-use Rattle.category_store.specs.Catalog.{Catalog}
+use Rattle.category_store.specs.LibraryData.{LibraryData}
 use Rattle.category_store.specs.Library.{offer_at, first_offer}
 use Rattle.category_store.proofs.LibraryLemmas.{opening_more, opening_all}
 use Rattle.category_store.proofs.library.Library.opening.Goals as goal
 
 -- the offers of the first names
-so_far : Catalog → ℕ → List Offered
+so_far : LibraryData → ℕ → List Offered
 so_far library i = offer_at library 0 ∷ map (λ (entry : List ℕ × ℕ). first_offer library entry.0) (take i library.names)
 
 pub loop-i-preserved : goal.loop-i-preserved

@@ -3,7 +3,7 @@ use Rattle.std.specs.Prelude.{ℕ, List}
 use Rattle.category_store.specs.Locale.{Locale}
 
 -- a library
-pub record Catalog : Type 0 where
+pub record LibraryData : Type 0 where
   -- the compiled locales and later versions, by place: the i-th has the number i
   pub locales : List Locale
   -- the names of locales, each with its number
