@@ -5,7 +5,7 @@ use Rattle.lc_base.specs.declared.category.Category.TheVariants.{Ctype, Numeric,
 use Rattle.lc_base.specs.declared.refusal.FormatRefusal.TheVariants.{BadFormat, MissingAmount, MissingNumber, Mismatch, TooBig}
 use Rattle.time_cat.specs.Times.{time_of}
 use Rattle.shared_objects.specs.declared.locale.LocaleParts.{LocaleParts}
-use Rattle.shared_objects.specs.Shared.{Shared, Stock}
+use Rattle.shared_objects.specs.Shared.{Shared, MarkedLibraryData}
 use Rattle.shared_objects.specs.Objects.{first_object}
 use Rattle.shared_objects.specs.Locales.{posix_of}
 use Rattle.c_values.specs.declared.answer.TheConstants.{OK, NO_LOCALE, BAD_MASK, NO_DATA, TOO_SMALL, BAD_FORMAT, MISSING, BAD_AMOUNT, TM_RANGE, NO_ITEM, NO_CLASS, MISMATCH}
@@ -17,11 +17,11 @@ use Rattle.c_values.specs.Table.{all_texts, laid}
 use Rattle.c_values.specs.Answers.{answered, told, joint_name, category_with, conv_told, of_object, by_object, new_told, number_told, class_told, item_told, text_told, amounts_told, offset_of, tm_given, tm_told, fields_of, scan_told, scan_by}
 
 -- a library without locales, and its POSIX object
-abbrev stock : Stock
-stock = record { library = record { locales = []; names = []; first = []; keys = []; native = 0 }; books = []; mark = 9 }
+abbrev marked : MarkedLibraryData
+marked = record { library = record { locales = []; names = []; first = []; keys = []; native = 0 }; books = []; mark = 9 }
 
 abbrev posix : Shared
-posix = first_object stock.library
+posix = first_object marked.library
 
 -- ---- texts in buffers
 
@@ -41,18 +41,18 @@ no_room_for_nul = refl
 abbrev old : LocaleParts
 old = record { mark = 1; ctype = 2; numeric = 3; monetary = 4; time = 5; messages = 6 }
 
-bad_mask : new_told old stock 32 (codes "POSIX") (posix_of stock) ≡ (answered BAD_MASK 0, old)
+bad_mask : new_told old marked 32 (codes "POSIX") (posix_of marked) ≡ (answered BAD_MASK 0, old)
 bad_mask = refl
 
-whole_mask : new_told old stock 31 (codes "POSIX") (posix_of stock) ≡ (answered OK 0, posix_of stock)
+whole_mask : new_told old marked 31 (codes "POSIX") (posix_of marked) ≡ (answered OK 0, posix_of marked)
 whole_mask = refl
 
 -- `n` is the mask of the category
-no_data : new_told old stock 24 (codes "us") (posix_of stock) ≡ (answered NO_DATA 8, old)
+no_data : new_told old marked 24 (codes "us") (posix_of marked) ≡ (answered NO_DATA 8, old)
 no_data = refl
 
 -- a base with another mark is none of the library, whatever is asked
-not_of_library : new_told old stock 0 (codes "POSIX") old ≡ (answered NO_LOCALE 0, old)
+not_of_library : new_told old marked 0 (codes "POSIX") old ≡ (answered NO_LOCALE 0, old)
 not_of_library = refl
 
 -- ---- classes and items

@@ -3,7 +3,7 @@ use Rattle.std.specs.Prelude.{◌≡◌, ℕ, List, [], ◌∷◌, ◌++◌, rep
 use Rattle.lc_base.specs.declared.place.Place.{Place}
 use Rattle.lc_base.specs.declared.reason.Reason.TheVariants.{EmptyRadix, NoEnd}
 use Rattle.library_parts.specs.declared.fault.Wrong.TheVariants.{NameTwice, Text}
-use Rattle.shared_objects.specs.Shared.{Stock}
+use Rattle.shared_objects.specs.Shared.{MarkedLibraryData}
 use Rattle.c_values.specs.declared.answer.TheConstants.{OK, BAD_TEXT, NAME_TWICE}
 use Rattle.c_values.specs.declared.fault.LobjFault.{LobjFault}
 use Rattle.c_values.specs.Answers.{answered}
@@ -33,13 +33,13 @@ message_without_room = refl
 abbrev sevens : LobjFault
 sevens = record { part = 7; line = 7; column = 7; reason = 7; start = 7; length = 7 }
 
-abbrev stock : Stock
-stock = record { library = record { locales = []; names = []; first = []; keys = []; native = 0 }; books = []; mark = 9 }
+abbrev marked : MarkedLibraryData
+marked = record { library = record { locales = []; names = []; first = []; keys = []; native = 0 }; books = []; mark = 9 }
 
 -- a library leaves the fault and the buffer as they were
-read_whole : IsRead [] (Ok stock) (answered OK 0) None (Some stock) sevens sevens (codes "x") (codes "x")
+read_whole : IsRead [] (Ok marked) (answered OK 0) None (Some marked) sevens sevens (codes "x") (codes "x")
 read_whole = (refl, refl, refl, refl)
 
 -- the number of a part that has a name twice, of which no text is told
-name_twice : IsBuilt [] (Err (3, NameTwice)) (answered NAME_TWICE 0) (Some stock) (Some stock) sevens (part_fault 3) (codes "x") (codes "x")
+name_twice : IsBuilt [] (Err (3, NameTwice)) (answered NAME_TWICE 0) (Some marked) (Some marked) sevens (part_fault 3) (codes "x") (codes "x")
 name_twice = ((refl, refl, refl), refl)

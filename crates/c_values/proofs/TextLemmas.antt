@@ -6,17 +6,17 @@ use Rattle.std.proofs.lemmas.List.{take_min}
 use Rattle.std.proofs.lemmas.Option.{slice_get-map}
 use Rattle.std.proofs.Math.Nat.{min_comm}
 use Rattle.shared_objects.specs.declared.locale.LocaleParts.{LocaleParts}
-use Rattle.shared_objects.specs.Shared.{Stock}
+use Rattle.shared_objects.specs.Shared.{MarkedLibraryData}
 use Rattle.shared_objects.specs.Locales.{new_locale}
 use Rattle.c_values.specs.declared.answer.LobjAnswer.{LobjAnswer}
 use Rattle.c_values.specs.declared.answer.TheConstants.{BAD_MASK}
 use Rattle.c_values.specs.Answers.{answered, locale_told, new_told, most}
 
 -- newlocale by a mask whose bits are known
-pub new_known : (old : LocaleParts) (stock : Stock) (bits mask : ℕ) (name : List ℕ) (base : LocaleParts) → bits < 32 → mask ≡ bits → locale_told old (new_locale stock mask name base) ≡ new_told old stock bits name base
-new_known old stock bits mask name base few same =
-    let wanted : Bool → LobjAnswer × LocaleParts = λ b. if b then locale_told old (new_locale stock bits name base) else (answered BAD_MASK 0, old) in
-    ap (λ (m : ℕ). locale_told old (new_locale stock m name base)) same ∙ sym (ap wanted (lt-ltb bits 32 few))
+pub new_known : (old : LocaleParts) (marked : MarkedLibraryData) (bits mask : ℕ) (name : List ℕ) (base : LocaleParts) → bits < 32 → mask ≡ bits → locale_told old (new_locale marked mask name base) ≡ new_told old marked bits name base
+new_known old marked bits mask name base few same =
+    let wanted : Bool → LobjAnswer × LocaleParts = λ b. if b then locale_told old (new_locale marked bits name base) else (answered BAD_MASK 0, old) in
+    ap (λ (m : ℕ). locale_told old (new_locale marked m name base)) same ∙ sym (ap wanted (lt-ltb bits 32 few))
 
 -- the element of a list by what lends it
 pub lent_element : {A : Type 0} (value : A → List ℕ) (lent : List A) (xs : List (List ℕ)) (k : ℕ) (x : A) → map value lent ≡ xs → slice_get lent k ≡ Some x → slice_get xs k ≡ Some (value x)

@@ -28,7 +28,7 @@ use Rattle.langinfo.specs.Items.{info}
 use Rattle.shared_objects.specs.declared.fault.NewFault.{NewFault}
 use Rattle.shared_objects.specs.declared.fault.NewFault.TheVariants.{NoLocale, NoData}
 use Rattle.shared_objects.specs.declared.locale.LocaleParts.{LocaleParts}
-use Rattle.shared_objects.specs.Shared.{Shared, Stock}
+use Rattle.shared_objects.specs.Shared.{Shared, MarkedLibraryData}
 use Rattle.shared_objects.specs.Locales.{new_locale}
 use Rattle.shared_objects.specs.Objects.{ctype_in, numeric_in, monetary_in, time_in, messages_in, name_in, names_in}
 use Rattle.c_values.specs.declared.answer.LobjAnswer.{LobjAnswer}
@@ -105,8 +105,8 @@ locale_told old (Err NoLocale) = (answered NO_LOCALE 0, old)
 locale_told old (Err (NoData category)) = (answered NO_DATA (category_bit category), old)
 
 -- what newlocale answers
-abbrev pub new_told : LocaleParts → Stock → ℕ → List ℕ → LocaleParts → LobjAnswer × LocaleParts
-new_told old stock mask name base = if nat_lt mask 32 then locale_told old (new_locale stock mask name base) else (answered BAD_MASK 0, old)
+abbrev pub new_told : LocaleParts → MarkedLibraryData → ℕ → List ℕ → LocaleParts → LobjAnswer × LocaleParts
+new_told old marked mask name base = if nat_lt mask 32 then locale_told old (new_locale marked mask name base) else (answered BAD_MASK 0, old)
 
 -- ---- names
 

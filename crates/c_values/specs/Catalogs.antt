@@ -3,7 +3,7 @@ use Rattle.std.specs.Prelude.{ℕ, List, Option, Some, None, Result, Ok, Err, if
 use Rattle.shared_objects.specs.declared.catalog.CatalogParts.{CatalogParts}
 use Rattle.shared_objects.specs.declared.fault.OpenFault.{OpenFault}
 use Rattle.shared_objects.specs.declared.fault.OpenFault.TheVariants.{NoLocale, NoCatalog}
-use Rattle.shared_objects.specs.Shared.{Stock}
+use Rattle.shared_objects.specs.Shared.{MarkedLibraryData}
 use Rattle.shared_objects.specs.Catalogs.{has_catalog, message_in}
 use Rattle.c_values.specs.declared.answer.LobjAnswer.{LobjAnswer}
 use Rattle.c_values.specs.declared.answer.TheConstants.{OK, NO_LOCALE, NO_CATALOG, NO_MESSAGE}
@@ -21,6 +21,6 @@ message_told buffer None = refused buffer NO_MESSAGE 0
 message_told buffer (Some text) = told buffer text
 
 -- a message of a catalog of a library
-abbrev pub message_by : List ℕ → Stock → CatalogParts → ℕ → ℕ → LobjAnswer × List ℕ
-message_by buffer stock catalog set number =
-    if has_catalog stock catalog then message_told buffer (message_in stock catalog set number) else refused buffer NO_CATALOG 0
+abbrev pub message_by : List ℕ → MarkedLibraryData → CatalogParts → ℕ → ℕ → LobjAnswer × List ℕ
+message_by buffer marked catalog set number =
+    if has_catalog marked catalog then message_told buffer (message_in marked catalog set number) else refused buffer NO_CATALOG 0

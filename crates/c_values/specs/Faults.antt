@@ -10,7 +10,7 @@ use Rattle.library_parts.specs.declared.part.LibraryPart.{LibraryPart}
 use Rattle.library_parts.specs.declared.fault.Wrong.{Wrong}
 use Rattle.library_parts.specs.declared.fault.Wrong.TheVariants.{TooLong, BadName, NameTwice, TooMany, NoCharmap, Text}
 use Rattle.library_parts.specs.Told.{Tells}
-use Rattle.shared_objects.specs.Shared.{Stock}
+use Rattle.shared_objects.specs.Shared.{MarkedLibraryData}
 use Rattle.c_values.specs.declared.answer.LobjAnswer.{LobjAnswer}
 use Rattle.c_values.specs.declared.answer.TheConstants.{OK, TOO_LONG, BAD_TEXT, TOO_MANY, BAD_NAME, NAME_TWICE, NO_CHARMAP}
 use Rattle.c_values.specs.declared.fault.LobjFault.{LobjFault}
@@ -98,15 +98,15 @@ IsWrongTold parts n TooMany a fault' old new = IsPartTold n TooMany a fault' old
 IsWrongTold parts n NoCharmap a fault' old new = IsPartTold n NoCharmap a fault' old new
 
 -- a library is put behind a pointer, and all else stays: of the answer, what is behind the pointer after, and the fault and the buffer before and after
-abbrev pub IsStocked : Stock → LobjAnswer → Option Stock → LobjFault → LobjFault → List ℕ → List ℕ → Type 0
-IsStocked stock a held' fault fault' old new = (a ≡ answered OK 0) × (held' ≡ Some stock) × (fault' ≡ fault) × (new ≡ old)
+abbrev pub IsStocked : MarkedLibraryData → LobjAnswer → Option MarkedLibraryData → LobjFault → LobjFault → List ℕ → List ℕ → Type 0
+IsStocked marked a held' fault fault' old new = (a ≡ answered OK 0) × (held' ≡ Some marked) × (fault' ≡ fault) × (new ≡ old)
 
 -- what a text gives, or its refusal, which leaves what is behind the pointer
-abbrev pub IsRead : List ℕ → Reads Stock → LobjAnswer → Option Stock → Option Stock → LobjFault → LobjFault → List ℕ → List ℕ → Type 0
-IsRead text (Ok stock) a held held' fault fault' old new = IsStocked stock a held' fault fault' old new
+abbrev pub IsRead : List ℕ → Reads MarkedLibraryData → LobjAnswer → Option MarkedLibraryData → Option MarkedLibraryData → LobjFault → LobjFault → List ℕ → List ℕ → Type 0
+IsRead text (Ok marked) a held held' fault fault' old new = IsStocked marked a held' fault fault' old new
 IsRead text (Err at) a held held' fault fault' old new = IsTextTold 0 text at.0 at.1 a fault' old new × (held' ≡ held)
 
 -- what parts make, or the first that is wrong
-abbrev pub IsBuilt : List LibraryPart → Tells Stock → LobjAnswer → Option Stock → Option Stock → LobjFault → LobjFault → List ℕ → List ℕ → Type 0
-IsBuilt parts (Ok stock) a held held' fault fault' old new = IsStocked stock a held' fault fault' old new
+abbrev pub IsBuilt : List LibraryPart → Tells MarkedLibraryData → LobjAnswer → Option MarkedLibraryData → Option MarkedLibraryData → LobjFault → LobjFault → List ℕ → List ℕ → Type 0
+IsBuilt parts (Ok marked) a held held' fault fault' old new = IsStocked marked a held' fault fault' old new
 IsBuilt parts (Err at) a held held' fault fault' old new = IsWrongTold parts at.0 at.1 a fault' old new × (held' ≡ held)

@@ -6,7 +6,7 @@ ghost use Rattle.c_values.specs.Catalogs.{catalog_told, message_told, message_by
 
 use crate::answer::{LobjAnswer, NO_CATALOG, NO_LOCALE, NO_MESSAGE, OK, answered};
 use crate::buffer::put_text;
-use shared_objects::{CatalogParts, OpenFault, Shelf};
+use shared_objects::{CatalogParts, OpenFault, MarkedLibrary};
 
 /// Writes a catalog that was opened.
 pub fn put_catalog(out: &mut CatalogParts, opened: Result<CatalogParts, OpenFault>) -> LobjAnswer
@@ -35,7 +35,7 @@ fn put_found(buffer: &mut [u8], message: Option<&[u8]>) -> LobjAnswer
 /// Puts a message of a catalog of a library into a buffer.
 pub fn put_message(
     buffer: &mut [u8],
-    library: &Shelf,
+    library: &MarkedLibrary,
     catalog: &CatalogParts,
     set: u32,
     number: u32,

@@ -5,7 +5,7 @@ ghost use Rattle.c_values.specs.Answers.{IsNumberTold, IsReadBack, locale_told, 
 
 use crate::answer::{BAD_MASK, LobjAnswer, MISMATCH, NO_CLASS, NO_DATA, NO_LOCALE, OK, answered};
 use lc_base::Mask;
-use shared_objects::{LocaleParts, NewFault, Shelf, View};
+use shared_objects::{LocaleParts, NewFault, MarkedLibrary, View};
 
 /// Writes a locale that was made.
 fn put_locale(out: &mut LocaleParts, made: Result<LocaleParts, NewFault>) -> LobjAnswer
@@ -24,7 +24,7 @@ fn put_locale(out: &mut LocaleParts, made: Result<LocaleParts, NewFault>) -> Lob
 /// Writes the locale of the bits of a mask, a name and a base.
 pub fn put_new(
     out: &mut LocaleParts,
-    library: &Shelf,
+    library: &MarkedLibrary,
     bits: u32,
     name: &[u8],
     base: &LocaleParts,

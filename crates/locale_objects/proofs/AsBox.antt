@@ -1,4 +1,4 @@
--- The hold and its parts own what a box at the same types owns.
+-- A boxed library by its pointer, and its parts, own what a box at the same types owns.
 use mir.Syntax.{impl, tnil, dnil}
 use mathlib.Core.List.{[]}
 use denote.Signature.{Slot, plain}
@@ -6,10 +6,10 @@ use Rattle.std_alloc.proofs.BoxSteps.Form.{Bx}
 use Rattle.std_heap.specs.contracts.Global as Heap
 use Rattle.std_heap.specs.contracts.GlobalAllocator.TheImpl.{ghosts, dict}
 use Rattle.std_heap.proofs.Global.TheLaws as heap
-use Rattle.shared_objects.specs.contracts.shelf.Shelf as Object
-use Rattle.shared_objects.proofs.shelf.Shelf.TheLaws as object
+use Rattle.shared_objects.specs.contracts.marked_library.MarkedLibrary as Object
+use Rattle.shared_objects.proofs.marked_library.MarkedLibrary.TheLaws as object
 use Rattle.locale_objects.specs.contracts.parts.Parts as Parts
-use Rattle.locale_objects.specs.contracts.hold.Hold as Hold
+use Rattle.locale_objects.specs.contracts.library_box.LibraryBox as LibraryBox
 
 abbrev pub E : Bx
 E = record { row = Object.the_row; laws = object.the_row_laws; al = record { row = Heap.the_row; laws = heap.the_row_laws; g = ghosts; d = dict; drops = impl [] tnil dnil } }
@@ -17,8 +17,8 @@ E = record { row = Object.the_row; laws = object.the_row_laws; al = record { row
 abbrev pub FromParts : Slot 0
 FromParts = plain (λ _. Parts.the_row Object.the_row Heap.the_row ghosts)
 
-abbrev pub FromHold : Slot 0
-FromHold = plain (λ _. Hold.the_row)
+abbrev pub FromLibraryBox : Slot 0
+FromLibraryBox = plain (λ _. LibraryBox.the_row)
 
 abbrev pub FromHandle : Slot 0
 FromHandle = plain (λ _. Heap.the_row)

@@ -8,7 +8,7 @@ use denote.RattleType.{RattleType}
 use denote.RawPtr.{Ptr}
 use denote.Struct.Lending.{lent_at}
 use Rattle.shared_objects.specs.contracts.draft.Draft.{the_row as draft_row}
-use Rattle.shared_objects.specs.contracts.shelf.Shelf.{the_row}
+use Rattle.shared_objects.specs.contracts.marked_library.MarkedLibrary.{the_row}
 
 -- one of the shares of a token that are without number and apart from each other
 abbrev pub share_of : ℕ → Share → Share

@@ -1,4 +1,4 @@
-pub mod Hold
+pub mod LibraryBox
 pub mod Builder
 pub mod Lending
 pub mod Libraries

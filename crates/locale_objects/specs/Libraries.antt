@@ -6,7 +6,7 @@ use Rattle.library_parts.specs.declared.part.PartKind.{PartKind}
 use Rattle.library_parts.specs.declared.part.PartKind.TheVariants.{Charmap, Source, Catalog}
 use Rattle.library_parts.specs.Told.{Tells}
 use Rattle.shared_objects.specs.Parts.{part_of}
-use Rattle.shared_objects.specs.Shared.{Stock}
+use Rattle.shared_objects.specs.Shared.{MarkedLibraryData}
 use Rattle.c_values.specs.declared.answer.LobjAnswer.{LobjAnswer}
 use Rattle.c_values.specs.declared.answer.TheConstants.{OK, NO_MEMORY, NO_ITEM, TOO_MANY}
 use Rattle.c_values.specs.declared.fault.LobjFault.{LobjFault}
@@ -14,26 +14,26 @@ use Rattle.c_values.specs.Answers.{answered}
 use Rattle.c_values.specs.Faults.{IsRead, IsBuilt}
 
 -- out of memory, and all is as it was: of the answer, what is behind the pointer, the fault and the buffer, each before and after
-abbrev pub IsLeft : LobjAnswer → Option Stock → Option Stock → LobjFault → LobjFault → List ℕ → List ℕ → Type 0
+abbrev pub IsLeft : LobjAnswer → Option MarkedLibraryData → Option MarkedLibraryData → LobjFault → LobjFault → List ℕ → List ℕ → Type 0
 IsLeft a held held' fault fault' old new = (a ≡ answered NO_MEMORY 0) × (held' ≡ held) × (fault' ≡ fault) × (new ≡ old)
 
 -- a library is read, or its first fault told; or it is out of memory
-abbrev pub IsReadUnlessMemory : List ℕ → Reads Stock → LobjAnswer → Option Stock → Option Stock → LobjFault → LobjFault → List ℕ → List ℕ → Type 0
+abbrev pub IsReadUnlessMemory : List ℕ → Reads MarkedLibraryData → LobjAnswer → Option MarkedLibraryData → Option MarkedLibraryData → LobjFault → LobjFault → List ℕ → List ℕ → Type 0
 IsReadUnlessMemory text wanted a held held' fault fault' old new =
     IsRead text wanted a held held' fault fault' old new ⊎ IsLeft a held held' fault fault' old new
 
 -- a library is built, or the first fault of its parts told; or it is out of memory
-abbrev pub IsBuiltUnlessMemory : List LibraryPart → Tells Stock → LobjAnswer → Option Stock → Option Stock → LobjFault → LobjFault → List ℕ → List ℕ → Type 0
+abbrev pub IsBuiltUnlessMemory : List LibraryPart → Tells MarkedLibraryData → LobjAnswer → Option MarkedLibraryData → Option MarkedLibraryData → LobjFault → LobjFault → List ℕ → List ℕ → Type 0
 IsBuiltUnlessMemory parts wanted a held held' fault fault' old new =
     IsBuilt parts wanted a held held' fault fault' old new ⊎ IsLeft a held held' fault fault' old new
 
 -- two libraries are joined, if one may have so many locales and catalogs
-abbrev pub IsJoined : Option Stock → LobjAnswer → Option Stock → Option Stock → Type 0
-IsJoined (Some stock) a held held' = (a ≡ answered OK 0) × (held' ≡ Some stock)
+abbrev pub IsJoined : Option MarkedLibraryData → LobjAnswer → Option MarkedLibraryData → Option MarkedLibraryData → Type 0
+IsJoined (Some marked) a held held' = (a ≡ answered OK 0) × (held' ≡ Some marked)
 IsJoined None a held held' = (a ≡ answered TOO_MANY 0) × (held' ≡ held)
 
 -- the same; or it is out of memory, and all is as it was
-abbrev pub IsJoinedUnlessMemory : Option Stock → LobjAnswer → Option Stock → Option Stock → Type 0
+abbrev pub IsJoinedUnlessMemory : Option MarkedLibraryData → LobjAnswer → Option MarkedLibraryData → Option MarkedLibraryData → Type 0
 IsJoinedUnlessMemory wanted a held held' = IsJoined wanted a held held' ⊎ (a ≡ answered NO_MEMORY 0) × (held' ≡ held)
 
 -- a builder without parts is made; or it is out of memory, and all is as it was

@@ -4,7 +4,7 @@ ghost use Rattle.std.specs.Prelude.{◌≡◌, List, Option, Some, IsSome};
 ghost use Rattle.library_parts.specs.declared.part.LibraryPart.{LibraryPart};
 ghost use Rattle.locale_objects.specs.Builder.{builder_owns, parts_coded};
 
-use crate::hold::Opaque;
+use crate::library_box::Opaque;
 use crate::parts::Parts;
 use shared_objects::Draft;
 use std::alloc::Global;

@@ -9,8 +9,8 @@ ghost use Rattle.ctype_classes.specs.Case.{image};
 ghost use Rattle.shared_objects.specs.Objects.{ctype_in};
 ghost use Rattle.shared_objects.specs.Catalogs.{opened};
 ghost use Rattle.shared_objects.specs.Joined.{joined};
-ghost use Rattle.shared_objects.specs.Locales.{name_with, posix_of, shared_of, stock_in};
-ghost use Rattle.shared_objects.specs.Parts.{stock_built};
+ghost use Rattle.shared_objects.specs.Locales.{name_with, posix_of, shared_of, marked_in};
+ghost use Rattle.shared_objects.specs.Parts.{marked_built};
 ghost use Rattle.reason_rules.specs.declared.table.TheConstants.{ROW_COUNT};
 ghost use Rattle.c_values.specs.declared.answer.TheConstants.{NO_ITEM, OK, TOO_LONG, VERSION};
 ghost use Rattle.c_values.specs.declared.cased.Case.TheVariants.{Upper, Lower};
@@ -24,7 +24,7 @@ ghost use Rattle.c_values.specs.Answers.{answered, of_object, by_object, refused
 ghost use Rattle.locale_objects.specs.Libraries.{kind_of, IsAddedBehind, IsBegun, IsBuiltUnlessMemory, IsJoinedUnlessMemory, IsReadUnlessMemory};
 
 use crate::builder::Builder;
-use crate::hold::Hold;
+use crate::library_box::LibraryBox;
 use crate::lent::{LentBuilder, LentLibrary};
 use crate::libraries::{add_part, begin_into, build_into, join_into, read_into};
 use c_values::{
@@ -44,11 +44,11 @@ const TEXT_END: usize = 0x8000_0000;
 pub extern "C" fn lobj_read(
     alloc: Global,
     text: &[u8],
-    out: &mut Hold,
+    out: &mut LibraryBox,
     fault: &mut LobjFault,
     buffer: &mut [u8],
 ) -> LobjAnswer
-    ensures read { length text.now < 2 ^ 31 → IsReadUnlessMemory text.now (stock_in text.now) result out.old.library out.new.library fault.old fault.new buffer.old buffer.new }
+    ensures read { length text.now < 2 ^ 31 → IsReadUnlessMemory text.now (marked_in text.now) result out.old.library out.new.library fault.old fault.new buffer.old buffer.new }
     ensures too_long { 2 ^ 31 ≤ length text.now → (result ≡ answered TOO_LONG 0) × (out.new.library ≡ out.old.library) × (fault.new ≡ fault.old) × (buffer.new ≡ buffer.old) }
 {
     if text.len() >= TEXT_END {
@@ -97,11 +97,11 @@ pub extern "C" fn lobj_builder_add(
 pub extern "C" fn lobj_build(
     alloc: Global,
     builder: LentBuilder,
-    out: &mut Hold,
+    out: &mut LibraryBox,
     fault: &mut LobjFault,
     buffer: &mut [u8],
 ) -> LobjAnswer
-    ensures { IsBuiltUnlessMemory builder.value (stock_built builder.value) result out.old.library out.new.library fault.old fault.new buffer.old buffer.new }
+    ensures { IsBuiltUnlessMemory builder.value (marked_built builder.value) result out.old.library out.new.library fault.old fault.new buffer.old buffer.new }
 {
     let peek = builder.peek();
     match build_into(alloc, peek.get().parts(), out, fault, buffer) {
@@ -124,7 +124,7 @@ pub extern "C" fn lobj_join(
     alloc: Global,
     first: LentLibrary,
     second: LentLibrary,
-    out: &mut Hold,
+    out: &mut LibraryBox,
 ) -> LobjAnswer
     ensures { IsJoinedUnlessMemory (joined first.value second.value) result out.old.library out.new.library }
 {
@@ -164,7 +164,7 @@ pub extern "C" fn lobj_version() -> u32
 
 /// Frees a library that no call reads any more.
 #[unsafe(no_mangle)]
-pub extern "C" fn lobj_library_end(library: Hold)
+pub extern "C" fn lobj_library_end(library: LibraryBox)
     requires { IsSome library.library }
 {
     drop(library.into_box());

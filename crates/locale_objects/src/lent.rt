@@ -2,12 +2,12 @@
 
 ghost use Rattle.std.specs.Prelude.{◌≡◌, ℕ, List};
 ghost use Rattle.library_parts.specs.declared.part.LibraryPart.{LibraryPart};
-ghost use Rattle.shared_objects.specs.Shared.{Stock};
+ghost use Rattle.shared_objects.specs.Shared.{MarkedLibraryData};
 ghost use Rattle.locale_objects.specs.Lending.{library_lent, library_coded, parts_lent, parts_coded};
 
-use crate::hold::Opaque;
+use crate::library_box::Opaque;
 use crate::peek::Peek;
-use shared_objects::{Draft, Shelf};
+use shared_objects::{Draft, MarkedLibrary};
 use std::marker::Model;
 
 /// A library that C lends for a call, by its pointer. C has a `const lobj_library *` for it. Any number of
@@ -18,7 +18,7 @@ pub struct LentLibrary {
     at: *const Opaque,
     pub ghost life: { ℕ },
     pub ghost part: { ℕ },
-    pub ghost value: { Stock } by { library_coded },
+    pub ghost value: { MarkedLibraryData } by { library_coded },
 }
 
 impl Model for LentLibrary {
@@ -28,12 +28,12 @@ impl Model for LentLibrary {
 impl LentLibrary {
     /// The library, to be read.
     #[inline(always)]
-    pub fn peek(self) -> Peek<Shelf>
+    pub fn peek(self) -> Peek<MarkedLibrary>
         ensures { result.value ≡ self.value }
     {
         let LentLibrary { at } = self;
         Peek {
-            at: at as *const Shelf,
+            at: at as *const MarkedLibrary,
         }
     }
 }

@@ -3,7 +3,7 @@
 
 mod builder;
 mod exports;
-mod hold;
+mod library_box;
 mod lent;
 mod libraries;
 mod parts;

@@ -1,39 +1,39 @@
 //! Libraries that are read, built and joined.
 
 ghost use Rattle.std.specs.Prelude.{◌≡◌, ◌<◌, ◌^◌, [], length, IfOk, OnOk, OnErr, Some};
-ghost use Rattle.shared_objects.specs.Locales.{stock_in};
+ghost use Rattle.shared_objects.specs.Locales.{marked_in};
 ghost use Rattle.shared_objects.specs.Joined.{joined};
-ghost use Rattle.shared_objects.specs.Parts.{stock_built};
+ghost use Rattle.shared_objects.specs.Parts.{marked_built};
 ghost use Rattle.c_values.specs.Faults.{IsRead, IsBuilt};
 ghost use Rattle.locale_objects.specs.Libraries.{kind_of, IsAdded, IsJoined};
 
 use crate::builder::Builder;
-use crate::hold::Hold;
+use crate::library_box::LibraryBox;
 use c_values::{
     LobjAnswer, LobjFault, NO_ITEM, NO_MEMORY, OK, TOO_MANY, answered, put_text_fault, put_wrong,
 };
 use lc_base::TextFault;
 use library_parts::{LibraryPart, PartFault, PartKind};
-use shared_objects::{Draft, JoinFault, Shelf};
+use shared_objects::{Draft, JoinFault, MarkedLibrary};
 use std::alloc::{AllocError, Global};
 
 /// Reads a text, and puts its library behind a pointer, or tells its fault.
 pub fn read_into(
     alloc: Global,
     text: &[u8],
-    out: &mut Hold,
+    out: &mut LibraryBox,
     fault: &mut LobjFault,
     buffer: &mut [u8],
 ) -> Result<LobjAnswer, AllocError>
     requires { length text.now < 2 ^ 31 }
-    ensures read { IfOk result (λ a. IsRead text.now (stock_in text.now) a out.old.library out.new.library fault.old fault.new buffer.old buffer.new) }
+    ensures read { IfOk result (λ a. IsRead text.now (marked_in text.now) a out.old.library out.new.library fault.old fault.new buffer.old buffer.new) }
     ensures kept { OnErr result (out.new.library ≡ out.old.library) }
     ensures same { OnErr result (fault.new ≡ fault.old) }
     ensures untouched { OnErr result (buffer.new ≡ buffer.old) }
 {
-    match Shelf::read(alloc, text) {
+    match MarkedLibrary::read(alloc, text) {
         Ok(library) => {
-            *out = Hold::of(Box::new(alloc, library)?);
+            *out = LibraryBox::of(Box::new(alloc, library)?);
             Ok(answered(OK, 0))
         }
         Err(TextFault::At(at, reason)) => {
@@ -47,18 +47,18 @@ pub fn read_into(
 pub fn build_into(
     alloc: Global,
     parts: &[LibraryPart],
-    out: &mut Hold,
+    out: &mut LibraryBox,
     fault: &mut LobjFault,
     buffer: &mut [u8],
 ) -> Result<LobjAnswer, AllocError>
-    ensures built { IfOk result (λ a. IsBuilt parts.now (stock_built parts.now) a out.old.library out.new.library fault.old fault.new buffer.old buffer.new) }
+    ensures built { IfOk result (λ a. IsBuilt parts.now (marked_built parts.now) a out.old.library out.new.library fault.old fault.new buffer.old buffer.new) }
     ensures kept { OnErr result (out.new.library ≡ out.old.library) }
     ensures same { OnErr result (fault.new ≡ fault.old) }
     ensures untouched { OnErr result (buffer.new ≡ buffer.old) }
 {
-    match Shelf::build(alloc, parts) {
+    match MarkedLibrary::build(alloc, parts) {
         Ok(library) => {
-            *out = Hold::of(Box::new(alloc, library)?);
+            *out = LibraryBox::of(Box::new(alloc, library)?);
             Ok(answered(OK, 0))
         }
         Err(PartFault::At(number, wrong)) => {
@@ -71,16 +71,16 @@ pub fn build_into(
 /// Joins two libraries, and puts what they make behind a pointer.
 pub fn join_into(
     alloc: Global,
-    first: &Shelf,
-    second: &Shelf,
-    out: &mut Hold,
+    first: &MarkedLibrary,
+    second: &MarkedLibrary,
+    out: &mut LibraryBox,
 ) -> Result<LobjAnswer, AllocError>
     ensures joined { IfOk result (λ a. IsJoined (joined first.now second.now) a out.old.library out.new.library) }
     ensures kept { OnErr result (out.new.library ≡ out.old.library) }
 {
-    match Shelf::join(alloc, first, second) {
+    match MarkedLibrary::join(alloc, first, second) {
         Ok(library) => {
-            *out = Hold::of(Box::new(alloc, library)?);
+            *out = LibraryBox::of(Box::new(alloc, library)?);
             Ok(answered(OK, 0))
         }
         Err(JoinFault::TooMany) => Ok(answered(TOO_MANY, 0)),

@@ -30,7 +30,7 @@ use Rattle.script_seats.specs.declared.seated.Seated.{Seated}
 use Rattle.script_run.specs.declared.worker.Worker.{Worker}
 use Rattle.script_seats.specs.Seated.{held_data, Gates}
 use Rattle.script_run.specs.Timed.{Timed, AreTimed, IsWhole, AreAsked, own_lines, lines_in, turns_made, turn_made, last_end, end_of, places_by, placed_back, stacked}
-use Rattle.script_run.specs.Beside.{stock_of, IsWorker, CanClose, Closes}
+use Rattle.script_run.specs.Beside.{library_and_books_of, IsWorker, CanClose, Closes}
 use Rattle.script_run.specs.Rounds.{Each, EachTwo, IsFor, IsForAsked, mine_of, reader_at, turns_to, IsReady, AreBetween, SeatData, SeatSeesMore, IsCloser, AreClosing}
 use Rattle.script_run.proofs.Growth.{are_right_grow}
 use Rattle.script_seats.proofs.OwnCalls.{holds_says}
@@ -146,7 +146,7 @@ holds_few t (e ∷ H) = few_if e (entries_by t H) (open_holds H t) (e.who == t) 
 
 -- a worker that has met the seats before it can be closed
 pub can_close : (gate : Gates) (plan : PlanData) (seats : List SeatData) (w : Worker) (ws : List Worker) (mine : Thread) (lines : List OutLine) → AreClosing gate plan seats (w ∷ ws) lines → IsSound plan → IsFor plan gate.locales.terms → IsForAsked gate.locales.terms gate.catalogs.terms
-    → SawMore (mine_of w) mine → (IsInOrder gate.locales.terms (mine_of w) → IsInOrder gate.locales.terms mine) → CanClose gate (stock_of plan) (thread_with w.thread mine)
+    → SawMore (mine_of w) mine → (IsInOrder gate.locales.terms (mine_of w) → IsInOrder gate.locales.terms mine) → CanClose gate (library_and_books_of plan) (thread_with w.thread mine)
 can_close gate plan seats w ws mine lines was sound for for_asked saw orders =
     let k : ℕ = length seats in
     let made : List Timed = was.made in

@@ -25,7 +25,7 @@ use Rattle.script_seats.specs.declared.seated.Seated.{Seated}
 use Rattle.script_run.specs.declared.worker.Worker.{Worker}
 use Rattle.script_seats.specs.Seated.{Gates}
 use Rattle.script_run.specs.Timed.{Timed, IsWhole, AreAsked, HasStanding, catalog_places_by, own_lines, lines_in, turns_made, turn_made, places_by, stacked}
-use Rattle.script_run.specs.Beside.{Stock, stock_of, IsWorker, HasAskedSince, Works, turns_of}
+use Rattle.script_run.specs.Beside.{LibraryAndBooks, library_and_books_of, IsWorker, HasAskedSince, Works, turns_of}
 use Rattle.script_run.specs.Rounds.{Each, EachTwo, mine_of, reader_at, IsFor, IsForAsked, IsOfBoth, IsOrderly, HasWorked, HasGiven, SeesMore, AllMet, IsReady, AreBetween, turns_to}
 use Rattle.script_run.proofs.Growth.{are_right_grow}
 use Rattle.script_run.proofs.Stacked.{EachOwn, HasAdded, own_stacked, all_stacked, whole_stacked}
@@ -137,8 +137,8 @@ on_ok P (Ok x) is h = h
 on_ok P (Err e) is h = absurd (false≢true is)
 
 -- what it leaves where it was not out of memory
-abbrev WorksFor : Gates → Stock → List Turn → Worker → Worker → Type 0
-WorksFor gate stock turns old new = (plan : PlanData) (made : List Timed) → stock_of plan ≡ stock → IsWorker gate plan old.thread made
+abbrev WorksFor : Gates → LibraryAndBooks → List Turn → Worker → Worker → Type 0
+WorksFor gate library_and_books turns old new = (plan : PlanData) (made : List Timed) → library_and_books_of plan ≡ library_and_books → IsWorker gate plan old.thread made
     → Works gate plan (turns_of old.thread.side.number turns) old.thread new.thread made old.lines.items new.lines.items
 
 -- what is known of a worker's lines of the round
@@ -158,7 +158,7 @@ pub record Share (gate : Gates) (plan : PlanData) (M W : History) (U V : Catalog
 -- what one worker leaves: it worked, gave its lines away, and met the others
 left_by : (gate : Gates) (plan : PlanData) (M W : History) (U V : CatalogHistory) (made : List Timed) (round i : ℕ) (turns : List Turn) (ws worked given met : List Worker) (d : Worker)
     → All (λ (t : Turn). t.round ≡ round) (turns_of i turns)
-    → IsReady gate plan M U made i (slice_index_or ws i d) → HasWorked gate (stock_of plan) turns (slice_index_or ws i d) (slice_index_or worked i d) → HasGiven (slice_index_or worked i d) (slice_index_or given i d)
+    → IsReady gate plan M U made i (slice_index_or ws i d) → HasWorked gate (library_and_books_of plan) turns (slice_index_or ws i d) (slice_index_or worked i d) → HasGiven (slice_index_or worked i d) (slice_index_or given i d)
     → SeesMore gate (slice_index_or given i d) (slice_index_or met i d) → GoesOnFrom W (mine_of (slice_index_or given i d)).seen → GoesOnFrom (mine_of (slice_index_or met i d)).seen W
     → readers.GoesOnFrom V (reader_at (slice_index_or given i d)).seen → readers.GoesOnFrom (reader_at (slice_index_or met i d)).seen V
     → (more : List Timed) × Share gate plan M W U V made round turns worked met d i more
@@ -169,7 +169,7 @@ left_by gate plan M W U V made round i turns ws worked given met d in_round read
     let new : Worker = slice_index_or met i d in
     let number : old.thread.side.number ≡ i = ready.number in
     let works : Works gate plan (turns_of old.thread.side.number turns) old.thread done.thread (own_lines i made) old.lines.items done.lines.items =
-    on_ok (WorksFor gate (stock_of plan) turns old done) done.outcome give.done work.works plan (own_lines i made) refl ready.worker
+    on_ok (WorksFor gate (library_and_books_of plan) turns old done) done.outcome give.done work.works plan (own_lines i made) refl ready.worker
     in
     let kept_number : done.thread.side.number ≡ old.thread.side.number = on_ok (done.thread.side.number ≡ old.thread.side.number) done.outcome give.done work.number in
     let mine_is : mine_of gave ≡ mine_of done = ap (λ (t : ScriptThread Seated). t.side.mine) give.thread in
@@ -235,13 +235,13 @@ left_by gate plan M W U V made round i turns ws worked given met d in_round read
 -- a worker that has worked and given its lines away is in order at its table
 pub in_order_at : (gate : Gates) (plan : PlanData) (rounds : ℕ) (lines : List OutLine) (turns : List Turn) (ws worked given : List Worker)
     → AreBetween gate plan rounds lines ws → length worked ≡ length ws → length given ≡ length ws
-    → EachTwo ws worked (λ i old new. HasWorked gate (stock_of plan) turns old new) → EachTwo worked given (λ i old new. HasGiven old new)
+    → EachTwo ws worked (λ i old new. HasWorked gate (library_and_books_of plan) turns old new) → EachTwo worked given (λ i old new. HasGiven old new)
     → Each given (λ i w. IsOfBoth gate w × IsOrderly gate w)
 in_order_at gate plan rounds lines turns ws worked given was worked_long given_long work give = λ i d lt.
     let within : i < length ws = omega (arith, lt, given_long) in
-    let w : HasWorked gate (stock_of plan) turns (slice_index_or ws i d) (slice_index_or worked i d) = work i d within in
+    let w : HasWorked gate (library_and_books_of plan) turns (slice_index_or ws i d) (slice_index_or worked i d) = work i d within in
     let g : HasGiven (slice_index_or worked i d) (slice_index_or given i d) = give i d (omega (arith, within, worked_long)) in
-    let worker = (on_ok (WorksFor gate (stock_of plan) turns (slice_index_or ws i d) (slice_index_or worked i d)) (slice_index_or worked i d).outcome g.done w.works plan (own_lines i was.made) refl (was.ready i d within).worker).worker in
+    let worker = (on_ok (WorksFor gate (library_and_books_of plan) turns (slice_index_or ws i d) (slice_index_or worked i d)) (slice_index_or worked i d).outcome g.done w.works plan (own_lines i was.made) refl (was.ready i d within).worker).worker in
     let same : mine_of (slice_index_or given i d) ≡ mine_of (slice_index_or worked i d) = ap (λ (t : ScriptThread Seated). t.side.mine) g.thread in
     let same_reader : reader_at (slice_index_or given i d) ≡ reader_at (slice_index_or worked i d) = ap (λ (t : ScriptThread Seated). t.side.reader) g.thread in (
       (subst (IsThreadOf gate.locales) (sym same) worker.seated.thread, subst (readers.IsReaderOf gate.catalogs) (sym same_reader) worker.asking.thread),
@@ -278,7 +278,7 @@ next_at : (gate : Gates) (plan : PlanData) (rounds : ℕ) (lines lines' : List O
     → AreBetween gate plan rounds lines ws → IsFor plan gate.locales.terms → IsForAsked gate.locales.terms gate.catalogs.terms
     → turns ≡ round_turns (length plan.bundle.threads) plan.bundle.commands (rounds + 1)
     → length worked ≡ length ws → length given ≡ length ws → length met ≡ length ws
-    → EachTwo ws worked (λ i old new. HasWorked gate (stock_of plan) turns old new) → lines' ≡ lines ++ flat_map (λ (w : Worker). w.lines.items) worked
+    → EachTwo ws worked (λ i old new. HasWorked gate (library_and_books_of plan) turns old new) → lines' ≡ lines ++ flat_map (λ (w : Worker). w.lines.items) worked
     → EachTwo worked given (λ i old new. HasGiven old new) → AllMet gate given met → AreBetween gate plan (rounds + 1) lines' met
 next_at gate plan rounds lines lines' turns ws worked given met d was for for_asked turns_is worked_long given_long met_long work printed give all =
     let c : Setting = gate.locales.terms.setting in
@@ -362,7 +362,7 @@ pub between_next : (gate : Gates) (plan : PlanData) (rounds : ℕ) (lines lines'
     → AreBetween gate plan rounds lines ws → IsFor plan gate.locales.terms → IsForAsked gate.locales.terms gate.catalogs.terms
     → turns ≡ round_turns (length plan.bundle.threads) plan.bundle.commands (rounds + 1)
     → length worked ≡ length ws → length given ≡ length ws → length met ≡ length ws
-    → EachTwo ws worked (λ i old new. HasWorked gate (stock_of plan) turns old new) → lines' ≡ lines ++ flat_map (λ (w : Worker). w.lines.items) worked
+    → EachTwo ws worked (λ i old new. HasWorked gate (library_and_books_of plan) turns old new) → lines' ≡ lines ++ flat_map (λ (w : Worker). w.lines.items) worked
     → EachTwo worked given (λ i old new. HasGiven old new) → AllMet gate given met → AreBetween gate plan (rounds + 1) lines' met
 between_next gate plan rounds lines lines' turns [] worked given met was for for_asked turns_is worked_long given_long met_long work printed give all =
     let none : 0 ≡ gate.locales.terms.setting.threads = was.count in

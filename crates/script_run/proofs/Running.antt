@@ -29,7 +29,7 @@ use Rattle.script_plan.proofs.RoundTurns.{no_turns, no_closing_turns}
 use Rattle.script_plan.proofs.AnsweredApart.{isolated}
 use Rattle.lc_base.specs.declared.block.Block.{Block}
 use Rattle.script_seats.specs.Seated.{Gates}
-use Rattle.script_run.specs.Beside.{stock, stock_of}
+use Rattle.script_run.specs.Beside.{library_and_books, library_and_books_of}
 use Rattle.script_run.specs.Rounds.{IsFor, IsForAsked, plan_made, SeatData, AreClosing}
 use Rattle.script_run.proofs.Closing.{closed_prints}
 
@@ -42,8 +42,8 @@ pub blocks_are : (plan : PlanData) (bundle : Bundle) (books : Books) → bundle 
 blocks_are plan bundle books same shelf = ap (λ (b : Books). b.blocks) shelf ∙ ap (λ (b : Bundle). b.catalogs) (sym same)
 
 -- the library and the catalogs of a plan that is made of them
-pub stock_made : (bundle : Bundle) (library : LibraryData) (books : Books) → books.blocks ≡ bundle.catalogs → stock_of (plan_made bundle library books) ≡ stock library books
-stock_made bundle library books same = ap (λ (blocks : List Block). stock library (record { blocks = blocks; books = books.books })) (sym same)
+pub library_and_books_made : (bundle : Bundle) (library : LibraryData) (books : Books) → books.blocks ≡ bundle.catalogs → library_and_books_of (plan_made bundle library books) ≡ library_and_books library books
+library_and_books_made bundle library books same = ap (λ (blocks : List Block). library_and_books library (record { blocks = blocks; books = books.books })) (sym same)
 
 -- what is agreed with the catalogs
 abbrev pub asked_terms : ℕ → ℕ → ℕ → ℕ → Terms CatalogSetting

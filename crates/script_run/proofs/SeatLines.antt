@@ -35,7 +35,7 @@ use Rattle.script_plan.specs.Prints.{bound_by}
 use Rattle.script_seats.specs.declared.seated.Seated.{Seated}
 use Rattle.script_seats.specs.Seated.{Gates, IsSeatedAt, IsAskingAt, MayFollow, MayFollowAsked, AreApart}
 use Rattle.script_run.specs.Timed.{Timed, task_lines, lines_in, turn_made, turns_made, asked_in}
-use Rattle.script_run.specs.Beside.{Stock, stock_of, HasMade, IsWorker, Adds, HasAskedSince, Works, WorksOn}
+use Rattle.script_run.specs.Beside.{LibraryAndBooks, library_and_books_of, HasMade, IsWorker, Adds, HasAskedSince, Works, WorksOn}
 use Rattle.script_run.proofs.AskedSeen.{AsksNext, asks_next}
 use Rattle.script_seats.proofs.HoldLists.{holds_of, apart_holds, kept_all}
 use Rattle.script_seats.proofs.SeatLemmas.{seated_as}
@@ -124,7 +124,7 @@ stepped gate plan turn old new made l own leaves =
     }
 
 step_right : (gate : Gates) (plan : PlanData) (turn : Turn) (old new : ScriptThread Seated) (lines lines' : List OutLine) (made : List Timed) → turn.thread ≡ old.side.number
-    → IsWorker gate plan old made → (a : Adds gate (stock_of plan) turn old new lines lines') → Stepped gate plan turn old new made a.line → AddsRight gate plan turn old new made lines lines'
+    → IsWorker gate plan old made → (a : Adds gate (library_and_books_of plan) turn old new lines lines') → Stepped gate plan turn old new made a.line → AddsRight gate plan turn old new made lines lines'
 step_right gate plan turn old new lines lines' made own worker a s =
     let c : Setting = gate.locales.terms.setting in
     let at : Caller = turn_caller old.lines turn in
@@ -177,16 +177,16 @@ step_right gate plan turn old new lines lines' made own worker a s =
       };
     }
 
-pub line_right : (gate : Gates) (stock : Stock) (plan : PlanData) (turn : Turn) (old new : ScriptThread Seated) (lines lines' : List OutLine) (made : List Timed)
-    → stock_of plan ≡ stock → turn.thread ≡ old.side.number → IsWorker gate plan old made → Adds gate stock turn old new lines lines' → AddsRight gate plan turn old new made lines lines'
-line_right gate stock plan turn old new lines lines' made same own worker adds =
-    let a : Adds gate (stock_of plan) turn old new lines lines' = subst (λ (x : Stock). Adds gate x turn old new lines lines') (sym same) adds in
+pub line_right : (gate : Gates) (library_and_books : LibraryAndBooks) (plan : PlanData) (turn : Turn) (old new : ScriptThread Seated) (lines lines' : List OutLine) (made : List Timed)
+    → library_and_books_of plan ≡ library_and_books → turn.thread ≡ old.side.number → IsWorker gate plan old made → Adds gate library_and_books turn old new lines lines' → AddsRight gate plan turn old new made lines lines'
+line_right gate library_and_books plan turn old new lines lines' made same own worker adds =
+    let a : Adds gate (library_and_books_of plan) turn old new lines lines' = subst (λ (x : LibraryAndBooks). Adds gate x turn old new lines lines') (sym same) adds in
     step_right gate plan turn old new lines lines' made own worker a (stepped gate plan turn old new made a.line own (a.adds.leaves (bound_by (task_lines made)) worker.variables))
 
 -- ---- several turns
 
-pub works_none : (gate : Gates) (stock : Stock) (t : ScriptThread Seated) (lines : List OutLine) → WorksOn gate stock [] t t lines lines
-works_none gate stock t lines plan made same worker = record {
+pub works_none : (gate : Gates) (library_and_books : LibraryAndBooks) (t : ScriptThread Seated) (lines : List OutLine) → WorksOn gate library_and_books [] t t lines lines
+works_none gate library_and_books t lines plan made same worker = record {
   more = [];
   added = sym (append-nil lines);
   turns = refl;
@@ -220,11 +220,11 @@ works_more gate plan turns turn old mid new made lines lines' lines'' w r =
       worker = r.worker;
     }
 
-pub works_one_more : (gate : Gates) (stock : Stock) (turns : List Turn) (turn : Turn) (old mid new : ScriptThread Seated) (lines lines' lines'' : List OutLine)
-    → WorksOn gate stock turns old mid lines lines' → turn.thread ≡ mid.side.number → Adds gate stock turn mid new lines' lines'' → WorksOn gate stock (turns ++ turn ∷ []) old new lines lines''
-works_one_more gate stock turns turn old mid new lines lines' lines'' works own adds plan made same worker =
+pub works_one_more : (gate : Gates) (library_and_books : LibraryAndBooks) (turns : List Turn) (turn : Turn) (old mid new : ScriptThread Seated) (lines lines' lines'' : List OutLine)
+    → WorksOn gate library_and_books turns old mid lines lines' → turn.thread ≡ mid.side.number → Adds gate library_and_books turn mid new lines' lines'' → WorksOn gate library_and_books (turns ++ turn ∷ []) old new lines lines''
+works_one_more gate library_and_books turns turn old mid new lines lines' lines'' works own adds plan made same worker =
     let w = works plan made same worker in
-    works_more gate plan turns turn old mid new made lines lines' lines'' w (line_right gate stock plan turn mid new lines' lines'' (w.more ++ made) same own w.worker adds)
+    works_more gate plan turns turn old mid new made lines lines' lines'' w (line_right gate library_and_books plan turn mid new lines' lines'' (w.more ++ made) same own w.worker adds)
 
 -- ---- a Release of the first standing Hold
 
@@ -261,10 +261,10 @@ release_calls : (c : Setting) (t : ℕ) (first S : History) (op : Op) → MayFol
 release_calls c t first S op f =
     ap (λ (H : History). length H) (own_entry c first t op ∙ ap (λ (H : History). record { who = t; op = op; reply = answer c first t op } ∷ H) f.others) ∙ (omega arith)
 
-pub released : (gate : Gates) (stock : Stock) (round : ℕ) (old new : ScriptThread Seated) (lines lines' : List OutLine) (o : OpenHold) (os : List OpenHold)
+pub released : (gate : Gates) (library_and_books : LibraryAndBooks) (round : ℕ) (old new : ScriptThread Seated) (lines lines' : List OutLine) (o : OpenHold) (os : List OpenHold)
     → IsSeatedAt gate.locales old.side old.side.mine.seen → open_holds old.side.mine.seen old.side.number ≡ o ∷ os
-    → Adds gate stock (closing_turn round old.side.number (Releases o.handle)) old new lines lines' → LeftBy gate old new os
-released gate stock round old new lines lines' o os at standing a =
+    → Adds gate library_and_books (closing_turn round old.side.number (Releases o.handle)) old new lines lines' → LeftBy gate old new os
+released gate library_and_books round old new lines lines' o os at standing a =
     let c : Setting = gate.locales.terms.setting in
     let t : ℕ = old.side.number in
     let S : History = old.side.mine.seen in

@@ -21,7 +21,7 @@ use Rattle.script_plan.specs.Plan.{PlanData, IsSound}
 use Rattle.script_run.specs.declared.worker.Worker.{Worker}
 use Rattle.script_seats.specs.Seated.{Gates, IsNoEnd, MayCall}
 use Rattle.script_run.specs.Timed.{Timed, own_lines, turns_made, turn_made}
-use Rattle.script_run.specs.Beside.{stock_of, turns_of}
+use Rattle.script_run.specs.Beside.{library_and_books_of, turns_of}
 use Rattle.script_run.specs.Rounds.{Each, reader_at, MayWork, IsFor, IsForAsked, IsReady, AreBetween, turns_to}
 use Rattle.script_run.proofs.AskedSeen.{asked_few}
 use Rattle.script_run.proofs.Counting.{few_turns_to, turns_next}
@@ -68,7 +68,7 @@ lines_few plan rounds made same =
     sym (length-map made turn_made) ∙ ap (λ (ts : List Turn). length ts) same ∙ length-reverse (turns_to plan.bundle rounds)
 
 pub may_work : (gate : Gates) (plan : PlanData) (rounds : ℕ) (lines : List OutLine) (ws : List Worker) (turns : List Turn) → AreBetween gate plan rounds lines ws → IsSound plan → IsFor plan gate.locales.terms
-    → IsForAsked gate.locales.terms gate.catalogs.terms → turns ≡ round_turns (length plan.bundle.threads) plan.bundle.commands (rounds + 1) → Each ws (λ i w. MayWork gate (stock_of plan) turns w)
+    → IsForAsked gate.locales.terms gate.catalogs.terms → turns ≡ round_turns (length plan.bundle.threads) plan.bundle.commands (rounds + 1) → Each ws (λ i w. MayWork gate (library_and_books_of plan) turns w)
 may_work gate plan rounds lines ws turns was sound for for_asked turns_is = λ i d lt.
     let c : Setting = gate.locales.terms.setting in
     let w : Worker = slice_index_or ws i d in

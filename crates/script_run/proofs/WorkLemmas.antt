@@ -32,7 +32,7 @@ use Rattle.script_plan.specs.Plan.{PlanData, books_of}
 use Rattle.script_seats.specs.declared.seated.Seated.{Seated}
 use Rattle.script_seats.specs.Seated.{held_data, handed_out, Gates, IsSeatedAt, MayFollow, MayCall, IsFirst}
 use Rattle.script_run.specs.Timed.{Timed, lines_in, turns_made, AreTimed}
-use Rattle.script_run.specs.Beside.{Stock, stock_of, HasMade, IsWorker, CanAdd, Adds, turns_of, CanWork, WorksOn, CanClose, GivesUp, EndsSeat, Closes}
+use Rattle.script_run.specs.Beside.{LibraryAndBooks, library_and_books_of, HasMade, IsWorker, CanAdd, Adds, turns_of, CanWork, WorksOn, CanClose, GivesUp, EndsSeat, Closes}
 use Rattle.script_run.proofs.AskedSeen.{asking_same, same_calls_long}
 use Rattle.script_seats.proofs.HoldLists.{holds_of}
 use Rattle.script_seats.proofs.SeatLemmas.{legal_before, others_between}
@@ -49,14 +49,14 @@ pub turn_below : (turns : List LentTurn) (i : ℕ) → i < length turns → i < 
 turn_below turns i below = let same = length-map turns turn_seen in omega arith
 
 -- what the turns so far have left of a thread, and that it can take those to come
-pub record Going (gate : Gates) (stock : Stock) (turns : List Turn) (old new : ScriptThread Seated) (lines lines' : List OutLine) (i : ℕ) : Type 0 where
+pub record Going (gate : Gates) (library_and_books : LibraryAndBooks) (turns : List Turn) (old new : ScriptThread Seated) (lines lines' : List OutLine) (i : ℕ) : Type 0 where
   pub number : new.side.number ≡ old.side.number
-  pub can : CanWork gate stock new (turns_of old.side.number (drop i turns))
-  pub works : WorksOn gate stock (turns_of old.side.number (take i turns)) old new lines lines'
+  pub can : CanWork gate library_and_books new (turns_of old.side.number (drop i turns))
+  pub works : WorksOn gate library_and_books (turns_of old.side.number (take i turns)) old new lines lines'
 
-pub going_none : (gate : Gates) (stock : Stock) (turns : List Turn) (t : ScriptThread Seated) (lines : List OutLine) → CanWork gate stock t (turns_of t.side.number turns)
-    → Going gate stock turns t t lines lines 0
-going_none gate stock turns t lines can = record { number = refl; can = can; works = works_none gate stock t lines }
+pub going_none : (gate : Gates) (library_and_books : LibraryAndBooks) (turns : List Turn) (t : ScriptThread Seated) (lines : List OutLine) → CanWork gate library_and_books t (turns_of t.side.number turns)
+    → Going gate library_and_books turns t t lines lines 0
+going_none gate library_and_books turns t lines can = record { number = refl; can = can; works = works_none gate library_and_books t lines }
 
 -- the turns of a thread with one more turn, of another thread or its own
 not_its : (n : ℕ) (turn : Turn) (turns : List Turn) → (turn.thread == n) ≡ false → turns_of n (turn ∷ turns) ≡ turns_of n turns
@@ -73,10 +73,10 @@ taken : (turns : List Turn) (i : ℕ) (turn : Turn) → i < length turns → tur
 taken turns i turn below is =
     ap (λ (k : ℕ). take k turns) (add-one i) ∙ take-suc turns i turn below ∙ ap (λ (t : Turn). take i turns ++ t ∷ []) (sym is)
 
-pub going_past : (gate : Gates) (stock : Stock) (turns : List Turn) (old new : ScriptThread Seated) (lines lines' : List OutLine) (i : ℕ) (turn : Turn)
+pub going_past : (gate : Gates) (library_and_books : LibraryAndBooks) (turns : List Turn) (old new : ScriptThread Seated) (lines lines' : List OutLine) (i : ℕ) (turn : Turn)
     → i < length turns → turn ≡ get_or turns i turn → (turn.thread == old.side.number) ≡ false
-    → Going gate stock turns old new lines lines' i → Going gate stock turns old new lines lines' (i + 1)
-going_past gate stock turns old new lines lines' i turn below is other g =
+    → Going gate library_and_books turns old new lines lines' i → Going gate library_and_books turns old new lines lines' (i + 1)
+going_past gate library_and_books turns old new lines lines' i turn below is other g =
     let n : ℕ = old.side.number in
     let rest : turns_of n (drop i turns) ≡ turns_of n (drop (i + 1) turns) = ap (turns_of n) (to_come turns i turn below is) ∙ not_its n turn (drop (i + 1) turns) other in
     let so_far : turns_of n (take (i + 1) turns) ≡ turns_of n (take i turns) =
@@ -84,14 +84,14 @@ going_past gate stock turns old new lines lines' i turn below is other g =
     ∙ ap (λ (ts : List Turn). turns_of n (take i turns) ++ ts) (not_its n turn [] other) ∙ append-nil (turns_of n (take i turns)) in
     record {
       number = g.number;
-      can = subst (CanWork gate stock new) rest g.can;
-      works = subst (λ (ts : List Turn). WorksOn gate stock ts old new lines lines') (sym so_far) g.works;
+      can = subst (CanWork gate library_and_books new) rest g.can;
+      works = subst (λ (ts : List Turn). WorksOn gate library_and_books ts old new lines lines') (sym so_far) g.works;
     }
 
 -- a thread that can take turns can take the first of them
-can_add : (gate : Gates) (stock : Stock) (t : ScriptThread Seated) (turn : Turn) (turns : List Turn) → CanWork gate stock t (turn ∷ turns) → turn.thread ≡ t.side.number
-    → CanAdd gate stock t turn
-can_add gate stock t turn turns can own =
+can_add : (gate : Gates) (library_and_books : LibraryAndBooks) (t : ScriptThread Seated) (turn : Turn) (turns : List Turn) → CanWork gate library_and_books t (turn ∷ turns) → turn.thread ≡ t.side.number
+    → CanAdd gate library_and_books t turn
+can_add gate library_and_books t turn turns can own =
     let quota = can.calls.calls.quota in
     let asks = can.calls.asks.quota in
     let few = can.few in
@@ -106,13 +106,13 @@ can_add gate stock t turn turns can own =
       };
       few = omega arith;
       own = own;
-      fits = All-head (λ (x : Turn). TaskMay stock.library (MayCall gate.locales.terms.setting) x.task) turn turns can.fits;
+      fits = All-head (λ (x : Turn). TaskMay library_and_books.library (MayCall gate.locales.terms.setting) x.task) turn turns can.fits;
     }
 
 -- and then the others
-can_after : (gate : Gates) (stock : Stock) (old new : ScriptThread Seated) (turn : Turn) (turns : List Turn) (lines lines' : List OutLine) → CanWork gate stock old (turn ∷ turns)
-    → Adds gate stock turn old new lines lines' → CanWork gate stock new turns
-can_after gate stock old new turn turns lines lines' can a =
+can_after : (gate : Gates) (library_and_books : LibraryAndBooks) (old new : ScriptThread Seated) (turn : Turn) (turns : List Turn) (lines lines' : List OutLine) → CanWork gate library_and_books old (turn ∷ turns)
+    → Adds gate library_and_books turn old new lines lines' → CanWork gate library_and_books new turns
+can_after gate library_and_books old new turn turns lines lines' can a =
     let quota = can.calls.calls.quota in
     let asks = can.calls.asks.quota in
     let few = can.few in
@@ -127,22 +127,22 @@ can_after gate stock old new turn turns lines lines' can a =
         agree = can.calls.agree;
       });
       few = omega arith;
-      fits = All-tail (λ (x : Turn). TaskMay stock.library (MayCall gate.locales.terms.setting) x.task) turn turns can.fits;
+      fits = All-tail (λ (x : Turn). TaskMay library_and_books.library (MayCall gate.locales.terms.setting) x.task) turn turns can.fits;
     }
 
-pub going_can : (gate : Gates) (stock : Stock) (turns : List Turn) (old new : ScriptThread Seated) (lines lines' : List OutLine) (i : ℕ) (turn : Turn)
+pub going_can : (gate : Gates) (library_and_books : LibraryAndBooks) (turns : List Turn) (old new : ScriptThread Seated) (lines lines' : List OutLine) (i : ℕ) (turn : Turn)
     → i < length turns → turn ≡ get_or turns i turn → turn.thread ≡ old.side.number
-    → Going gate stock turns old new lines lines' i → CanAdd gate stock new turn
-going_can gate stock turns old new lines lines' i turn below is own g =
+    → Going gate library_and_books turns old new lines lines' i → CanAdd gate library_and_books new turn
+going_can gate library_and_books turns old new lines lines' i turn below is own g =
     let n : ℕ = old.side.number in
     let rest : turns_of n (drop i turns) ≡ turn ∷ turns_of n (drop (i + 1) turns) =
     ap (turns_of n) (to_come turns i turn below is) ∙ its_own n turn (drop (i + 1) turns) (eq-eqb turn.thread n own) in
-    can_add gate stock new turn (turns_of n (drop (i + 1) turns)) (subst (CanWork gate stock new) rest g.can) (own ∙ sym g.number)
+    can_add gate library_and_books new turn (turns_of n (drop (i + 1) turns)) (subst (CanWork gate library_and_books new) rest g.can) (own ∙ sym g.number)
 
-pub going_on : (gate : Gates) (stock : Stock) (turns : List Turn) (old mid new : ScriptThread Seated) (lines lines' lines'' : List OutLine) (i : ℕ) (turn : Turn)
+pub going_on : (gate : Gates) (library_and_books : LibraryAndBooks) (turns : List Turn) (old mid new : ScriptThread Seated) (lines lines' lines'' : List OutLine) (i : ℕ) (turn : Turn)
     → i < length turns → turn ≡ get_or turns i turn → turn.thread ≡ old.side.number
-    → Going gate stock turns old mid lines lines' i → Adds gate stock turn mid new lines' lines'' → Going gate stock turns old new lines lines'' (i + 1)
-going_on gate stock turns old mid new lines lines' lines'' i turn below is own g a =
+    → Going gate library_and_books turns old mid lines lines' i → Adds gate library_and_books turn mid new lines' lines'' → Going gate library_and_books turns old new lines lines'' (i + 1)
+going_on gate library_and_books turns old mid new lines lines' lines'' i turn below is own g a =
     let n : ℕ = old.side.number in
     let here : (turn.thread == n) ≡ true = eq-eqb turn.thread n own in
     let rest : turns_of n (drop i turns) ≡ turn ∷ turns_of n (drop (i + 1) turns) = ap (turns_of n) (to_come turns i turn below is) ∙ its_own n turn (drop (i + 1) turns) here in
@@ -151,9 +151,9 @@ going_on gate stock turns old mid new lines lines' lines'' i turn below is own g
     ∙ ap (λ (ts : List Turn). turns_of n (take i turns) ++ ts) (its_own n turn [] here) in
     record {
       number = a.adds.number ∙ g.number;
-      can = can_after gate stock mid new turn (turns_of n (drop (i + 1) turns)) lines' lines'' (subst (CanWork gate stock mid) rest g.can) a;
-      works = subst (λ (ts : List Turn). WorksOn gate stock ts old new lines lines'') (sym so_far)
-          (works_one_more gate stock (turns_of n (take i turns)) turn old mid new lines lines' lines'' g.works (own ∙ sym g.number) a);
+      can = can_after gate library_and_books mid new turn (turns_of n (drop (i + 1) turns)) lines' lines'' (subst (CanWork gate library_and_books mid) rest g.can) a;
+      works = subst (λ (ts : List Turn). WorksOn gate library_and_books ts old new lines lines'') (sym so_far)
+          (works_one_more gate library_and_books (turns_of n (take i turns)) turn old mid new lines lines' lines'' g.works (own ∙ sym g.number) a);
     }
 
 take_all : (turns : List Turn) (i : ℕ) → length turns ≤ i → take i turns ≡ turns
@@ -162,32 +162,32 @@ take_all [] (suc i) all = refl
 take_all (t ∷ turns) zero all = absurd (omega arith)
 take_all (t ∷ turns) (suc i) all = let below : length turns ≤ i = omega arith in ap (λ (ts : List Turn). t ∷ ts) (take_all turns i below)
 
-pub gone : (gate : Gates) (stock : Stock) (turns : List Turn) (old new : ScriptThread Seated) (lines lines' : List OutLine) (i : ℕ) → length turns ≤ i
-    → Going gate stock turns old new lines lines' i → WorksOn gate stock (turns_of old.side.number turns) old new lines lines'
-gone gate stock turns old new lines lines' i all g =
-    subst (λ (ts : List Turn). WorksOn gate stock (turns_of old.side.number ts) old new lines lines') (take_all turns i all) g.works
+pub gone : (gate : Gates) (library_and_books : LibraryAndBooks) (turns : List Turn) (old new : ScriptThread Seated) (lines lines' : List OutLine) (i : ℕ) → length turns ≤ i
+    → Going gate library_and_books turns old new lines lines' i → WorksOn gate library_and_books (turns_of old.side.number turns) old new lines lines'
+gone gate library_and_books turns old new lines lines' i all g =
+    subst (λ (ts : List Turn). WorksOn gate library_and_books (turns_of old.side.number ts) old new lines lines') (take_all turns i all) g.works
 
 -- ---- the standing Holds
 
 -- what the Releases so far have left of a thread
-pub record Releasing (gate : Gates) (stock : Stock) (round : ℕ) (old new : ScriptThread Seated) (lines lines' : List OutLine) : Type 0 where
+pub record Releasing (gate : Gates) (library_and_books : LibraryAndBooks) (round : ℕ) (old new : ScriptThread Seated) (lines lines' : List OutLine) : Type 0 where
   pub done : List OpenHold
   pub left : List OpenHold
   pub whole : open_holds old.side.mine.seen old.side.number ≡ done ++ left
   pub standing : open_holds new.side.mine.seen new.side.number ≡ left
   pub number : new.side.number ≡ old.side.number
-  pub can : CanClose gate stock new
-  pub works : WorksOn gate stock (releases round old.side.number done) old new lines lines'
+  pub can : CanClose gate library_and_books new
+  pub works : WorksOn gate library_and_books (releases round old.side.number done) old new lines lines'
 
-pub releasing_none : (gate : Gates) (stock : Stock) (round : ℕ) (t : ScriptThread Seated) (lines : List OutLine) → CanClose gate stock t → Releasing gate stock round t t lines lines
-releasing_none gate stock round t lines can = record {
+pub releasing_none : (gate : Gates) (library_and_books : LibraryAndBooks) (round : ℕ) (t : ScriptThread Seated) (lines : List OutLine) → CanClose gate library_and_books t → Releasing gate library_and_books round t t lines lines
+releasing_none gate library_and_books round t lines can = record {
   done = [];
   left = open_holds t.side.mine.seen t.side.number;
   whole = refl;
   standing = refl;
   number = refl;
   can = can;
-  works = works_none gate stock t lines;
+  works = works_none gate library_and_books t lines;
 }
 
 first_there : (h : Handle) (held : List HeldData) → IsFirst h held → 1 ≤ length held
@@ -195,9 +195,9 @@ first_there h [] first = absurd first
 first_there h (x ∷ held) first = omega arith
 
 -- the first standing Hold can be given up
-pub can_release : (gate : Gates) (stock : Stock) (round : ℕ) (t : ScriptThread Seated) (h : Handle) → CanClose gate stock t → IsFirst h t.side.holds.items
-    → CanAdd gate stock t (closing_turn round t.side.number (Releases h))
-can_release gate stock round t h can first =
+pub can_release : (gate : Gates) (library_and_books : LibraryAndBooks) (round : ℕ) (t : ScriptThread Seated) (h : Handle) → CanClose gate library_and_books t → IsFirst h t.side.holds.items
+    → CanAdd gate library_and_books t (closing_turn round t.side.number (Releases h))
+can_release gate library_and_books round t h can first =
     let some : 1 ≤ length t.side.holds.items = first_there h t.side.holds.items first in
     let quota = can.calls.calls.quota in
     let asks = can.calls.asks.quota in
@@ -233,33 +233,33 @@ first_open gate s h left at standing first = first_of h left (subst (IsFirst h) 
 abbrev pub release_turn : ℕ → ScriptThread Seated → Handle → Turn
 release_turn round t h = closing_turn round t.side.number (Releases h)
 
-left_by : (gate : Gates) (stock : Stock) (round : ℕ) (mid new : ScriptThread Seated) (lines lines' : List OutLine) (h : Handle) (left : List OpenHold) (f : FirstOf h left)
-    → IsSeatedAt gate.locales mid.side mid.side.mine.seen → open_holds mid.side.mine.seen mid.side.number ≡ left → Adds gate stock (release_turn round mid h) mid new lines lines' → LeftBy gate mid new f.others
-left_by gate stock round mid new lines lines' h left f at standing a =
-    released gate stock round mid new lines lines' f.hold f.others at (standing ∙ f.whole)
-    (subst (λ (g : Handle). Adds gate stock (release_turn round mid g) mid new lines lines') f.handle a)
+left_by : (gate : Gates) (library_and_books : LibraryAndBooks) (round : ℕ) (mid new : ScriptThread Seated) (lines lines' : List OutLine) (h : Handle) (left : List OpenHold) (f : FirstOf h left)
+    → IsSeatedAt gate.locales mid.side mid.side.mine.seen → open_holds mid.side.mine.seen mid.side.number ≡ left → Adds gate library_and_books (release_turn round mid h) mid new lines lines' → LeftBy gate mid new f.others
+left_by gate library_and_books round mid new lines lines' h left f at standing a =
+    released gate library_and_books round mid new lines lines' f.hold f.others at (standing ∙ f.whole)
+    (subst (λ (g : Handle). Adds gate library_and_books (release_turn round mid g) mid new lines lines') f.handle a)
 
 count_holds : (gate : Gates) (s : Seated) (left : List OpenHold) → IsSeatedAt gate.locales s s.mine.seen → open_holds s.mine.seen s.number ≡ left → length s.holds.items ≡ length left
 count_holds gate s left at standing = ap (λ (hs : List HeldData). length hs) (at.knows.holds ∙ ap handed_out standing) ∙ length-map left held_data
 
 -- one Hold less is standing
-pub one_less : (gate : Gates) (stock : Stock) (round : ℕ) (old mid new : ScriptThread Seated) (lines lines' lines'' : List OutLine) (h : Handle) → IsFirst h mid.side.holds.items
-    → Releasing gate stock round old mid lines lines' → Adds gate stock (release_turn round mid h) mid new lines' lines'' → length new.side.holds.items + 1 ≡ length mid.side.holds.items
-one_less gate stock round old mid new lines lines' lines'' h first r a =
+pub one_less : (gate : Gates) (library_and_books : LibraryAndBooks) (round : ℕ) (old mid new : ScriptThread Seated) (lines lines' lines'' : List OutLine) (h : Handle) → IsFirst h mid.side.holds.items
+    → Releasing gate library_and_books round old mid lines lines' → Adds gate library_and_books (release_turn round mid h) mid new lines' lines'' → length new.side.holds.items + 1 ≡ length mid.side.holds.items
+one_less gate library_and_books round old mid new lines lines' lines'' h first r a =
     let at = r.can.calls.calls.seated in
     let f = first_open gate mid.side h r.left at r.standing first in
-    let l = left_by gate stock round mid new lines' lines'' h r.left f at r.standing a in
+    let l = left_by gate library_and_books round mid new lines' lines'' h r.left f at r.standing a in
     let before : length mid.side.holds.items ≡ length (f.hold ∷ f.others) = count_holds gate mid.side (f.hold ∷ f.others) at (r.standing ∙ f.whole) in
     let after : length new.side.holds.items ≡ length f.others = count_holds gate new.side f.others l.seated l.holds in
     omega arith
 
-pub releasing_on : (gate : Gates) (stock : Stock) (round : ℕ) (old mid new : ScriptThread Seated) (lines lines' lines'' : List OutLine) (h : Handle) → IsFirst h mid.side.holds.items
-    → Releasing gate stock round old mid lines lines' → Adds gate stock (release_turn round mid h) mid new lines' lines'' → Releasing gate stock round old new lines lines''
-releasing_on gate stock round old mid new lines lines' lines'' h first r a =
+pub releasing_on : (gate : Gates) (library_and_books : LibraryAndBooks) (round : ℕ) (old mid new : ScriptThread Seated) (lines lines' lines'' : List OutLine) (h : Handle) → IsFirst h mid.side.holds.items
+    → Releasing gate library_and_books round old mid lines lines' → Adds gate library_and_books (release_turn round mid h) mid new lines' lines'' → Releasing gate library_and_books round old new lines lines''
+releasing_on gate library_and_books round old mid new lines lines' lines'' h first r a =
     let at = r.can.calls.calls.seated in
     let f = first_open gate mid.side h r.left at r.standing first in
-    let l = left_by gate stock round mid new lines' lines'' h r.left f at r.standing a in
-    let less : length new.side.holds.items + 1 ≡ length mid.side.holds.items = one_less gate stock round old mid new lines lines' lines'' h first r a in
+    let l = left_by gate library_and_books round mid new lines' lines'' h r.left f at r.standing a in
+    let less : length new.side.holds.items + 1 ≡ length mid.side.holds.items = one_less gate library_and_books round old mid new lines lines' lines'' h first r a in
     let quota = r.can.calls.calls.quota in
     let asks = r.can.calls.asks.quota in
     let asked : length new.side.reader.calls ≡ length mid.side.reader.calls = same_calls_long gate.catalogs mid.side new.side r.can.calls.asks.seated l.asking a.adds.number in
@@ -289,8 +289,8 @@ releasing_on gate stock round old mid new lines lines' lines'' h first r a =
         };
         few = omega arith;
       };
-      works = subst (λ (ts : List Turn). WorksOn gate stock ts old new lines lines'') turns
-          (works_one_more gate stock (releases round n r.done) (release_turn round mid h) old mid new lines lines' lines'' r.works refl a);
+      works = subst (λ (ts : List Turn). WorksOn gate library_and_books ts old new lines lines'') turns
+          (works_one_more gate library_and_books (releases round n r.done) (release_turn round mid h) old mid new lines lines' lines'' r.works refl a);
     }
 
 none_left : (left : List OpenHold) → [] ≡ handed_out left → left ≡ []
@@ -300,23 +300,23 @@ none_left (o ∷ os) is = absurd (cc is)
 open_none : (gate : Gates) (s : Seated) → IsSeatedAt gate.locales s s.mine.seen → s.holds.items ≡ [] → open_holds s.mine.seen s.number ≡ []
 open_none gate s at empty = none_left (open_holds s.mine.seen s.number) (sym empty ∙ at.knows.holds)
 
-pub gives_up : (gate : Gates) (stock : Stock) (round : ℕ) (old new : ScriptThread Seated) (lines lines' : List OutLine) → new.side.holds.items ≡ []
-    → Releasing gate stock round old new lines lines' → GivesUp gate stock round old new lines lines'
-gives_up gate stock round old new lines lines' empty r =
+pub gives_up : (gate : Gates) (library_and_books : LibraryAndBooks) (round : ℕ) (old new : ScriptThread Seated) (lines lines' : List OutLine) → new.side.holds.items ≡ []
+    → Releasing gate library_and_books round old new lines lines' → GivesUp gate library_and_books round old new lines lines'
+gives_up gate library_and_books round old new lines lines' empty r =
     let none : r.left ≡ [] = sym r.standing ∙ open_none gate new.side r.can.calls.calls.seated empty in
     let all : open_holds old.side.mine.seen old.side.number ≡ r.done = r.whole ∙ ap (λ (os : List OpenHold). r.done ++ os) none ∙ append-nil r.done in
     record {
       can = r.can;
       empty = empty;
       number = r.number;
-      works = subst (λ (os : List OpenHold). WorksOn gate stock (releases round old.side.number os) old new lines lines') (sym all) r.works;
+      works = subst (λ (os : List OpenHold). WorksOn gate library_and_books (releases round old.side.number os) old new lines lines') (sym all) r.works;
     }
 
 -- ---- the end of a thread
 
 -- a thread without an standing Hold holds nothing, and may make its last call
-pub holds_nothing : (gate : Gates) (stock : Stock) (t : ScriptThread Seated) → CanClose gate stock t → t.side.holds.items ≡ [] → (h : Handle) → holds t.side.mine h ≡ false
-holds_nothing gate stock t can empty h =
+pub holds_nothing : (gate : Gates) (library_and_books : LibraryAndBooks) (t : ScriptThread Seated) → CanClose gate library_and_books t → t.side.holds.items ≡ [] → (h : Handle) → holds t.side.mine h ≡ false
+holds_nothing gate library_and_books t can empty h =
     let at = can.calls.calls.seated in
     let s : Seated = t.side in
     sym (holds_of gate.locales.terms.setting s.mine.seen at.in_order.legal s.mine.number h)
@@ -358,10 +358,10 @@ module _ (gate : Gates) (plan : PlanData) (round : ℕ) (mid : ScriptThread Seat
       (sym (a.same.number ∙ number)) (sym (a.seen ∙ ap (λ (k : ℕ). record { who = k; op = End; reply = Ended } ∷ first) number))
       (record { legal = is.legal; callers = is.callers; calls = is.calls; in_reach = is.in_reach })
 
-pub closes : (gate : Gates) (stock : Stock) (plan : PlanData) (round : ℕ) (old mid : ScriptThread Seated) (seat : Caller Setting (ops.Op Share) (replies.Reply Share))
-    (made : List Timed) (lines lines' lines'' : List OutLine) → stock_of plan ≡ stock → IsWorker gate plan old made → GivesUp gate stock round old mid lines lines'
+pub closes : (gate : Gates) (library_and_books : LibraryAndBooks) (plan : PlanData) (round : ℕ) (old mid : ScriptThread Seated) (seat : Caller Setting (ops.Op Share) (replies.Reply Share))
+    (made : List Timed) (lines lines' lines'' : List OutLine) → library_and_books_of plan ≡ library_and_books → IsWorker gate plan old made → GivesUp gate library_and_books round old mid lines lines'
     → EndsSeat gate.locales round mid seat lines' lines'' → Closes gate plan round old seat made lines lines''
-closes gate stock plan round old mid seat made lines lines' lines'' same worker g e =
+closes gate library_and_books plan round old mid seat made lines lines' lines'' same worker g e =
     let n : ℕ = old.side.number in
     let a = e.answered in
     let first : History = before (thread_of e.cached seat) in

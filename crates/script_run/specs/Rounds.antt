@@ -27,7 +27,7 @@ use Rattle.script_lines.specs.Catalogs.{Books, catalog_setting}
 use Rattle.script_run.specs.declared.worker.Worker.{Worker}
 use Rattle.script_seats.specs.Seated.{Gates}
 use Rattle.script_run.specs.Timed.{Timed, AreTimed, IsWhole, AreAsked, lines_in, turns_made, own_lines, last_end, stacked}
-use Rattle.script_run.specs.Beside.{Stock, stock_of, HasMade, IsWorker, CanWork, Works, turns_of}
+use Rattle.script_run.specs.Beside.{LibraryAndBooks, library_and_books_of, HasMade, IsWorker, CanWork, Works, turns_of}
 
 -- a fact of each element, by its place
 abbrev pub Each : {A : Type 0} → List A → (ℕ → A → Type 0) → Type 0
@@ -76,13 +76,13 @@ pub record IsFirst (mines : List Thread) (all : List ReaderData) (i : ℕ) (w : 
 -- ---- while a round runs
 
 -- the worker may take its turns of the round
-abbrev pub MayWork : Gates → Stock → List Turn → Worker → Type 0
-MayWork gate stock turns w = CanWork gate stock w.thread (turns_of w.thread.side.number turns)
+abbrev pub MayWork : Gates → LibraryAndBooks → List Turn → Worker → Type 0
+MayWork gate library_and_books turns w = CanWork gate library_and_books w.thread (turns_of w.thread.side.number turns)
 
 -- what its work leaves, unless it was out of memory
-pub record HasWorked (gate : Gates) (stock : Stock) (turns : List Turn) (old new : Worker) : Type 0 where
+pub record HasWorked (gate : Gates) (library_and_books : LibraryAndBooks) (turns : List Turn) (old new : Worker) : Type 0 where
   pub number : OnOk new.outcome (new.thread.side.number ≡ old.thread.side.number)
-  pub works : OnOk new.outcome ((plan : PlanData) (made : List Timed) → stock_of plan ≡ stock → IsWorker gate plan old.thread made
+  pub works : OnOk new.outcome ((plan : PlanData) (made : List Timed) → library_and_books_of plan ≡ library_and_books → IsWorker gate plan old.thread made
       → Works gate plan (turns_of old.thread.side.number turns) old.thread new.thread made old.lines.items new.lines.items)
 
 -- the worker has given its lines away

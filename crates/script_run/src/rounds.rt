@@ -12,7 +12,7 @@ ghost use Rattle.script_plan.specs.Plan.{IsSound};
 ghost use Rattle.script_plan.specs.Prints.{Prints};
 ghost use Rattle.script_plan.specs.Serial.{setting};
 ghost use Rattle.script_seats.specs.Seated.{gates};
-ghost use Rattle.script_run.specs.Beside.{stock};
+ghost use Rattle.script_run.specs.Beside.{library_and_books};
 ghost use Rattle.script_run.specs.Rounds.{Each, EachTwo, plan_made, mine_of, reader_at, IsFor, IsForAsked, IsFirst, MayWork, HasWorked, HasGiven, IsOfBoth, IsOrderly, HasSeenOf, SeesMore, HasMet, AllMet, AreBetween, SeatSeesMore, AreClosing};
 
 use crate::worker::{Common, Worker};
@@ -130,12 +130,12 @@ fn side_by_side<R: Threads + Wait + Sync, P: Pause + Sync>(
     workers: &mut [Worker],
     turns: &[Turn<'_>],
 )
-    requires { Each workers.old (λ i w. MayWork (gates common.now.shared.now common.now.catalogs.now) (stock common.now.library.now common.now.books.now) (map turn_seen turns.now) w) }
-    ensures { EachTwo workers.old workers.new (λ i old new. HasWorked (gates common.now.shared.now common.now.catalogs.now) (stock common.now.library.now common.now.books.now) (map turn_seen turns.now) old new) }
+    requires { Each workers.old (λ i w. MayWork (gates common.now.shared.now common.now.catalogs.now) (library_and_books common.now.library.now common.now.books.now) (map turn_seen turns.now) w) }
+    ensures { EachTwo workers.old workers.new (λ i old new. HasWorked (gates common.now.shared.now common.now.catalogs.now) (library_and_books common.now.library.now common.now.books.now) (map turn_seen turns.now) old new) }
 {
     let work = |_: usize, worker: &mut Worker|
-        requires { MayWork (gates common.now.shared.now common.now.catalogs.now) (stock common.now.library.now common.now.books.now) (map turn_seen turns.now) worker.old }
-        ensures { HasWorked (gates common.entry.now.shared.now common.entry.now.catalogs.now) (stock common.entry.now.library.now common.entry.now.books.now) (map turn_seen turns.entry.now) worker.old worker.new }
+        requires { MayWork (gates common.now.shared.now common.now.catalogs.now) (library_and_books common.now.library.now common.now.books.now) (map turn_seen turns.now) worker.old }
+        ensures { HasWorked (gates common.entry.now.shared.now common.entry.now.catalogs.now) (library_and_books common.entry.now.library.now common.entry.now.books.now) (map turn_seen turns.entry.now) worker.old worker.new }
     { worker.work(common, turns) };
     for_each_beside(common.rt, workers, &work);
 }

@@ -12,11 +12,11 @@ use Rattle.category_store.specs.Locale.{Locale, posix_locale}
 use Rattle.category_store.specs.LibraryData.{LibraryData}
 use Rattle.script_lang.specs.declared.bundle.Bundle.{Bundle}
 use Rattle.script_lang.specs.Accepted.{bundle_of}
-use Rattle.shared_objects.specs.Shared.{Shared, Stock}
+use Rattle.shared_objects.specs.Shared.{Shared, MarkedLibraryData}
 use Rattle.shared_objects.specs.declared.fault.NewFault.TheVariants.{NoLocale, NoData}
 use Rattle.shared_objects.specs.declared.locale.LocaleParts.{LocaleParts}
 use Rattle.shared_objects.specs.Objects.{ctype_in, numeric_in, monetary_in, time_in, messages_in, names_in}
-use Rattle.shared_objects.specs.Locales.{mark_of, stock_of, stock_in, posix_of, locale_of, name_with, shared_of, new_locale}
+use Rattle.shared_objects.specs.Locales.{mark_of, marked_of, marked_in, posix_of, locale_of, name_with, shared_of, new_locale}
 
 -- a locale with the categories of a mask
 abbrev locale : List ℕ → ℕ → Locale
@@ -38,8 +38,8 @@ parts c n m t g = record { ctype = c; numeric = n; monetary = m; time = t; messa
 abbrev object : Parts → Shared
 object ps = record { library = library; object = ps }
 
-abbrev stock : Stock
-stock = record { library = library; books = []; mark = 7 }
+abbrev two_locales : MarkedLibraryData
+two_locales = record { library = library; books = []; mark = 7 }
 
 -- a locale of the library with these parts
 abbrev made : Parts → LocaleParts
@@ -58,27 +58,27 @@ long_mark = refl
 -- ---- a library that is read
 
 -- a bundle that is refused gives its own fault
-bundle_first : (text : List ℕ) (fault : Place × Reason) → bundle_of text ≡ Err fault → stock_in text ≡ Err fault
-bundle_first text fault h = ap (λ (b : Reads Bundle). b >>= λ (b : Bundle). stock_of b (mark_of text)) h
+bundle_first : (text : List ℕ) (fault : Place × Reason) → bundle_of text ≡ Err fault → marked_in text ≡ Err fault
+bundle_first text fault h = ap (λ (b : Reads Bundle). b >>= λ (b : Bundle). marked_of b (mark_of text)) h
 
 -- no locale, whatever the threads and rounds of the script are
-no_blocks : (threads : List (List ℕ)) (rounds : ℕ) → stock_of (record { charmaps = []; locales = []; later = []; catalogs = []; native = None; threads = threads; rounds = rounds; commands = [] }) 7
+no_blocks : (threads : List (List ℕ)) (rounds : ℕ) → marked_of (record { charmaps = []; locales = []; later = []; catalogs = []; native = None; threads = threads; rounds = rounds; commands = [] }) 7
     ≡ Ok (record { library = record { locales = []; names = []; first = []; keys = []; native = 0 }; books = []; mark = 7 })
 no_blocks threads rounds = refl
 
 -- ---- locales of a library
 
-own_locale : shared_of stock (made (parts 1 2 0 1 0)) ≡ Some (object (parts 1 2 0 1 0))
+own_locale : shared_of two_locales (made (parts 1 2 0 1 0)) ≡ Some (object (parts 1 2 0 1 0))
 own_locale = refl
 
 -- another mark, or a number above the last
-foreign : shared_of stock (locale_of 8 (parts 0 0 0 0 0)) ∷ shared_of stock (made (parts 3 0 0 0 0)) ∷ shared_of stock (made (parts 0 3 0 0 0)) ∷ shared_of stock (made (parts 0 0 3 0 0))
-    ∷ shared_of stock (made (parts 0 0 0 3 0)) ∷ shared_of stock (made (parts 0 0 0 0 3)) ∷ []
+foreign : shared_of two_locales (locale_of 8 (parts 0 0 0 0 0)) ∷ shared_of two_locales (made (parts 3 0 0 0 0)) ∷ shared_of two_locales (made (parts 0 3 0 0 0)) ∷ shared_of two_locales (made (parts 0 0 3 0 0))
+    ∷ shared_of two_locales (made (parts 0 0 0 3 0)) ∷ shared_of two_locales (made (parts 0 0 0 0 3)) ∷ []
     ≡ None ∷ None ∷ None ∷ None ∷ None ∷ None ∷ []
 foreign = refl
 
 -- each number of a locale has its name, and there is none above the last
-own_names : name_with stock 0 ∷ name_with stock 1 ∷ name_with stock 2 ∷ name_with stock 3 ∷ [] ≡ Some (codes "C") ∷ Some (codes "us") ∷ Some (codes "half") ∷ None ∷ []
+own_names : name_with two_locales 0 ∷ name_with two_locales 1 ∷ name_with two_locales 2 ∷ name_with two_locales 3 ∷ [] ≡ Some (codes "C") ∷ Some (codes "us") ∷ Some (codes "half") ∷ None ∷ []
 own_names = refl
 
 -- the name of each category
@@ -88,42 +88,42 @@ category_names = refl
 -- ---- newlocale
 
 -- the first locale has the POSIX locale in each category
-first_is_posix : posix_of stock ≡ made (parts 0 0 0 0 0)
+first_is_posix : posix_of two_locales ≡ made (parts 0 0 0 0 0)
 first_is_posix = refl
 
-all_categories : new_locale stock 31 (codes "us") (posix_of stock) ≡ Ok (made (parts 1 1 1 1 1))
+all_categories : new_locale two_locales 31 (codes "us") (posix_of two_locales) ≡ Ok (made (parts 1 1 1 1 1))
 all_categories = refl
 
 -- a category outside of the mask keeps what the base has
-others_of_the_base : new_locale stock 2 (codes "half") (made (parts 1 1 0 1 0)) ≡ Ok (made (parts 1 2 0 1 0))
+others_of_the_base : new_locale two_locales 2 (codes "half") (made (parts 1 1 0 1 0)) ≡ Ok (made (parts 1 2 0 1 0))
 others_of_the_base = refl
 
-posix_by_name : new_locale stock 9 (codes "POSIX") (made (parts 1 2 1 1 1)) ≡ Ok (made (parts 0 2 1 0 1))
+posix_by_name : new_locale two_locales 9 (codes "POSIX") (made (parts 1 2 1 1 1)) ≡ Ok (made (parts 0 2 1 0 1))
 posix_by_name = refl
 
 -- the first category of the mask for which there is no data
-no_ctype : new_locale stock 31 (codes "half") (posix_of stock) ≡ Err (NoData Ctype)
+no_ctype : new_locale two_locales 31 (codes "half") (posix_of two_locales) ≡ Err (NoData Ctype)
 no_ctype = refl
 
-no_time : new_locale stock 26 (codes "half") (posix_of stock) ≡ Err (NoData Time)
+no_time : new_locale two_locales 26 (codes "half") (posix_of two_locales) ≡ Err (NoData Time)
 no_time = refl
 
-no_locale : new_locale stock 24 (codes "de") (posix_of stock) ≡ Err (NoData Time)
+no_locale : new_locale two_locales 24 (codes "de") (posix_of two_locales) ≡ Err (NoData Time)
 no_locale = refl
 
 -- an empty mask asks for nothing, and an empty name for the native locale
-empty_mask : new_locale stock 0 (codes "de") (made (parts 1 2 0 1 0)) ≡ Ok (made (parts 1 2 0 1 0))
+empty_mask : new_locale two_locales 0 (codes "de") (made (parts 1 2 0 1 0)) ≡ Ok (made (parts 1 2 0 1 0))
 empty_mask = refl
 
-native : new_locale stock 2 [] (posix_of stock) ≡ Ok (made (parts 0 2 0 0 0))
+native : new_locale two_locales 2 [] (posix_of two_locales) ≡ Ok (made (parts 0 2 0 0 0))
 native = refl
 
 -- each category has its own part of a mixed name
-mixed : new_locale stock 19 (codes "LC_CTYPE=us;LC_NUMERIC=half;LC_MONETARY=de;LC_TIME=de;LC_MESSAGES=us") (posix_of stock) ≡ Ok (made (parts 1 2 0 0 1))
+mixed : new_locale two_locales 19 (codes "LC_CTYPE=us;LC_NUMERIC=half;LC_MONETARY=de;LC_TIME=de;LC_MESSAGES=us") (posix_of two_locales) ≡ Ok (made (parts 1 2 0 0 1))
 mixed = refl
 
 -- a base of another library goes before all else
-other_base : new_locale stock 24 (codes "de") (locale_of 8 (parts 0 0 0 0 0)) ≡ Err NoLocale
+other_base : new_locale two_locales 24 (codes "de") (locale_of 8 (parts 0 0 0 0 0)) ≡ Err NoLocale
 other_base = refl
 
 -- ---- the categories of an object

@@ -6,28 +6,28 @@ use Rattle.shared_objects.specs.declared.catalog.CatalogParts.{CatalogParts}
 use Rattle.shared_objects.specs.declared.fault.OpenFault.{OpenFault}
 use Rattle.shared_objects.specs.declared.fault.OpenFault.TheVariants.{NoLocale, NoCatalog}
 use Rattle.shared_objects.specs.declared.locale.LocaleParts.{LocaleParts}
-use Rattle.shared_objects.specs.Shared.{Shared, Stock}
+use Rattle.shared_objects.specs.Shared.{Shared, MarkedLibraryData}
 use Rattle.shared_objects.specs.Objects.{name_in}
 use Rattle.shared_objects.specs.Locales.{shared_of}
 
 -- the catalog with a number
-abbrev pub catalog_with : Stock → Option ℕ → Result CatalogParts OpenFault
-catalog_with stock None = Err NoCatalog
-catalog_with stock (Some n) = Ok (record { mark = stock.mark; number = n })
+abbrev pub catalog_with : MarkedLibraryData → Option ℕ → Result CatalogParts OpenFault
+catalog_with marked None = Err NoCatalog
+catalog_with marked (Some n) = Ok (record { mark = marked.mark; number = n })
 
 -- the catalog that a name opens for an object: that for the name of its LC_MESSAGES
-abbrev pub opened_by : Stock → Option Shared → List ℕ → Result CatalogParts OpenFault
-opened_by stock None name = Err NoLocale
-opened_by stock (Some o) name = catalog_with stock (number_of name (name_in o Messages) stock.books)
+abbrev pub opened_by : MarkedLibraryData → Option Shared → List ℕ → Result CatalogParts OpenFault
+opened_by marked None name = Err NoLocale
+opened_by marked (Some o) name = catalog_with marked (number_of name (name_in o Messages) marked.books)
 
 -- the same for a locale
-abbrev pub opened : Stock → LocaleParts → List ℕ → Result CatalogParts OpenFault
-opened stock l name = opened_by stock (shared_of stock l) name
+abbrev pub opened : MarkedLibraryData → LocaleParts → List ℕ → Result CatalogParts OpenFault
+opened marked l name = opened_by marked (shared_of marked l) name
 
 -- a catalog is of a library whose mark it has, if the library has its number
-abbrev pub has_catalog : Stock → CatalogParts → Bool
-has_catalog stock c = nat_eq c.mark stock.mark && nat_lt c.number (length stock.books)
+abbrev pub has_catalog : MarkedLibraryData → CatalogParts → Bool
+has_catalog marked c = nat_eq c.mark marked.mark && nat_lt c.number (length marked.books)
 
 -- the text of a message
-abbrev pub message_in : Stock → CatalogParts → ℕ → ℕ → Option (List ℕ)
-message_in stock c set number = if has_catalog stock c then message_at stock.books c.number set number else None
+abbrev pub message_in : MarkedLibraryData → CatalogParts → ℕ → ℕ → Option (List ℕ)
+message_in marked c set number = if has_catalog marked c then message_at marked.books c.number set number else None

@@ -4,16 +4,16 @@ use Rattle.category_store.specs.Joined as libraries
 use Rattle.library_parts.specs.declared.seen.TheConstants.{PART_LIMIT}
 use Rattle.shared_objects.specs.declared.fault.JoinFault.{JoinFault}
 use Rattle.shared_objects.specs.declared.fault.JoinFault.TheVariants.{TooMany, Memory}
-use Rattle.shared_objects.specs.Shared.{Stock}
+use Rattle.shared_objects.specs.Shared.{MarkedLibraryData}
 use Rattle.shared_objects.specs.Parts.{joined_mark}
 
 -- whether two libraries together have no more locales and catalogs than one may have
-abbrev pub has_room : Stock → Stock → Bool
+abbrev pub has_room : MarkedLibraryData → MarkedLibraryData → Bool
 has_room first second =
     nat_le (length first.library.locales + length second.library.locales) PART_LIMIT && nat_le (length first.books + length second.books) PART_LIMIT
 
 -- a library, and behind it another, whose meaning of a name of both holds
-abbrev pub both : Stock → Stock → Stock
+abbrev pub both : MarkedLibraryData → MarkedLibraryData → MarkedLibraryData
 both first second = record {
   library = libraries.joined first.library second.library;
   books = first.books ++ second.books;
@@ -21,11 +21,11 @@ both first second = record {
 }
 
 -- the same, if one library may have so many
-abbrev pub joined : Stock → Stock → Option Stock
+abbrev pub joined : MarkedLibraryData → MarkedLibraryData → Option MarkedLibraryData
 joined first second = if has_room first second then Some (both first second) else None
 
 -- two libraries are joined, or have too many together; or it is out of memory, which says nothing
-abbrev pub Joins : Result Stock JoinFault → Stock → Stock → Type 0
-Joins (Ok stock) first second = joined first second ≡ Some stock
+abbrev pub Joins : Result MarkedLibraryData JoinFault → MarkedLibraryData → MarkedLibraryData → Type 0
+Joins (Ok marked) first second = joined first second ≡ Some marked
 Joins (Err TooMany) first second = joined first second ≡ None
 Joins (Err Memory) first second = Unit {0}

@@ -8,7 +8,7 @@ use Rattle.library_parts.specs.Made.{made}
 use Rattle.library_parts.specs.Told.{Tells}
 use Rattle.shared_objects.specs.Locales.{mark_step, mark_from}
 use Rattle.shared_objects.specs.declared.mark.TheConstants.{MODULUS}
-use Rattle.shared_objects.specs.Shared.{Stock}
+use Rattle.shared_objects.specs.Shared.{MarkedLibraryData}
 
 -- a part of this kind
 abbrev pub part_of : PartKind → List ℕ → List ℕ → List ℕ → LibraryPart
@@ -37,5 +37,5 @@ joined_mark first second = (first * 257 + second) % MODULUS
 -- ---- libraries
 
 -- the library of parts, or the first fault of them
-abbrev pub stock_built : List LibraryPart → Tells Stock
-stock_built ps = made ps >>= λ m. Ok (record { library = m.library; books = m.books; mark = parts_mark 1 ps })
+abbrev pub marked_built : List LibraryPart → Tells MarkedLibraryData
+marked_built ps = made ps >>= λ m. Ok (record { library = m.library; books = m.books; mark = parts_mark 1 ps })

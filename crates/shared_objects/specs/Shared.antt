@@ -9,7 +9,7 @@ pub record Shared : Type 0 where
   pub object : Parts
 
 -- a library of compiled locales, its message catalogs, and the mark of what it was made of
-pub record Stock : Type 0 where
+pub record MarkedLibraryData : Type 0 where
   pub library : LibraryData
   pub books : List NamedBook
   pub mark : ℕ

@@ -8,13 +8,13 @@ mod fault;
 mod locale;
 mod mark;
 mod reads;
-mod shelf;
-mod shelved;
+mod marked_library;
+mod with_offers;
 mod view;
 
 pub use catalog::CatalogParts;
 pub use draft::Draft;
 pub use fault::{JoinFault, NewFault, OpenFault};
 pub use locale::LocaleParts;
-pub use shelf::Shelf;
+pub use marked_library::MarkedLibrary;
 pub use view::View;

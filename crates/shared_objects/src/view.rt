@@ -5,21 +5,21 @@ ghost use Rattle.shared_objects.specs.Locales.{parts_of};
 ghost use Rattle.shared_objects.specs.Objects.{compiled_in};
 
 use crate::locale::LocaleParts;
-use crate::shelved::Shelved;
+use crate::with_offers::LibraryWithOffers;
 use category_store::{Compiled, Share};
 use lc_base::Category;
 use std::marker::Model;
 
 /// A library and one of its locales. Whatever is read of it takes no memory and writes nothing.
 pub struct View<'a> {
-    shelved: &'a Shelved,
+    with_offers: &'a LibraryWithOffers,
     locale: &'a LocaleParts,
 }
 
 impl<'a> Drop for View<'a> {
     fn drop(self) {
         let View {
-            shelved: _,
+            with_offers: _,
             locale: _,
         } = self;
     }
@@ -31,16 +31,16 @@ impl<'a> Model for View<'a> {
 
     ghost Value = { Shared };
 
-    ghost view = { λ v. record { library = v.shelved.now; object = parts_of v.locale.now } };
+    ghost view = { λ v. record { library = v.with_offers.now; object = parts_of v.locale.now } };
 }
 
 impl<'a> View<'a> {
     /// A library and one of its locales.
     #[inline(always)]
-    pub(crate) fn of(shelved: &'a Shelved, locale: &'a LocaleParts) -> View<'a>
-        ensures { result ≡ record { library = shelved.now; object = parts_of locale.now } }
+    pub(crate) fn of(with_offers: &'a LibraryWithOffers, locale: &'a LocaleParts) -> View<'a>
+        ensures { result ≡ record { library = with_offers.now; object = parts_of locale.now } }
     {
-        View { shelved, locale }
+        View { with_offers, locale }
     }
 
     /// The compiled locale of a category.
@@ -48,7 +48,7 @@ impl<'a> View<'a> {
     pub(crate) fn compiled(&self, category: Category) -> Compiled<'_>
         ensures { result ≡ compiled_in self.now category }
     {
-        self.shelved.compiled(Share {
+        self.with_offers.compiled(Share {
             number: self.locale.number(category),
         })
     }

@@ -1,5 +1,5 @@
 use Rattle.std.proofs.Common.{ap, ◌∙◌}
-use Rattle.shared_objects.specs.Shared.{Stock}
+use Rattle.shared_objects.specs.Shared.{MarkedLibraryData}
 use Rattle.c_values.specs.Answers.{new_told}
 use Rattle.locale_objects.proofs.exports.lobj_newlocale.Goals as goal
 
@@ -7,4 +7,4 @@ use Rattle.locale_objects.proofs.exports.lobj_newlocale.Goals as goal
 pub returns : goal.returns
 returns c =
     c.put_new.ensures
-    ∙ ap (λ (stock : Stock). new_told c.args.out.now stock c.args.mask c.args.name.now c.args.base) (c.get.ensures ∙ c.peek-peek.ensures)
+    ∙ ap (λ (marked : MarkedLibraryData). new_told c.args.out.now marked c.args.mask c.args.name.now c.args.base) (c.get.ensures ∙ c.peek-peek.ensures)

@@ -6,10 +6,10 @@ use Rattle.script_wishes.specs.declared.turns.Turn.{Turn as LentTurn}
 use Rattle.script_plan.specs.Plan.{PlanData}
 use Rattle.script_run.specs.declared.worker.Worker.{Worker}
 use Rattle.script_seats.specs.Seated.{Gates, gates}
-use Rattle.script_run.specs.Beside.{Stock, stock, stock_of}
+use Rattle.script_run.specs.Beside.{LibraryAndBooks, library_and_books, library_and_books_of}
 use Rattle.script_run.specs.Rounds.{Each, EachTwo, plan_made, IsOfBoth, IsOrderly, MayWork, HasWorked, HasGiven, AllMet}
 use Rattle.script_run.proofs.Rounding.{between_next, in_order_at}
-use Rattle.script_run.proofs.Running.{stock_made}
+use Rattle.script_run.proofs.Running.{library_and_books_made}
 use Rattle.script_run.proofs.Stacking.{written}
 use Rattle.script_run.proofs.Taking.{may_work}
 use Rattle.script_run.proofs.rounds.all_rounds.Goals as goal
@@ -18,19 +18,19 @@ pub side_by_side-requires-after_bounds : goal.side_by_side-requires-after_bounds
 side_by_side-requires-after_bounds g c κs within =
     let plan : PlanData = plan_made c.args.bundle.now c.args.common.now.library.now c.args.common.now.books.now in
     let gate : Gates = gates c.args.common.now.shared.now c.args.common.now.catalogs.now in
-    let shelf : Stock = stock c.args.common.now.library.now c.args.common.now.books.now in
-    let same : stock_of plan ≡ shelf = stock_made c.args.bundle.now c.args.common.now.library.now c.args.common.now.books.now c.requires.catalogs in
+    let with_books : LibraryAndBooks = library_and_books c.args.common.now.library.now c.args.common.now.books.now in
+    let same : library_and_books_of plan ≡ with_books = library_and_books_made c.args.bundle.now c.args.common.now.library.now c.args.common.now.books.now c.requires.catalogs in
     let turns : List Turn = map turn_seen c.as_slice.result.now in
     let turns_are : turns ≡ round_turns (length plan.bundle.threads) plan.bundle.commands (c.loop-i.i + 1) = ap (λ (ts : List LentTurn). map turn_seen ts) c.as_slice.ensures.value ∙ c.in_ok-turns.ensures in
-    subst (λ (ws : List Worker). Each ws (λ i w. MayWork gate shelf turns w)) (sym c.as_mut_slice.ensures.value)
-    (subst (λ (x : Stock). Each c.loop-i.workers.items (λ i w. MayWork gate x turns w)) same (may_work gate plan c.loop-i.i c.loop-i.lines.items c.loop-i.workers.items turns c.loop-i.invariant c.requires.sound c.requires.terms c.requires.asked turns_are))
+    subst (λ (ws : List Worker). Each ws (λ i w. MayWork gate with_books turns w)) (sym c.as_mut_slice.ensures.value)
+    (subst (λ (x : LibraryAndBooks). Each c.loop-i.workers.items (λ i w. MayWork gate x turns w)) same (may_work gate plan c.loop-i.i c.loop-i.lines.items c.loop-i.workers.items turns c.loop-i.invariant c.requires.sound c.requires.terms c.requires.asked turns_are))
 
 pub meet_all-requires-clause-threads : goal.meet_all-requires-clause-threads
 meet_all-requires-clause-threads g c =
     let plan : PlanData = plan_made c.args.bundle.now c.args.common.now.library.now c.args.common.now.books.now in
     let gate : Gates = gates c.args.common.now.shared.now c.args.common.now.catalogs.now in
-    let shelf : Stock = stock c.args.common.now.library.now c.args.common.now.books.now in
-    let same : stock_of plan ≡ shelf = stock_made c.args.bundle.now c.args.common.now.library.now c.args.common.now.books.now c.requires.catalogs in
+    let with_books : LibraryAndBooks = library_and_books c.args.common.now.library.now c.args.common.now.books.now in
+    let same : library_and_books_of plan ≡ with_books = library_and_books_made c.args.bundle.now c.args.common.now.library.now c.args.common.now.books.now c.requires.catalogs in
     let turns : List Turn = map turn_seen c.as_slice.result.now in
     let turns_are : turns ≡ round_turns (length plan.bundle.threads) plan.bundle.commands (c.loop-i.i + 1) = ap (λ (ts : List LentTurn). map turn_seen ts) c.as_slice.ensures.value ∙ c.in_ok-turns.ensures in
     let n = c.loop-i.workers.len in
@@ -46,9 +46,9 @@ meet_all-requires-clause-threads g c =
     let slice1_long = ap (λ (ws : List Worker). length ws) slice1 in
     let long2 : length given ≡ n = omega (arith, c.gather.auto.workers, slice1_long, long1) in
     let items2 : take n (given ++ drop (length given) (take n (worked ++ drop (length worked) items0))) ≡ given = written n given (drop (length given) (take n (worked ++ drop (length worked) items0))) long2 in
-    let work : EachTwo items0 worked (λ i old new. HasWorked gate (stock_of plan) turns old new) =
-    subst (λ (x : Stock). EachTwo items0 worked (λ i old new. HasWorked gate x turns old new)) (sym same)
-    (subst (λ (ws : List Worker). EachTwo ws worked (λ i old new. HasWorked gate shelf turns old new)) slice0 c.side_by_side.ensures)
+    let work : EachTwo items0 worked (λ i old new. HasWorked gate (library_and_books_of plan) turns old new) =
+    subst (λ (x : LibraryAndBooks). EachTwo items0 worked (λ i old new. HasWorked gate x turns old new)) (sym same)
+    (subst (λ (ws : List Worker). EachTwo ws worked (λ i old new. HasWorked gate with_books turns old new)) slice0 c.side_by_side.ensures)
     in
     let give : EachTwo worked given (λ i old new. HasGiven old new) = subst (λ (ws : List Worker). EachTwo ws given (λ i old new. HasGiven old new)) slice1 c.in_ok-gather.ensures.given in
     let ordered : Each given (λ i w. IsOfBoth gate w × IsOrderly gate w) =
@@ -60,8 +60,8 @@ pub meet_all-requires-clause-in_order : goal.meet_all-requires-clause-in_order
 meet_all-requires-clause-in_order g c =
     let plan : PlanData = plan_made c.args.bundle.now c.args.common.now.library.now c.args.common.now.books.now in
     let gate : Gates = gates c.args.common.now.shared.now c.args.common.now.catalogs.now in
-    let shelf : Stock = stock c.args.common.now.library.now c.args.common.now.books.now in
-    let same : stock_of plan ≡ shelf = stock_made c.args.bundle.now c.args.common.now.library.now c.args.common.now.books.now c.requires.catalogs in
+    let with_books : LibraryAndBooks = library_and_books c.args.common.now.library.now c.args.common.now.books.now in
+    let same : library_and_books_of plan ≡ with_books = library_and_books_made c.args.bundle.now c.args.common.now.library.now c.args.common.now.books.now c.requires.catalogs in
     let turns : List Turn = map turn_seen c.as_slice.result.now in
     let turns_are : turns ≡ round_turns (length plan.bundle.threads) plan.bundle.commands (c.loop-i.i + 1) = ap (λ (ts : List LentTurn). map turn_seen ts) c.as_slice.ensures.value ∙ c.in_ok-turns.ensures in
     let n = c.loop-i.workers.len in
@@ -77,9 +77,9 @@ meet_all-requires-clause-in_order g c =
     let slice1_long = ap (λ (ws : List Worker). length ws) slice1 in
     let long2 : length given ≡ n = omega (arith, c.gather.auto.workers, slice1_long, long1) in
     let items2 : take n (given ++ drop (length given) (take n (worked ++ drop (length worked) items0))) ≡ given = written n given (drop (length given) (take n (worked ++ drop (length worked) items0))) long2 in
-    let work : EachTwo items0 worked (λ i old new. HasWorked gate (stock_of plan) turns old new) =
-    subst (λ (x : Stock). EachTwo items0 worked (λ i old new. HasWorked gate x turns old new)) (sym same)
-    (subst (λ (ws : List Worker). EachTwo ws worked (λ i old new. HasWorked gate shelf turns old new)) slice0 c.side_by_side.ensures)
+    let work : EachTwo items0 worked (λ i old new. HasWorked gate (library_and_books_of plan) turns old new) =
+    subst (λ (x : LibraryAndBooks). EachTwo items0 worked (λ i old new. HasWorked gate x turns old new)) (sym same)
+    (subst (λ (ws : List Worker). EachTwo ws worked (λ i old new. HasWorked gate with_books turns old new)) slice0 c.side_by_side.ensures)
     in
     let give : EachTwo worked given (λ i old new. HasGiven old new) = subst (λ (ws : List Worker). EachTwo ws given (λ i old new. HasGiven old new)) slice1 c.in_ok-gather.ensures.given in
     let ordered : Each given (λ i w. IsOfBoth gate w × IsOrderly gate w) =
@@ -91,8 +91,8 @@ pub loop-i-preserved : goal.loop-i-preserved
 loop-i-preserved g c =
     let plan : PlanData = plan_made c.args.bundle.now c.args.common.now.library.now c.args.common.now.books.now in
     let gate : Gates = gates c.args.common.now.shared.now c.args.common.now.catalogs.now in
-    let shelf : Stock = stock c.args.common.now.library.now c.args.common.now.books.now in
-    let same : stock_of plan ≡ shelf = stock_made c.args.bundle.now c.args.common.now.library.now c.args.common.now.books.now c.requires.catalogs in
+    let with_books : LibraryAndBooks = library_and_books c.args.common.now.library.now c.args.common.now.books.now in
+    let same : library_and_books_of plan ≡ with_books = library_and_books_made c.args.bundle.now c.args.common.now.library.now c.args.common.now.books.now c.requires.catalogs in
     let turns : List Turn = map turn_seen c.as_slice.result.now in
     let turns_are : turns ≡ round_turns (length plan.bundle.threads) plan.bundle.commands (c.loop-i.i + 1) = ap (λ (ts : List LentTurn). map turn_seen ts) c.as_slice.ensures.value ∙ c.in_ok-turns.ensures in
     let n = c.loop-i.workers.len in
@@ -108,9 +108,9 @@ loop-i-preserved g c =
     let slice1_long = ap (λ (ws : List Worker). length ws) slice1 in
     let long2 : length given ≡ n = omega (arith, c.gather.auto.workers, slice1_long, long1) in
     let items2 : take n (given ++ drop (length given) (take n (worked ++ drop (length worked) items0))) ≡ given = written n given (drop (length given) (take n (worked ++ drop (length worked) items0))) long2 in
-    let work : EachTwo items0 worked (λ i old new. HasWorked gate (stock_of plan) turns old new) =
-    subst (λ (x : Stock). EachTwo items0 worked (λ i old new. HasWorked gate x turns old new)) (sym same)
-    (subst (λ (ws : List Worker). EachTwo ws worked (λ i old new. HasWorked gate shelf turns old new)) slice0 c.side_by_side.ensures)
+    let work : EachTwo items0 worked (λ i old new. HasWorked gate (library_and_books_of plan) turns old new) =
+    subst (λ (x : LibraryAndBooks). EachTwo items0 worked (λ i old new. HasWorked gate x turns old new)) (sym same)
+    (subst (λ (ws : List Worker). EachTwo ws worked (λ i old new. HasWorked gate with_books turns old new)) slice0 c.side_by_side.ensures)
     in
     let give : EachTwo worked given (λ i old new. HasGiven old new) = subst (λ (ws : List Worker). EachTwo ws given (λ i old new. HasGiven old new)) slice1 c.in_ok-gather.ensures.given in
     let ordered : Each given (λ i w. IsOfBoth gate w × IsOrderly gate w) =

@@ -3,11 +3,11 @@ use Rattle.std.specs.Vec.Iter.{into_iter_items}
 use Rattle.script_plan.specs.Plan.{PlanData}
 use Rattle.script_run.specs.declared.worker.Worker.{Worker}
 use Rattle.script_seats.specs.Seated.{Gates, gates}
-use Rattle.script_run.specs.Beside.{Stock, stock_of, CanClose}
+use Rattle.script_run.specs.Beside.{LibraryAndBooks, library_and_books_of, CanClose}
 use Rattle.script_run.specs.Rounds.{Each, EachTwo, plan_made, SeatData, SeatSeesMore, AreClosing}
 use Rattle.thread_current.specs.Thread.{GoesOnFrom, thread_of}
 use Rattle.script_run.proofs.Closing.{closing_begun, closing_step, can_close}
-use Rattle.script_run.proofs.Running.{stock_made}
+use Rattle.script_run.proofs.Running.{library_and_books_made}
 use Rattle.script_run.proofs.Stacking.{written}
 use Rattle.script_run.proofs.rounds.close_all.Goals as goal
 
@@ -32,8 +32,8 @@ close-requires g c =
     subst (λ (ws : List Worker). AreClosing gate plan c.loop-worker.seats.items ws c.loop-worker.lines.items) steps c.loop-worker.invariant.closing
     in
     record {
-      can = subst (λ (x : Stock). CanClose gate x c.meet_last.new.thread) (stock_made c.args.bundle.now c.args.common.now.library.now c.args.common.now.books.now c.requires.catalogs)
-          (subst (CanClose gate (stock_of plan)) (sym c.meet_last.ensures.thread)
+      can = subst (λ (x : LibraryAndBooks). CanClose gate x c.meet_last.new.thread) (library_and_books_made c.args.bundle.now c.args.common.now.library.now c.args.common.now.books.now c.requires.catalogs)
+          (subst (CanClose gate (library_and_books_of plan)) (sym c.meet_last.ensures.thread)
           (can_close gate plan c.loop-worker.seats.items c.in-Some.worker (into_iter_items c.next.new.self) c.meet_last.new.thread.side.mine c.loop-worker.lines.items was c.requires.sound c.requires.terms c.requires.asked c.meet_last.ensures.saw c.meet_last.ensures.in_order));
     }
 
@@ -60,7 +60,7 @@ loop-worker-preserved g c =
     record {
       closing = closing_step gate plan seats others c.push.new.self.items c.in-Some.worker (into_iter_items c.next.new.self) c.meet_last.new.thread c.loop-worker.lines.items c.in_ok-closing.closing.items c.append.new.self.items c.in_ok-closing.seat
           was c.meet_last.ensures.thread c.meet_last.ensures.saw c.meet_last.ensures.in_order long more last
-          (λ made worker. c.in_ok-closing.ensures.closes plan made (stock_made c.args.bundle.now c.args.common.now.library.now c.args.common.now.books.now c.requires.catalogs) worker) c.in_ok-closing.ensures.seat.0 c.in_ok-closing.ensures.seat.1
+          (λ made worker. c.in_ok-closing.ensures.closes plan made (library_and_books_made c.args.bundle.now c.args.common.now.library.now c.args.common.now.books.now c.requires.catalogs) worker) c.in_ok-closing.ensures.seat.0 c.in_ok-closing.ensures.seat.1
           (c.in_ok-push.ensures.items ∙ ap (λ (ss : List SeatData). ss ++ c.in_ok-closing.seat ∷ []) back) c.in_ok-append.ensures.items;
       left =
           let had = c.loop-worker.invariant.left in

@@ -26,7 +26,7 @@ use Rattle.std_alloc.proofs.RcSteps.{Ptr-Good, word, word-Good}
 use Rattle.lru.proofs.Memory.{word_had, word_made}
 use Rattle.locale_objects.specs.Lending.{lending_owns}
 use Rattle.locale_objects.specs.contracts.lent.LentLibrary as Lent
-use Rattle.shared_objects.specs.contracts.shelf.Shelf as Shelf
+use Rattle.shared_objects.specs.contracts.marked_library.MarkedLibrary as MarkedLibrary
 use Rattle.locale_objects.specs.contracts.lent.LentLibrary.peek as F
 use Rattle.locale_objects.specs.contracts.lent.LentLibrary.peek.Key.{name as #self}
 use Rattle.locale_objects.proofs.lent.LentLibrary.peek.Statement as stated
@@ -48,7 +48,7 @@ module _ {M : Type 1} {𝓤 : Ura M} (𝓛 : Logic 𝓤) (at_mem : Memory → SP
       let d : Lent.the_row.Denot = z.0.3.0 in
       let To = type_at (F.signature).result tt in
       let made : To.Denot = record { at = d.at; value = d.value; life = d.life; part = d.part } in
-      let Γ : List (Item 𝓤) = ‵ (lending_owns Shelf.the_row d.at d.life d.part d.value) ∷ [] in
+      let Γ : List (Item 𝓤) = ‵ (lending_owns MarkedLibrary.the_row d.at d.life d.part d.value) ∷ [] in
       qed 𝓛 ((‵ ftrue ⊛ ‵ (fsep (Lent.the_row.own_val d z.0.4.0) ftrue)) ∷ raw (emp 𝓤) ∷ []) ∵ split ! $ drop ! $ fsplit ! $
       fsplit ! $ word_had ! d.at z.0.4.0 (λ e. move ! (1 ∷ 2 ∷ []) $ drop ! $ drop ! $
       by ! (subst (λ (us : List Val). ent 𝓤 (⋆ 𝓛 Γ) (WpFn 𝓤 H 𝓣.C 𝓣.Λ code.function (us ++ []) Post)) (sym e)

@@ -15,21 +15,21 @@ use std::alloc::{AllocError, Global};
 use std::marker::Model;
 
 /// A library with what its names offer.
-pub struct Shelved {
+pub struct LibraryWithOffers {
     library: Library,
     offers: List<Offer<Share>>,
 }
 
-impl Drop for Shelved {
+impl Drop for LibraryWithOffers {
     fn drop(self) {
-        let Shelved {
+        let LibraryWithOffers {
             library: _,
             offers: _,
         } = self;
     }
 }
 
-impl Model for Shelved {
+impl Model for LibraryWithOffers {
     ghost use Rattle.std.specs.Prelude.{◌≡◌};
     ghost use Rattle.category_store.specs.LibraryData.{LibraryData};
     ghost use Rattle.category_store.specs.Library.{opening};
@@ -41,22 +41,22 @@ impl Model for Shelved {
     ghost invariant = { λ s. s.offers ≡ opening s.library };
 }
 
-impl Shelved {
+impl LibraryWithOffers {
     /// A library with what its names offer at first.
-    pub fn of(alloc: Global, library: Library) -> Result<Shelved, AllocError>
+    pub fn of(alloc: Global, library: Library) -> Result<LibraryWithOffers, AllocError>
         ensures { IfOk result (λ s. s ≡ library) }
     {
         let offers = library.opening(alloc)?;
-        Ok(Shelved { library, offers })
+        Ok(LibraryWithOffers { library, offers })
     }
 
     /// Two libraries as one, with what its names offer at first.
-    pub fn joined(alloc: Global, first: &Shelved, second: &Shelved) -> Result<Shelved, AllocError>
+    pub fn joined(alloc: Global, first: &LibraryWithOffers, second: &LibraryWithOffers) -> Result<LibraryWithOffers, AllocError>
         requires { length first.now.locales + length second.now.locales < 2 ^ 31 }
         ensures { IfOk result (λ s. s ≡ joined first.now second.now) }
     {
         let library = Library::joined(alloc, &first.library, &second.library)?;
-        Shelved::of(alloc, library)
+        LibraryWithOffers::of(alloc, library)
     }
 
     /// The number of compiled locales.

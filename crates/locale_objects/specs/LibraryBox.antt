@@ -1,4 +1,4 @@
--- What a hold owns: the box of its library, if it has one.
+-- What the pointer of a library owns: its box, if there is one.
 use Rattle.std.specs.Prelude.{Option, Some, None}
 use base.Fml.{Fml, ftrue}
 use base.Stored.{Coded}
@@ -7,11 +7,11 @@ use Rattle.std.specs.Coded.{coded_option}
 use Rattle.std.specs.Box.Ownership.{box_owns}
 use Rattle.std.specs.Global.{Global}
 use Rattle.std_heap.specs.contracts.GlobalAllocator.TheImpl.{ghosts}
-use Rattle.shared_objects.specs.contracts.shelf.Shelf.{the_row}
+use Rattle.shared_objects.specs.contracts.marked_library.MarkedLibrary.{the_row}
 
-abbrev pub hold_owns : Global → Ptr → Option the_row.Denot → Fml
-hold_owns alloc at None = ftrue
-hold_owns alloc at (Some library) = box_owns (ghosts.dealloc_token alloc) the_row at library
+abbrev pub library_box_owns : Global → Ptr → Option the_row.Denot → Fml
+library_box_owns alloc at None = ftrue
+library_box_owns alloc at (Some library) = box_owns (ghosts.dealloc_token alloc) the_row at library
 
 abbrev pub library_coded : Coded (Option the_row.Denot)
 library_coded = coded_option the_row.coded

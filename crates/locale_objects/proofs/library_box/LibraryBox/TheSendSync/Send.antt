@@ -1,4 +1,4 @@
--- A hold goes to another thread with the library that it owns.
+-- A boxed library goes to another thread with what it owns.
 use mir.Raw.{raw}
 use base.Shift.{Keyless}
 use denote.Memory.{lone}
@@ -11,12 +11,12 @@ use Rattle.std.specs.Global.{Global}
 use Rattle.std.proofs.Crossing as heap
 use Rattle.std_alloc.proofs.SendSync.{quiet, lies}
 use Rattle.std_heap.proofs.Global.TheSendSync as handle
-use Rattle.shared_objects.specs.contracts.shelf.Shelf as Object
-use Rattle.shared_objects.proofs.shelf.Shelf.TheSendSync.{the_send as object}
-use Rattle.locale_objects.specs.Hold.{hold_owns}
-use Rattle.locale_objects.specs.contracts.hold.Hold.{the_row, the_type}
+use Rattle.shared_objects.specs.contracts.marked_library.MarkedLibrary as Object
+use Rattle.shared_objects.proofs.marked_library.MarkedLibrary.TheSendSync.{the_send as object}
+use Rattle.locale_objects.specs.LibraryBox.{library_box_owns}
+use Rattle.locale_objects.specs.contracts.library_box.LibraryBox.{the_row, the_type}
 
-keyless : (alloc : Global) (at : Ptr) (o : Option Object.the_row.Denot) → Keyless (hold_owns alloc at o)
+keyless : (alloc : Global) (at : Ptr) (o : Option Object.the_row.Denot) → Keyless (library_box_owns alloc at o)
 keyless alloc at None = tt
 keyless alloc at (Some o) = (lies Object.the_row object at o, heap.frees.frees alloc (raw (lone Object.the_row.mir)) at)
 

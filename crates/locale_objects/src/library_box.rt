@@ -1,11 +1,11 @@
 //! Boxed libraries by their pointers.
 
 ghost use Rattle.std.specs.Prelude.{◌≡◌, Option, Some, IsSome};
-ghost use Rattle.shared_objects.specs.Shared.{Stock};
-ghost use Rattle.locale_objects.specs.Hold.{hold_owns, library_coded};
+ghost use Rattle.shared_objects.specs.Shared.{MarkedLibraryData};
+ghost use Rattle.locale_objects.specs.LibraryBox.{library_box_owns, library_coded};
 
 use crate::parts::Parts;
-use shared_objects::Shelf;
+use shared_objects::MarkedLibrary;
 use std::alloc::Global;
 use std::marker::Model;
 
@@ -18,53 +18,53 @@ pub struct Opaque {
 /// A boxed library by its pointer, or nothing. C has a `lobj_library *` for it.
 #[repr(C)]
 #[derive(Drop)]
-pub struct Hold {
+pub struct LibraryBox {
     at: *mut Opaque,
     alloc: Global,
-    pub ghost library: { Option Stock } by { library_coded },
+    pub ghost library: { Option MarkedLibraryData } by { library_coded },
 }
 
-impl Model for Hold {
-    ghost also_owns = { λ h. hold_owns h.alloc h.at h.library };
+impl Model for LibraryBox {
+    ghost also_owns = { λ h. library_box_owns h.alloc h.at h.library };
 }
 
-impl Hold {
-    /// A hold of a library.
-    pub fn of(library: Box<Shelf>) -> Hold
+impl LibraryBox {
+    /// A library in its box.
+    pub fn of(library: Box<MarkedLibrary>) -> LibraryBox
         ensures { result.library ≡ Some library.value }
     {
-        Hold::of_parts(Parts::of(library))
+        LibraryBox::of_parts(Parts::of(library))
     }
 
     /// The library again.
-    pub fn into_box(self) -> Box<Shelf>
+    pub fn into_box(self) -> Box<MarkedLibrary>
         requires { IsSome self.library }
         ensures { self.library ≡ Some result.value }
     {
         self.into_parts().into_box()
     }
 
-    fn of_parts(parts: Parts<Shelf, Global>) -> Hold
+    fn of_parts(parts: Parts<MarkedLibrary, Global>) -> LibraryBox
         ensures { result.library ≡ Some parts.value }
     {
         let Parts { ptr, alloc } = parts;
-        Hold {
+        LibraryBox {
             at: ptr as *mut Opaque,
             alloc,
         }
     }
 
-    fn into_parts(self) -> Parts<Shelf, Global>
+    fn into_parts(self) -> Parts<MarkedLibrary, Global>
         requires { IsSome self.library }
         ensures { self.library ≡ Some result.value }
     {
-        let Hold { at, alloc } = self;
+        let LibraryBox { at, alloc } = self;
         Parts {
-            ptr: at as *mut Shelf,
+            ptr: at as *mut MarkedLibrary,
             alloc,
         }
     }
 }
 
 // C may hand a library to another thread.
-unsafe impl Send for Hold {}
+unsafe impl Send for LibraryBox {}

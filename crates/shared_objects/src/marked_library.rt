@@ -6,17 +6,17 @@ ghost use Rattle.lc_base.specs.Reading.{Gives};
 ghost use Rattle.library_parts.specs.Told as told;
 ghost use Rattle.script_lang.specs.Accepted.{IsAccepted};
 ghost use Rattle.shared_objects.specs.Objects.{catalog_of};
-ghost use Rattle.shared_objects.specs.Locales.{stock_in, stock_of, has_number, name_with, has_locale, shared_of, posix_of, located, new_locale};
+ghost use Rattle.shared_objects.specs.Locales.{marked_in, marked_of, has_number, name_with, has_locale, shared_of, posix_of, located, new_locale};
 ghost use Rattle.shared_objects.specs.Catalogs.{catalog_with, has_catalog, message_in, opened};
 ghost use Rattle.shared_objects.specs.Joined.{has_room, Joins};
-ghost use Rattle.shared_objects.specs.Parts.{stock_built};
+ghost use Rattle.shared_objects.specs.Parts.{marked_built};
 
 use crate::catalog::CatalogParts;
 use crate::draft::copied_parts;
 use crate::fault::{JoinFault, NewFault, OpenFault};
 use crate::locale::{LocaleParts, locale_of, object_of};
 use crate::mark::{joined_mark, mark_of, parts_mark};
-use crate::shelved::Shelved;
+use crate::with_offers::LibraryWithOffers;
 use crate::view::View;
 use category_store::{Library, Share};
 use lc_base::{Category, Mask, TextFault};
@@ -27,54 +27,54 @@ use std::alloc::{AllocError, Global};
 use std::marker::Model;
 
 /// A library: its compiled locales, its message catalogs, and the mark of what it was made of. It never changes.
-pub struct Shelf {
-    shelved: Shelved,
+pub struct MarkedLibrary {
+    with_offers: LibraryWithOffers,
     books: Books,
     mark: u64,
 }
 
-impl Drop for Shelf {
+impl Drop for MarkedLibrary {
     fn drop(self) {
-        let Shelf {
-            shelved: _,
+        let MarkedLibrary {
+            with_offers: _,
             books: _,
             mark: _,
         } = self;
     }
 }
 
-impl Model for Shelf {
-    ghost use Rattle.shared_objects.specs.Shared.{Stock};
+impl Model for MarkedLibrary {
+    ghost use Rattle.shared_objects.specs.Shared.{MarkedLibraryData};
 
-    ghost Value = { Stock };
+    ghost Value = { MarkedLibraryData };
 
-    ghost view = { λ s. record { library = s.shelved; books = s.books; mark = s.mark } };
+    ghost view = { λ s. record { library = s.with_offers; books = s.books; mark = s.mark } };
 }
 
-impl Shelf {
+impl MarkedLibrary {
     /// The library of the charmaps, locales and message catalogs of a text in the form of a bundle. The
     /// commands of the bundle are read and passed over.
     ///
     /// The refusal is the bundle's first fault, and where it has none, that of its locales, and then
     /// that of its catalogs.
-    pub fn read(alloc: Global, text: &[u8]) -> Result<Shelf, TextFault>
+    pub fn read(alloc: Global, text: &[u8]) -> Result<MarkedLibrary, TextFault>
         requires { length text.now < 2 ^ 31 }
-        ensures { Gives (λ s. s) result (stock_in text.now) }
+        ensures { Gives (λ s. s) result (marked_in text.now) }
     {
         let bundle = Bundle::read(alloc, text)?;
-        Shelf::of_bundle(alloc, &bundle, mark_of(text))
+        MarkedLibrary::of_bundle(alloc, &bundle, mark_of(text))
     }
 
     /// The library of a bundle, with a mark.
-    fn of_bundle(alloc: Global, bundle: &Bundle, mark: u64) -> Result<Shelf, TextFault>
+    fn of_bundle(alloc: Global, bundle: &Bundle, mark: u64) -> Result<MarkedLibrary, TextFault>
         requires { IsAccepted bundle.now }
-        ensures { Gives (λ s. s) result (stock_of bundle.now mark) }
+        ensures { Gives (λ s. s) result (marked_of bundle.now mark) }
     {
         let library = library_of(alloc, bundle)?;
-        let shelved = Shelved::of(alloc, library)?;
+        let with_offers = LibraryWithOffers::of(alloc, library)?;
         let books = Books::read(alloc, bundle.catalogs.as_slice())?;
-        Ok(Shelf {
-            shelved,
+        Ok(MarkedLibrary {
+            with_offers,
             books,
             mark,
         })
@@ -83,44 +83,44 @@ impl Shelf {
     /// The library of parts: charmaps, locale sources and message catalogs.
     ///
     /// The refusal is the first fault, with the number of the part that has it.
-    pub fn build(alloc: Global, parts: &[LibraryPart]) -> Result<Shelf, PartFault>
-        ensures { told.Gives (λ s. s) result (stock_built parts.now) }
+    pub fn build(alloc: Global, parts: &[LibraryPart]) -> Result<MarkedLibrary, PartFault>
+        ensures { told.Gives (λ s. s) result (marked_built parts.now) }
     {
         let made = made_of(alloc, copied_parts(alloc, parts)?)?;
-        Ok(Shelf::of_made(alloc, made, parts_mark(parts))?)
+        Ok(MarkedLibrary::of_made(alloc, made, parts_mark(parts))?)
     }
 
     /// The library that was made of parts, with a mark.
-    fn of_made(alloc: Global, made: Made, mark: u64) -> Result<Shelf, AllocError>
+    fn of_made(alloc: Global, made: Made, mark: u64) -> Result<MarkedLibrary, AllocError>
         ensures { IfOk result (λ s. s ≡ record { library = made.library; books = made.books; mark = mark }) }
     {
         let (library, books) = made.into_both();
-        let shelved = Shelved::of(alloc, library)?;
-        Ok(Shelf {
-            shelved,
+        let with_offers = LibraryWithOffers::of(alloc, library)?;
+        Ok(MarkedLibrary {
+            with_offers,
             books,
             mark,
         })
     }
 
     /// Whether two libraries together have no more locales and catalogs than one may have.
-    fn has_room(&self, other: &Shelf) -> bool
+    fn has_room(&self, other: &MarkedLibrary) -> bool
         ensures { result ≡ has_room self.now other.now }
     {
-        self.shelved.count() as u128 + other.shelved.count() as u128 <= PART_LIMIT as u128
+        self.with_offers.count() as u128 + other.with_offers.count() as u128 <= PART_LIMIT as u128
             && self.books.len() as u128 + other.books.len() as u128 <= PART_LIMIT as u128
     }
 
     /// A library, and behind it another, whose meaning of a name of both holds. Nothing is read again:
     /// both may be dropped before the new one, or later.
-    pub fn join(alloc: Global, first: &Shelf, second: &Shelf) -> Result<Shelf, JoinFault>
+    pub fn join(alloc: Global, first: &MarkedLibrary, second: &MarkedLibrary) -> Result<MarkedLibrary, JoinFault>
         ensures { Joins result first.now second.now }
     {
         if first.has_room(second) {
-            let shelved = Shelved::joined(alloc, &first.shelved, &second.shelved)?;
+            let with_offers = LibraryWithOffers::joined(alloc, &first.with_offers, &second.with_offers)?;
             let books = Books::joined(alloc, &first.books, &second.books)?;
-            Ok(Shelf {
-                shelved,
+            Ok(MarkedLibrary {
+                with_offers,
                 books,
                 mark: joined_mark(first.mark, second.mark),
             })
@@ -148,7 +148,7 @@ impl Shelf {
     fn has_number(&self, number: u32) -> bool
         ensures { result ≡ has_number self.now number }
     {
-        number as usize <= self.shelved.count()
+        number as usize <= self.with_offers.count()
     }
 
     /// Whether a locale is of this library.
@@ -170,7 +170,7 @@ impl Shelf {
         ensures { option_copied result ≡ name_with self.now number }
     {
         if self.has_number(number) {
-            Some(self.shelved.compiled(Share { number }).name())
+            Some(self.with_offers.compiled(Share { number }).name())
         } else {
             None
         }
@@ -182,7 +182,7 @@ impl Shelf {
         ensures { result ≡ shared_of self.now locale.now }
     {
         if self.has(locale) {
-            Some(View::of(&self.shelved, locale))
+            Some(View::of(&self.with_offers, locale))
         } else {
             None
         }
@@ -212,7 +212,7 @@ impl Shelf {
         ensures { result ≡ new_locale self.now mask name.now base.now }
     {
         if self.has(base) {
-            self.located(self.shelved.compose(mask, name, &object_of(base)))
+            self.located(self.with_offers.compose(mask, name, &object_of(base)))
         } else {
             Err(NewFault::NoLocale)
         }

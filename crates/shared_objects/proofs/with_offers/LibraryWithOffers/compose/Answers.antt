@@ -1,7 +1,7 @@
 use Rattle.std.proofs.Common.{◌≡◌, Ok, Err, ap, sym, ◌∙◌}
 use Rattle.category_store.specs.Library.{numbers}
 use Rattle.shared_objects.specs.Objects.{from_numbers}
-use Rattle.shared_objects.proofs.shelved.Shelved.compose.Goals as goal
+use Rattle.shared_objects.proofs.with_offers.LibraryWithOffers.compose.Goals as goal
 
 pub returns-in-Ok : goal.returns-in-Ok
 returns-in-Ok c =
