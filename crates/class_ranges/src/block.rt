@@ -4,8 +4,8 @@ ghost use Rattle.std.specs.Prelude.{◌≡◌, ℕ, ◌+◌, ◌<◌, ◌≤◌,
 ghost use Rattle.std.specs.Option.{option_copied};
 ghost use Rattle.class_ranges.specs.Maps.{image, block_gives, IsFixedOutside};
 
-use crate::alike::stretch_from;
 use crate::Ranges;
+use crate::alike::stretch_from;
 use std::alloc::AllocError;
 use std::collections::BTreeMap;
 

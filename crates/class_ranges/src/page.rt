@@ -4,8 +4,8 @@ ghost use Rattle.std.specs.Prelude.{◌≡◌, ℕ, ◌+◌, ◌<◌, ◌≤◌,
 ghost use Rattle.class_ranges.specs.Ranges.{covers};
 ghost use Rattle.class_ranges.specs.Pages.{IsAlike, has_bit, in_page, page_says};
 
-use crate::alike::{Stretch, stretch_from};
 use crate::Ranges;
+use crate::alike::{Stretch, stretch_from};
 use std::alloc::AllocError;
 
 /// The bits of 256 values, in words of 64.

@@ -3,9 +3,9 @@
 ghost use Rattle.std.specs.Prelude.{◌≡◌, ℕ, ◌≤◌, IfOk, IfSome};
 ghost use Rattle.class_ranges.specs.Maps.{image, key_ranges, IsFixedOutside};
 
+use crate::Ranges;
 use crate::alike::{Stretch, stretch_from};
 use crate::block::{Block, block_gives, block_number, image};
-use crate::Ranges;
 use std::alloc::{AllocError, Global};
 use std::collections::BTreeMap;
 use std::marker::Model;

@@ -3,9 +3,9 @@
 ghost use Rattle.std.specs.Prelude.{◌≡◌, ◌≤◌, IfOk, IfSome};
 ghost use Rattle.class_ranges.specs.Ranges.{covers};
 
+use crate::Ranges;
 use crate::alike::{Stretch, stretch_from};
 use crate::page::{Page, page_number, page_says};
-use crate::Ranges;
 use std::alloc::{AllocError, Global};
 use std::marker::Model;
 

@@ -1,6 +1,8 @@
 -- Keyword lists of LC_CTYPE, and what they define.
-use Rattle.std.proofs.Common.{◌≡◌, ℕ, true, false, List, [], ◌∷◌, map, Some, None, Ok, Err, refl}
-use Rattle.std.specs.Prelude.{codes, pos}
+use Rattle.std.proofs.Common.{◌≡◌, ℕ, true, false, List, [], ◌∷◌, length, map, Some, None, Ok, Err, refl}
+use Rattle.std.specs.Prelude.{codes, pos, slice_get}
+use Rattle.std.specs.List.{list_all, list_any}
+use Rattle.std.specs.Str.{bytes_eq}
 use Rattle.lc_base.specs.declared.place.Place.{Place}
 use Rattle.lc_base.specs.declared.reason.Class.TheVariants.{Alpha, Space, Punct}
 use Rattle.lc_base.specs.declared.reason.Reason.TheVariants.{EmptyRadix, BadNumber, BadClassName, DigitsNotTen, NotCased, Excluded}
@@ -12,6 +14,7 @@ use Rattle.keywords.specs.declared.row.Rule.TheVariants.{NotEmpty, Between}
 use Rattle.ctype_classes.specs.Characters.{characters}
 use Rattle.lc_base.specs.Named.{place_of}
 use Rattle.class_ranges.specs.Pages.{has_bit}
+use Rattle.ctype_classes.specs.Table.{ClassRow, class_table, class_names}
 use Rattle.ctype_classes.specs.Classes.{Classes, members_of, numbered_answer, has_numbered}
 use Rattle.ctype_classes.specs.Lines.{rule_of_line}
 use Rattle.ctype_classes.specs.Lists.{is_reserved, is_taken, after_operands, classes_of}
@@ -251,3 +254,20 @@ space_last = (refl, refl, refl, refl)
 
 nothing_in_punct : AreApart (λ class w. false) []
 nothing_in_punct = refl
+
+-- each class of the table has a name in the standard's order, whose first is upper and whose last is blank
+all_named : list_all (λ (row : ClassRow). list_any (bytes_eq row.name) class_names) class_table ≡ true
+unfolding class_names
+all_named = refl
+
+twelve_named : length class_names ≡ 12
+unfolding class_names
+twelve_named = refl
+
+upper_first : slice_get class_names 0 ≡ Some (codes "upper")
+unfolding class_names
+upper_first = refl
+
+blank_last : slice_get class_names 11 ≡ Some (codes "blank")
+unfolding class_names
+blank_last = refl

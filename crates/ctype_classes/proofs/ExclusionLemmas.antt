@@ -21,7 +21,8 @@ use Rattle.ctype_classes.specs.Lines.{rule_of_line}
 use Rattle.ctype_classes.specs.Table.{declared_row}
 use Rattle.ctype_classes.specs.Classes.{Classes, with_class, twelve_classes}
 use Rattle.ctype_classes.specs.Lists.{is_ten, is_cased_pair, each_passes, is_class_name, is_taken, declaring, declaring_value, declaring_values, after_operands, after_line, after_lines, classes_of}
-use Rattle.ctype_classes.specs.Exclusions.{class_name, exclusions}
+use Rattle.lc_base.specs.Classes.{class_name}
+use Rattle.ctype_classes.specs.Exclusions.{exclusions}
 use Rattle.ctype_classes.specs.Excluded.{is_in, is_kept_in, in_both, IsExcluded, AreApart, IsFirstExcluded, AreAllApart, Names}
 use Rattle.ctype_classes.specs.CtypeValues.{CtypeValues}
 use Rattle.ctype_classes.proofs.MemberLemmas.{answer_or_none, classes_answer}

@@ -10,7 +10,8 @@ use Rattle.class_ranges.specs.Ranges.{IsLeast, covers}
 use Rattle.charset.specs.CodedSet.{CodedSet}
 use Rattle.keywords.specs.declared.source.Entry.{Entry}
 use Rattle.ctype_classes.specs.Classes.{Classes, members_of}
-use Rattle.ctype_classes.specs.Exclusions.{class_name, exclusions}
+use Rattle.lc_base.specs.Classes.{class_name}
+use Rattle.ctype_classes.specs.Exclusions.{exclusions}
 use Rattle.ctype_classes.specs.Members.{membership}
 
 -- whether a value is in a class of a keyword list

@@ -1,6 +1,7 @@
 -- Classes that exclude one another (XBD 7.3.1).
 use Rattle.std.specs.Prelude.{ℕ, List, [], ◌∷◌, codes, Option, Some, None, Ok, Err, if◌then◌else◌}
 use Rattle.lc_base.specs.declared.place.Place.{Place}
+use Rattle.lc_base.specs.Classes.{class_name}
 use Rattle.lc_base.specs.declared.reason.Class.{Class}
 use Rattle.lc_base.specs.declared.reason.Class.TheVariants.{Upper, Lower, Alpha, Digit, Space, Cntrl, Punct, Graph, Print, Xdigit}
 use Rattle.lc_base.specs.declared.reason.Reason.TheVariants.{Excluded}
@@ -8,18 +9,6 @@ use Rattle.lc_base.specs.Reading.{Reads, ◌>>=◌}
 use Rattle.class_ranges.specs.Ranges.{covers, first_common}
 use Rattle.charset.specs.Portable.{Name}
 use Rattle.ctype_classes.specs.Classes.{Classes, members_of}
-
-abbrev pub class_name : Class → Name
-class_name Upper = codes "upper"
-class_name Lower = codes "lower"
-class_name Alpha = codes "alpha"
-class_name Digit = codes "digit"
-class_name Space = codes "space"
-class_name Cntrl = codes "cntrl"
-class_name Punct = codes "punct"
-class_name Graph = codes "graph"
-class_name Print = codes "print"
-class_name Xdigit = codes "xdigit"
 
 -- the pairs of classes that have no common member, in the order in which they are tested (our own order)
 abbrev pub exclusions : List (Class × Class)

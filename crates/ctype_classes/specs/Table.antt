@@ -1,8 +1,11 @@
 -- The character classes that each locale has, with their automatic members (XBD 7.3.1).
-use Rattle.std.specs.Prelude.{List, [], ◌∷◌, codes}
+use Rattle.std.specs.Prelude.{Bool, true, false, List, [], ◌∷◌, map, filter, codes}
 use Rattle.class_ranges.specs.Ranges.{Range}
 use Rattle.charset.specs.Portable.{Name}
 use Rattle.lc_base.specs.declared.category.Category.TheVariants as categories
+use Rattle.keywords.specs.declared.row.Operands.{Operands}
+use Rattle.keywords.specs.declared.row.Operands.TheVariants.{Copied, Characters, One, Several, PassedOver}
+use Rattle.keywords.specs.Table.{KeywordRow, keywords}
 use Rattle.keywords.specs.LookUp.{posix_ranges}
 
 -- a class: its name, the values that it always has, those that it has where its keyword is absent, and the classes above it in
@@ -36,3 +39,15 @@ class_table =
 -- a class that a charclass line declares has its listed members alone
 abbrev pub declared_row : Name → ClassRow
 declared_row name = record { name = name; always = []; absent = []; parts = [] }
+
+-- whether a keyword names a class: its operands are characters
+abbrev pub takes_characters : Operands → Bool
+takes_characters Characters = true
+takes_characters Copied = false
+takes_characters (One element) = false
+takes_characters (Several element) = false
+takes_characters PassedOver = false
+
+-- the names of the twelve classes, in the order of the standard's page
+unfoldable pub class_names : List Name
+class_names = map (λ (k : KeywordRow). k.name) (filter (λ (k : KeywordRow). takes_characters k.takes) (keywords categories.Ctype))

@@ -4,11 +4,11 @@ ghost use Rattle.std.specs.Prelude.{◌≡◌, ◌++◌, map, IfOk};
 ghost use Rattle.ctype_classes.specs.Case.{reversed, upper_pairs, lower_pairs, map_of};
 
 use crate::first_lines::KeywordList;
+use class_ranges::PagedMap;
 use keywords::{pairs, posix_pairs};
 use lc_base::Category;
 use std::alloc::{AllocError, Global};
 use std::collections::BTreeMap;
-use class_ranges::PagedMap;
 
 /// The pairs that map to upper case.
 pub fn upper_pairs(alloc: Global, list: &KeywordList<'_>) -> Result<Vec<(u32, u32)>, AllocError>

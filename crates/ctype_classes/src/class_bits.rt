@@ -35,7 +35,7 @@ pub fn class_bits(classes: &Classes, w: u32) -> u64
     bits
 }
 
-/// The same of each of the first 256 values.
+/// The bits of the classes that have a value, for each of the first 256 values.
 pub fn low_bits(alloc: Global, classes: &Classes) -> Result<Vec<u64>, AllocError>
     ensures { IfOk result (λ words. AreLowBits classes.now words.items) }
 {

@@ -17,11 +17,11 @@ use crate::exclusions::check_exclusions;
 use crate::first_lines::KeywordList;
 use crate::lists::classes_of;
 use charset::Charset;
+use class_ranges::PagedMap;
 use keywords::Entry;
 use lc_base::{ByteText, List, Place, TextFault};
 use std::alloc::{AllocError, Global};
 use std::marker::Model;
-use class_ranges::PagedMap;
 
 /// The character classes and case maps of a locale.
 pub struct Ctype {

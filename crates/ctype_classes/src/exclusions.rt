@@ -6,12 +6,12 @@ ghost use Rattle.lc_base.specs.declared.reason.Class.{Class as Excluding};
 ghost use Rattle.lc_base.specs.Reading.{Gives};
 ghost use Rattle.class_ranges.specs.Ranges.{IsLeast, covers, first_common};
 ghost use Rattle.ctype_classes.specs.Classes.{members_of};
-ghost use Rattle.ctype_classes.specs.Exclusions.{class_name, common_member, kept_apart, without_space, all_kept_apart};
+ghost use Rattle.ctype_classes.specs.Exclusions.{common_member, kept_apart, without_space, all_kept_apart};
 ghost use Rattle.ctype_classes.specs.Excluded.{is_kept_in, in_both, IsExcluded, AreApart, IsFirstExcluded, AreAllApart, Names};
 
 use crate::classes::{Classes, has_member};
-use lc_base::{Class, Place, Reason, TextFault};
 use class_ranges::PagedRanges;
+use lc_base::{Class, Place, Reason, TextFault};
 
 /// The pairs of classes that have no common member, in the order in which they are tested.
 const EXCLUSIONS: [(Class, Class); 21] = [
@@ -38,23 +38,6 @@ const EXCLUSIONS: [(Class, Class); 21] = [
     (Class::Punct, Class::Xdigit),
 ];
 
-fn class_name(class: Class) -> &'static [u8]
-    ensures { result.now ≡ class_name class }
-{
-    match class {
-        Class::Upper => b"upper",
-        Class::Lower => b"lower",
-        Class::Alpha => b"alpha",
-        Class::Digit => b"digit",
-        Class::Space => b"space",
-        Class::Cntrl => b"cntrl",
-        Class::Punct => b"punct",
-        Class::Graph => b"graph",
-        Class::Print => b"print",
-        Class::Xdigit => b"xdigit",
-    }
-}
-
 /// The least value that two sets have in common. One that is not there is empty.
 fn common(first: Option<&PagedRanges>, second: Option<&PagedRanges>) -> Option<u32>
     ensures is { result ≡ first_common (unwrap_or (option_copied first.entry) []) (unwrap_or (option_copied second.entry) []) }
@@ -74,8 +57,8 @@ fn common_member(classes: &Classes, pair: (Class, Class)) -> Option<u32>
     ensures is { result ≡ common_member classes.now pair }
     ensures least { IsLeast (in_both (is_kept_in classes.now) pair) result }
 {
-    let first = classes.get(class_name(pair.0));
-    let second = classes.get(class_name(pair.1));
+    let first = classes.get(pair.0.name());
+    let second = classes.get(pair.1.name());
     common(first, second)
 }
 

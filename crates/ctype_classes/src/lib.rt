@@ -12,3 +12,4 @@ mod lists;
 mod table;
 
 pub use ctype::Ctype;
+pub use table::class_names;

@@ -1,5 +1,8 @@
 //! The classes that each locale has.
 
+ghost use Rattle.std.specs.Prelude.{◌≡◌, map};
+ghost use Rattle.ctype_classes.specs.Table.{class_names};
+
 use keywords::posix_ranges;
 use lc_base::Category;
 
@@ -106,3 +109,17 @@ pub static TABLE: [AutomaticMembers<'static>; 12] = [
         parts: &[b"graph"],
     },
 ];
+
+/// The names of the classes, in the order of the standard's page.
+static CLASS_NAMES: [&str; 12] = [
+    "upper", "lower", "alpha", "digit", "alnum", "space", "cntrl", "punct", "graph", "print",
+    "xdigit", "blank",
+];
+
+/// The names of the twelve classes that each locale has, in the order of the standard's page (XBD 7.3.1).
+#[tactic(auto, unfolding(crate::specs::Table::class_names))]
+pub fn class_names() -> &'static [&'static str]
+    ensures { map (λ name. name.now) result.now ≡ class_names }
+{
+    &CLASS_NAMES
+}

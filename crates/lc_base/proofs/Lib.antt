@@ -5,6 +5,7 @@ mod MemoryExamples
 mod Examples
 pub mod Slices
 pub mod NumberLemmas
+pub mod CategoryLemmas
 mod WordExamples
 pub mod NamedLemmas
 mod NamedExamples

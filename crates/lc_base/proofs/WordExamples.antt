@@ -1,10 +1,13 @@
 -- The definitions on examples.
-use Rattle.std.proofs.Common.{◌≡◌, ℕ, [], ◌∷◌, true, false, Some, None, refl}
+use Rattle.std.proofs.Common.{◌≡◌, ℕ, ◌+◌, [], ◌∷◌, true, false, Some, None, refl}
 use Rattle.std.specs.Prelude.{codes, Ok, Err}
-use Rattle.lc_base.specs.declared.category.Category.TheVariants.{Monetary}
+use Rattle.lc_base.specs.declared.category.Category.TheVariants.{Monetary, Time, Messages}
+use Rattle.lc_base.specs.declared.by_category.ByCategory.{ByCategory}
 use Rattle.lc_base.specs.declared.refusal.FormatRefusal.TheVariants.{TooBig}
 use Rattle.lc_base.specs.Blanks.{is_blank}
-use Rattle.lc_base.specs.Categories.{number_for}
+use Rattle.lc_base.specs.BuiltIn.{is_posix_locale, is_built_in_charset}
+use Rattle.lc_base.specs.ByCategory.{in_category, by_category, mapped}
+use Rattle.lc_base.specs.Categories.{category_index, category_named, number_for}
 use Rattle.lc_base.specs.Limits.{within}
 use Rattle.lc_base.specs.Cuts.{cut_at}
 use Rattle.lc_base.specs.Numbers.{decimal_number, few_digits}
@@ -57,6 +60,27 @@ a_return = refl
 
 third_number : number_for (7 ∷ 8 ∷ 9 ∷ 10 ∷ 11 ∷ []) Monetary ≡ 9
 third_number = refl
+
+abbrev of_five : ByCategory ℕ
+of_five = record { ctype = 7; numeric = 8; monetary = 9; time = 10; messages = 11 }
+
+each_value : in_category of_five Monetary ∷ in_category of_five Messages ∷ [] ≡ 9 ∷ 11 ∷ []
+each_value = refl
+
+number_each : mapped (λ n. n + 7) (by_category category_index) ≡ of_five
+number_each = refl
+
+times : category_named (codes "LC_TIME") ≡ Some Time
+times = refl
+
+no_category : category_named (codes "LC_COLLATE") ≡ None
+no_category = refl
+
+posix_locales : is_posix_locale (codes "C") ∷ is_posix_locale (codes "POSIX") ∷ is_posix_locale (codes "UTF-8") ∷ [] ≡ true ∷ true ∷ false ∷ []
+posix_locales = refl
+
+built_in_charsets : is_built_in_charset (codes "UTF-8") ∷ is_built_in_charset (codes "POSIX") ∷ is_built_in_charset (codes "C") ∷ [] ≡ true ∷ true ∷ false ∷ []
+built_in_charsets = refl
 
 just_so_long : within 2 (codes "ab") ≡ Ok (codes "ab")
 just_so_long = refl

@@ -1,5 +1,6 @@
 -- Locale categories and their names (XBD 7.3).
-use Rattle.std.specs.Prelude.{ℕ, List, [], ◌∷◌, codes, slice_index}
+use Rattle.std.specs.Prelude.{ℕ, List, [], ◌∷◌, codes, find, slice_index, Option}
+use Rattle.std.specs.Str.{bytes_eq}
 use Rattle.lc_base.specs.declared.category.Category.{Category}
 use Rattle.lc_base.specs.declared.category.Category.TheVariants.{Ctype, Numeric, Monetary, Time, Messages}
 
@@ -14,6 +15,10 @@ category_name Numeric = codes "LC_NUMERIC"
 category_name Monetary = codes "LC_MONETARY"
 category_name Time = codes "LC_TIME"
 category_name Messages = codes "LC_MESSAGES"
+
+-- the category of a name
+abbrev pub category_named : List ℕ → Option Category
+category_named name = find (λ c. bytes_eq (category_name c) name) categories
 
 -- the place of a category in their order
 abbrev pub category_index : Category → ℕ

@@ -1,5 +1,8 @@
 pub mod Amounts
+pub mod BuiltIn
+pub mod ByCategory
 pub mod Categories
+pub mod Classes
 pub mod Mask
 pub mod Faults
 pub mod Reading

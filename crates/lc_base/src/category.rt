@@ -2,7 +2,7 @@
 
 ghost use Rattle.std.specs.Prelude.{◌≡◌, ◌<◌, ◌↔◌, true, IsNone, IfSome};
 ghost use Rattle.lc_base.specs.declared.category.Category.{Category};
-ghost use Rattle.lc_base.specs.Categories.{category_index, category_name, number_for};
+ghost use Rattle.lc_base.specs.Categories.{category_index, category_name, category_named, number_for};
 ghost use Rattle.lc_base.specs.Mask.{category_bit, includes};
 
 use std::marker::Model;
@@ -71,6 +71,16 @@ impl Category {
             Category::Messages => b"LC_MESSAGES",
         }
     }
+}
+
+/// The category of a name, `LC_CTYPE` and the like.
+pub fn category_named(name: &[u8]) -> Option<Category>
+    ensures { result ≡ category_named name.now }
+{
+    CATEGORIES
+        .iter()
+        .copied()
+        .find(|category| category.name() == name)
 }
 
 /// The number for a category, of five in their order.

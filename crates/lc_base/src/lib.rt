@@ -3,8 +3,11 @@
 
 mod amount;
 mod block;
+mod built_in;
+mod by_category;
 mod category;
 mod cells;
+mod decimal;
 mod fault;
 mod handle;
 mod item;
@@ -22,8 +25,11 @@ mod words;
 
 pub use amount::Amount;
 pub use block::{Block, Later};
-pub use category::{CATEGORIES, Category, Mask, number_for};
+pub use built_in::{is_built_in_charset, is_posix_locale};
+pub use by_category::ByCategory;
+pub use category::{CATEGORIES, Category, Mask, category_named, number_for};
 pub use cells::CELLS;
+pub use decimal::{push_labelled, push_number};
 pub use fault::TextFault;
 pub use handle::{Handle, Named};
 pub use item::Item;

@@ -1,5 +1,8 @@
 //! Why a text is refused.
 
+ghost use Rattle.std.specs.Prelude.{◌≡◌};
+ghost use Rattle.lc_base.specs.Classes.{class_name};
+
 /// A rule that a bundle, a charmap or a locale source breaks.
 #[derive(Clone, Copy, Debug, PartialEq, Eq)]
 pub enum Reason {
@@ -140,4 +143,24 @@ pub enum Class {
     Graph,
     Print,
     Xdigit,
+}
+
+impl Class {
+    /// The name of the class, as a locale source has it (XBD 7.3.1).
+    pub fn name(self) -> &'static [u8]
+        ensures { result.now ≡ class_name self }
+    {
+        match self {
+            Class::Upper => b"upper",
+            Class::Lower => b"lower",
+            Class::Alpha => b"alpha",
+            Class::Digit => b"digit",
+            Class::Space => b"space",
+            Class::Cntrl => b"cntrl",
+            Class::Punct => b"punct",
+            Class::Graph => b"graph",
+            Class::Print => b"print",
+            Class::Xdigit => b"xdigit",
+        }
+    }
 }

@@ -7,8 +7,7 @@ use Rattle.lc_base.specs.declared.reason.LinePart.{LinePart}
 use Rattle.lc_base.specs.declared.reason.LinePart.TheVariants as parts
 use Rattle.lc_base.specs.declared.reason.Limit.{Limit}
 use Rattle.lc_base.specs.declared.reason.Limit.TheVariants as limits
-use Rattle.lc_base.specs.declared.reason.Class.{Class}
-use Rattle.lc_base.specs.declared.reason.Class.TheVariants as classes
+use Rattle.lc_base.specs.Classes.{class_name}
 
 -- what stands between two words
 abbrev pub space : List ℕ
@@ -42,19 +41,6 @@ limit_word limits.Conversions = codes "conversions"
 limit_word limits.Message = codes "message"
 limit_word limits.Messages = codes "messages"
 
--- the word for a character class
-abbrev pub class_word : Class → List ℕ
-class_word classes.Upper = codes "upper"
-class_word classes.Lower = codes "lower"
-class_word classes.Alpha = codes "alpha"
-class_word classes.Digit = codes "digit"
-class_word classes.Space = codes "space"
-class_word classes.Cntrl = codes "cntrl"
-class_word classes.Punct = codes "punct"
-class_word classes.Graph = codes "graph"
-class_word classes.Print = codes "print"
-class_word classes.Xdigit = codes "xdigit"
-
 -- a reason, and what it names, each behind a space
 abbrev pub reason_text : Reason → List ℕ
 reason_text (reasons.BadLine part) = codes "BadLine" ++ space ++ part_word part
@@ -83,7 +69,7 @@ reason_text reasons.CopyCycle = codes "CopyCycle"
 reason_text reasons.BadClassName = codes "BadClassName"
 reason_text reasons.DigitsNotTen = codes "DigitsNotTen"
 reason_text reasons.NotCased = codes "NotCased"
-reason_text (reasons.Excluded first second value) = codes "Excluded" ++ space ++ class_word first ++ space ++ class_word second ++ space ++ decimal value
+reason_text (reasons.Excluded first second value) = codes "Excluded" ++ space ++ class_name first ++ space ++ class_name second ++ space ++ decimal value
 reason_text reasons.EmptyRadix = codes "EmptyRadix"
 reason_text reasons.BadCurrency = codes "BadCurrency"
 reason_text reasons.BadNumber = codes "BadNumber"
