@@ -6,6 +6,7 @@ use Rattle.std.specs.Str.{bytes_eq}
 use Rattle.std.proofs.lemmas.List.{length-map}
 use Rattle.std.proofs.lemmas.List.Elements.{All-from_recursion}
 use Rattle.std.proofs.lemmas.Result.{IfOk-weaker}
+use Rattle.lc_base.specs.BuiltIn.{is_posix_locale}
 use Rattle.lc_base.specs.declared.category.Category.{Category}
 use Rattle.lc_base.specs.Categories.{categories}
 use Rattle.lc_base.specs.Mask.{includes}
@@ -16,7 +17,6 @@ use Rattle.lc_base.specs.Tables.{first_named}
 use Rattle.charset.specs.Portable.{Name}
 use Rattle.lc_base.specs.Named.{with_named}
 use Rattle.locale_sources.specs.Sources.{Source}
-use Rattle.locale_sources.specs.Sections.{is_posix}
 use Rattle.locale_sources.specs.Copies.{copy_fault}
 use Rattle.category_store.specs.Locale.{Locale}
 use Rattle.category_store.specs.Compiled.{locales_of}
@@ -65,7 +65,7 @@ found_up_to m (e ∷ es) name counted =
 
 plain_up_to : (names : List (Name × ℕ)) (name : Name) → AreCounted names → IfSome (plain_number names name) (λ n. n ≤ length names)
 plain_up_to names name counted =
-    elim (is_posix name) as (λ b. IfSome (cond b (Some 0) (first_named names name)) (λ n. n ≤ length names)) [
+    elim (is_posix_locale name) as (λ b. IfSome (cond b (Some 0) (first_named names name)) (λ n. n ≤ length names)) [
       | true ↦ omega arith
       | false ↦ found_up_to (length names) names name counted
     ]

@@ -5,6 +5,8 @@ use Rattle.lc_base.specs.declared.place.Place.{Place}
 use Rattle.lc_base.specs.declared.category.Category.{Category}
 use Rattle.lc_base.specs.declared.category.Category.TheVariants.{Ctype, Numeric, Monetary, Time, Messages}
 use Rattle.lc_base.specs.declared.reason.Reason.{Reason}
+use Rattle.lc_base.specs.declared.by_category.ByCategory.{ByCategory}
+use Rattle.lc_base.specs.ByCategory.{by_category}
 use Rattle.lc_base.specs.Lines.{◌>>=◌}
 use Rattle.lc_base.specs.Reading.{Reads}
 use Rattle.ctype_classes.specs.Ctype.{posix_values as posix_classes}
@@ -13,7 +15,6 @@ use Rattle.monetary_cat.specs.Monetary.{posix_values as posix_money}
 use Rattle.time_cat.specs.Values.{posix_values as posix_times}
 use Rattle.messages_cat.specs.Messages.{posix_values as posix_messages}
 use Rattle.locale_sources.specs.Sources.{Source}
-use Rattle.locale_sources.specs.declared.numbers.SourceNumbers.{SourceNumbers}
 use Rattle.locale_sources.specs.declared.rows.LocaleRow.{LocaleRow}
 use Rattle.category_store.specs.declared.kept.CategoryLists.{CategoryLists}
 use Rattle.category_store.specs.Written.{Written, written_for}
@@ -62,7 +63,7 @@ kept_of sources = record {
 }
 
 -- a locale whose categories are kept under these numbers
-abbrev pub locale_with : List ℕ → ℕ → CategoryLists → SourceNumbers → Locale
+abbrev pub locale_with : List ℕ → ℕ → CategoryLists → ByCategory ℕ → Locale
 locale_with name mask kept ends = record {
   name = name;
   available = mask;
@@ -73,8 +74,12 @@ locale_with name mask kept ends = record {
   messages = value_or posix_messages (kept_or posix_messages kept.messages ends.messages);
 }
 
+-- the numbers under which the categories of the POSIX locale stand
+abbrev pub posix_numbers : ByCategory ℕ
+posix_numbers = by_category (λ category. 0)
+
 -- the first fault of the categories that are kept under these numbers
-abbrev pub ends_fault : CategoryLists → SourceNumbers → Option (Place × Reason)
+abbrev pub ends_fault : CategoryLists → ByCategory ℕ → Option (Place × Reason)
 ends_fault kept ends =
     option_or (option_or (option_or (option_or
     (fault_in (kept_or posix_classes kept.ctype ends.ctype))

@@ -1,5 +1,6 @@
 -- The library of a bundle's compiled locales: what it is built from, and what it answers (XSH newlocale, setlocale).
 use Rattle.std.specs.Prelude.{ℕ, ◌+◌, ◌==◌, List, [], ◌∷◌, length, map, replicate, slice_get, Option, Some, None, unwrap_or, option_map, Result, Ok, Err, if◌then◌else◌}
+use Rattle.lc_base.specs.BuiltIn.{is_posix_locale}
 use Rattle.lc_base.specs.declared.place.Place.{Place}
 use Rattle.lc_base.specs.declared.category.Category.{Category}
 use Rattle.lc_base.specs.declared.category.Category.TheVariants.{Ctype, Numeric, Monetary, Time, Messages}
@@ -17,7 +18,6 @@ use Rattle.lc_base.specs.Categories.{categories}
 use Rattle.mask_compose.specs.Names.{mixed_parts}
 use Rattle.lc_base.specs.Named.{with_named}
 use Rattle.locale_sources.specs.Sources.{Source}
-use Rattle.locale_sources.specs.Sections.{is_posix}
 use Rattle.category_store.specs.Blocks.{by_place}
 use Rattle.category_store.specs.Sources.{charsets, sources_of}
 use Rattle.locale_sources.specs.Copies.{locale_numbers, copy_fault}
@@ -46,7 +46,7 @@ keys_of sources = keys_after [] 1 sources
 
 -- the number of a plain name: 0 is the POSIX locale's
 abbrev pub plain_number : List (Name × ℕ) → Name → Option ℕ
-plain_number names name = if is_posix name then Some 0 else first_named names name
+plain_number names name = if is_posix_locale name then Some 0 else first_named names name
 
 -- the number of the native locale's name; the POSIX locale's where no name is given
 abbrev pub native_number : List (Name × ℕ) → Option Name → ℕ

@@ -5,8 +5,7 @@ ghost use Rattle.category_store.specs.Kept.{locale_with};
 
 use crate::kept::CategoryLists;
 use ctype_classes::Ctype;
-use lc_base::Mask;
-use locale_sources::SourceNumbers;
+use lc_base::{ByCategory, Mask};
 use messages_cat::Messages;
 use monetary_cat::Monetary;
 use numeric_cat::Numeric;
@@ -19,7 +18,7 @@ pub struct Compiled<'a> {
     name: &'a [u8],
     available: Mask,
     kept: &'a CategoryLists,
-    ends: SourceNumbers,
+    ends: &'a ByCategory<u32>,
 }
 
 impl<'a> Model for Compiled<'a> {
@@ -28,7 +27,7 @@ impl<'a> Model for Compiled<'a> {
 
     ghost Value = { Locale };
 
-    ghost view = { λ c. locale_with c.name.now c.available c.kept.now c.ends };
+    ghost view = { λ c. locale_with c.name.now c.available c.kept.now c.ends.now };
 }
 
 impl<'a> Compiled<'a> {
@@ -36,9 +35,9 @@ impl<'a> Compiled<'a> {
         name: &'a [u8],
         available: Mask,
         kept: &'a CategoryLists,
-        ends: SourceNumbers,
+        ends: &'a ByCategory<u32>,
     ) -> Compiled<'a>
-        ensures { result ≡ locale_with name.now available kept.now ends }
+        ensures { result ≡ locale_with name.now available kept.now ends.now }
     {
         Compiled {
             name,

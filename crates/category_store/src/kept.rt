@@ -9,8 +9,8 @@ ghost use Rattle.category_store.specs.Kept.{slots, kept, kept_or, value_or, faul
 use crate::built::Built;
 use crate::written::written_for;
 use ctype_classes::Ctype;
-use lc_base::{Category, Place, Reason, TextFault};
-use locale_sources::{Source, SourceNumbers};
+use lc_base::{ByCategory, Category, Place, Reason, TextFault};
+use locale_sources::Source;
 use messages_cat::Messages;
 use monetary_cat::Monetary;
 use numeric_cat::Numeric;
@@ -178,8 +178,8 @@ impl CategoryLists {
     }
 
     /// The first fault of the categories that are kept under these numbers.
-    pub fn fault(&self, ends: SourceNumbers) -> Option<(Place, Reason)>
-        ensures { result ≡ ends_fault self.now ends }
+    pub fn fault(&self, ends: &ByCategory<u32>) -> Option<(Place, Reason)>
+        ensures { result ≡ ends_fault self.now ends.now }
     {
         self.ctype
             .fault(ends.ctype)

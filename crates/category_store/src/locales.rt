@@ -12,17 +12,27 @@ ghost use Rattle.category_store.specs.Locale.{locale_among};
 use crate::compiled::Compiled;
 use crate::kept::CategoryLists;
 use crate::shared::{SharedLocale, add_shared, shared};
-use lc_base::{Mask, Place, Reason, TextFault};
-use locale_sources::{LocaleRow, Source, SourceNumbers};
+use lc_base::{ByCategory, Mask, Place, Reason, TextFault};
+use locale_sources::{LocaleRow, Source};
 use std::alloc::{AllocError, Global};
 use std::marker::Model;
 use std::sync::Arc;
+
+/// The numbers under which the categories of the POSIX locale stand.
+const POSIX_ENDS: ByCategory<u32> = ByCategory {
+    ctype: 0,
+    numeric: 0,
+    monetary: 0,
+    time: 0,
+    messages: 0,
+};
 
 /// Compiled locales by their numbers. What several of them share stands once, also where they are
 /// in different lists.
 pub struct Locales {
     locales: Vec<SharedLocale>,
     posix: Arc<CategoryLists>,
+    posix_ends: ByCategory<u32>,
 }
 
 impl Drop for Locales {
@@ -30,6 +40,7 @@ impl Drop for Locales {
         let Locales {
             locales: _,
             posix: _,
+            posix_ends: _,
         } = self;
     }
 }
@@ -40,7 +51,12 @@ impl Model for Locales {
 
     ghost Value = { List Locale };
 
+    ghost use Rattle.std.specs.Prelude.{◌≡◌};
+    ghost use Rattle.category_store.specs.Kept.{posix_numbers};
+
     ghost view = { λ l. l.locales.items };
+
+    ghost invariant = { λ l. l.posix_ends ≡ posix_numbers };
 }
 
 impl Locales {
@@ -68,7 +84,11 @@ impl Locales {
     {
         let posix = Arc::new(alloc, kept)?;
         let locales = shared(alloc, rows, &posix)?;
-        Ok(Locales { locales, posix })
+        Ok(Locales {
+            locales,
+            posix,
+            posix_ends: POSIX_ENDS,
+        })
     }
 
     /// The locales of one list, and behind them those of another. Their names are copied, and what
@@ -80,7 +100,11 @@ impl Locales {
         let mut locales = Vec::new(alloc);
         add_shared(alloc, &mut locales, first.locales.as_slice())?;
         add_shared(alloc, &mut locales, second.locales.as_slice())?;
-        Ok(Locales { locales, posix })
+        Ok(Locales {
+            locales,
+            posix,
+            posix_ends: POSIX_ENDS,
+        })
     }
 
     /// The number of locales.
@@ -96,16 +120,7 @@ impl Locales {
     {
         match locale_at(self.locales.as_slice(), number) {
             Some(locale) => locale.compiled(),
-            None => {
-                let ends = SourceNumbers {
-                    ctype: 0,
-                    numeric: 0,
-                    monetary: 0,
-                    time: 0,
-                    messages: 0,
-                };
-                Compiled::of(b"C", Mask::all(), &self.posix, ends)
-            }
+            None => Compiled::of(b"C", Mask::all(), &self.posix, &self.posix_ends),
         }
     }
 }
@@ -125,7 +140,7 @@ fn rows_fault(kept: &CategoryLists, rows: &[LocaleRow]) -> Option<(Place, Reason
     ensures { result ≡ rows_fault kept.now rows.now }
 {
     for row in rows {
-        if let Some(fault) = kept.fault(row.ends) {
+        if let Some(fault) = kept.fault(&row.ends) {
             return Some(fault);
         }
     }

@@ -7,8 +7,8 @@ ghost use Rattle.locale_sources.specs.Seen.{source};
 ghost use Rattle.locale_sources.specs.Copies.{locale_numbers};
 ghost use Rattle.category_store.specs.Library.{names_of, keys_of, plain_number, native_number};
 
-use lc_base::ByName;
-use locale_sources::{Source, is_posix, locale_numbers};
+use lc_base::{ByName, is_posix_locale};
+use locale_sources::{Source, locale_numbers};
 use std::alloc::{AllocError, Global};
 
 /// The names of a library with their numbers.
@@ -102,7 +102,7 @@ fn keys_of(alloc: Global, sources: &[Source<'_>]) -> Result<ByName<u32>, AllocEr
 pub fn plain_number(names: &ByName<u32>, name: &[u8]) -> Option<u32>
     ensures { result ≡ plain_number names.now name.now }
 {
-    if is_posix(name) {
+    if is_posix_locale(name) {
         return Some(0);
     }
     names.get(name).copied()

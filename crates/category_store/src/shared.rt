@@ -6,7 +6,6 @@ ghost use Rattle.category_store.specs.Kept.{locale_in};
 
 use crate::compiled::Compiled;
 use crate::kept::CategoryLists;
-use lc_base::ByteText;
 use locale_sources::LocaleRow;
 use std::alloc::{AllocError, Global};
 use std::marker::Model;
@@ -43,16 +42,12 @@ impl SharedLocale {
     ) -> Result<SharedLocale, AllocError>
         ensures { IfOk result (λ l. l ≡ locale_in (arc_value kept.now) row.now) }
     {
-        let row = LocaleRow {
-            name: ByteText::of(alloc, row.name.as_bytes())?,
-            available: row.available,
-            ends: row.ends,
-        };
+        let row = row.again(alloc)?;
         let kept = Arc::try_clone(kept)?;
         Ok(SharedLocale { row, kept })
     }
 
-    /// The same locale once more. Nothing is compiled.
+    /// The locale once more, with a copy of its name. Nothing is compiled.
     fn again(&self, alloc: Global) -> Result<SharedLocale, AllocError>
         ensures { IfOk result (λ l. l ≡ self.now) }
     {
@@ -64,7 +59,7 @@ impl SharedLocale {
         ensures { result ≡ self.now }
     {
         let row = &self.row;
-        Compiled::of(row.name.as_bytes(), row.available, &self.kept, row.ends)
+        Compiled::of(row.name.as_bytes(), row.available, &self.kept, &row.ends)
     }
 }
 

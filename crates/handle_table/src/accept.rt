@@ -11,6 +11,7 @@ ghost use Rattle.handle_table.specs.Kept.{Keeps};
 ghost use Rattle.handle_table.specs.Effects.{after_make};
 ghost use Rattle.handle_table.specs.Accepted.{Accepts, SameShape};
 
+use crate::MAX_THREADS;
 use crate::checks::first_reason;
 use crate::kept::Kept;
 use crate::op::{Op, Refusal, Reply};
@@ -18,7 +19,6 @@ use crate::setting::Setting;
 use crate::shelf::from_shelf;
 use lc_base::{CELLS, Handle, Mask, Named};
 use mask_compose::{Object, Offer, Part, compose};
-use crate::MAX_THREADS;
 
 /// Answers the thread's op: refuses it for the first reason against it, else does what it asks for.
 pub fn answer<P: Part>(setting: &Setting<P>, kept: &mut Kept<P>, who: u32, op: Op<P>) -> Reply<P>

@@ -10,13 +10,13 @@ ghost use Rattle.handle_table.specs.Table.{Fits};
 ghost use Rattle.handle_table.specs.Seen.{op_of, reason_of};
 ghost use Rattle.handle_table.specs.Kept.{Keeps};
 
+use crate::MAX_THREADS;
 use crate::kept::Kept;
 use crate::op::{Op, Refusal};
 use crate::setting::Setting;
 use crate::shelf::lacking;
 use lc_base::{CELLS, Mask, Named};
 use mask_compose::Part;
-use crate::MAX_THREADS;
 
 /// Whether the named locales have the categories of the mask.
 fn has_data<P: Part>(

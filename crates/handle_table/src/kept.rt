@@ -9,13 +9,13 @@ ghost use Rattle.handle_table.specs.Kept.{RowsStand, ObjectsStand, SelectionsSta
 ghost use Rattle.handle_table.specs.Effects.{selected, after_make, after_rebuild, after_free, after_use, after_hold, after_release, after_set, after_install, after_post, after_end};
 
 use crate::setting::Setting;
+use crate::{MAX_THREADS, Row, numbers, rows};
 use generations::Grid;
 use global_locale::Global as GlobalLocale;
 use lc_base::{CELLS, Handle, Mask, Named};
 use mask_compose::{Object, Offer, Part};
 use std::alloc::{AllocError, Global};
 use std::marker::Model;
-use crate::{MAX_THREADS, Row, numbers, rows};
 
 /// What a table keeps: as much for each row, thread, cell and locale name, however many calls came.
 pub struct Kept<P: Part> {

@@ -2,6 +2,7 @@
 
 ghost use Rattle.std.specs.Prelude.{◌≡◌, ℕ, ◌+◌, ◌<◌, ◌≤◌, List, [], ◌∷◌, length, true, false, IfOk};
 
+use crate::MAX_THREADS;
 use crate::accept::answer;
 use crate::kept::Kept;
 use crate::op::{Op, Reply};
@@ -11,7 +12,6 @@ use lc_base::List;
 use mask_compose::{Offer, Part};
 use std::alloc::{AllocError, Global};
 use std::marker::Model;
-use crate::MAX_THREADS;
 
 /// The objects, selections, holds and cells of some threads, the shelf of locale names, and the
 /// global locale.

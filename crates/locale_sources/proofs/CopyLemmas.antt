@@ -2,6 +2,7 @@
 use Rattle.std.proofs.Common.{◌≡◌, ℕ, zero, suc, ◌+◌, ◌<◌, Bool, true, false, cond, List, [], ◌∷◌, length, map, Option, Some, None, IfSome, refl, sym, ◌∙◌, ap, subst, arith, is_some}
 use Rattle.std.specs.List.{range_with_len, slice_get}
 use Rattle.std.proofs.lemmas.List.FromFn.{length-map-range_with_len}
+use Rattle.lc_base.specs.BuiltIn.{is_posix_locale}
 use Rattle.lc_base.specs.Lines.{◌>>=◌}
 use Rattle.lc_base.specs.declared.category.Category.{Category}
 use Rattle.lc_base.specs.Tables.{first_named}
@@ -9,7 +10,7 @@ use Rattle.charset.specs.Portable.{Name}
 use Rattle.keywords.specs.declared.source.Section.{Section}
 use Rattle.keywords.specs.declared.source.Body.TheVariants.{Copy, Entries}
 use Rattle.locale_sources.specs.Sources.{Source}
-use Rattle.locale_sources.specs.Sections.{is_posix, section_of, section_at}
+use Rattle.locale_sources.specs.Sections.{section_of, section_at}
 use Rattle.locale_sources.specs.Copies.{locale_numbers, target, step_from, step, followed, last}
 use Rattle.locale_sources.specs.Tables.{led, repeated, IsClosed}
 use Rattle.locale_sources.proofs.TableLemmas.{led-map, tables-same}
@@ -37,7 +38,7 @@ posix_or S c true o h = omega arith
 posix_or S c false o h = h
 
 target_inside : (S : List Source) (c : Category) (name : Name) → IfSome (target S c name) (λ to. to < length S + 1)
-target_inside S c name = posix_or S c (is_posix name) (first_named (locale_numbers S) name >>= λ (n : ℕ). cond (is_some (section_at S c n)) (Some n) None) (target_if S c (first_named (locale_numbers S) name))
+target_inside S c name = posix_or S c (is_posix_locale name) (first_named (locale_numbers S) name >>= λ (n : ℕ). cond (is_some (section_at S c n)) (Some n) None) (target_if S c (first_named (locale_numbers S) name))
 
 step_if : (S : List Source) (c : Category) (n : ℕ) (o : Option Section) → n < length S + 1 → IfSome (step_from S c n o) (λ to. to < length S + 1)
 step_if S c n None h = h

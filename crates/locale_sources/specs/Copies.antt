@@ -3,6 +3,7 @@
 -- A source has a number: the i-th by place has i, and 0 is the POSIX locale.
 use Rattle.std.specs.Prelude.{ℕ, zero, suc, ◌+◌, Bool, true, false, List, [], ◌∷◌, length, Option, Some, None, is_some, is_none, if◌then◌else◌}
 use Rattle.std.specs.Option.{option_or}
+use Rattle.lc_base.specs.BuiltIn.{is_posix_locale}
 use Rattle.lc_base.specs.declared.place.Place.{Place}
 use Rattle.lc_base.specs.declared.category.Category.{Category}
 use Rattle.lc_base.specs.declared.reason.Reason.{Reason}
@@ -14,7 +15,7 @@ use Rattle.keywords.specs.declared.source.Section.{Section}
 use Rattle.keywords.specs.declared.source.Body.TheVariants.{Copy, Entries}
 use Rattle.lc_base.specs.Named.{with_named}
 use Rattle.locale_sources.specs.Sources.{Source}
-use Rattle.locale_sources.specs.Sections.{is_posix, section_at}
+use Rattle.locale_sources.specs.Sections.{section_at}
 
 -- the numbers of locales by their names, a later version being none, where the first of the sources has this number
 abbrev pub numbered_from : List (Name × ℕ) → ℕ → List Source → List (Name × ℕ)
@@ -27,7 +28,7 @@ locale_numbers sources = numbered_from [] 1 sources
 -- the number of the locale whose category a copy of this name takes: the POSIX locale, or a locale that has the category
 abbrev pub target : List Source → Category → Name → Option ℕ
 target sources category name =
-    if is_posix name then Some 0 else
+    if is_posix_locale name then Some 0 else
     (first_named (locale_numbers sources) name >>= λ n. if is_some (section_at sources category n) then Some n else None)
 
 -- where one copy leads from a number. What is no copy leads nowhere else

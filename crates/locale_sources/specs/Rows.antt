@@ -4,11 +4,12 @@ use Rattle.lc_base.specs.declared.place.Place.{Place}
 use Rattle.lc_base.specs.declared.category.Category.{Category}
 use Rattle.lc_base.specs.declared.category.Category.TheVariants.{Ctype, Numeric, Monetary, Time, Messages}
 use Rattle.lc_base.specs.declared.reason.Reason.{Reason}
+use Rattle.lc_base.specs.declared.by_category.ByCategory.{ByCategory}
+use Rattle.lc_base.specs.ByCategory.{by_category}
 use Rattle.lc_base.specs.Mask.{category_bit}
 use Rattle.lc_base.specs.Reading.{Reads}
 use Rattle.locale_sources.specs.Sources.{Source}
 use Rattle.locale_sources.specs.Sections.{section_at}
-use Rattle.locale_sources.specs.declared.numbers.SourceNumbers.{SourceNumbers}
 use Rattle.locale_sources.specs.declared.rows.LocaleRow.{LocaleRow}
 use Rattle.locale_sources.specs.Copies.{end_of, copy_fault}
 
@@ -22,14 +23,8 @@ available sources n =
     bit_at sources n Ctype + bit_at sources n Numeric + bit_at sources n Monetary + bit_at sources n Time + bit_at sources n Messages
 
 -- the numbers of the sources in which the categories of a source are written
-abbrev pub ends_at : List Source → ℕ → SourceNumbers
-ends_at sources n = record {
-  ctype = end_of sources Ctype n;
-  numeric = end_of sources Numeric n;
-  monetary = end_of sources Monetary n;
-  time = end_of sources Time n;
-  messages = end_of sources Messages n;
-}
+abbrev pub ends_at : List Source → ℕ → ByCategory ℕ
+ends_at sources n = by_category (λ category. end_of sources category n)
 
 -- a locale: its name, its categories, and where they are written
 abbrev pub row_of : List Source → ℕ → Source → LocaleRow

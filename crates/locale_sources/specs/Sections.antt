@@ -1,18 +1,12 @@
 -- The sections of sources.
 --
 -- A source has a number: the i-th by place has i, and 0 is the POSIX locale.
-use Rattle.std.specs.Prelude.{ℕ, zero, suc, Bool, ◌==◌, ◌||◌, List, [], ◌∷◌, codes, slice_get, Option, Some, None, if◌then◌else◌}
-use Rattle.std.specs.Str.{bytes_eq}
+use Rattle.std.specs.Prelude.{ℕ, zero, suc, ◌==◌, List, [], ◌∷◌, slice_get, Option, Some, None, if◌then◌else◌}
 use Rattle.lc_base.specs.declared.category.Category.{Category}
 use Rattle.lc_base.specs.Mask.{category_bit}
 use Rattle.lc_base.specs.Lines.{◌>>=◌}
-use Rattle.charset.specs.Portable.{Name}
 use Rattle.keywords.specs.declared.source.Section.{Section}
 use Rattle.locale_sources.specs.Sources.{Source}
-
--- whether a name is one of the POSIX locale's (XBD 7.2)
-abbrev pub is_posix : Name → Bool
-is_posix name = bytes_eq name (codes "C") || bytes_eq name (codes "POSIX")
 
 -- the section of a category
 abbrev pub section_of : Category → List Section → Option Section

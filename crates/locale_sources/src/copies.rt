@@ -5,9 +5,9 @@ ghost use Rattle.std.specs.List.{range_with_len};
 ghost use Rattle.locale_sources.specs.Seen.{source};
 ghost use Rattle.locale_sources.specs.Copies.{locale_numbers, target, step};
 
-use crate::{Source, is_posix, section_at};
+use crate::{Source, section_at};
 use keywords::Body;
-use lc_base::{ByName, Category};
+use lc_base::{ByName, Category, is_posix_locale};
 use std::alloc::{AllocError, Global};
 
 /// The numbers of locales by their names; a later version is none.
@@ -36,7 +36,7 @@ pub fn target(
     requires { locales.now ≡ locale_numbers (map source sources.now) }
     ensures { result ≡ target (map source sources.now) category name.now }
 {
-    if is_posix(name) {
+    if is_posix_locale(name) {
         return Some(0);
     }
     let number = *locales.get(name)?;

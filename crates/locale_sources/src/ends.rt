@@ -5,69 +5,158 @@ ghost use Rattle.std.specs.List.{range_with_len};
 ghost use Rattle.std.specs.Option.{option_copied};
 ghost use Rattle.locale_sources.specs.Seen.{source};
 ghost use Rattle.locale_sources.specs.Copies.{locale_numbers, last, is_copy, is_cycle, end_of, section_fault, sections_fault, copy_fault};
-ghost use Rattle.locale_sources.specs.Ends.{AreEnds, ends_in};
 
 use crate::copies::{steps, target};
 use crate::table::{led, repeated};
 use crate::{Source, section_at};
 use keywords::{Body, Section};
-use lc_base::{ByName, Category, Place, Reason};
+use lc_base::{ByCategory, ByName, Category, Place, Reason};
 use std::alloc::{AllocError, Global};
+use std::marker::Model;
 
-/// For each category where the copies end that begin at each number.
-pub struct Ends {
-    pub ctype: Vec<Option<u32>>,
-    pub numeric: Vec<Option<u32>>,
-    pub monetary: Vec<Option<u32>>,
-    pub time: Vec<Option<u32>>,
-    pub messages: Vec<Option<u32>>,
+/// Sources, and where the copies end that begin in each of them, category by category.
+pub struct CopyEnds<'a> {
+    sources: &'a [Source<'a>],
+    locales: &'a ByName<u32>,
+    ends: ByCategory<Vec<Option<u32>>>,
 }
 
-impl Drop for Ends {
+impl<'a> Drop for CopyEnds<'a> {
     fn drop(self) {
-        let Ends {
-            ctype: _,
-            numeric: _,
-            monetary: _,
-            time: _,
-            messages: _,
+        let CopyEnds {
+            sources: _,
+            locales: _,
+            ends: _,
         } = self;
     }
 }
 
-impl Ends {
+impl<'a> Model for CopyEnds<'a> {
+    ghost use Rattle.std.specs.Prelude.{List, map};
+    ghost use Rattle.locale_sources.specs.Sources.{Source};
+    ghost use Rattle.locale_sources.specs.Seen.{source};
+    ghost use Rattle.locale_sources.specs.Ends.{AreFollowed};
+
+    ghost Value = { List Source };
+
+    ghost view = { λ e. map source e.sources.now };
+
+    ghost invariant = { λ e. AreFollowed (map source e.sources.now) e.locales.now e.ends };
+}
+
+impl<'a> CopyEnds<'a> {
     /// The ends of the copies of sources.
     pub fn of(
         alloc: Global,
-        sources: &[Source<'_>],
-        locales: &ByName<u32>,
-    ) -> Result<Ends, AllocError>
+        sources: &'a [Source<'a>],
+        locales: &'a ByName<u32>,
+    ) -> Result<CopyEnds<'a>, AllocError>
         requires known { locales.now ≡ locale_numbers (map source sources.now) }
         requires few { length sources.now < 2 ^ 31 }
-        ensures { IfOk result (AreEnds (map source sources.now)) }
+        ensures { IfOk result (λ e. e ≡ map source sources.now) }
     {
-        Ok(Ends {
+        let ends = ByCategory {
             ctype: ends_of(alloc, sources, locales, Category::Ctype)?,
             numeric: ends_of(alloc, sources, locales, Category::Numeric)?,
             monetary: ends_of(alloc, sources, locales, Category::Monetary)?,
             time: ends_of(alloc, sources, locales, Category::Time)?,
             messages: ends_of(alloc, sources, locales, Category::Messages)?,
+        };
+        Ok(CopyEnds {
+            sources,
+            locales,
+            ends,
         })
     }
 
-    fn table(&self, category: Category) -> &[Option<u32>]
-        ensures { result.now ≡ ends_in self.now category }
+    /// The sources.
+    pub fn sources(&self) -> &'a [Source<'a>]
+        ensures are { map source result.now ≡ self.now }
+        ensures count { length result.now ≡ length self.now }
+        ensures few { length result.now < 2 ^ 31 }
     {
-        match category {
-            Category::Ctype => self.ctype.as_slice(),
-            Category::Numeric => self.numeric.as_slice(),
-            Category::Monetary => self.monetary.as_slice(),
-            Category::Time => self.time.as_slice(),
-            Category::Messages => self.messages.as_slice(),
+        self.sources
+    }
+
+    /// Where the copies of a category end that begin at a number.
+    fn last(&self, category: Category, number: u32) -> Option<u32>
+        requires { number ≤ length self.now }
+        ensures { result ≡ last self.now category number }
+    {
+        led(self.ends.get(category).as_slice(), number)
+    }
+
+    /// The number of the source in which the category of a source is written.
+    pub fn end_of(&self, category: Category, number: u32) -> u32
+        requires { number ≤ length self.now }
+        ensures { result ≡ end_of self.now category number }
+    {
+        if section_at(self.sources, category, number).is_none() {
+            return 0;
         }
+        self.last(category, number).unwrap_or(0)
+    }
+
+    /// Whether the copies from a number never end.
+    fn is_cycle(&self, category: Category, number: u32) -> bool
+        requires { number ≤ length self.now }
+        ensures { result ≡ is_cycle self.now category number }
+    {
+        match self.last(category, number) {
+            None => false,
+            Some(end) => is_copy(section_at(self.sources, category, end)),
+        }
+    }
+
+    /// The fault of a section of the source with a number.
+    fn section_fault(&self, number: u32, section: &Section) -> Option<(Place, Reason)>
+        requires { number ≤ length self.now }
+        ensures { result ≡ section_fault self.now number section.now }
+    {
+        let Body::Copy(place, name) = &section.body else {
+            return None;
+        };
+        let category = section.category;
+        if target(self.sources, self.locales, category, name.as_bytes()).is_none() {
+            return Some((*place, Reason::CopyMissing));
+        }
+        if self.is_cycle(category, number) {
+            return Some((*place, Reason::CopyCycle));
+        }
+        None
+    }
+
+    /// The first fault of the sections of the source with a number.
+    fn sections_fault(&self, number: u32, sections: &[Section]) -> Option<(Place, Reason)>
+        requires { number ≤ length self.now }
+        ensures { result ≡ sections_fault self.now number sections.now }
+    {
+        for section in sections {
+            if let Some(fault) = self.section_fault(number, section) {
+                return Some(fault);
+            }
+        }
+        None
+    }
+
+    /// The first fault of the copies, by place.
+    pub fn copy_fault(&self) -> Option<(Place, Reason)>
+        ensures { result ≡ copy_fault self.now }
+    {
+        let sources = self.sources();
+        let mut number = 0;
+        for source in sources {
+            number += 1;
+            let sections = source.sections.as_slice();
+            if let Some(fault) = self.sections_fault(number, sections) {
+                return Some(fault);
+            }
+        }
+        None
     }
 }
 
+/// Where the copies of a category end that begin at each number.
 fn ends_of(
     alloc: Global,
     sources: &[Source<'_>],
@@ -82,28 +171,6 @@ fn ends_of(
     repeated(alloc, steps.as_slice(), sources.len())
 }
 
-/// Where the copies of a category end that begin at a number.
-fn last(sources: &[Source<'_>], ends: &Ends, category: Category, number: u32) -> Option<u32>
-    requires ends { AreEnds (map source sources.now) ends.now }
-    requires within { number ≤ length sources.now }
-    ensures { result ≡ last (map source sources.now) category number }
-{
-    let _ = sources;
-    led(ends.table(category), number)
-}
-
-/// The number of the source in which the category of a source is written.
-pub fn end_of(sources: &[Source<'_>], ends: &Ends, category: Category, number: u32) -> u32
-    requires ends { AreEnds (map source sources.now) ends.now }
-    requires within { number ≤ length sources.now }
-    ensures { result ≡ end_of (map source sources.now) category number }
-{
-    if section_at(sources, category, number).is_none() {
-        return 0;
-    }
-    last(sources, ends, category, number).unwrap_or(0)
-}
-
 /// Whether a section copies.
 fn is_copy(section: Option<&Section>) -> bool
     ensures { result ≡ is_copy (option_copied section.entry) }
@@ -115,85 +182,4 @@ fn is_copy(section: Option<&Section>) -> bool
             Body::Entries(_) => false,
         },
     }
-}
-
-/// Whether the copies from a number never end.
-fn is_cycle(sources: &[Source<'_>], ends: &Ends, category: Category, number: u32) -> bool
-    requires ends { AreEnds (map source sources.now) ends.now }
-    requires within { number ≤ length sources.now }
-    ensures { result ≡ is_cycle (map source sources.now) category number }
-{
-    match last(sources, ends, category, number) {
-        None => false,
-        Some(end) => is_copy(section_at(sources, category, end)),
-    }
-}
-
-/// The fault of a section of the source with a number.
-fn section_fault(
-    sources: &[Source<'_>],
-    locales: &ByName<u32>,
-    ends: &Ends,
-    number: u32,
-    section: &Section,
-) -> Option<(Place, Reason)>
-    requires known { locales.now ≡ locale_numbers (map source sources.now) }
-    requires ends { AreEnds (map source sources.now) ends.now }
-    requires within { number ≤ length sources.now }
-    ensures { result ≡ section_fault (map source sources.now) number section.now }
-{
-    let Body::Copy(place, name) = &section.body else {
-        return None;
-    };
-    let category = section.category;
-    if target(sources, locales, category, name.as_bytes()).is_none() {
-        return Some((*place, Reason::CopyMissing));
-    }
-    if is_cycle(sources, ends, category, number) {
-        return Some((*place, Reason::CopyCycle));
-    }
-    None
-}
-
-/// The first fault of the sections of the source with a number.
-fn sections_fault(
-    sources: &[Source<'_>],
-    locales: &ByName<u32>,
-    ends: &Ends,
-    number: u32,
-    sections: &[Section],
-) -> Option<(Place, Reason)>
-    requires known { locales.now ≡ locale_numbers (map source sources.now) }
-    requires ends { AreEnds (map source sources.now) ends.now }
-    requires within { number ≤ length sources.now }
-    ensures { result ≡ sections_fault (map source sources.now) number sections.now }
-{
-    for section in sections {
-        if let Some(fault) = section_fault(sources, locales, ends, number, section) {
-            return Some(fault);
-        }
-    }
-    None
-}
-
-/// The first fault of the copies, by place.
-pub fn copy_fault(
-    sources: &[Source<'_>],
-    locales: &ByName<u32>,
-    ends: &Ends,
-) -> Option<(Place, Reason)>
-    requires known { locales.now ≡ locale_numbers (map source sources.now) }
-    requires ends { AreEnds (map source sources.now) ends.now }
-    requires few { length sources.now < 2 ^ 31 }
-    ensures { result ≡ copy_fault (map source sources.now) }
-{
-    let mut number = 0;
-    for source in sources {
-        number += 1;
-        let sections = source.sections.as_slice();
-        if let Some(fault) = sections_fault(sources, locales, ends, number, sections) {
-            return Some(fault);
-        }
-    }
-    None
 }

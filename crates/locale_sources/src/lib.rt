@@ -3,14 +3,12 @@
 
 mod copies;
 mod ends;
-mod numbers;
 mod rows;
 mod sections;
 mod source;
 mod table;
 
 pub use copies::locale_numbers;
-pub use numbers::SourceNumbers;
 pub use rows::{LocaleRow, read_rows};
-pub use sections::{is_posix, section_at, section_of};
+pub use sections::{section_at, section_of};
 pub use source::Source;

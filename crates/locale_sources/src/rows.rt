@@ -4,20 +4,18 @@ ghost use Rattle.std.specs.Prelude.{◌≡◌, ◌<◌, ◌≤◌, ◌^◌, leng
 ghost use Rattle.lc_base.specs.Reading.{Gives};
 ghost use Rattle.locale_sources.specs.Seen.{source};
 ghost use Rattle.locale_sources.specs.Copies.{locale_numbers};
-ghost use Rattle.locale_sources.specs.Ends.{AreEnds};
 ghost use Rattle.locale_sources.specs.Rows.{available, bit_at, ends_at, rows_from, rows_of};
 
-use crate::ends::{Ends, copy_fault, end_of};
-use crate::numbers::SourceNumbers;
+use crate::ends::CopyEnds;
 use crate::{Source, section_at};
-use lc_base::{ByName, ByteText, Category, Mask, TextFault};
+use lc_base::{ByCategory, ByName, ByteText, Category, Mask, TextFault};
 use std::alloc::{AllocError, Global};
 
 /// A locale: its name, the categories that it has, and where each of them is written.
 pub struct LocaleRow {
     pub name: ByteText,
     pub available: Mask,
-    pub ends: SourceNumbers,
+    pub ends: ByCategory<u32>,
 }
 
 impl Drop for LocaleRow {
@@ -27,6 +25,26 @@ impl Drop for LocaleRow {
             available: _,
             ends: _,
         } = self;
+    }
+}
+
+impl LocaleRow {
+    /// The same locale once more. Its name is copied.
+    pub fn again(&self, alloc: Global) -> Result<LocaleRow, AllocError>
+        ensures { IfOk result (λ r. r ≡ self.now) }
+    {
+        let ends = &self.ends;
+        Ok(LocaleRow {
+            name: ByteText::of(alloc, self.name.as_bytes())?,
+            available: self.available,
+            ends: ByCategory {
+                ctype: ends.ctype,
+                numeric: ends.numeric,
+                monetary: ends.monetary,
+                time: ends.time,
+                messages: ends.messages,
+            },
+        })
     }
 }
 
@@ -53,52 +71,48 @@ fn available(sources: &[Source<'_>], number: u32) -> Mask
 }
 
 /// The numbers of the sources in which the categories of a source are written.
-fn ends_at(sources: &[Source<'_>], ends: &Ends, number: u32) -> SourceNumbers
-    requires ends { AreEnds (map source sources.now) ends.now }
-    requires within { number ≤ length sources.now }
-    ensures { result ≡ ends_at (map source sources.now) number }
+fn ends_at(ends: &CopyEnds<'_>, number: u32) -> ByCategory<u32>
+    requires { number ≤ length ends.now }
+    ensures { result ≡ ends_at ends.now number }
 {
-    SourceNumbers {
-        ctype: end_of(sources, ends, Category::Ctype, number),
-        numeric: end_of(sources, ends, Category::Numeric, number),
-        monetary: end_of(sources, ends, Category::Monetary, number),
-        time: end_of(sources, ends, Category::Time, number),
-        messages: end_of(sources, ends, Category::Messages, number),
+    ByCategory {
+        ctype: ends.end_of(Category::Ctype, number),
+        numeric: ends.end_of(Category::Numeric, number),
+        monetary: ends.end_of(Category::Monetary, number),
+        time: ends.end_of(Category::Time, number),
+        messages: ends.end_of(Category::Messages, number),
     }
 }
 
 /// The locale of a source with a number.
 fn row_of(
     alloc: Global,
-    sources: &[Source<'_>],
-    ends: &Ends,
+    ends: &CopyEnds<'_>,
     number: u32,
     name: &[u8],
 ) -> Result<LocaleRow, AllocError>
-    requires ends { AreEnds (map source sources.now) ends.now }
-    requires within { number ≤ length sources.now }
+    requires { number ≤ length ends.now }
     ensures name { IfOk result (λ r. r.name ≡ name.now) }
-    ensures available { IfOk result (λ r. r.available ≡ available (map source sources.now) number) }
-    ensures ends { IfOk result (λ r. r.ends ≡ ends_at (map source sources.now) number) }
+    ensures available { IfOk result (λ r. r.available ≡ available ends.now number) }
+    ensures ends { IfOk result (λ r. r.ends ≡ ends_at ends.now number) }
 {
     Ok(LocaleRow {
         name: ByteText::of(alloc, name)?,
-        available: available(sources, number),
-        ends: ends_at(sources, ends, number),
+        available: available(ends.sources(), number),
+        ends: ends_at(ends, number),
     })
 }
 
 /// The locales of sources whose copies end.
-fn rows(alloc: Global, sources: &[Source<'_>], ends: &Ends) -> Result<Vec<LocaleRow>, AllocError>
-    requires ends { AreEnds (map source sources.now) ends.now }
-    requires few { length sources.now < 2 ^ 31 }
-    ensures { IfOk result (λ v. let S = map source sources.now in v.items ≡ rows_from S 1 S) }
+fn rows(alloc: Global, ends: &CopyEnds<'_>) -> Result<Vec<LocaleRow>, AllocError>
+    ensures { IfOk result (λ v. v.items ≡ rows_from ends.now 1 ends.now) }
 {
+    let sources = ends.sources();
     let mut rows = Vec::new(alloc);
     let mut number = 0;
     for source in sources {
         number += 1;
-        rows.push(row_of(alloc, sources, ends, number, source.name)?)?;
+        rows.push(row_of(alloc, ends, number, source.name)?)?;
     }
     Ok(rows)
 }
@@ -116,9 +130,9 @@ pub fn read_rows(
     requires few { length sources.now < 2 ^ 31 }
     ensures { Gives (λ v. v.items) result (rows_of (map source sources.now)) }
 {
-    let ends = Ends::of(alloc, sources, locales)?;
-    match copy_fault(sources, locales, &ends) {
+    let ends = CopyEnds::of(alloc, sources, locales)?;
+    match ends.copy_fault() {
         Some((place, reason)) => Err(TextFault::At(place, reason)),
-        None => Ok(rows(alloc, sources, &ends)?),
+        None => Ok(rows(alloc, &ends)?),
     }
 }

@@ -3,18 +3,11 @@
 ghost use Rattle.std.specs.Prelude.{◌≡◌, map};
 ghost use Rattle.std.specs.Option.{option_copied};
 ghost use Rattle.locale_sources.specs.Seen.{source};
-ghost use Rattle.locale_sources.specs.Sections.{is_posix, section_of, section_at};
+ghost use Rattle.locale_sources.specs.Sections.{section_of, section_at};
 
 use crate::source::Source;
 use keywords::Section;
 use lc_base::Category;
-
-/// Whether a name is one of the POSIX locale's.
-pub fn is_posix(name: &[u8]) -> bool
-    ensures { result ≡ is_posix name.now }
-{
-    name == b"C".as_slice() || name == b"POSIX".as_slice()
-}
 
 /// The section of a category.
 pub fn section_of(sections: &[Section], category: Category) -> Option<&Section>

@@ -5,27 +5,17 @@ ghost use Rattle.lc_base.specs.declared.category.Category.{Category};
 ghost use Rattle.mask_compose.specs.Parts.{part_of, composed};
 
 use crate::part::Part;
-use lc_base::{Category, Mask};
+use lc_base::{ByCategory, Category, Mask};
 use std::marker::Model;
 
 /// A locale object: a part for each category (POSIX.1-2017, XBD 3.204 and XSH newlocale).
 pub struct Object<P: Part> {
-    ctype: P,
-    numeric: P,
-    monetary: P,
-    time: P,
-    messages: P,
+    parts: ByCategory<P>,
 }
 
 impl<P: Part> Drop for Object<P> {
     fn drop(self) {
-        let Object {
-            ctype: _,
-            numeric: _,
-            monetary: _,
-            time: _,
-            messages: _,
-        } = self;
+        let Object { parts: _ } = self;
     }
 }
 
@@ -35,11 +25,11 @@ impl<P: Part> Model for Object<P> {
     ghost Value = { Parts };
 
     ghost view = { λ o. record {
-      ctype = P.number o.ctype;
-      numeric = P.number o.numeric;
-      monetary = P.number o.monetary;
-      time = P.number o.time;
-      messages = P.number o.messages;
+      ctype = P.number o.parts.ctype;
+      numeric = P.number o.parts.numeric;
+      monetary = P.number o.parts.monetary;
+      time = P.number o.parts.time;
+      messages = P.number o.parts.messages;
     } };
 }
 
@@ -53,11 +43,13 @@ impl<P: Part> Object<P> {
         ensures messages { result.messages ≡ P.number messages }
     {
         Object {
-            ctype,
-            numeric,
-            monetary,
-            time,
-            messages,
+            parts: ByCategory {
+                ctype,
+                numeric,
+                monetary,
+                time,
+                messages,
+            },
         }
     }
 
@@ -65,26 +57,21 @@ impl<P: Part> Object<P> {
     pub fn part(&self, category: Category) -> &P
         ensures { P.number result.now ≡ part_of self.now category }
     {
-        match category {
-            Category::Ctype => &self.ctype,
-            Category::Numeric => &self.numeric,
-            Category::Monetary => &self.monetary,
-            Category::Time => &self.time,
-            Category::Messages => &self.messages,
-        }
+        self.parts.get(category)
     }
 
-    /// The same object once more, without taking memory.
+    /// The object once more, without taking memory.
     pub fn share(&self) -> Object<P>
         ensures { result ≡ self.now }
     {
-        Object {
-            ctype: self.ctype.share(),
-            numeric: self.numeric.share(),
-            monetary: self.monetary.share(),
-            time: self.time.share(),
-            messages: self.messages.share(),
-        }
+        let parts = &self.parts;
+        Object::of(
+            parts.ctype.share(),
+            parts.numeric.share(),
+            parts.monetary.share(),
+            parts.time.share(),
+            parts.messages.share(),
+        )
     }
 }
 

@@ -33,7 +33,7 @@ impl<P: Part> Model for Offer<P> {
 }
 
 impl<P: Part> Offer<P> {
-    /// The same offer once more, without taking memory.
+    /// The offer once more, without taking memory.
     pub fn share(&self) -> Offer<P>
         ensures { result ≡ self.now }
     {

@@ -10,7 +10,7 @@ pub trait Part: Drop {
     /// The number that the part stands for.
     ghost number: { Self → ℕ };
 
-    /// The same part once more, without taking memory.
+    /// The part once more, without taking memory.
     fn share(&self) -> Self
         ensures { number result ≡ number self.now };
 }
