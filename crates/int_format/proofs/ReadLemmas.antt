@@ -11,7 +11,7 @@ use Rattle.lc_base.specs.declared.refusal.FormatRefusal.{FormatRefusal}
 use Rattle.digit_groups.specs.Digits.{last_digits}
 use Rattle.digit_groups.specs.Numbers.{number_behind}
 use Rattle.int_format.specs.Digits.{digit_count, digits_at_least}
-use Rattle.int_format.specs.Formats.{flags_behind, conversion_with, piece, pieces}
+use Rattle.int_format.specs.Formats.{flags_behind, piece, pieces}
 use Rattle.int_format.specs.Ints.{is_number, ints, pieces_text, missing, grouped_digits, between, below_zero, IsTextOf}
 use Rattle.digit_groups.proofs.DigitLemmas.{length-last_digits}
 use Rattle.int_format.proofs.DigitLemmas.{digit_first, divides_power, few_digits, below_power}
@@ -172,13 +172,13 @@ wide_at n k len sizes sep g t is = rw (g, t) is
 
 -- a number that is not below 0
 pub text_of_positive : (n : NumericValues) (x : ℕ) → ints n (codes "%'d") (pos x ∷ []) ≡ Ok (grouped_digits n x)
-unfolding flags_behind number_behind conversion_with piece pieces pieces_text missing
+unfolding flags_behind number_behind piece pieces pieces_text missing
 text_of_positive n x =
     let none : 0 - (0 + length (grouped_digits n x)) ≡ 0 = omega arith in
     ap (λ k. Ok ((replicate k 32 ++ grouped_digits n x) ++ [])) none ∙ ap (λ t. Ok t) (append-nil (grouped_digits n x))
 
 pub text_of_negative : (n : NumericValues) (m : ℕ) → ints n (codes "%'d") (negsuc m ∷ []) ≡ Ok (45 ∷ grouped_digits n (suc m))
-unfolding flags_behind number_behind conversion_with piece pieces pieces_text missing
+unfolding flags_behind number_behind piece pieces pieces_text missing
 text_of_negative n m =
     let none : 0 - (1 + length (grouped_digits n (suc m))) ≡ 0 = omega arith in
     ap (λ k. Ok ((replicate k 32 ++ (45 ∷ grouped_digits n (suc m))) ++ [])) none ∙ ap (λ t. Ok t) (append-nil (45 ∷ grouped_digits n (suc m)))

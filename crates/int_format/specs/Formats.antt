@@ -1,12 +1,13 @@
 -- Conversions of whole numbers (XSH fprintf; bounds and the refusal are our own).
 use Rattle.std.specs.Prelude.{ℕ, ◌+◌, ◌==◌, ◌||◌, Bool, true, false, List, [], ◌∷◌, drop, Option, Some, None, option_map, if◌then◌else◌}
 use Rattle.lc_base.specs.Lines.{◌>>=◌}
-use Rattle.digit_groups.specs.Numbers.{counted, leading_number}
+use Rattle.digit_groups.specs.Numbers.{counted, further, leading_number}
 use Rattle.digit_groups.specs.Conversions.{of_byte, number_after}
 unfoldable pub use Rattle.digit_groups.specs.Formats.{piece, pieces}
 use Rattle.int_format.specs.declared.format.IntFlag.{IntFlag}
 use Rattle.int_format.specs.declared.format.IntFlag.TheVariants.{Groups, LeftAligned, PlusSign, SpaceSign, Zeros}
 use Rattle.int_format.specs.declared.format.Flags.{Flags}
+use Rattle.int_format.specs.declared.format.NumberField.{NumberField}
 use Rattle.int_format.specs.declared.format.IntConversion.{IntConversion}
 
 -- ---- flags
@@ -45,6 +46,20 @@ flags_behind f (c ∷ cs) = elim (mark_of c) [
 abbrev pub flags : List ℕ → Flags × ℕ
 flags bs = flags_behind no_flags bs
 
+-- ---- the flags, the width and the precision
+
+-- the field whose flags and width stand in front of these bytes, and how many of these it takes
+abbrev pub behind_width : Flags → ℕ → List ℕ → Option (NumberField × ℕ)
+behind_width f w bs = option_map (λ p. (record { flags = f; width = w; precision = p.0 }, p.1)) (number_after 46 0 bs)
+
+-- the field whose flags stand in front of these bytes
+abbrev pub behind_flags : Flags → List ℕ → Option (NumberField × ℕ)
+behind_flags f bs = leading_number bs >>= λ w. further w.1 (behind_width f w.0 (drop w.1 bs))
+
+-- the flags, the width and the precision that bytes behind a `%` begin with, and how many bytes they take
+abbrev pub field : List ℕ → Option (NumberField × ℕ)
+field bs = further (flags bs).1 (behind_flags (flags bs).0 (drop (flags bs).1 bs))
+
 -- ---- conversions
 
 -- whether bytes begin with `l`
@@ -66,13 +81,10 @@ is_signed (c ∷ cs) = if c == 100 || c == 105 then Some true else if c == 117 t
 abbrev pub letter : List ℕ → Option (Bool × ℕ)
 letter bs = option_map (λ s. (s, modifier bs + 1)) (is_signed (drop (modifier bs) bs))
 
--- the conversion that bytes behind a `%` begin with, whose flags take so many bytes: the width, the precision and the letter, and how many bytes it takes
-unfoldable pub conversion_with : Flags → ℕ → List ℕ → Option (IntConversion × ℕ)
-conversion_with f n bs = do
-  w ← leading_number (drop n bs)
-  p ← number_after 46 0 (drop (n + w.1) bs)
-  l ← letter (drop (n + w.1 + p.1) bs)
-  Some (record { flags = f; width = w.0; precision = p.0; signed = l.0 }, n + w.1 + p.1 + l.1)
+-- a conversion with this field, which is `d` or `i`, or else `u`
+abbrev pub with_letter : NumberField → Bool → IntConversion
+with_letter f signed = record { flags = f.flags; width = f.width; precision = f.precision; signed = signed }
 
+-- the conversion that bytes behind a `%` begin with, and how many bytes it takes
 abbrev pub conversion : List ℕ → Option (IntConversion × ℕ)
-conversion bs = conversion_with (flags bs).0 (flags bs).1 bs
+conversion bs = field bs >>= λ f. further f.1 (option_map (λ l. (with_letter f.0 l.0, l.1)) (letter (drop f.1 bs)))

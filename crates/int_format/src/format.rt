@@ -1,7 +1,7 @@
 //! Conversions of whole numbers (XSH fprintf).
 
 ghost use Rattle.std.specs.Prelude.{◌≡◌, ◌+◌, ◌≤◌, ◌<◌, length, IfSome};
-ghost use Rattle.int_format.specs.Formats.{mark_of, with_mark, flags, modifier, is_signed, letter, conversion};
+ghost use Rattle.int_format.specs.Formats.{mark_of, with_mark, flags, behind_width, behind_flags, field, modifier, is_signed, letter, conversion};
 
 use digit_groups::{leading_number, number_after};
 
@@ -23,11 +23,26 @@ pub enum IntFlag {
 /// The flags of a conversion.
 #[derive(Clone, Copy)]
 pub struct Flags {
+    /// `'`: digits in groups.
     pub groups: bool,
+    /// `-`: to the left of its field.
     pub left: bool,
+    /// `+`: a sign before numbers that are not below 0.
     pub plus: bool,
+    /// A space: a space before numbers that are not below 0.
     pub space: bool,
+    /// `0`: zeros up to the width.
     pub zeros: bool,
+}
+
+/// What stands between the `%` of a conversion and its letter, but for `l`, `ll` or `j`.
+#[derive(Clone, Copy)]
+pub struct NumberField {
+    pub flags: Flags,
+    /// The least number of bytes.
+    pub width: u8,
+    /// The least number of digits, or of `f` the number of fraction digits.
+    pub precision: Option<u8>,
 }
 
 /// The conversion of one number.
@@ -99,6 +114,44 @@ fn flags_of(bytes: &[u8]) -> (Flags, usize)
     (flags, count)
 }
 
+/// The field whose flags and width stand in front of these bytes, and how many of these it takes.
+#[inline(always)]
+fn behind_width(flags: Flags, width: u8, bytes: &[u8]) -> Option<(NumberField, usize)>
+    ensures is { result ≡ behind_width flags width bytes.now }
+    ensures within { IfSome result (λ r. r.1 ≤ length bytes.now) }
+{
+    let (precision, used) = number_after(b'.', 0, bytes)?;
+    let field = NumberField {
+        flags,
+        width,
+        precision,
+    };
+    Some((field, used))
+}
+
+/// The field whose flags stand in front of these bytes, and how many of these it takes.
+#[inline(always)]
+fn behind_flags(flags: Flags, bytes: &[u8]) -> Option<(NumberField, usize)>
+    ensures is { result ≡ behind_flags flags bytes.now }
+    ensures within { IfSome result (λ r. r.1 ≤ length bytes.now) }
+{
+    let (width, digits) = leading_number(bytes)?;
+    let (field, more) = behind_width(flags, width, &bytes[digits..])?;
+    Some((field, more + digits))
+}
+
+/// The flags, the width and the precision that bytes behind a `%` begin with, and how many bytes they
+/// take; `None` where the width or the precision is over 255.
+#[inline(always)]
+pub fn field_of(bytes: &[u8]) -> Option<(NumberField, usize)>
+    ensures is { result ≡ field bytes.now }
+    ensures within { IfSome result (λ r. r.1 ≤ length bytes.now) }
+{
+    let (flags, used) = flags_of(bytes);
+    let (field, more) = behind_flags(flags, &bytes[used..])?;
+    Some((field, more + used))
+}
+
 /// How many bytes `l`, `ll` or `j` take, if one of them is there.
 #[inline(always)]
 fn modifier(bytes: &[u8]) -> usize
@@ -137,23 +190,19 @@ fn letter_of(bytes: &[u8]) -> Option<(bool, usize)>
     Some((signed, used + 1))
 }
 
-/// The conversion that bytes behind a `%` begin with, and how many bytes it takes.
+/// The conversion `d`, `i` or `u` that bytes behind a `%` begin with, and how many bytes it takes.
 #[inline(always)]
 pub fn conversion_of(bytes: &[u8]) -> Option<(IntConversion, usize)>
     ensures is { result ≡ conversion bytes.now }
     ensures within { IfSome result (λ r. r.1 ≤ length bytes.now) }
 {
-    let (flags, mut at) = flags_of(bytes);
-    let (width, digits) = leading_number(&bytes[at..])?;
-    at += digits;
-    let (precision, more) = number_after(b'.', 0, &bytes[at..])?;
-    at += more;
-    let (signed, last) = letter_of(&bytes[at..])?;
+    let (field, used) = field_of(bytes)?;
+    let (signed, last) = letter_of(&bytes[used..])?;
     let conversion = IntConversion {
-        flags,
-        width,
-        precision,
+        flags: field.flags,
+        width: field.width,
+        precision: field.precision,
         signed,
     };
-    Some((conversion, at + last))
+    Some((conversion, last + used))
 }

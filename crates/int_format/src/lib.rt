@@ -15,7 +15,7 @@ mod write;
 
 use digit_groups::{FormatConversion, format_into, write_format};
 pub use fault::IntFault;
-use format::{IntConversion, conversion_of};
+pub use format::{Flags, IntConversion, NumberField, conversion_of, field_of};
 use lc_base::{ByteText, FormatRefusal};
 use numeric_cat::Numeric;
 pub use read::{numbers_are_told_apart, read_grouped};

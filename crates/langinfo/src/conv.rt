@@ -1,17 +1,18 @@
 //! The fields of localeconv's structure (XSH localeconv, XBD <locale.h>).
 
-ghost use Rattle.std.specs.Prelude.{◌≡◌, slice_get, IfOk};
+ghost use Rattle.std.specs.Prelude.{◌≡◌, ◌<◌, Some, slice_get, IfOk};
 ghost use Rattle.std.specs.Option.{option_copied};
 ghost use Rattle.monetary_cat.specs.Monetary.{number_of};
 ghost use Rattle.keywords.specs.LconvChars.{encoded};
+ghost use Rattle.langinfo.specs.declared.conv.TheConstants.{CONV_TEXTS};
 ghost use Rattle.langinfo.specs.Conv.{bare_numbers, bare_texts, conv, number_fields, text_fields};
 ghost use Rattle.langinfo.specs.Lent.{lconv_of, owned_numbers, owned_text, owned_texts};
 
 use crate::categories::Categories;
 use crate::field::LentText::{Bytes, Sizes};
 use crate::field::{ConvText, FieldName, LentText};
-use lc_base::{ByteText, List};
 use keywords::encoded;
+use lc_base::{ByteText, List};
 use monetary_cat::MonNumber::{
     FracDigits, IntFracDigits, IntNCsPrecedes, IntNSepBySpace, IntNSignPosn, IntPCsPrecedes,
     IntPSepBySpace, IntPSignPosn, NCsPrecedes, NSepBySpace, NSignPosn, PCsPrecedes, PSepBySpace,
@@ -123,21 +124,15 @@ pub fn lent_conv<'a>(numeric: &'a Numeric, monetary: &'a Monetary) -> LentConv<'
 /// The text of a field of localeconv by its number, in the order of the standard's page, in the locale
 /// that has these categories. Its category lends it, as C has it. Takes no memory.
 #[inline(always)]
+#[tactic(auto, using(crate::proofs::FieldLemmas::text_alone, crate::proofs::FieldLemmas::no_text))]
 pub fn lent_conv_text<C: Categories>(from: &C, number: usize) -> Option<&[u8]>
     ensures { option_copied result ≡ slice_get (bare_texts (conv (C.numeric_of from.now) (C.monetary_of from.now)).texts) number }
 {
-    match number {
-        0 => Some(from.numeric().decimal_point()),
-        1 => Some(from.numeric().thousands_sep()),
-        2 => Some(from.numeric().group_chars()),
-        3 => Some(from.monetary().text(IntCurrSymbol)),
-        4 => Some(from.monetary().text(CurrencySymbol)),
-        5 => Some(from.monetary().text(MonDecimalPoint)),
-        6 => Some(from.monetary().text(MonThousandsSep)),
-        7 => Some(from.monetary().group_chars()),
-        8 => Some(from.monetary().text(PositiveSign)),
-        9 => Some(from.monetary().text(NegativeSign)),
-        _ => None,
+    if number < CONV_TEXTS {
+        let (_, text) = text_field(from.numeric(), from.monetary(), number);
+        Some(text.as_bytes())
+    } else {
+        None
     }
 }
 
@@ -146,44 +141,51 @@ pub fn lent_conv_text<C: Categories>(from: &C, number: usize) -> Option<&[u8]>
 pub fn lent_conv_numbers(monetary: &Monetary) -> [u8; CONV_NUMBERS]
     ensures { result ≡ bare_numbers (number_fields monetary.now) }
 {
-    [
-        number(monetary, IntFracDigits),
-        number(monetary, FracDigits),
-        number(monetary, PCsPrecedes),
-        number(monetary, PSepBySpace),
-        number(monetary, NCsPrecedes),
-        number(monetary, NSepBySpace),
-        number(monetary, PSignPosn),
-        number(monetary, NSignPosn),
-        number(monetary, IntPCsPrecedes),
-        number(monetary, IntNCsPrecedes),
-        number(monetary, IntPSepBySpace),
-        number(monetary, IntNSepBySpace),
-        number(monetary, IntPSignPosn),
-        number(monetary, IntNSignPosn),
-    ]
+    let fields = number_fields(monetary);
+    let mut numbers = [0; CONV_NUMBERS];
+    for i in 0..CONV_NUMBERS {
+        numbers[i] = fields[i].1;
+    }
+    numbers
 }
 
 /// The fields that are texts, each with its name in C and the value of its keyword.
-#[inline(always)]
 fn text_fields<'n, 'a>(
     numeric: &'a Numeric,
     monetary: &'a Monetary,
 ) -> [(&'n [u8], LentText<'a>); CONV_TEXTS]
     ensures { owned_texts result ≡ text_fields numeric.now monetary.now }
 {
-    [
-        (b"decimal_point", Bytes(numeric.decimal_point())),
-        (b"thousands_sep", Bytes(numeric.thousands_sep())),
-        (b"grouping", Sizes(numeric.group_chars())),
-        (b"int_curr_symbol", Bytes(monetary.text(IntCurrSymbol))),
-        (b"currency_symbol", Bytes(monetary.text(CurrencySymbol))),
-        (b"mon_decimal_point", Bytes(monetary.text(MonDecimalPoint))),
-        (b"mon_thousands_sep", Bytes(monetary.text(MonThousandsSep))),
-        (b"mon_grouping", Sizes(monetary.group_chars())),
-        (b"positive_sign", Bytes(monetary.text(PositiveSign))),
-        (b"negative_sign", Bytes(monetary.text(NegativeSign))),
-    ]
+    let mut fields = [text_field(numeric, monetary, 0); CONV_TEXTS];
+    for i in 1..CONV_TEXTS {
+        fields[i] = text_field(numeric, monetary, i);
+    }
+    fields
+}
+
+/// A field that is a text by its number: its name in C and the value of its keyword.
+#[inline(always)]
+fn text_field<'n, 'a>(
+    numeric: &'a Numeric,
+    monetary: &'a Monetary,
+    number: usize,
+) -> (&'n [u8], LentText<'a>)
+    requires { number < CONV_TEXTS }
+    ensures { slice_get (text_fields numeric.now monetary.now) number ≡ Some (result.0.now, owned_text result.1) }
+{
+    match number {
+        0 => (b"decimal_point", Bytes(numeric.decimal_point())),
+        1 => (b"thousands_sep", Bytes(numeric.thousands_sep())),
+        2 => (b"grouping", Sizes(numeric.group_chars())),
+        3 => (b"int_curr_symbol", Bytes(monetary.text(IntCurrSymbol))),
+        4 => (b"currency_symbol", Bytes(monetary.text(CurrencySymbol))),
+        5 => (b"mon_decimal_point", Bytes(monetary.text(MonDecimalPoint))),
+        6 => (b"mon_thousands_sep", Bytes(monetary.text(MonThousandsSep))),
+        7 => (b"mon_grouping", Sizes(monetary.group_chars())),
+        8 => (b"positive_sign", Bytes(monetary.text(PositiveSign))),
+        9 => (b"negative_sign", Bytes(monetary.text(NegativeSign))),
+        _ => unreachable!(),
+    }
 }
 
 /// The fields that are numbers, each with its name in C and the value of its keyword.

@@ -3,6 +3,7 @@
 use Rattle.std.specs.Prelude.{ℕ, Bool, false, not, ◌||◌, List, position, codes, Option, Some, None}
 use Rattle.std.specs.List.{list_any}
 use Rattle.std.specs.Str.{bytes_eq}
+use Rattle.lc_base.specs.BuiltIn.{is_built_in_charset, is_posix_locale}
 use Rattle.lc_base.specs.declared.block.Block.{Block}
 use Rattle.lc_base.specs.declared.block.Later.{Later}
 use Rattle.script_commands.specs.declared.known.Known.{Known}
@@ -18,12 +19,12 @@ has_key later key = list_any (λ (l : Later). bytes_eq l.key key) later
 -- whether a charset is neither built in nor a charmap of the bundle
 abbrev pub lacks_charset : Option Known → List ℕ → Bool
 lacks_charset None name = false
-lacks_charset (Some b) name = not (bytes_eq name (codes "UTF-8") || bytes_eq name (codes "POSIX") || has_block b.charmaps name)
+lacks_charset (Some b) name = not (is_built_in_charset name || has_block b.charmaps name)
 
 -- whether a native locale is neither the POSIX locale nor a locale of the bundle
 abbrev pub lacks_locale : Option Known → List ℕ → Bool
 lacks_locale None name = false
-lacks_locale (Some b) name = not (bytes_eq name (codes "C") || bytes_eq name (codes "POSIX") || has_block b.locales name)
+lacks_locale (Some b) name = not (is_posix_locale name || has_block b.locales name)
 
 -- whether no later version of the bundle has this key
 abbrev pub lacks_key : Option Known → List ℕ → Bool

@@ -1,6 +1,6 @@
 //! Words of commands.
 
-ghost use Rattle.std.specs.Prelude.{◌≡◌, ◌<◌, ◌≤◌, length, IfOk};
+ghost use Rattle.std.specs.Prelude.{◌≡◌, ◌<◌, ◌≤◌, ℕ, List as Items, Option, length, IfOk};
 ghost use Rattle.std.specs.Option.{option_copied};
 ghost use Rattle.lc_base.specs.declared.fault.TextFault.TheVariants.{At};
 ghost use Rattle.lc_base.specs.declared.reason.Reason.TheVariants.{BadLine};
@@ -29,7 +29,7 @@ use script_words::{
     mask_of_word, max_number, number_of_word, offset_of_word, quoted_of_word, short_number,
     text_of_word, three_numbers, variable_of_word, zone_of_word,
 };
-use std::alloc::Global;
+use std::alloc::{AllocError, Global};
 
 /// The refusal of a wrong, missing or needless word at this place.
 fn wrong_word(place: Place) -> TextFault
@@ -65,52 +65,49 @@ pub fn is_over(rest: Stretch<'_>) -> bool
     rest.next_word().is_none()
 }
 
-/// A variable, and what follows it.
+/// The next word, read by a function of its bytes, and what follows it. Whatever definition the function
+/// follows where there is memory, the word is read by the same one.
 #[tactic(auto, unfolding(crate::specs::Commands::read_as))]
+fn read_as<'a, A, F: FnOnce(&[u8]) -> Result<Option<A>, AllocError>>(
+    rest: Stretch<'a>,
+    read: F,
+) -> Result<(A, Stretch<'a>), TextFault>
+    requires { F.IsAlwaysCallable read }
+    ensures is { (said : List ℕ → Option A) → ((bytes : _) (value : _) → F.post read bytes value → IfOk value (λ v. v ≡ said bytes.now)) → Gives (λ x. (x.0, span x.1)) result (read_as said (span rest.entry)) }
+{
+    let (word, rest) = argument(rest)?;
+    match read(word.bytes)? {
+        Some(value) => Ok((value, rest)),
+        None => Err(wrong_word(word.place)),
+    }
+}
+
+/// A variable, and what follows it.
 pub fn variable(alloc: Global, rest: Stretch<'_>) -> Result<(ByteText, Stretch<'_>), TextFault>
     ensures { Gives (λ x. (x.0, span x.1)) result (read_as variable_of_word (span rest.entry)) }
 {
-    let (word, rest) = argument(rest)?;
-    match variable_of_word(alloc, word.bytes)? {
-        Some(name) => Ok((name, rest)),
-        None => Err(wrong_word(word.place)),
-    }
+    read_as(rest, |word| variable_of_word(alloc, word))
 }
 
 /// The bits of a mask, and what follows it.
-#[tactic(auto, unfolding(crate::specs::Commands::read_as))]
 pub fn mask(rest: Stretch<'_>) -> Result<(u32, Stretch<'_>), TextFault>
     ensures { Gives (λ x. (x.0, span x.1)) result (read_as mask_of_word (span rest.entry)) }
 {
-    let (word, rest) = argument(rest)?;
-    match mask_of_word(word.bytes) {
-        Some(bits) => Ok((bits, rest)),
-        None => Err(wrong_word(word.place)),
-    }
+    read_as(rest, |word| Ok(mask_of_word(word)))
 }
 
 /// The name of a locale, and what follows it.
-#[tactic(auto, unfolding(crate::specs::Commands::read_as))]
 pub fn locale(alloc: Global, rest: Stretch<'_>) -> Result<(ByteText, Stretch<'_>), TextFault>
     ensures { Gives (λ x. (x.0, span x.1)) result (read_as text_of_word (span rest.entry)) }
 {
-    let (word, rest) = argument(rest)?;
-    match text_of_word(alloc, word.bytes)? {
-        Some(name) => Ok((name, rest)),
-        None => Err(wrong_word(word.place)),
-    }
+    read_as(rest, |word| text_of_word(alloc, word))
 }
 
 /// The categories of a setlocale, and what follows them.
-#[tactic(auto, unfolding(crate::specs::Commands::read_as))]
 pub fn categories(rest: Stretch<'_>) -> Result<(CategoryArgument, Stretch<'_>), TextFault>
     ensures { Gives (λ x. (x.0, span x.1)) result (read_as categories_of_word (span rest.entry)) }
 {
-    let (word, rest) = argument(rest)?;
-    match categories_of_word(word.bytes) {
-        Some(categories) => Ok((categories, rest)),
-        None => Err(wrong_word(word.place)),
-    }
+    read_as(rest, |word| Ok(categories_of_word(word)))
 }
 
 /// The handle that a word is.
@@ -200,15 +197,10 @@ pub fn catalog_word<'a>(
 }
 
 /// The name of a catalog, and what follows it.
-#[tactic(auto, unfolding(crate::specs::Commands::read_as))]
 pub fn catalog_name(alloc: Global, rest: Stretch<'_>) -> Result<(ByteText, Stretch<'_>), TextFault>
     ensures { Gives (λ x. (x.0, span x.1)) result (read_as key_of_word (span rest.entry)) }
 {
-    let (word, rest) = argument(rest)?;
-    match key_of_word(alloc, word.bytes)? {
-        Some(name) => Ok((name, rest)),
-        None => Err(wrong_word(word.place)),
-    }
+    read_as(rest, |word| key_of_word(alloc, word))
 }
 
 /// The cell that a word names: the numbers of its thread and of the cell.
@@ -254,39 +246,24 @@ pub fn cell_word(rest: Stretch<'_>) -> Result<(u32, Stretch<'_>), TextFault>
 }
 
 /// An item, and what follows it.
-#[tactic(auto, unfolding(crate::specs::Commands::read_as))]
 pub fn item(rest: Stretch<'_>) -> Result<(Item, Stretch<'_>), TextFault>
     ensures { Gives (λ x. (x.0, span x.1)) result (read_as (first_named items_table) (span rest.entry)) }
 {
-    let (word, rest) = argument(rest)?;
-    match item_named(word.bytes) {
-        Some(item) => Ok((item, rest)),
-        None => Err(wrong_word(word.place)),
-    }
+    read_as(rest, |word| Ok(item_named(word)))
 }
 
 /// The name of a class, and what follows it.
-#[tactic(auto, unfolding(crate::specs::Commands::read_as))]
 pub fn class(alloc: Global, rest: Stretch<'_>) -> Result<(ByteText, Stretch<'_>), TextFault>
     ensures { Gives (λ x. (x.0, span x.1)) result (read_as class_of_word (span rest.entry)) }
 {
-    let (word, rest) = argument(rest)?;
-    match class_of_word(alloc, word.bytes)? {
-        Some(name) => Ok((name, rest)),
-        None => Err(wrong_word(word.place)),
-    }
+    read_as(rest, |word| class_of_word(alloc, word))
 }
 
 /// A number of 32 bits, as a wide value is one, and what follows it.
-#[tactic(auto, unfolding(crate::specs::Commands::read_as))]
 pub fn value(rest: Stretch<'_>) -> Result<(u32, Stretch<'_>), TextFault>
     ensures { Gives (λ x. (x.0, span x.1)) result (read_as decimal_number (span rest.entry)) }
 {
-    let (word, rest) = argument(rest)?;
-    match decimal_number(word.bytes) {
-        Some(value) => Ok((value, rest)),
-        None => Err(wrong_word(word.place)),
-    }
+    read_as(rest, |word| Ok(decimal_number(word)))
 }
 
 /// The most bytes of a text, which a word in front of the format may give, and what follows it.
@@ -378,57 +355,40 @@ pub fn whole_numbers(alloc: Global, rest: Stretch<'_>) -> Result<List<WrittenNum
 }
 
 /// Three numbers with a byte between them, and what follows them.
-#[tactic(auto, unfolding(crate::specs::Commands::read_as))]
 fn numbers(between: u8, rest: Stretch<'_>) -> Result<((i32, i32, i32), Stretch<'_>), TextFault>
     ensures { Gives (λ x. (x.0, span x.1)) result (read_as (three_numbers between) (span rest.entry)) }
 {
-    let (word, rest) = argument(rest)?;
-    match three_numbers(between, word.bytes) {
-        Some(numbers) => Ok((numbers, rest)),
-        None => Err(wrong_word(word.place)),
-    }
+    read_as(rest, |word| Ok(three_numbers(between, word)))
 }
 
 /// A number of a time, and what follows it.
-#[tactic(auto, unfolding(crate::specs::Commands::read_as))]
 fn number(rest: Stretch<'_>) -> Result<(i32, Stretch<'_>), TextFault>
     ensures { Gives (λ x. (x.0, span x.1)) result (read_as short_number (span rest.entry)) }
 {
-    let (word, rest) = argument(rest)?;
-    match short_number(word.bytes) {
-        Some(number) => Ok((number, rest)),
-        None => Err(wrong_word(word.place)),
-    }
+    read_as(rest, |word| Ok(short_number(word)))
 }
 
 /// Minutes east of UTC, which may be left out, and what follows them.
-#[tactic(auto, unfolding(crate::specs::Commands::offset, crate::specs::Commands::read_as))]
+#[tactic(auto, unfolding(crate::specs::Commands::offset))]
 fn offset(rest: Stretch<'_>) -> Result<(Option<i32>, Stretch<'_>), TextFault>
     ensures { Gives (λ x. (x.0, span x.1)) result (offset (span rest.entry)) }
 {
     if is_over(rest) {
         return Ok((None, rest));
     }
-    let (word, rest) = argument(rest)?;
-    match offset_of_word(word.bytes) {
-        Some(minutes) => Ok((Some(minutes), rest)),
-        None => Err(wrong_word(word.place)),
-    }
+    let (minutes, rest) = read_as(rest, |word| Ok(offset_of_word(word)))?;
+    Ok((Some(minutes), rest))
 }
 
 /// The name of a time zone, which may be left out, and what follows it.
-#[tactic(auto, unfolding(crate::specs::Commands::zone, crate::specs::Commands::read_as))]
+#[tactic(auto, unfolding(crate::specs::Commands::zone))]
 fn zone(alloc: Global, rest: Stretch<'_>) -> Result<(ByteText, Stretch<'_>), TextFault>
     ensures { Gives (λ x. (x.0, span x.1)) result (zone (span rest.entry)) }
 {
     if is_over(rest) {
         return Ok((ByteText::from_vec(Vec::new(alloc)), rest));
     }
-    let (word, rest) = argument(rest)?;
-    match zone_of_word(alloc, word.bytes)? {
-        Some(zone) => Ok((zone, rest)),
-        None => Err(wrong_word(word.place)),
-    }
+    read_as(rest, |word| zone_of_word(alloc, word))
 }
 
 /// A date, a clock, the days of the week and of the year, and the zone; and what follows them.

@@ -6,7 +6,7 @@ ghost use Rattle.script_commands.specs.Known.{lacks_charset, lacks_locale, lacks
 
 use crate::lists::{has_block, has_key, number_of};
 use crate::scope::Scope;
-use lc_base::{Block, Later, List};
+use lc_base::{Block, Later, List, is_built_in_charset, is_posix_locale};
 
 /// The most threads of a bundle.
 pub const THREAD_LIMIT: usize = 16;
@@ -34,11 +34,7 @@ pub fn lacks_charset(known: Option<&Known>, name: &[u8]) -> bool
 {
     match known {
         None => false,
-        Some(known) => {
-            name != b"UTF-8".as_slice()
-                && name != b"POSIX".as_slice()
-                && !has_block(&known.charmaps, name)
-        }
+        Some(known) => !is_built_in_charset(name) && !has_block(&known.charmaps, name),
     }
 }
 
@@ -48,11 +44,7 @@ pub fn lacks_locale(known: Option<&Known>, name: &[u8]) -> bool
 {
     match known {
         None => false,
-        Some(known) => {
-            name != b"C".as_slice()
-                && name != b"POSIX".as_slice()
-                && !has_block(&known.locales, name)
-        }
+        Some(known) => !is_posix_locale(name) && !has_block(&known.locales, name),
     }
 }
 

@@ -2,6 +2,7 @@
 use Rattle.std.specs.Prelude.{ℕ, ◌==◌, nat_lt, nat_le, Bool, not, ◌&&◌, ◌||◌, List, length, slice_index, codes}
 use Rattle.std.specs.List.{list_all}
 use Rattle.std.specs.Str.{bytes_eq}
+use Rattle.lc_base.specs.BuiltIn.{is_built_in_charset, is_posix_locale}
 use Rattle.script_words.specs.declared.names.TheConstants.{LOCALE_NAME_LIMIT, THREAD_NAME_LIMIT, CLASS_NAME_LIMIT}
 
 -- `A` to `Z` or `a` to `z`
@@ -26,7 +27,7 @@ is_formed name = nat_lt 0 (length name) && nat_le (length name) LOCALE_NAME_LIMI
 
 -- a formed name that is neither `C` nor `POSIX`
 unfoldable pub is_locale_name : List ℕ → Bool
-is_locale_name name = is_formed name && not (bytes_eq name (codes "C")) && not (bytes_eq name (codes "POSIX"))
+is_locale_name name = is_formed name && not (is_posix_locale name)
 
 -- a formed name that is not `POSIX`, since the categories of the POSIX locale have the name `C`
 unfoldable pub is_part_name : List ℕ → Bool
@@ -34,7 +35,7 @@ is_part_name name = is_formed name && not (bytes_eq name (codes "POSIX"))
 
 -- a formed name that is neither `UTF-8` nor `POSIX`
 unfoldable pub is_charmap_name : List ℕ → Bool
-is_charmap_name name = is_formed name && not (bytes_eq name (codes "UTF-8")) && not (bytes_eq name (codes "POSIX"))
+is_charmap_name name = is_formed name && not (is_built_in_charset name)
 
 -- a letter and up to 15 letters and digits, and not `GLOBAL`
 unfoldable pub is_thread_name : List ℕ → Bool

@@ -6,7 +6,7 @@ use Rattle.std.specs.Str.{bytes_eq}
 use Rattle.lc_base.specs.Cuts.{cut_at}
 use Rattle.lc_base.specs.Numbers.{decimal_number}
 use Rattle.lc_base.specs.declared.category.Category.{Category}
-use Rattle.lc_base.specs.Categories.{categories, category_name}
+use Rattle.lc_base.specs.Categories.{categories, category_name, category_named}
 use Rattle.lc_base.specs.Mask.{category_bit}
 use Rattle.script_words.specs.declared.categories.CategoryArgument.{CategoryArgument}
 use Rattle.script_words.specs.declared.categories.CategoryArgument.TheVariants.{All, One}
@@ -82,10 +82,6 @@ unfoldable pub max_number : List ℕ → Option ℕ
 max_number w = option_and_then (λ n. if nat_le n MAX_LIMIT then Some n else None) (decimal_number w)
 
 -- ---- categories
-
--- the category of a name
-abbrev pub category_named : List ℕ → Option Category
-category_named name = find (λ c. bytes_eq (category_name c) name) categories
 
 -- a category, or `LC_ALL`
 unfoldable pub categories_of_word : List ℕ → Option CategoryArgument

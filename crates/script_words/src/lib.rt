@@ -18,7 +18,7 @@ pub use given::{
 pub use names::{is_charmap_name, is_formed, is_locale_name, is_part_name, is_thread_name};
 pub use number::{amount_of_word, number_of_word, offset_of_word, short_number, three_numbers};
 pub use stretch::Stretch;
-pub use table::{Directive, directive_named, item_named};
+pub use table::{Directive, directive_named, item_named, item_rows};
 pub use word::{
     WrittenCell, WrittenHandle, behind_front, categories_of_word, cell_number, cell_of_word,
     class_of_word, handle_of_word, key_of_word, mask_of_word, max_number, quoted_of_word,

@@ -4,6 +4,8 @@ ghost use Rattle.std.specs.Prelude.{◌≡◌};
 ghost use Rattle.std.specs.List.{list_all};
 ghost use Rattle.script_words.specs.Names.{is_letter, is_letter_or_digit, is_name_byte, is_formed, is_locale_name, is_part_name, is_charmap_name, is_thread_name, is_class_name};
 
+use lc_base::{is_built_in_charset, is_posix_locale};
+
 /// The most bytes of a locale's or a charmap's name.
 pub const LOCALE_NAME_LIMIT: usize = 64;
 
@@ -26,7 +28,7 @@ pub fn is_formed(name: &[u8]) -> bool
 pub fn is_locale_name(name: &[u8]) -> bool
     ensures { result ≡ is_locale_name name.now }
 {
-    is_formed(name) && name != b"C".as_slice() && name != b"POSIX".as_slice()
+    is_formed(name) && !is_posix_locale(name)
 }
 
 /// Whether a category of an object may have this name: that of a locale of the bundle, or `C`, the
@@ -43,7 +45,7 @@ pub fn is_part_name(name: &[u8]) -> bool
 pub fn is_charmap_name(name: &[u8]) -> bool
     ensures { result ≡ is_charmap_name name.now }
 {
-    is_formed(name) && name != b"UTF-8".as_slice() && name != b"POSIX".as_slice()
+    is_formed(name) && !is_built_in_charset(name)
 }
 
 /// Whether a thread may have this name: a letter and up to 15 letters and digits, and not `GLOBAL`.

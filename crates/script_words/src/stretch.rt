@@ -80,7 +80,7 @@ impl<'a> Stretch<'a> {
         }
     }
 
-    /// The same without the blanks in front.
+    /// What stands behind the blanks in front.
     fn from_word(self) -> Stretch<'a>
         ensures is { span result ≡ from_word (span self.entry) }
         ensures shorter { length result.bytes.now ≤ length self.entry.bytes.now }

@@ -4,13 +4,13 @@ ghost use Rattle.std.specs.Prelude.{◌≡◌, ◌<◌, ◌++◌, IfOk, IfSome, 
 ghost use Rattle.std.specs.List.{list_all, slice_split};
 ghost use Rattle.std.specs.Option.{option_copied, option_to_list};
 ghost use Rattle.script_words.specs.declared.word.Quoting.TheVariants.{Text};
-ghost use Rattle.script_words.specs.Words.{is_plain_byte, hex_value, quoted_step, is_closed, unquoted, text_of_word, quoted_of_word, zone_of_word, behind_front, max_number, category_named, categories_of_word, with_name, bits_with, is_comma, mask_of_word, variable_of_word, class_of_word, key_of_word, cell_number, handle_of_word, cell_of_word};
+ghost use Rattle.script_words.specs.Words.{is_plain_byte, hex_value, quoted_step, is_closed, unquoted, text_of_word, quoted_of_word, zone_of_word, behind_front, max_number, categories_of_word, with_name, bits_with, is_comma, mask_of_word, variable_of_word, class_of_word, key_of_word, cell_number, handle_of_word, cell_of_word};
 ghost use Rattle.script_words.specs.Seen.{seen_handle, seen_cell, IsQuoting};
 
 use crate::categories::CategoryArgument;
 use crate::given::{MAX_LIMIT, ZONE_LIMIT};
 use crate::names::{is_class_name, is_locale_name, is_thread_name};
-use lc_base::{ByteText, CATEGORIES, CELLS, Category, Mask, cut_at, decimal_number};
+use lc_base::{ByteText, CELLS, Category, Mask, category_named, cut_at, decimal_number};
 use std::alloc::{AllocError, Global};
 
 /// What stands before a byte of a quoted text.
@@ -182,16 +182,6 @@ pub fn max_number(word: &[u8]) -> Option<u32>
         Some(number) if number <= MAX_LIMIT => Some(number),
         _ => None,
     }
-}
-
-/// The category of a name.
-fn category_named(name: &[u8]) -> Option<Category>
-    ensures { result ≡ category_named name.now }
-{
-    CATEGORIES
-        .iter()
-        .copied()
-        .find(|category| category.name() == name)
 }
 
 /// A category, or `LC_ALL`.

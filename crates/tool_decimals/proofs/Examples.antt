@@ -5,7 +5,8 @@ use Rattle.numeric_cat.specs.NumericValues.{NumericValues}
 use Rattle.digit_groups.specs.Groups.{separated}
 use Rattle.digit_groups.specs.Numbers.{number_behind}
 use Rattle.lc_base.specs.Cuts.{cut_at}
-use Rattle.tool_decimals.specs.Conversions.{flags_behind, part}
+use Rattle.int_format.specs.Formats.{flags_behind}
+use Rattle.tool_decimals.specs.Conversions.{part}
 use Rattle.tool_decimals.specs.Decimals.{Number, carried, decimal_of_word, rounded, without_zeros}
 use Rattle.tool_decimals.specs.Texts.{decimal_text}
 use Rattle.tool_decimals.specs.Formats.{BadFormat, MissingNumber, NoNumber, first_wrong, numbers_text, text_behind}

@@ -3,7 +3,7 @@ use Rattle.std.specs.Prelude.{◌≡◌, ℕ, zero, suc, ◌+◌, nat_le, List, 
 use Rattle.numeric_cat.specs.NumericValues.{NumericValues}
 use Rattle.int_format.specs.Ints.{at_most, ints}
 use Rattle.script_words.specs.Numbers.{number_of_word}
-use Rattle.tool_decimals.specs.declared.conversion.DecimalConversion.{DecimalConversion}
+use Rattle.int_format.specs.declared.format.NumberField.{NumberField}
 use Rattle.tool_decimals.specs.declared.conversion.DecimalPart.{DecimalPart}
 use Rattle.tool_decimals.specs.declared.conversion.DecimalPart.TheVariants.{Literal, Whole, Decimal}
 use Rattle.tool_decimals.specs.declared.fault.NumbersFault.{NumbersFault}
@@ -37,7 +37,7 @@ whole_text n bytes word = elim (number_of_word word) [
 ]
 
 -- the text of a word by a conversion of decimals
-abbrev pub fraction_text : NumericValues → DecimalConversion → List ℕ → Result (List ℕ) Refusal
+abbrev pub fraction_text : NumericValues → NumberField → List ℕ → Result (List ℕ) Refusal
 fraction_text n c word = elim (decimal_of_word word) [
   | None ↦ Err (NoNumber word)
   | Some d ↦ Ok (decimal_text n c d)

@@ -4,11 +4,11 @@ ghost use Rattle.std.specs.Prelude.{◌≡◌, ◌++◌, ◌+◌, ◌<◌, ◌�
 ghost use Rattle.tool_decimals.specs.Conversions.{part};
 ghost use Rattle.tool_decimals.specs.Formats.{Answers, Refuses, first_wrong, fraction_text, numbers_text, part_text, text_behind, whole_text, with_text, within, words_behind};
 
-use crate::conversion::{DecimalConversion, DecimalPart, part_of};
+use crate::conversion::{DecimalPart, part_of};
 use crate::decimal::decimal_of_word;
 use crate::fault::NumbersFault;
 use crate::layout::decimal_text;
-use int_format::{IntFault, int_format};
+use int_format::{IntFault, NumberField, int_format};
 use lc_base::ByteText;
 use numeric_cat::Numeric;
 use script_words::number_of_word;
@@ -141,9 +141,7 @@ fn part_text<'a>(
         (DecimalPart::Literal(byte), _) => Ok(ByteText::of(alloc, &[byte])?),
         (_, []) => Err(NumbersFault::MissingNumber { at }),
         (DecimalPart::Whole, [word, ..]) => whole_text(alloc, numeric, bytes, word),
-        (DecimalPart::Decimal(conversion), [word, ..]) => {
-            fraction_text(alloc, numeric, &conversion, word)
-        }
+        (DecimalPart::Decimal(field), [word, ..]) => fraction_text(alloc, numeric, &field, word),
     }
 }
 
@@ -170,13 +168,13 @@ fn whole_text<'a>(
 fn fraction_text<'a>(
     alloc: Global,
     numeric: &Numeric,
-    conversion: &DecimalConversion,
+    field: &NumberField,
     word: &'a str,
 ) -> Result<ByteText, NumbersFault<'a>>
-    ensures { Answers (λ text. text) result (fraction_text numeric.now conversion.now word.now) }
+    ensures { Answers (λ text. text) result (fraction_text numeric.now field.now word.now) }
 {
     match decimal_of_word(word.as_bytes()) {
-        Some(number) => Ok(decimal_text(alloc, numeric, conversion, &number)?),
+        Some(number) => Ok(decimal_text(alloc, numeric, field, &number)?),
         None => Err(NumbersFault::NoNumber(word)),
     }
 }

@@ -4,10 +4,10 @@ ghost use Rattle.std.specs.Prelude.{◌≡◌, ◌++◌, ◌+◌, ◌-◌, lengt
 ghost use Rattle.tool_decimals.specs.Decimals.{number_of};
 ghost use Rattle.tool_decimals.specs.Texts.{body_text, decimal_text, padded, places, sign_text, sizes_of, split_text};
 
-use crate::conversion::DecimalConversion;
 use crate::decimal::Decimal;
 use crate::rounding::{push_zeros, rounded, without_zeros};
 use digit_groups::group_into;
+use int_format::NumberField;
 use lc_base::ByteText;
 use numeric_cat::Numeric;
 use std::alloc::{AllocError, Global};
@@ -16,21 +16,21 @@ use std::alloc::{AllocError, Global};
 const PLACES: u8 = 6;
 
 /// The number of fraction digits.
-fn places(conversion: &DecimalConversion) -> usize
-    ensures { result ≡ places conversion.now }
+fn places(field: &NumberField) -> usize
+    ensures { result ≡ places field.now }
 {
-    usize::from(conversion.precision.unwrap_or(PLACES))
+    usize::from(field.precision.unwrap_or(PLACES))
 }
 
 /// What stands for the sign.
-fn sign_of(conversion: &DecimalConversion, number: &Decimal<'_>) -> &'static [u8]
-    ensures { result.now ≡ sign_text conversion.now (number_of number.now) }
+fn sign_of(field: &NumberField, number: &Decimal<'_>) -> &'static [u8]
+    ensures { result.now ≡ sign_text field.now (number_of number.now) }
 {
     if number.is_below_zero() {
         b"-"
-    } else if conversion.flags.plus {
+    } else if field.flags.plus {
         b"+"
-    } else if conversion.flags.space {
+    } else if field.flags.space {
         b" "
     } else {
         b""
@@ -38,10 +38,10 @@ fn sign_of(conversion: &DecimalConversion, number: &Decimal<'_>) -> &'static [u8
 }
 
 /// The sizes of groups.
-fn sizes_of<'a>(numeric: &'a Numeric, conversion: &DecimalConversion) -> &'a [i32]
-    ensures { result.now ≡ sizes_of numeric.now conversion.now }
+fn sizes_of<'a>(numeric: &'a Numeric, field: &NumberField) -> &'a [i32]
+    ensures { result.now ≡ sizes_of numeric.now field.now }
 {
-    if conversion.flags.groups {
+    if field.flags.groups {
         numeric.grouping()
     } else {
         &[]
@@ -77,17 +77,17 @@ fn split_text(
 fn body_text(
     alloc: Global,
     numeric: &Numeric,
-    conversion: &DecimalConversion,
+    field: &NumberField,
     number: &Decimal<'_>,
 ) -> Result<Vec<u8>, AllocError>
-    ensures { IfOk result (λ v. v.items ≡ body_text numeric.now conversion.now (number_of number.now)) }
+    ensures { IfOk result (λ v. v.items ≡ body_text numeric.now field.now (number_of number.now)) }
 {
-    let places = places(conversion);
+    let places = places(field);
     let digits = rounded(alloc, number, places)?;
     split_text(
         alloc,
         numeric,
-        sizes_of(numeric, conversion),
+        sizes_of(numeric, field),
         places,
         digits.as_slice(),
     )
@@ -104,18 +104,18 @@ fn push_spaces(out: &mut Vec<u8>, count: usize) -> Result<(), AllocError>
 /// Adds a sign and digits with so many bytes that fill the field.
 fn push_padded(
     out: &mut Vec<u8>,
-    conversion: &DecimalConversion,
+    field: &NumberField,
     count: usize,
     sign: &[u8],
     body: &[u8],
 ) -> Result<(), AllocError>
-    ensures { OnOk result (out.new.items ≡ out.old.items ++ padded conversion.now count sign.now body.now) }
+    ensures { OnOk result (out.new.items ≡ out.old.items ++ padded field.now count sign.now body.now) }
 {
-    if conversion.flags.left {
+    if field.flags.left {
         out.extend_from_slice(sign)?;
         out.extend_from_slice(body)?;
         push_spaces(out, count)
-    } else if conversion.flags.zeros {
+    } else if field.flags.zeros {
         out.extend_from_slice(sign)?;
         push_zeros(out, count)?;
         out.extend_from_slice(body)
@@ -135,20 +135,20 @@ fn padding(width: u8, sign: &[u8], body: &[u8]) -> usize
         .saturating_sub(body.len())
 }
 
-/// The text of a decimal by a conversion.
+/// The text of a decimal by the field of its conversion.
 #[tactic(auto, unfolding(crate::specs::Texts::decimal_text))]
 pub fn decimal_text(
     alloc: Global,
     numeric: &Numeric,
-    conversion: &DecimalConversion,
+    field: &NumberField,
     number: &Decimal<'_>,
 ) -> Result<ByteText, AllocError>
-    ensures { IfOk result (λ text. text ≡ decimal_text numeric.now conversion.now (number_of number.now)) }
+    ensures { IfOk result (λ text. text ≡ decimal_text numeric.now field.now (number_of number.now)) }
 {
-    let sign = sign_of(conversion, number);
-    let body = body_text(alloc, numeric, conversion, number)?;
-    let count = padding(conversion.width, sign, body.as_slice());
+    let sign = sign_of(field, number);
+    let body = body_text(alloc, numeric, field, number)?;
+    let count = padding(field.width, sign, body.as_slice());
     let mut text = Vec::new(alloc);
-    push_padded(&mut text, conversion, count, sign, body.as_slice())?;
+    push_padded(&mut text, field, count, sign, body.as_slice())?;
     Ok(ByteText::from_vec(text))
 }

@@ -6,9 +6,9 @@ mod decimal;
 mod fault;
 mod format;
 mod layout;
+mod number_lines;
 mod read;
 mod rounding;
-mod number_lines;
 mod wrong;
 
 pub use number_lines::{decimals_line, read_line};

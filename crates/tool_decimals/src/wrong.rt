@@ -4,9 +4,9 @@ ghost use Rattle.std.specs.Prelude.{true, false};
 ghost use Rattle.tool_decimals.specs.Lines.{IsOf};
 
 use crate::decimal::MOST_DIGITS;
-use lc_base::ByteText;
+use lc_base::{ByteText, push_number};
 use std::alloc::{AllocError, Global};
-use tool_messages::{Problem, Spot, push_fault, push_number, push_word};
+use tool_messages::{Problem, Spot, push_fault, push_word};
 
 /// What a number is.
 const NUMBER: &[u8] =
@@ -44,7 +44,7 @@ fn number_message(alloc: Global, word: &[u8]) -> Result<ByteText, AllocError> {
     match wrong_byte(word) {
         Some(at) if at < word.len() => {
             message.extend_from_slice(b"byte ")?;
-            push_number(&mut message, (at as u64).saturating_add(1))?;
+            push_number(&mut message, at as u128 + 1)?;
             message.extend_from_slice(b" is no digit; ")?;
         }
         Some(_) => message.extend_from_slice(b"a digit is missing; ")?,
