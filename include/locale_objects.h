@@ -21,14 +21,14 @@
  * for the message of a fault.
  *
  * A pointer to a text, to a buffer, or to amounts or numbers may be null where its size is 0, and
- * lobj_library_free and lobj_builder_free take a null. No other pointer may be null. No call checks this, but LOBJ_NONNULL below lets
- * compilers warn of a null constant (-Wall), and the sanitizer of undefined behavior stop at any null. What a call
- * writes through two pointers may not overlap, nor the other arguments; each points to as many bytes or elements
- * as its size says; a `bool` is true or false; no size is over PTRDIFF_MAX. Nothing checks these.
+ * lobj_library_free and lobj_builder_free take a null. No other pointer may be null. No call checks this, but
+ * LOBJ_NONNULL below lets compilers warn of a null constant (-Wall), and the sanitizer of undefined behavior stop at
+ * any null. What a call writes through two pointers may not overlap, nor the other arguments; each points to as many
+ * bytes or elements as its size says; a `bool` is true or false; no size is over PTRDIFF_MAX. Nothing checks these.
  *
- * The promise of nulls is kept by macros at the end of this header, which have the names of the calls and hand
- * each null of a size on as a pointer to what is not looked at. What takes a call's address, or calls it without
- * this header, passes no null.
+ * The promise of nulls of a size is kept by macros at the end of this header, which have the names of the calls and
+ * hand each such null on as a pointer to what is not looked at. What takes a call's address, or calls it without
+ * this header, passes no such null.
  *
  * Each call is content with 64 KiB of stack.
  */
@@ -296,13 +296,12 @@ lobj_answer lobj_read(const char *text, size_t length, lobj_library **out, lobj_
 lobj_answer lobj_builder_new(lobj_builder **out) LOBJ_NONNULL LOBJ_ANSWERS;
 
 /*
- * Adds a part to a builder, and gives the builder again: lobj_add below is its simple form. The bytes are copied.
- * LOBJ_NO_ITEM: there is no such kind; LOBJ_NO_MEMORY. Under each code the builder that is given has the parts that
- * were added, and `builder` is used no more. Whether the part is well-formed is found by lobj_build.
+ * Adds a part to the builder that `*builder` points to. The bytes are copied. LOBJ_NO_ITEM: there is no such kind;
+ * LOBJ_NO_MEMORY. Under both the builder has the parts that it had. Whether the part is well-formed is found by
+ * lobj_build.
  */
-lobj_answer lobj_builder_add(lobj_builder *builder, uint32_t kind, const char *name, size_t name_length,
-                             const char *label, size_t label_length, const char *text, size_t length,
-                             lobj_builder **out) LOBJ_NONNULL LOBJ_ANSWERS;
+lobj_answer lobj_add(lobj_builder **builder, uint32_t kind, const char *name, size_t name_length, const char *label,
+                     size_t label_length, const char *text, size_t length) LOBJ_NONNULL LOBJ_ANSWERS;
 
 /*
  * Builds a library of the parts of a builder. The builder stays as it is: it may get more parts, and be built again.
@@ -317,13 +316,8 @@ lobj_answer lobj_builder_add(lobj_builder *builder, uint32_t kind, const char *n
 lobj_answer lobj_build(const lobj_builder *builder, lobj_library **out, lobj_fault *fault, char *buffer,
                        size_t size) LOBJ_NONNULL LOBJ_ANSWERS;
 
-/* Frees a builder that is no null pointer. */
-void lobj_builder_end(lobj_builder *builder) LOBJ_NONNULL;
-
-/* Frees a builder, or nothing. */
-static inline void lobj_builder_free(lobj_builder *builder) {
-    if (builder != NULL) lobj_builder_end(builder);
-}
+/* Frees a builder, or does nothing with a null. */
+void lobj_builder_free(lobj_builder *builder);
 
 /*
  * Gives a library that has the locales and catalogs of both. Nothing is compiled again: they share what was compiled,
@@ -345,13 +339,8 @@ lobj_answer lobj_reason_name(char *buffer, size_t size, uint32_t reason) LOBJ_NO
 /* The version of the library that is linked: LOBJ_VERSION_NUMBER of the header that belongs to it. */
 uint32_t lobj_version(void);
 
-/* Frees a library that is no null pointer. Its locales and catalogs are then those of no library. */
-void lobj_library_end(lobj_library *library) LOBJ_NONNULL;
-
-/* Frees a library, or nothing. */
-static inline void lobj_library_free(lobj_library *library) {
-    if (library != NULL) lobj_library_end(library);
-}
+/* Frees a library, or does nothing with a null. Its locales and catalogs are then those of no library. */
+void lobj_library_free(lobj_library *library);
 
 /* Gives the POSIX locale, which each library has. */
 void lobj_posix_locale(const lobj_library *library, lobj_locale *out) LOBJ_NONNULL;
@@ -659,12 +648,11 @@ static inline LOBJ_ANSWERS LOBJ_NONNULL_AT(3, 4) lobj_answer lobj_read_given(
     return lobj_read(lobj_text_or_none(text), length, out, fault, lobj_buffer_or_none(buffer), size);
 }
 
-/* Adds a part to a builder by lobj_builder_add, which puts the builder back to where it was. */
-static inline LOBJ_ANSWERS LOBJ_NONNULL_AT(1) lobj_answer lobj_add(
+static inline LOBJ_ANSWERS LOBJ_NONNULL_AT(1) lobj_answer lobj_add_given(
     lobj_builder **builder, uint32_t kind, const char *name, size_t name_length, const char *label,
     size_t label_length, const char *text, size_t length) {
-    return lobj_builder_add(*builder, kind, lobj_text_or_none(name), name_length, lobj_text_or_none(label),
-        label_length, lobj_text_or_none(text), length, builder);
+    return lobj_add(builder, kind, lobj_text_or_none(name), name_length, lobj_text_or_none(label), label_length,
+        lobj_text_or_none(text), length);
 }
 
 static inline LOBJ_ANSWERS LOBJ_NONNULL_AT(1, 2, 3) lobj_answer lobj_build_given(
@@ -786,6 +774,7 @@ static inline const char *lobj_catgets_or(char *buffer, size_t size, const lobj_
 #endif
 
 #define lobj_read(...) lobj_read_given(__VA_ARGS__)
+#define lobj_add(...) lobj_add_given(__VA_ARGS__)
 #define lobj_build(...) lobj_build_given(__VA_ARGS__)
 #define lobj_rule(...) lobj_rule_given(__VA_ARGS__)
 #define lobj_reason_name(...) lobj_reason_name_given(__VA_ARGS__)

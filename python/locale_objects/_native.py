@@ -158,11 +158,11 @@ _BUFFER = [c_char_p, c_size_t]
 _READ = [c_void_p, LocaleValue]
 _PROTOTYPES: Dict[str, Tuple[list, type]] = {
     "lobj_builder_new": ([POINTER(c_void_p)], Answer),
-    "lobj_builder_add": ([c_void_p, c_uint32, *_TEXT, *_TEXT, *_TEXT, POINTER(c_void_p)], Answer),
+    "lobj_add": ([POINTER(c_void_p), c_uint32, *_TEXT, *_TEXT, *_TEXT], Answer),
     "lobj_build": ([c_void_p, POINTER(c_void_p), POINTER(Fault), *_BUFFER], Answer),
-    "lobj_builder_end": ([c_void_p], None),
+    "lobj_builder_free": ([c_void_p], None),
     "lobj_join": ([c_void_p, c_void_p, POINTER(c_void_p)], Answer),
-    "lobj_library_end": ([c_void_p], None),
+    "lobj_library_free": ([c_void_p], None),
     "lobj_posix_locale": ([c_void_p, POINTER(LocaleValue)], None),
     "lobj_newlocale": ([c_void_p, c_uint32, *_TEXT, LocaleValue, POINTER(LocaleValue)], Answer),
     "lobj_strfmon": ([*_BUFFER, *_READ, *_TEXT, POINTER(AmountValue), c_size_t], Answer),
@@ -253,9 +253,7 @@ def _built(sources: Sequence[Source]) -> c_void_p:
     try:
         for source in sources:
             name, label, text = source.name.encode("utf-8"), source.label.encode("utf-8"), source.text
-            answer = _C.lobj_builder_add(
-                builder, source.kind, name, len(name), label, len(label), text, len(text), byref(builder)
-            )
+            answer = _C.lobj_add(byref(builder), source.kind, name, len(name), label, len(label), text, len(text))
             if answer.code != OK:
                 raise _fault(answer)
         fault, message = Fault(), ctypes.create_string_buffer(4 * _FIRST_SIZE)
@@ -263,7 +261,7 @@ def _built(sources: Sequence[Source]) -> c_void_p:
         if answer.code != OK:
             raise _refused(answer, fault, message.value, sources)
     finally:
-        _C.lobj_builder_end(builder)
+        _C.lobj_builder_free(builder)
     return library
 
 
@@ -274,7 +272,7 @@ class Handle:
 
     def __init__(self, at: c_void_p):
         self._at = at
-        self._end = weakref.finalize(self, _C.lobj_library_end, at)
+        self._end = weakref.finalize(self, _C.lobj_library_free, at)
         # (at the end of the process nothing is freed: another thread may still read)
         self._end.atexit = False
 

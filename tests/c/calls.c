@@ -119,7 +119,16 @@ static void refuse_texts(void) {
         CHECK(is_untouched_fault(&fault));
         free(long_text);
     }
+}
+
+/* A null is freed, also by a call's address. */
+static void free_nulls(void) {
+    void (*const free_library)(lobj_library *) = lobj_library_free;
+    void (*const free_builder)(lobj_builder *) = lobj_builder_free;
     lobj_library_free(NULL);
+    lobj_builder_free(NULL);
+    free_library(NULL);
+    free_builder(NULL);
 }
 
 /* Each reason has a name and a rule, and no number above the last has one. */
@@ -193,7 +202,6 @@ static void refuse_parts(void) {
         else CHECK(answer.n == 0 && message[0] == 'x');
         lobj_builder_free(builder);
     }
-    lobj_builder_free(NULL);
 }
 
 /* More than 4096 parts of a kind, and more than 4096 locales together. */
@@ -950,6 +958,7 @@ int main(int count, char **words) {
     if (own == NULL) return 1;
     const lobj_library *library = own;
     refuse_texts();
+    free_nulls();
     make_locales(library);
     lobj_posix_locale(library, &posix);
     CHECK(is(lobj_newlocale(library, LOBJ_CTYPE_MASK | LOBJ_NUMERIC_MASK | LOBJ_MONETARY_MASK, "us", 2, posix, &us), LOBJ_OK, 0));

@@ -1,4 +1,4 @@
--- A boxed library by its pointer, and its parts, own what a box at the same types owns.
+-- A boxed library by its pointer, one that is handed over, and its parts, own what a box at the same types owns.
 use mir.Syntax.{impl, tnil, dnil}
 use mathlib.Core.List.{[]}
 use denote.Signature.{Slot, plain}
@@ -9,7 +9,7 @@ use Rattle.std_heap.proofs.Global.TheLaws as heap
 use Rattle.shared_objects.specs.contracts.marked_library.MarkedLibrary as Object
 use Rattle.shared_objects.proofs.marked_library.MarkedLibrary.TheLaws as object
 use Rattle.locale_objects.specs.contracts.parts.Parts as Parts
-use Rattle.locale_objects.specs.contracts.library_box.LibraryBox as LibraryBox
+use Rattle.locale_objects.specs.contracts.library_or_null.LibraryOrNull as LibraryOrNull
 
 abbrev pub E : Bx
 E = record { row = Object.the_row; laws = object.the_row_laws; al = record { row = Heap.the_row; laws = heap.the_row_laws; g = ghosts; d = dict; drops = impl [] tnil dnil } }
@@ -17,8 +17,8 @@ E = record { row = Object.the_row; laws = object.the_row_laws; al = record { row
 abbrev pub FromParts : Slot 0
 FromParts = plain (λ _. Parts.the_row Object.the_row Heap.the_row ghosts)
 
-abbrev pub FromLibraryBox : Slot 0
-FromLibraryBox = plain (λ _. LibraryBox.the_row)
+abbrev pub FromLibraryOrNull : Slot 0
+FromLibraryOrNull = plain (λ _. LibraryOrNull.the_row)
 
 abbrev pub FromHandle : Slot 0
 FromHandle = plain (λ _. Heap.the_row)

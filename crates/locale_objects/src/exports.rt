@@ -24,20 +24,35 @@ ghost use Rattle.c_values.specs.Answers.{answered, of_object, by_object, refused
 ghost use Rattle.locale_objects.specs.Libraries.{kind_of, IsAddedBehind, IsBegun, IsBuiltUnlessMemory, IsJoinedUnlessMemory, IsReadUnlessMemory};
 
 use crate::builder::Builder;
-use crate::library_box::LibraryBox;
+use crate::builder_or_null::BuilderOrNull;
 use crate::lent::{LentBuilder, LentLibrary};
 use crate::libraries::{add_part, begin_into, build_into, join_into, read_into};
+use crate::library_box::LibraryBox;
+use crate::library_or_null::LibraryOrNull;
 use c_values::{
     Case, LobjAmount, LobjAnswer, LobjFault, LobjLconv, LobjParsed, LobjTable, LobjTm, NO_LOCALE,
     NO_MEMORY, OK, TOO_LONG, VERSION, answered, class_told, lconv_of, number_told, put_amounts,
     put_cased, put_catalog, put_conv_text, put_fields, put_item, put_message, put_name, put_new,
     put_number, put_numbers, put_own_name, put_reason_name, put_rule, put_table, put_tm,
 };
+use core::mem::replace_with;
 use shared_objects::{CatalogParts, LocaleParts};
 use std::alloc::Global;
 
 /// The most bytes of a text that is read, and one more.
 const TEXT_END: usize = 0x8000_0000;
+
+/// What is answered of a locale by its view, or that it is none of a library that is lent.
+macro_rules! by_view {
+    ($library:expr, $locale:expr, |$view:ident| $answer:expr) => {{
+        let peek = $library.peek();
+        let view = peek.get().view(&$locale);
+        match view {
+            None => answered(NO_LOCALE, 0),
+            Some($view) => $answer,
+        }
+    }};
+}
 
 /// Reads a text, and gives its library. What the pointer was before is not looked at.
 #[unsafe(no_mangle)]
@@ -72,24 +87,24 @@ pub extern "C" fn lobj_builder_new(alloc: Global, out: &mut Builder) -> LobjAnsw
     }
 }
 
-/// Adds a part to a builder, and gives it again. What the pointer was before is not looked at.
+/// Adds a part to a builder.
 #[unsafe(no_mangle)]
-pub extern "C" fn lobj_builder_add(
+pub extern "C" fn lobj_add(
     alloc: Global,
-    builder: Builder,
+    builder: &mut Builder,
     kind: u32,
     name: &[u8],
     label: &[u8],
     text: &[u8],
-    out: &mut Builder,
 ) -> LobjAnswer
-    requires { IsSome builder.parts }
-    ensures { IsAddedBehind (kind_of kind) name.now label.now text.now result builder.parts out.new.parts }
+    requires { IsSome builder.old.parts }
+    ensures { IsAddedBehind (kind_of kind) name.now label.now text.now result builder.old.parts builder.new.parts }
 {
-    let mut draft = builder.into_box();
-    let answer = add_part(alloc, &mut draft, kind, name, label, text);
-    *out = Builder::of(draft);
-    answer
+    replace_with(builder, (), |held, ()| {
+        let mut draft = held.into_box();
+        let answer = add_part(alloc, &mut draft, kind, name, label, text);
+        (Builder::of(draft), answer)
+    })
 }
 
 /// Builds a library of the parts of a builder.
@@ -110,11 +125,9 @@ pub extern "C" fn lobj_build(
     }
 }
 
-/// Frees a builder.
+/// Frees a builder, or does nothing with a null.
 #[unsafe(no_mangle)]
-pub extern "C" fn lobj_builder_end(builder: Builder)
-    requires { IsSome builder.parts }
-{
+pub extern "C" fn lobj_builder_free(builder: BuilderOrNull) {
     drop(builder.into_box());
 }
 
@@ -162,11 +175,9 @@ pub extern "C" fn lobj_version() -> u32
     VERSION
 }
 
-/// Frees a library that no call reads any more.
+/// Frees a library that no call reads any more, or does nothing with a null.
 #[unsafe(no_mangle)]
-pub extern "C" fn lobj_library_end(library: LibraryBox)
-    requires { IsSome library.library }
-{
+pub extern "C" fn lobj_library_free(library: LibraryOrNull) {
     drop(library.into_box());
 }
 
@@ -205,12 +216,7 @@ pub extern "C" fn lobj_locale_name(
 ) -> LobjAnswer
     ensures { (result, buffer.new) ≡ of_object buffer.old (shared_of library.value locale) (λ o. name_told buffer.old o mask) }
 {
-    let peek = library.peek();
-    let view = peek.get().view(&locale);
-    match view {
-        None => answered(NO_LOCALE, 0),
-        Some(view) => put_name(buffer, &view, mask),
-    }
+    by_view!(library, locale, |view| put_name(buffer, &view, mask))
 }
 
 /// Gives the name of the compiled locale with a number.
@@ -237,12 +243,11 @@ pub extern "C" fn lobj_strfmon(
 ) -> LobjAnswer
     ensures { (result, buffer.new) ≡ of_object buffer.old (shared_of library.value locale) (λ o. amounts_told buffer.old o format.now amounts.now) }
 {
-    let peek = library.peek();
-    let view = peek.get().view(&locale);
-    match view {
-        None => answered(NO_LOCALE, 0),
-        Some(view) => put_amounts(buffer, &view, format, amounts),
-    }
+    by_view!(
+        library,
+        locale,
+        |view| put_amounts(buffer, &view, format, amounts)
+    )
 }
 
 /// Gives the text of a time (XSH strftime_l).
@@ -258,12 +263,11 @@ pub extern "C" fn lobj_strftime(
 ) -> LobjAnswer
     ensures { (result, buffer.new) ≡ of_object buffer.old (shared_of library.value locale) (λ o. tm_told buffer.old o format.now zone.now (tm_given tm.now)) }
 {
-    let peek = library.peek();
-    let view = peek.get().view(&locale);
-    match view {
-        None => answered(NO_LOCALE, 0),
-        Some(view) => put_tm(alloc, buffer, &view, format, tm, zone),
-    }
+    by_view!(
+        library,
+        locale,
+        |view| put_tm(alloc, buffer, &view, format, tm, zone)
+    )
 }
 
 /// Gives the text of whole numbers (XSH fprintf).
@@ -277,12 +281,11 @@ pub extern "C" fn lobj_int_format(
 ) -> LobjAnswer
     ensures { (result, buffer.new) ≡ of_object buffer.old (shared_of library.value locale) (λ o. numbers_told buffer.old o format.now numbers.now) }
 {
-    let peek = library.peek();
-    let view = peek.get().view(&locale);
-    match view {
-        None => answered(NO_LOCALE, 0),
-        Some(view) => put_numbers(buffer, &view, format, numbers),
-    }
+    by_view!(
+        library,
+        locale,
+        |view| put_numbers(buffer, &view, format, numbers)
+    )
 }
 
 /// Gives the whole number that a text spells.
@@ -296,12 +299,7 @@ pub extern "C" fn lobj_int_read(
     ensures told { IsNumberTold (shared_of library.value locale) text.now result out.old out.new }
     ensures back { IsReadBack (shared_of library.value locale) text.now result out.new }
 {
-    let peek = library.peek();
-    let view = peek.get().view(&locale);
-    match view {
-        None => answered(NO_LOCALE, 0),
-        Some(view) => put_number(out, &view, text),
-    }
+    by_view!(library, locale, |view| put_number(out, &view, text))
 }
 
 /// Gives the text of an item (XSH nl_langinfo_l).
@@ -314,12 +312,7 @@ pub extern "C" fn lobj_nl_langinfo(
 ) -> LobjAnswer
     ensures { (result, buffer.new) ≡ of_object buffer.old (shared_of library.value locale) (λ o. item_told buffer.old o (item_of item)) }
 {
-    let peek = library.peek();
-    let view = peek.get().view(&locale);
-    match view {
-        None => answered(NO_LOCALE, 0),
-        Some(view) => put_item(buffer, &view, item),
-    }
+    by_view!(library, locale, |view| put_item(buffer, &view, item))
 }
 
 /// Gives a text of localeconv by its number (XSH localeconv).
@@ -332,12 +325,7 @@ pub extern "C" fn lobj_conv_text(
 ) -> LobjAnswer
     ensures { (result, buffer.new) ≡ of_object buffer.old (shared_of library.value locale) (λ o. conv_told buffer.old (conv_text o number)) }
 {
-    let peek = library.peek();
-    let view = peek.get().view(&locale);
-    match view {
-        None => answered(NO_LOCALE, 0),
-        Some(view) => put_conv_text(buffer, &view, number),
-    }
+    by_view!(library, locale, |view| put_conv_text(buffer, &view, number))
 }
 
 /// Gives all items and all texts of localeconv, and where each begins.
@@ -351,12 +339,7 @@ pub extern "C" fn lobj_texts(
     ensures table { IsTabled (shared_of library.value locale) result buffer.old buffer.new table.old.starts table.new.starts }
     ensures texts { HasTexts (shared_of library.value locale) result buffer.new table.new.starts }
 {
-    let peek = library.peek();
-    let view = peek.get().view(&locale);
-    match view {
-        None => answered(NO_LOCALE, 0),
-        Some(view) => put_table(buffer, table, &view),
-    }
+    by_view!(library, locale, |view| put_table(buffer, table, &view))
 }
 
 /// Gives the numbers of localeconv (XSH localeconv).
@@ -369,15 +352,10 @@ pub extern "C" fn lobj_localeconv(
     ensures told { result ≡ by_object (shared_of library.value locale) (λ o. answered OK 0) }
     ensures fields { fields.new ≡ lconv_by fields.old (shared_of library.value locale) }
 {
-    let peek = library.peek();
-    let view = peek.get().view(&locale);
-    match view {
-        None => answered(NO_LOCALE, 0),
-        Some(view) => {
-            *fields = lconv_of(&view);
-            answered(OK, 0)
-        }
-    }
+    by_view!(library, locale, |view| {
+        *fields = lconv_of(&view);
+        answered(OK, 0)
+    })
 }
 
 /// Says whether a character is of a class (XSH iswctype_l).
@@ -390,12 +368,7 @@ pub extern "C" fn lobj_iswctype(
 ) -> LobjAnswer
     ensures { result ≡ by_object (shared_of library.value locale) (λ o. class_told (class_answer (ctype_in o).classes class.now value)) }
 {
-    let peek = library.peek();
-    let view = peek.get().view(&locale);
-    match view {
-        None => answered(NO_LOCALE, 0),
-        Some(view) => class_told(view.is(class, value)),
-    }
+    by_view!(library, locale, |view| class_told(view.is(class, value)))
 }
 
 /// Gives the number of a class (XSH wctype_l).
@@ -403,12 +376,11 @@ pub extern "C" fn lobj_iswctype(
 pub extern "C" fn lobj_wctype(library: LentLibrary, locale: LocaleParts, class: &[u8]) -> LobjAnswer
     ensures { result ≡ by_object (shared_of library.value locale) (λ o. number_told (place_of (ctype_in o).classes class.now)) }
 {
-    let peek = library.peek();
-    let view = peek.get().view(&locale);
-    match view {
-        None => answered(NO_LOCALE, 0),
-        Some(view) => number_told(view.class_number(class)),
-    }
+    by_view!(
+        library,
+        locale,
+        |view| number_told(view.class_number(class))
+    )
 }
 
 /// Says whether a character is of the class with a number (XSH iswctype_l).
@@ -421,12 +393,11 @@ pub extern "C" fn lobj_isclass(
 ) -> LobjAnswer
     ensures { result ≡ by_object (shared_of library.value locale) (λ o. class_told (numbered_answer (ctype_in o).classes number value)) }
 {
-    let peek = library.peek();
-    let view = peek.get().view(&locale);
-    match view {
-        None => answered(NO_LOCALE, 0),
-        Some(view) => class_told(view.is_in(number, value)),
-    }
+    by_view!(
+        library,
+        locale,
+        |view| class_told(view.is_in(number, value))
+    )
 }
 
 /// Gives the first 64 classes that have a character, as bits.
@@ -438,12 +409,11 @@ pub extern "C" fn lobj_classes_of(
 ) -> LobjAnswer
     ensures { AreClassesTold (shared_of library.value locale) value result }
 {
-    let peek = library.peek();
-    let view = peek.get().view(&locale);
-    match view {
-        None => answered(NO_LOCALE, 0),
-        Some(view) => answered(OK, view.classes_of(value) as usize),
-    }
+    by_view!(
+        library,
+        locale,
+        |view| answered(OK, view.classes_of(value) as usize)
+    )
 }
 
 /// Gives the upper case of a character (XSH towupper_l).
@@ -451,12 +421,11 @@ pub extern "C" fn lobj_classes_of(
 pub extern "C" fn lobj_towupper(library: LentLibrary, locale: LocaleParts, value: u32) -> LobjAnswer
     ensures { result ≡ by_object (shared_of library.value locale) (λ o. answered OK (image (ctype_in o).upper value)) }
 {
-    let peek = library.peek();
-    let view = peek.get().view(&locale);
-    match view {
-        None => answered(NO_LOCALE, 0),
-        Some(view) => answered(OK, view.upper(value) as usize),
-    }
+    by_view!(
+        library,
+        locale,
+        |view| answered(OK, view.upper(value) as usize)
+    )
 }
 
 /// Gives the lower case of a character (XSH towlower_l).
@@ -464,12 +433,11 @@ pub extern "C" fn lobj_towupper(library: LentLibrary, locale: LocaleParts, value
 pub extern "C" fn lobj_towlower(library: LentLibrary, locale: LocaleParts, value: u32) -> LobjAnswer
     ensures { result ≡ by_object (shared_of library.value locale) (λ o. answered OK (image (ctype_in o).lower value)) }
 {
-    let peek = library.peek();
-    let view = peek.get().view(&locale);
-    match view {
-        None => answered(NO_LOCALE, 0),
-        Some(view) => answered(OK, view.lower(value) as usize),
-    }
+    by_view!(
+        library,
+        locale,
+        |view| answered(OK, view.lower(value) as usize)
+    )
 }
 
 /// Gives a text in UTF-8 with each character in upper case.
@@ -482,12 +450,11 @@ pub extern "C" fn lobj_upper_text(
 ) -> LobjAnswer
     ensures { (result, buffer.new) ≡ of_object buffer.old (shared_of library.value locale) (λ o. cased_told buffer.old o Upper text.now) }
 {
-    let peek = library.peek();
-    let view = peek.get().view(&locale);
-    match view {
-        None => answered(NO_LOCALE, 0),
-        Some(view) => put_cased(buffer, &view, Case::Upper, text),
-    }
+    by_view!(
+        library,
+        locale,
+        |view| put_cased(buffer, &view, Case::Upper, text)
+    )
 }
 
 /// Gives a text in UTF-8 with each character in lower case.
@@ -500,12 +467,11 @@ pub extern "C" fn lobj_lower_text(
 ) -> LobjAnswer
     ensures { (result, buffer.new) ≡ of_object buffer.old (shared_of library.value locale) (λ o. cased_told buffer.old o Lower text.now) }
 {
-    let peek = library.peek();
-    let view = peek.get().view(&locale);
-    match view {
-        None => answered(NO_LOCALE, 0),
-        Some(view) => put_cased(buffer, &view, Case::Lower, text),
-    }
+    by_view!(
+        library,
+        locale,
+        |view| put_cased(buffer, &view, Case::Lower, text)
+    )
 }
 
 /// Gives the fields of a time that a text has (XSH strptime).
@@ -519,12 +485,11 @@ pub extern "C" fn lobj_strptime(
 ) -> LobjAnswer
     ensures { (result, fields.new) ≡ scan_by fields.old (shared_of library.value locale) format.now text.now }
 {
-    let peek = library.peek();
-    let view = peek.get().view(&locale);
-    match view {
-        None => answered(NO_LOCALE, 0),
-        Some(view) => put_fields(fields, view.strptime(format, text)),
-    }
+    by_view!(
+        library,
+        locale,
+        |view| put_fields(fields, view.strptime(format, text))
+    )
 }
 
 /// Gives the catalog that a name opens for a locale (XSH catopen).

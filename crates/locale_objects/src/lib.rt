@@ -2,9 +2,11 @@
 #![tactic(auto)]
 
 mod builder;
+mod builder_or_null;
 mod exports;
-mod library_box;
 mod lent;
 mod libraries;
+mod library_box;
+mod library_or_null;
 mod parts;
 mod peek;

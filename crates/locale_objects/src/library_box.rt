@@ -1,6 +1,6 @@
 //! Boxed libraries by their pointers.
 
-ghost use Rattle.std.specs.Prelude.{◌≡◌, Option, Some, IsSome};
+ghost use Rattle.std.specs.Prelude.{◌≡◌, Option, Some};
 ghost use Rattle.shared_objects.specs.Shared.{MarkedLibraryData};
 ghost use Rattle.locale_objects.specs.LibraryBox.{library_box_owns, library_coded};
 
@@ -36,31 +36,12 @@ impl LibraryBox {
         LibraryBox::of_parts(Parts::of(library))
     }
 
-    /// The library again.
-    pub fn into_box(self) -> Box<MarkedLibrary>
-        requires { IsSome self.library }
-        ensures { self.library ≡ Some result.value }
-    {
-        self.into_parts().into_box()
-    }
-
     fn of_parts(parts: Parts<MarkedLibrary, Global>) -> LibraryBox
         ensures { result.library ≡ Some parts.value }
     {
         let Parts { ptr, alloc } = parts;
         LibraryBox {
             at: ptr as *mut Opaque,
-            alloc,
-        }
-    }
-
-    fn into_parts(self) -> Parts<MarkedLibrary, Global>
-        requires { IsSome self.library }
-        ensures { self.library ≡ Some result.value }
-    {
-        let LibraryBox { at, alloc } = self;
-        Parts {
-            ptr: at as *mut MarkedLibrary,
             alloc,
         }
     }
