@@ -4,7 +4,7 @@ ghost use Rattle.std.specs.Prelude.{◌≡◌, ◌<◌, ◌+◌, ◌++◌, ◌/�
 ghost use Rattle.std.specs.Fmt.{decimal};
 ghost use Rattle.bundle_maker.specs.Generated.{two_digits, two_numbers, amount_command, day_command, class_command, drawn_command, command_line};
 
-use script_out::push_number;
+use lc_base::push_number;
 use std::alloc::AllocError;
 
 /// How many commands of the bundle come first, each of which makes an object.
@@ -45,7 +45,7 @@ fn push_amount(text: &mut Vec<u8>, hundredths: u64) -> Result<(), AllocError>
     ensures { OnOk result (text.new.items ≡ text.old.items ++ amount_command hundredths) }
 {
     text.extend_from_slice(b"money \"%n\" ")?;
-    push_number(text, hundredths / 100)?;
+    push_number(text, u128::from(hundredths / 100))?;
     text.push(b'.')?;
     push_two_digits(text, hundredths % 100)
 }
@@ -66,16 +66,16 @@ fn push_class(text: &mut Vec<u8>, value: u64) -> Result<(), AllocError>
     ensures { OnOk result (text.new.items ≡ text.old.items ++ class_command value) }
 {
     text.extend_from_slice(b"class alpha ")?;
-    push_number(text, value)
+    push_number(text, u128::from(value))
 }
 
 /// Adds two numbers with a space between them.
 fn push_two_numbers(text: &mut Vec<u8>, first: u64, second: u64) -> Result<(), AllocError>
     ensures { OnOk result (text.new.items ≡ text.old.items ++ two_numbers first second) }
 {
-    push_number(text, first)?;
+    push_number(text, u128::from(first))?;
     text.push(b' ')?;
-    push_number(text, second)
+    push_number(text, u128::from(second))
 }
 
 /// Adds two decimal digits.

@@ -1,12 +1,10 @@
 //! What the lines of a made bundle come to.
 
-ghost use Rattle.std.specs.Prelude.{◌≡◌, ◌+◌, ◌<◌, ◌≤◌, ◌^◌, ◌&&◌, ◌++◌, length, if◌then◌else◌, IfOk, OnOk};
-ghost use Rattle.std.specs.Fmt.{decimal};
+ghost use Rattle.std.specs.Prelude.{◌≡◌, ◌+◌, ◌<◌, ◌≤◌, ◌^◌, ◌&&◌, length, if◌then◌else◌, IfOk};
 ghost use Rattle.bundle_maker.specs.Summary.{is_refusal, refused_count, reply_bytes, summary};
 
 use crate::text::THREADS;
-use itoa::Buffer;
-use lc_base::{ByteText, List};
+use lc_base::{ByteText, List, push_labelled};
 use script_out::{OutLine, push_reply};
 use std::alloc::{AllocError, Global};
 
@@ -52,10 +50,10 @@ pub fn summary(
 {
     let tally = tally_of(alloc, rounds, lines.as_slice(), threads)?;
     let mut line = Vec::new(alloc);
-    push_count(&mut line, b"made: threads ", u128::from(THREADS))?;
-    push_count(&mut line, b" commands ", u128::from(commands))?;
-    push_count(&mut line, b" refused ", u128::from(tally.refused))?;
-    push_count(&mut line, b" bytes ", tally.bytes)?;
+    push_labelled(&mut line, b"made: threads ", u128::from(THREADS))?;
+    push_labelled(&mut line, b" commands ", u128::from(commands))?;
+    push_labelled(&mut line, b" refused ", u128::from(tally.refused))?;
+    push_labelled(&mut line, b" bytes ", tally.bytes)?;
     line.push(b'\n')?;
     Ok(ByteText::from_vec(line))
 }
@@ -82,13 +80,4 @@ fn tally_of(
         tally = tally.with(line.round <= rounds, reply.as_slice());
     }
     Ok(tally)
-}
-
-/// Adds a label and a number.
-fn push_count(line: &mut Vec<u8>, label: &[u8], count: u128) -> Result<(), AllocError>
-    ensures { OnOk result (line.new.items ≡ line.old.items ++ label.now ++ decimal count) }
-{
-    line.extend_from_slice(label)?;
-    let mut buffer = Buffer::new();
-    line.extend_from_slice(buffer.format(count).as_bytes())
 }

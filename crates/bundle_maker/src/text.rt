@@ -6,8 +6,7 @@ ghost use Rattle.bundle_maker.specs.Generated.{next_number, own_line, commands_t
 
 use crate::commands::push_command;
 use crate::locales::LOCALES;
-use lc_base::ByteText;
-use script_out::push_number;
+use lc_base::{ByteText, push_number};
 use std::alloc::{AllocError, Global};
 
 /// The threads of a made bundle.
@@ -43,7 +42,7 @@ fn push_thread(text: &mut Vec<u8>, seed: u64, commands: u32, thread: u32) -> Res
     ensures { OnOk result (text.new.items ≡ text.old.items ++ thread_text seed commands thread) }
 {
     text.extend_from_slice(b".thread T")?;
-    push_number(text, u64::from(thread))?;
+    push_number(text, u128::from(thread))?;
     text.push(b'\n')?;
     push_commands(text, seed, commands, thread)
 }

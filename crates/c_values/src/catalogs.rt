@@ -6,7 +6,7 @@ ghost use Rattle.c_values.specs.Catalogs.{catalog_told, message_told, message_by
 
 use crate::answer::{LobjAnswer, NO_CATALOG, NO_LOCALE, NO_MESSAGE, OK, answered};
 use crate::buffer::put_text;
-use shared_objects::{CatalogParts, OpenFault, MarkedLibrary};
+use shared_objects::{CatalogParts, MarkedLibrary, OpenFault};
 
 /// Writes a catalog that was opened.
 pub fn put_catalog(out: &mut CatalogParts, opened: Result<CatalogParts, OpenFault>) -> LobjAnswer

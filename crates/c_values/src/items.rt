@@ -5,7 +5,7 @@ ghost use Rattle.c_values.specs.Items.{item_of};
 
 use lc_base::Item;
 
-/// The items, in the order of their numbers from 0.
+/// The items, in the order of their numbers from 0, which is that of `Item`.
 const ITEMS: [Item; 55] = [
     Item::Codeset,
     Item::DTFmt,

@@ -5,7 +5,7 @@ ghost use Rattle.c_values.specs.Answers.{IsNumberTold, IsReadBack, locale_told, 
 
 use crate::answer::{BAD_MASK, LobjAnswer, MISMATCH, NO_CLASS, NO_DATA, NO_LOCALE, OK, answered};
 use lc_base::Mask;
-use shared_objects::{LocaleParts, NewFault, MarkedLibrary, View};
+use shared_objects::{LocaleParts, MarkedLibrary, NewFault, View};
 
 /// Writes a locale that was made.
 fn put_locale(out: &mut LocaleParts, made: Result<LocaleParts, NewFault>) -> LobjAnswer

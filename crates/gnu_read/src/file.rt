@@ -146,8 +146,10 @@ impl Reader {
                 Ok(())
             }
             LineMark::Opens(category) => Ok(self.open(category)?),
-            LineMark::Ends | LineMark::TransliterationsBegin | LineMark::TransliterationsEnd | LineMark::Other =>
-                Err(TextFault::At(self.place(), Reason::UnknownKeyword)),
+            LineMark::Ends
+            | LineMark::TransliterationsBegin
+            | LineMark::TransliterationsEnd
+            | LineMark::Other => Err(TextFault::At(self.place(), Reason::UnknownKeyword)),
         }
     }
 

@@ -1,6 +1,6 @@
 //! What a logical line is for the sections of a file.
 
-use lc_base::{CATEGORIES, Category, is_blank};
+use lc_base::{Category, category_named, is_blank};
 
 /// What a logical line is for the sections of a file.
 #[derive(Clone, Copy)]
@@ -37,14 +37,6 @@ fn word_of(text: &[u8]) -> &[u8] {
     text.split(|byte| is_blank(*byte) || *byte == b'\n' || *byte == b'\r')
         .next()
         .unwrap_or(text)
-}
-
-/// The category of a name.
-fn category_named(name: &[u8]) -> Option<Category> {
-    CATEGORIES
-        .iter()
-        .copied()
-        .find(|category| category.name() == name)
 }
 
 /// The sign that stands behind a keyword.

@@ -3,8 +3,8 @@
 use crate::draft::DraftText;
 use crate::faults::SourceFault;
 use crate::notes::{NoteCode, Notes, Origin};
-use charset::Charset;
 use crate::{Placed, Token};
+use charset::Charset;
 use lc_base::{Limit, Reason};
 use std::alloc::{AllocError, Global};
 

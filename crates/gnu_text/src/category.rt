@@ -1,8 +1,10 @@
 //! The lines of a category: those of the file, and those of the files that it copies.
 
 use charset::Charset;
-use gnu_read::{Draft, GnuFile, GnuSection, Notes, Origin, Reading, SourceFault, add_line, copied_from, in_file};
-use lc_base::{Category, Reason};
+use gnu_read::{
+    Draft, GnuFile, GnuSection, Notes, Origin, Reading, SourceFault, add_line, copied_from, in_file,
+};
+use lc_base::{Category, Reason, is_posix_locale};
 use std::alloc::Global;
 
 /// A file with the name by which others copy it.
@@ -28,11 +30,6 @@ pub fn section_of(file: &GnuFile, category: Category) -> Option<GnuSection> {
             .category
             .is_some_and(|other| other.bit() == category.bit())
     })
-}
-
-/// Whether a name is that of the POSIX locale.
-fn is_posix(name: &[u8]) -> bool {
-    matches!(name, b"POSIX" | b"C")
 }
 
 impl Files<'_> {
@@ -65,7 +62,7 @@ impl Files<'_> {
         let at = Origin::at(number, place);
         match self.number_of(name.as_slice(), category) {
             Some(next) => Ok(Some((at, next))),
-            None if is_posix(name.as_slice()) => Ok(None),
+            None if is_posix_locale(name.as_slice()) => Ok(None),
             None => Err(SourceFault::At(at, Reason::CopyMissing)),
         }
     }

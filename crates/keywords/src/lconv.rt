@@ -2,7 +2,7 @@
 //! <locale.h>).
 
 ghost use Rattle.std.specs.Prelude.{◌≡◌, map, IfOk};
-ghost use Rattle.keywords.specs.Chars.{encoded, groups, sizes_of};
+ghost use Rattle.keywords.specs.LconvChars.{encoded, groups, sizes_of};
 
 use lc_base::ByteText;
 use std::alloc::{AllocError, Global};

@@ -12,7 +12,9 @@ mod values;
 
 pub use cells::{ValueRef, ValueWalk, Values};
 pub use lconv::{encoded, group_chars};
-pub use look_up::{posix_number, posix_pairs, posix_ranges, posix_text, posix_texts, rule_of, takes_of};
+pub use look_up::{
+    posix_number, posix_pairs, posix_ranges, posix_text, posix_texts, rule_of, takes_of,
+};
 pub use row::{Element, Operands, Rule};
 pub use rules::{check, check_operands, text_fault, unless};
 pub use source::{Body, Entry, LocaleSource, Section, Value};

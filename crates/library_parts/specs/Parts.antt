@@ -1,6 +1,7 @@
 -- The checks of parts by their names and sizes (our own).
 use Rattle.std.specs.Prelude.{ℕ, ◌+◌, ◌==◌, nat_le, Bool, false, not, ◌&&◌, ◌||◌, List, [], ◌∷◌, ◌++◌, length, codes, Option, Some, None, is_some, Ok, Err, if◌then◌else◌}
 use Rattle.std.specs.Str.{bytes_eq}
+use Rattle.lc_base.specs.BuiltIn.{is_built_in_charset}
 use Rattle.lc_base.specs.Named.{with_named}
 use Rattle.lc_base.specs.Tables.{first_named}
 use Rattle.lc_base.specs.Reading.{◌>>=◌}
@@ -94,7 +95,7 @@ parts_seen s n (p ∷ ps) = part_seen s n p >>= λ t. parts_seen t (n + 1) ps
 abbrev pub lacks_charset : Names → LibraryPart → Bool
 lacks_charset charmaps p = elim p.kind [
   | Charmap ↦ false
-  | Source ↦ not (bytes_eq p.label (codes "UTF-8") || bytes_eq p.label (codes "POSIX") || is_some (first_named charmaps p.label))
+  | Source ↦ not (is_built_in_charset p.label || is_some (first_named charmaps p.label))
   | Catalog ↦ false
 ]
 

@@ -4,8 +4,8 @@
 mod blocks;
 mod books;
 mod fault;
-mod lines;
 mod from_parts;
+mod lines;
 mod part;
 mod place;
 mod seen;

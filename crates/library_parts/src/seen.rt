@@ -10,7 +10,7 @@ ghost use Rattle.library_parts.specs.declared.part.PartKind.TheVariants.{Source,
 use crate::fault::{PartFault, Wrong};
 use crate::lines::line_count;
 use crate::part::{LibraryPart, PartKind};
-use lc_base::ByName;
+use lc_base::{ByName, is_built_in_charset};
 use script_words::{is_charmap_name, is_formed, is_locale_name, is_part_name};
 use std::alloc::{AllocError, Global};
 
@@ -161,11 +161,7 @@ fn lacks_charset(charmaps: &ByName<usize>, part: &LibraryPart) -> bool
 {
     let charset = part.label.as_bytes();
     match part.kind {
-        PartKind::Source => {
-            charset != b"UTF-8".as_slice()
-                && charset != b"POSIX".as_slice()
-                && charmaps.get(charset).is_none()
-        }
+        PartKind::Source => !is_built_in_charset(charset) && charmaps.get(charset).is_none(),
         _ => false,
     }
 }

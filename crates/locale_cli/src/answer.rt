@@ -12,8 +12,7 @@ ghost use Rattle.script_out.specs.Refusal.{refusal_line};
 use crate::concurrent::print_concurrently;
 use crate::pieces::Pieces;
 use crate::words::Mode;
-use itoa::Buffer;
-use lc_base::{ByteText, Place, Reason, TextFault};
+use lc_base::{ByteText, Place, Reason, TextFault, push_labelled};
 use script_out::{print, push_refusal};
 use script_plan::{Counts, Plan, check, prepare};
 use script_run::run;
@@ -161,22 +160,13 @@ fn counts_line(alloc: Global, counts: &Counts) -> Result<ByteText, AllocError>
     ensures { IfOk result (λ text. text ≡ counts_line counts.now) }
 {
     let mut line = Vec::new(alloc);
-    push_count(&mut line, b"ok: locales ", counts.locales)?;
-    push_count(&mut line, b" charmaps ", counts.charmaps)?;
-    push_count(&mut line, b" threads ", counts.threads)?;
-    push_count(&mut line, b" rounds ", counts.rounds)?;
-    push_count(&mut line, b" commands ", counts.commands)?;
+    push_labelled(&mut line, b"ok: locales ", u128::from(counts.locales))?;
+    push_labelled(&mut line, b" charmaps ", u128::from(counts.charmaps))?;
+    push_labelled(&mut line, b" threads ", u128::from(counts.threads))?;
+    push_labelled(&mut line, b" rounds ", u128::from(counts.rounds))?;
+    push_labelled(&mut line, b" commands ", u128::from(counts.commands))?;
     line.push(b'\n')?;
     Ok(ByteText::from_vec(line))
-}
-
-/// Adds a label and a number.
-fn push_count(line: &mut Vec<u8>, label: &[u8], count: u32) -> Result<(), AllocError>
-    ensures { OnOk result (line.new.items ≡ line.old.items ++ label.now ++ decimal count) }
-{
-    line.extend_from_slice(label)?;
-    let mut buffer = Buffer::new();
-    line.extend_from_slice(buffer.format(count).as_bytes())
 }
 
 /// The lines of an accepted bundle's script.

@@ -2,13 +2,14 @@
 use Rattle.std.proofs.Common.{◌≡◌, ℕ, zero, suc, ◌+◌, ◌-◌, ◌<◌, List, [], ◌∷◌, length, take, drop, get_or, position, Option, Some, None, Ok, Err, refl, sym, ap, ◌∙◌, arith}
 use Rattle.std.specs.Prelude.{option_map}
 use Rattle.std.proofs.lemmas.List.{drop_more, drop-drop}
+use Rattle.lc_base.specs.Categories.{category_named}
 use Rattle.lc_base.specs.declared.reason.Reason.TheVariants.{NoEnd}
 use Rattle.lc_base.specs.Reading.{Reads, ◌>>=◌}
 use Rattle.src_lines.specs.Words.{first_word}
 use Rattle.src_lines.specs.Places.{Logical, start, closes_line}
 use Rattle.charset.specs.CodedSet.{CodedSet}
 use Rattle.keywords.specs.declared.source.Section.{Section}
-use Rattle.locale_reader.specs.Source.{category_named, with_section, closed_at, section_from, outside, sections_of}
+use Rattle.locale_reader.specs.Source.{with_section, closed_at, section_from, outside, sections_of}
 
 -- the place of an end, counted from the first line of the text
 none_from : (k : ℕ) (o : Option ℕ) → None ≡ option_map (λ (n : ℕ). k + n) o → o ≡ None

@@ -6,7 +6,7 @@ use Rattle.lc_base.specs.declared.place.Place.{Place}
 use Rattle.lc_base.specs.declared.category.Category.{Category}
 use Rattle.lc_base.specs.declared.reason.Reason.{Reason}
 use Rattle.lc_base.specs.declared.reason.Reason.TheVariants.{NoEnd, SectionTwice, UnknownKeyword}
-use Rattle.lc_base.specs.Categories.{categories, category_name}
+use Rattle.lc_base.specs.Categories.{categories, category_name, category_named}
 use Rattle.lc_base.specs.Mask.{category_bit}
 use Rattle.lc_base.specs.Reading.{Reads, ◌>>=◌}
 use Rattle.src_lines.specs.declared.signs.Kind.TheVariants.{Locale}
@@ -19,10 +19,6 @@ use Rattle.charset.specs.CodedSet.{CodedSet}
 use Rattle.keywords.specs.declared.source.Section.{Section}
 use Rattle.keywords.specs.declared.source.LocaleSource.{LocaleSource}
 use Rattle.locale_reader.specs.Section.{body}
-
--- the category of a name
-abbrev pub category_named : Name → Option Category
-category_named name = find (λ c. bytes_eq (category_name c) name) categories
 
 -- whether a line opens a section: one word that begins with LC_
 abbrev pub opens_section : Logical → Bool

@@ -4,24 +4,14 @@ ghost use Rattle.std.specs.Prelude.{◌≡◌, [], ◌+◌, ◌-◌, ◌^◌, �
 ghost use Rattle.lc_base.specs.Reading.{Gives};
 ghost use Rattle.src_lines.specs.Words.{first_word};
 ghost use Rattle.src_lines.specs.Places.{line_at};
-ghost use Rattle.locale_reader.specs.Source.{category_named, opens_section, has_section, with_section, section_from, outside, sections_of, source};
+ghost use Rattle.locale_reader.specs.Source.{opens_section, has_section, with_section, section_from, outside, sections_of, source};
 
 use crate::keyword_line::read_body;
 use charset::Charset;
 use keywords::{LocaleSource, Section};
-use lc_base::{CATEGORIES, Category, List, Place, Reason, TextFault};
+use lc_base::{Category, List, Place, Reason, TextFault, category_named};
 use src_lines::{Kind, Lines, ends_head, split_front, tokens};
 use std::alloc::Global;
-
-/// The category of a name.
-fn category_named(name: &[u8]) -> Option<Category>
-    ensures { result ≡ category_named name.now }
-{
-    CATEGORIES
-        .iter()
-        .copied()
-        .find(|category| category.name() == name)
-}
 
 /// Whether a line opens a section.
 fn opens_section(lines: &Lines, i: usize) -> bool

@@ -11,8 +11,8 @@ use std::time::Clock;
 use tool_answers::{
     check_files, compare_locales, explain_given, import_files, preview_locales, read_locale,
 };
-use tool_messages::{Answer, Problem, is_coloured, painted};
 use tool_commands::{ToolCommand, colours_given, command_given};
+use tool_messages::{Answer, Problem, is_coloured, painted};
 
 /// What the command answers that words give.
 pub fn answer_of<
@@ -27,7 +27,7 @@ pub fn answer_of<
     }
 }
 
-/// The same without colours.
+/// What a command answers with its words, without colours.
 fn plain_answer<
     R: Files + Env + Clock + Eprint + AllocGlobal + Clone + Drop + Threads + Wait + Sync,
 >(

@@ -1,5 +1,5 @@
 -- The lines of an output, and which of them some value prints as.
-use Rattle.std.specs.Prelude.{◌≡◌, ℕ, suc, ◌<◌, List, [], ◌∷◌, ◌++◌, length, map, slice_index_or, if◌then◌else◌, true, false}
+use Rattle.std.specs.Prelude.{◌≡◌, ℕ, suc, ◌<◌, List, [], ◌∷◌, ◌++◌, length, map, slice_index_or, if◌then◌else◌, true, false, Result, MatchResult}
 use Rattle.std.specs.List.{AllByRecursion, list_all, list_any}
 use Rattle.lc_base.specs.Lines.{is_newline, onto_first, ended}
 use Rattle.lc_base.specs.declared.fault.TextFault.{TextFault}
@@ -40,6 +40,10 @@ pub record IsOneLine (names : List (List ℕ)) (l : OutLine) : Type 0 where
 -- lines that are found again in their printed text
 abbrev pub AreToldApart : List (List ℕ) → List OutLine → Type 0
 AreToldApart names lines = AreDistinct names × AllByRecursion (λ l. IsLine names l × IsOneLine names l) lines
+
+-- just these lines are answered, unless it is out of memory
+abbrev pub GivesLines : List OutLine → Result (List OutLine) TextFault → Type 0
+GivesLines lines result = MatchResult result (λ found. found ≡ lines) (λ e. e ≡ Memory)
 
 -- the line at this index is the first of the text that no line prints as
 pub record IsFirstUnprinted (names : List (List ℕ)) (text : List ℕ) (at : ℕ) : Type 0 where

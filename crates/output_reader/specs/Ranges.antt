@@ -15,6 +15,10 @@ use Rattle.script_out.specs.declared.output.Said.TheVariants as said
 use Rattle.script_out.specs.declared.output.Why.{Why}
 use Rattle.script_out.specs.declared.output.Why.TheVariants as whys
 
+-- numbers of a byte each
+abbrev pub AreBytes : List ℕ → Type 0
+AreBytes numbers = AllByRecursion (λ n. n < 2 ^ 8) numbers
+
 -- a number of a thread that has a name
 abbrev pub IsThread : List (List ℕ) → ℕ → Type 0
 IsThread names t = (t < length names) × (t < 2 ^ 32)
@@ -78,7 +82,7 @@ IsSaid names said.Posted = Unit {0}
 IsSaid names (said.Pins count) = count < 2 ^ 32
 IsSaid names (said.Text text) = Unit {0}
 IsSaid names (said.Parsed fields rest) = IsParsed fields × (rest < 2 ^ 64)
-IsSaid names (said.Conv texts numbers) = AllByRecursion (λ n. n < 2 ^ 8) numbers
+IsSaid names (said.Conv texts numbers) = AreBytes numbers
 IsSaid names (said.Class is) = Unit {0}
 IsSaid names (said.Value value) = value < 2 ^ 32
 IsSaid names (said.Opened h) = IsHandle names h

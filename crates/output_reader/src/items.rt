@@ -1,15 +1,13 @@
 //! Handles, places, versions, refusals and the fields of a time.
 
 ghost use Rattle.std.specs.Prelude.{◌≡◌, ◌≢◌, ℕ, ◌<◌, ◌^◌, ◌∷◌, length, [], Option, List, IfOk, IfSome, IsNone, slice_index_or};
-ghost use Rattle.lc_base.specs.declared.handle.Handle.{Handle};
-ghost use Rattle.lc_base.specs.declared.handle.Named.{Named};
 ghost use Rattle.time_cat.specs.declared.parsed.Parsed.{Parsed};
 ghost use Rattle.script_out.specs.declared.output.Places.{Places};
 ghost use Rattle.script_out.specs.declared.output.Why.{Why};
 ghost use Rattle.script_out.specs.Output.{handle_text, named_text, places_text, version_text, why_text, known_text};
 ghost use Rattle.output_reader.specs.Lines.{AreThreadNames};
 ghost use Rattle.output_reader.specs.Ranges.{IsThread, IsHandle, IsNamed, ArePlaces, IsVersion, IsWhy, IsSmallField};
-ghost use Rattle.output_reader.specs.Reading.{Gives, GivesFor};
+ghost use Rattle.output_reader.specs.Reading.{Gives, ReadsBack, thread_name};
 
 use crate::pieces::{behind, cut, first_word, index, is_word, number, small, small_number};
 use crate::unread::Unread;
@@ -21,7 +19,7 @@ use script_out::{Places, Why};
 /// The number of a thread of this name.
 pub fn thread(name: &[u8], threads: &List<ByteText>) -> Result<u32, Unread>
     ensures is { IfOk result (λ t. IsThread threads.now t × (slice_index_or threads.now t [] ≡ name.now)) }
-    ensures back { (t : ℕ) → IsThread threads.now t → slice_index_or threads.now t [] ≡ name.now → GivesFor (λ u. slice_index_or threads.now u []) threads.now t result }
+    ensures back { ReadsBack (thread_name threads.now) (IsThread threads.now) threads.now name.now result }
 {
     let Some(t) = first_thread(name, threads.as_slice()) else {
         return Err(Unread::Unprinted);
@@ -47,7 +45,7 @@ fn first_thread(name: &[u8], names: &[ByteText]) -> Option<usize>
 pub fn handle(bytes: &[u8], threads: &List<ByteText>) -> Result<Handle, Unread>
     requires { AreThreadNames threads.now }
     ensures is { IfOk result (λ h. IsHandle threads.now h) }
-    ensures back { (h : Handle) → IsHandle threads.now h → handle_text threads.now h ≡ bytes.now → GivesFor (handle_text threads.now) threads.now h result }
+    ensures back { ReadsBack (handle_text threads.now) (IsHandle threads.now) threads.now bytes.now result }
 {
     let (name, rest) = cut(bytes, b'.')?;
     let (row_digits, generation_digits) = cut(rest, b'.')?;
@@ -65,7 +63,7 @@ pub fn handle(bytes: &[u8], threads: &List<ByteText>) -> Result<Handle, Unread>
 pub fn named(bytes: &[u8], threads: &List<ByteText>) -> Result<Named, Unread>
     requires { AreThreadNames threads.now }
     ensures is { IfOk result (λ n. IsNamed threads.now n) }
-    ensures back { (n : Named) → IsNamed threads.now n → named_text threads.now n ≡ bytes.now → GivesFor (named_text threads.now) threads.now n result }
+    ensures back { ReadsBack (named_text threads.now) (IsNamed threads.now) threads.now bytes.now result }
 {
     if is_word(bytes, b"GLOBAL") {
         return Ok(Named::Global);

@@ -1,12 +1,11 @@
 //! A line.
 
 ghost use Rattle.std.specs.Prelude.{◌≡◌, true, IfOk};
-ghost use Rattle.script_out.specs.declared.output.OutLine.{OutLine};
 ghost use Rattle.script_out.specs.Output.{line_text};
 ghost use Rattle.lc_base.specs.Lines.{ended};
 ghost use Rattle.output_reader.specs.Lines.{AreThreadNames};
 ghost use Rattle.output_reader.specs.Ranges.{IsLine};
-ghost use Rattle.output_reader.specs.Reading.{GivesFor};
+ghost use Rattle.output_reader.specs.Reading.{ReadsBack};
 
 use crate::items::{places, thread, version};
 use crate::pieces::{cut, is_word, small_number};
@@ -20,7 +19,7 @@ use std::alloc::Global;
 pub fn line(alloc: Global, bytes: &[u8], threads: &List<ByteText>) -> Result<OutLine, Unread>
     requires { AreThreadNames threads.now }
     ensures read { IfOk result (λ l. IsLine threads.now l × (line_text threads.now l ≡ ended bytes.now)) }
-    ensures back { (l : OutLine) → IsLine threads.now l → line_text threads.now l ≡ ended bytes.now → GivesFor (line_text threads.now) threads.now l result }
+    ensures back { ReadsBack (line_text threads.now) (IsLine threads.now) threads.now (ended bytes.now) result }
 {
     let line = line_of_pieces(alloc, bytes, threads)?;
     let mut text = Vec::new(alloc);
@@ -47,7 +46,7 @@ fn is_ended(text: &[u8], bytes: &[u8]) -> bool
 fn line_of_pieces(alloc: Global, bytes: &[u8], threads: &List<ByteText>) -> Result<OutLine, Unread>
     requires { AreThreadNames threads.now }
     ensures is { IfOk result (λ l. IsLine threads.now l) }
-    ensures back { (l : OutLine) → IsLine threads.now l → line_text threads.now l ≡ ended bytes.now → GivesFor (line_text threads.now) threads.now l result }
+    ensures back { ReadsBack (line_text threads.now) (IsLine threads.now) threads.now (ended bytes.now) result }
 {
     let (round_digits, rest) = cut(bytes, b' ')?;
     let (name, rest) = cut(rest, b' ')?;

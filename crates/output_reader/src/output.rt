@@ -1,12 +1,11 @@
 //! An output.
 
-ghost use Rattle.std.specs.Prelude.{◌≡◌, ◌≢◌, ℕ, ◌<◌, ◌^◌, ◌++◌, List, [], length, IfOk, IfErr, MatchResult};
+ghost use Rattle.std.specs.Prelude.{◌≡◌, ◌≢◌, ℕ, ◌<◌, ◌^◌, ◌++◌, List, [], length, IfOk, IfErr};
 ghost use Rattle.script_out.specs.Output.{line_text, printed};
 ghost use Rattle.script_out.specs.declared.output.OutLine.{OutLine};
-ghost use Rattle.lc_base.specs.declared.fault.TextFault.TheVariants.{Memory};
-ghost use Rattle.output_reader.specs.Lines.{AreThreadNames, AreLinesOf, AreToldApart, FaultOf, IsOneLine, BeginsWith, BeginsUnprinted, fault_of};
+ghost use Rattle.output_reader.specs.Lines.{AreThreadNames, AreLinesOf, AreToldApart, GivesLines, FaultOf, IsOneLine, BeginsWith, BeginsUnprinted, fault_of};
 ghost use Rattle.output_reader.specs.Ranges.{IsLine};
-ghost use Rattle.output_reader.specs.Reading.{AreDistinct};
+ghost use Rattle.output_reader.specs.Reading.{AreDistinct, GivesWith};
 ghost use Rattle.output_reader.specs.declared.unread.Unread.TheVariants as unread;
 
 use crate::line::line;
@@ -27,7 +26,7 @@ pub fn read_output(
     requires short { length text.now < 2 ^ 31 }
     ensures read { IfOk result (λ lines. (printed lines threads.now ≡ text.now) × AreLinesOf threads.now lines text.now) }
     ensures fault { IfErr result (λ e. FaultOf threads.now text.now e) }
-    ensures back { (lines : List OutLine) → AreToldApart threads.now lines → text.now ≡ printed lines threads.now → MatchResult result (λ found. found ≡ lines) (λ e. e ≡ Memory) }
+    ensures back { (lines : List OutLine) → AreToldApart threads.now lines → text.now ≡ printed lines threads.now → GivesLines lines result }
 {
     let mut lines = Vec::new(alloc);
     let mut rest = text;
@@ -54,7 +53,8 @@ fn first_line<'a>(
     requires { AreThreadNames threads.now }
     ensures read { IfOk result (λ r. BeginsWith threads.now text.now r.0 r.1.now) }
     ensures shorter { IfOk result (λ r. length r.1.now < length text.now) }
-    ensures back { (l : OutLine) (rest : List ℕ) → AreDistinct threads.now → IsLine threads.now l → IsOneLine threads.now l → text.now ≡ line_text threads.now l ++ rest → MatchResult result (λ r. (r.0 ≡ l) × (r.1.now ≡ rest)) (λ e. e ≡ unread.Memory) }
+    ensures back { (l : OutLine) (rest : List ℕ) → AreDistinct threads.now → IsLine threads.now l → IsOneLine threads.now l
+        → text.now ≡ line_text threads.now l ++ rest → GivesWith l rest result }
     ensures unprinted { IfErr result (λ e. e ≡ unread.Unprinted → text.now ≢ [] → BeginsUnprinted threads.now text.now) }
 {
     let Some((bytes, rest)) = ended_line(text) else {

@@ -2,7 +2,7 @@
 
 ghost use Rattle.std.specs.Prelude.{◌≡◌, ℕ, ◌==◌, ◌<◌, ◌≤◌, ◌^◌, ◌++◌, ◌∷◌, List, length, position, true, IfOk, IfSome, MatchOption, MatchResult};
 ghost use Rattle.std.specs.Fmt.{decimal};
-ghost use Rattle.output_reader.specs.Reading.{Gives, Lacks, IsBehindWord};
+ghost use Rattle.output_reader.specs.Reading.{Gives, AreTwo, Lacks, IsBehindWord};
 
 use crate::unread::Unread;
 use std::str;
@@ -10,7 +10,7 @@ use std::str;
 /// What stands before the first such byte, and what stands behind it.
 pub fn cut(bytes: &[u8], separator: u8) -> Result<(&[u8], &[u8]), Unread>
     ensures read { IfOk result (λ r. (bytes.now ≡ r.0.now ++ separator ∷ r.1.now) × Lacks r.0.now separator) }
-    ensures back { (front rest : List ℕ) → Lacks front separator → bytes.now ≡ front ++ separator ∷ rest → MatchResult result (λ r. (r.0.now ≡ front) × (r.1.now ≡ rest)) (λ e. ⊥) }
+    ensures back { (front rest : List ℕ) → Lacks front separator → bytes.now ≡ front ++ separator ∷ rest → MatchResult result (AreTwo front rest) (λ e. ⊥) }
 {
     let Some(at) = first_at(bytes, separator) else {
         return Err(Unread::Unprinted);
@@ -23,7 +23,7 @@ pub fn cut(bytes: &[u8], separator: u8) -> Result<(&[u8], &[u8]), Unread>
 /// The first word, and what follows it: nothing, or a space and more.
 pub fn first_word(bytes: &[u8]) -> (&[u8], &[u8])
     ensures within { length result.1.now ≤ length bytes.now }
-    ensures back { (word rest : List ℕ) → Lacks word 32 → IsBehindWord rest → bytes.now ≡ word ++ rest → (result.0.now ≡ word) × (result.1.now ≡ rest) }
+    ensures back { (word rest : List ℕ) → Lacks word 32 → IsBehindWord rest → bytes.now ≡ word ++ rest → AreTwo word rest result }
 {
     match first_at(bytes, b' ') {
         Some(at) => bytes.split_at(at),
@@ -77,7 +77,7 @@ pub fn small_number(bytes: &[u8]) -> Result<u32, Unread>
     small(n)
 }
 
-/// The same number in 32 bits.
+/// The number in 32 bits, where they hold it.
 pub fn small(n: u64) -> Result<u32, Unread>
     ensures same { IfOk result (λ m. (m ≡ n) × (m < 2 ^ 32)) }
     ensures back { n < 2 ^ 32 → Gives n result }

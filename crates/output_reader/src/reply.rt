@@ -1,17 +1,15 @@
 //! Replies.
 
-ghost use Rattle.std.specs.Prelude.{◌≡◌, ℕ, ℤ, ◌<◌, ◌^◌, ◌++◌, ◌∷◌, List, Option, IfOk, IfSome, MatchResult, codes};
+ghost use Rattle.std.specs.Prelude.{◌≡◌, ℕ, ℤ, ◌<◌, ◌^◌, ◌++◌, ◌∷◌, List, Option, IfOk, IfSome, codes};
 ghost use Rattle.std.specs.Int.{w32};
 ghost use Rattle.std.specs.Int.RustNames.{FitsSigned};
-ghost use Rattle.std.specs.List.{AllByRecursion};
 ghost use Rattle.time_cat.specs.declared.parsed.Parsed.{Parsed};
 ghost use Rattle.script_out.specs.declared.output.Said.{Said};
 ghost use Rattle.script_out.specs.declared.output.Said.TheVariants as said;
 ghost use Rattle.script_out.specs.Output.{year_text, known_text, parsed_text, texts_text, numbers_text, reply_text};
 ghost use Rattle.output_reader.specs.Lines.{AreThreadNames};
-ghost use Rattle.output_reader.specs.Ranges.{IsSaid, IsSmallField, IsParsed};
-ghost use Rattle.output_reader.specs.Reading.{Gives, GivesFor};
-ghost use Rattle.output_reader.specs.declared.unread.Unread.TheVariants.{Memory};
+ghost use Rattle.output_reader.specs.Ranges.{AreBytes, IsSaid, IsSmallField, IsParsed};
+ghost use Rattle.output_reader.specs.Reading.{Gives, GivesFor, GivesWith};
 
 use crate::items::{behind_space, handle, named, why};
 use crate::pieces::{byte_number, cut, first_word, index, is_word, number, small_number};
@@ -92,7 +90,7 @@ pub fn reply(alloc: Global, bytes: &[u8], threads: &List<ByteText>) -> Result<Sa
 /// The lists of a localeconv.
 fn conv(alloc: Global, bytes: &[u8]) -> Result<Said, Unread>
     ensures is { IfOk result (λ v. (names : List (List ℕ)) → IsSaid names v) }
-    ensures back { (all : List (List ℕ)) (ns : List ℕ) → AllByRecursion (λ n. n < 2 ^ 8) ns → texts_text all ++ numbers_text ns ≡ bytes.now → Gives (said.Conv all ns) result }
+    ensures back { (all : List (List ℕ)) (ns : List ℕ) → AreBytes ns → texts_text all ++ numbers_text ns ≡ bytes.now → Gives (said.Conv all ns) result }
 {
     let (found, rest) = texts(alloc, bytes)?;
     let values = numbers(alloc, rest)?;
@@ -102,7 +100,7 @@ fn conv(alloc: Global, bytes: &[u8]) -> Result<Said, Unread>
 /// The fields of a time that was read, and the index of the first byte that was not read.
 fn parsed(bytes: &[u8]) -> Result<Said, Unread>
     ensures is { IfOk result (λ v. (names : List (List ℕ)) → IsSaid names v) }
-    ensures back { (p : Parsed) (at : ℕ) → IsParsed p → at < 2 ^ 64 → parsed_text p at ≡ codes "parsed " ++ bytes.now → Gives (said.Parsed p at) result }
+    ensures back { (p : Parsed) (i : ℕ) → IsParsed p → i < 2 ^ 64 → parsed_text p i ≡ codes "parsed " ++ bytes.now → Gives (said.Parsed p i) result }
 {
     let (year, rest) = next_year(bytes)?;
     let (mon, rest) = next_field(rest)?;
@@ -129,7 +127,8 @@ fn parsed(bytes: &[u8]) -> Result<Said, Unread>
 /// The year up to a space, if one is known, and what follows the space.
 fn next_year(bytes: &[u8]) -> Result<(Option<i32>, &[u8]), Unread>
     ensures fits { IfOk result (λ r. IfSome r.0 (λ y. FitsSigned w32 y)) }
-    ensures back { (year : Option ℤ) (rest : List ℕ) → IfSome year (λ y. FitsSigned w32 y) → bytes.now ≡ year_text year ++ 32 ∷ rest → MatchResult result (λ r. (r.0 ≡ year) × (r.1.now ≡ rest)) (λ e. e ≡ Memory) }
+    ensures back { (year : Option ℤ) (rest : List ℕ) → IfSome year (λ y. FitsSigned w32 y)
+        → bytes.now ≡ year_text year ++ 32 ∷ rest → GivesWith year rest result }
 {
     let (word, rest) = cut(bytes, b' ')?;
     if is_word(word, b"-") {
@@ -147,7 +146,7 @@ fn next_year(bytes: &[u8]) -> Result<(Option<i32>, &[u8]), Unread>
 /// A field of one byte up to a space, if it is known, and what follows the space.
 fn next_field(bytes: &[u8]) -> Result<(Option<u8>, &[u8]), Unread>
     ensures fits { IfOk result (λ r. IsSmallField r.0) }
-    ensures back { (field : Option ℕ) (rest : List ℕ) → IsSmallField field → bytes.now ≡ known_text field ++ 32 ∷ rest → MatchResult result (λ r. (r.0 ≡ field) × (r.1.now ≡ rest)) (λ e. e ≡ Memory) }
+    ensures back { (field : Option ℕ) (rest : List ℕ) → IsSmallField field → bytes.now ≡ known_text field ++ 32 ∷ rest → GivesWith field rest result }
 {
     let (word, rest) = cut(bytes, b' ')?;
     if is_word(word, b"-") {
@@ -160,7 +159,8 @@ fn next_field(bytes: &[u8]) -> Result<(Option<u8>, &[u8]), Unread>
 /// The day of the year up to a space, if it is known, and what follows the space.
 fn next_day(bytes: &[u8]) -> Result<(Option<u16>, &[u8]), Unread>
     ensures fits { IfOk result (λ r. IfSome r.0 (λ n. n < 2 ^ 16)) }
-    ensures back { (day : Option ℕ) (rest : List ℕ) → IfSome day (λ n. n < 2 ^ 16) → bytes.now ≡ known_text day ++ 32 ∷ rest → MatchResult result (λ r. (r.0 ≡ day) × (r.1.now ≡ rest)) (λ e. e ≡ Memory) }
+    ensures back { (day : Option ℕ) (rest : List ℕ) → IfSome day (λ n. n < 2 ^ 16)
+        → bytes.now ≡ known_text day ++ 32 ∷ rest → GivesWith day rest result }
 {
     let (word, rest) = cut(bytes, b' ')?;
     if is_word(word, b"-") {

@@ -1,10 +1,10 @@
 //! Texts in quotes, and the two lists of a localeconv.
 
-ghost use Rattle.std.specs.Prelude.{◌≡◌, ◌≢◌, ℕ, ◌+◌, ◌*◌, ◌<◌, ◌^◌, ◌++◌, ◌∷◌, List, [], length, None, IfSome, IfOk, MatchOption, MatchResult};
-ghost use Rattle.std.specs.List.{flat_map, AllByRecursion};
+ghost use Rattle.std.specs.Prelude.{◌≡◌, ◌≢◌, ℕ, ◌+◌, ◌*◌, ◌<◌, ◌++◌, ◌∷◌, List, [], length, None, IfSome, IfOk};
+ghost use Rattle.std.specs.List.{flat_map};
 ghost use Rattle.script_out.specs.Output.{hex_digit, escaped, quoted, texts_text, numbers_text};
-ghost use Rattle.output_reader.specs.Reading.{Gives, EndsTexts};
-ghost use Rattle.output_reader.specs.declared.unread.Unread.TheVariants.{Memory};
+ghost use Rattle.output_reader.specs.Ranges.{AreBytes};
+ghost use Rattle.output_reader.specs.Reading.{Gives, GivesWith, GivesByte, EndsTexts};
 
 use crate::pieces::{behind, byte_number, first_word};
 use crate::unread::Unread;
@@ -25,7 +25,7 @@ pub fn quoted_text(alloc: Global, bytes: &[u8]) -> Result<ByteText, Unread>
 
 /// The texts, each behind a space, and what follows them.
 pub fn texts(alloc: Global, bytes: &[u8]) -> Result<(Texts, &[u8]), Unread>
-    ensures { (all : List (List ℕ)) (rest : List ℕ) → EndsTexts rest → bytes.now ≡ texts_text all ++ rest → MatchResult result (λ r. (r.0 ≡ all) × (r.1.now ≡ rest)) (λ e. e ≡ Memory) }
+    ensures { (all : List (List ℕ)) (rest : List ℕ) → EndsTexts rest → bytes.now ≡ texts_text all ++ rest → GivesWith all rest result }
 {
     let mut found = Texts::new(alloc);
     let mut left = bytes;
@@ -39,8 +39,8 @@ pub fn texts(alloc: Global, bytes: &[u8]) -> Result<(Texts, &[u8]), Unread>
 
 /// The numbers, each behind a space.
 pub fn numbers(alloc: Global, bytes: &[u8]) -> Result<List<u8>, Unread>
-    ensures fit { IfOk result (λ all. AllByRecursion (λ n. n < 2 ^ 8) all) }
-    ensures back { (all : List ℕ) → AllByRecursion (λ n. n < 2 ^ 8) all → numbers_text all ≡ bytes.now → Gives all result }
+    ensures fit { IfOk result (λ all. AreBytes all) }
+    ensures back { (all : List ℕ) → AreBytes all → numbers_text all ≡ bytes.now → Gives all result }
 {
     let mut found = Vec::new(alloc);
     let mut left = bytes;
@@ -56,7 +56,7 @@ pub fn numbers(alloc: Global, bytes: &[u8]) -> Result<List<u8>, Unread>
 /// The text up to the quote that ends it, and what follows that quote.
 fn unquoted(alloc: Global, body: &[u8]) -> Result<(ByteText, &[u8]), Unread>
     ensures shorter { IfOk result (λ r. length r.1.now < length body.now) }
-    ensures back { (text rest : List ℕ) → body.now ≡ flat_map escaped text ++ 34 ∷ rest → MatchResult result (λ r. (r.0 ≡ text) × (r.1.now ≡ rest)) (λ e. e ≡ Memory) }
+    ensures back { (text rest : List ℕ) → body.now ≡ flat_map escaped text ++ 34 ∷ rest → GivesWith text rest result }
 {
     let mut text = Vec::new(alloc);
     let mut left = body;
@@ -73,7 +73,7 @@ fn unquoted(alloc: Global, body: &[u8]) -> Result<(ByteText, &[u8]), Unread>
 /// The first byte of a text in quotes, and what follows it; `None` at a bare quote.
 fn unescaped(bytes: &[u8]) -> Option<(u8, &[u8])>
     ensures shorter { IfSome result (λ r. length r.1.now < length bytes.now) }
-    ensures back { (c : ℕ) (rest : List ℕ) → bytes.now ≡ escaped c ++ rest → MatchOption result ⊥ (λ r. (r.0 ≡ c) × (r.1.now ≡ rest)) }
+    ensures back { (c : ℕ) (rest : List ℕ) → bytes.now ≡ escaped c ++ rest → GivesByte c rest result }
     ensures quote { (rest : List ℕ) → bytes.now ≡ 34 ∷ rest → result ≡ None }
 {
     let (c, rest) = first(bytes)?;
@@ -87,8 +87,9 @@ fn unescaped(bytes: &[u8]) -> Option<(u8, &[u8])>
 /// The byte that is said behind a backslash, and what follows it.
 fn escape(bytes: &[u8]) -> Option<(u8, &[u8])>
     ensures shorter { IfSome result (λ r. length r.1.now < length bytes.now) }
-    ensures same { (c : ℕ) (rest : List ℕ) → c ≢ 120 → bytes.now ≡ c ∷ rest → MatchOption result ⊥ (λ r. (r.0 ≡ c) × (r.1.now ≡ rest)) }
-    ensures value { (high low : ℕ) (rest : List ℕ) → high < 16 → low < 16 → bytes.now ≡ 120 ∷ hex_digit high ∷ hex_digit low ∷ rest → MatchOption result ⊥ (λ r. (r.0 ≡ high * 16 + low) × (r.1.now ≡ rest)) }
+    ensures same { (c : ℕ) (rest : List ℕ) → c ≢ 120 → bytes.now ≡ c ∷ rest → GivesByte c rest result }
+    ensures value { (high low : ℕ) (rest : List ℕ) → high < 16 → low < 16
+        → bytes.now ≡ 120 ∷ hex_digit high ∷ hex_digit low ∷ rest → GivesByte (high * 16 + low) rest result }
 {
     let (c, rest) = first(bytes)?;
     if c != b'x' {
@@ -102,7 +103,7 @@ fn escape(bytes: &[u8]) -> Option<(u8, &[u8])>
 /// The first byte, and what follows it.
 fn first(bytes: &[u8]) -> Option<(u8, &[u8])>
     ensures read { IfSome result (λ r. bytes.now ≡ r.0 ∷ r.1.now) }
-    ensures back { (c : ℕ) (rest : List ℕ) → bytes.now ≡ c ∷ rest → MatchOption result ⊥ (λ r. (r.0 ≡ c) × (r.1.now ≡ rest)) }
+    ensures back { (c : ℕ) (rest : List ℕ) → bytes.now ≡ c ∷ rest → GivesByte c rest result }
 {
     match bytes {
         [first, rest @ ..] => Some((*first, rest)),

@@ -8,7 +8,7 @@ mod refusal;
 mod short;
 mod texts;
 
-pub use output::{OutLine, Places, Said, Why, print, push_line, push_number, push_reply, weight};
+pub use output::{OutLine, Places, Said, Why, print, push_line, push_reply, weight};
 pub use quoting::push_quoted;
 pub use refusal::push_refusal;
 pub use texts::{TextWalk, Texts};

@@ -6,11 +6,11 @@ ghost use Rattle.script_out.specs.Output.{space, newline, places_text, version_t
 
 use crate::before::{put_byte, put_bytes, put_count, put_name, put_number};
 use crate::quoting::{push_quoted, push_quoted_behind_space};
-use crate::short::{push_behind_space, push_digit, push_short, push_short_number};
+use crate::short::{push_behind_space, push_short};
 use crate::texts::Texts;
 use handle_table::Refusal;
 use itoa::Buffer;
-use lc_base::{ByteText, Handle, List, Named};
+use lc_base::{ByteText, Handle, List, Named, push_number};
 use std::alloc::{AllocError, Global};
 use time_cat::{Parsed, TmField};
 
@@ -322,7 +322,7 @@ fn put_seat(buf: &mut [u8], at: usize, handle: &Handle) -> usize
 fn push_caller(out: &mut Vec<u8>, line: &OutLine, thread: &[u8]) -> Result<(), AllocError>
     ensures { OnOk result (out.new.items ≡ out.old.items ++ (decimal line.now.round ++ space ++ thread.now ++ entry_text line.now)) }
 {
-    push_number(out, u64::from(line.round))?;
+    push_number(out, u128::from(line.round))?;
     out.push(b' ')?;
     push_short(out, thread)?;
     push_entry(out, line)
@@ -558,7 +558,7 @@ fn push_parsed(out: &mut Vec<u8>, fields: &Parsed, rest: usize) -> Result<(), Al
     push_year(out, fields.year)?;
     push_fields(out, &fields_behind_year(*fields))?;
     out.push(b' ')?;
-    push_number(out, rest as u64)
+    push_number(out, rest as u128)
 }
 
 /// Adds a year, or `-` where there is none.
@@ -586,7 +586,7 @@ fn fields_behind_year(fields: Parsed) -> [Option<u16>; 7]
     ]
 }
 
-/// The same field, as wide as the day of the year.
+/// A field in 16 bits, as the day of the year has them.
 fn widened(field: Option<u8>) -> Option<u16>
     ensures { result ≡ field }
 {
@@ -613,7 +613,7 @@ fn push_field(out: &mut Vec<u8>, field: Option<u16>) -> Result<(), AllocError>
 {
     match field {
         None => push_dash(out),
-        Some(n) => push_number(out, u64::from(n)),
+        Some(n) => push_number(out, u128::from(n)),
     }
 }
 
@@ -692,7 +692,7 @@ fn push_at(out: &mut Vec<u8>, word: &[u8], at: usize) -> Result<(), AllocError>
     ensures { OnOk result (out.new.items ≡ out.old.items ++ (word.now ++ decimal at)) }
 {
     out.extend_from_slice(word)?;
-    push_number(out, at as u64)
+    push_number(out, at as u128)
 }
 
 /// The name of a field of a time.
@@ -729,26 +729,4 @@ fn push_table_refusal(out: &mut Vec<u8>, refusal: Refusal) -> Result<(), AllocEr
         Refusal::NotHeld => out.extend_from_slice(b"NotHeld"),
         Refusal::EmptyCell => out.extend_from_slice(b"EmptyCell"),
     }
-}
-
-/// Adds a number in decimal digits.
-#[inline(always)]
-pub fn push_number(out: &mut Vec<u8>, n: u64) -> Result<(), AllocError>
-    ensures { OnOk result (out.new.items ≡ out.old.items ++ decimal n) }
-{
-    if n < 10 {
-        return push_digit(out, n);
-    }
-    push_digits(out, n)
-}
-
-/// Adds a number, mostly of more than one digit.
-fn push_digits(out: &mut Vec<u8>, n: u64) -> Result<(), AllocError>
-    ensures { OnOk result (out.new.items ≡ out.old.items ++ decimal n) }
-{
-    if n < 1000 {
-        return push_short_number(out, n);
-    }
-    let mut buffer = Buffer::new();
-    out.extend_from_slice(buffer.format(n).as_bytes())
 }

@@ -30,20 +30,6 @@ fn push_each(out: &mut Vec<u8>, bytes: &[u8]) -> Result<(), AllocError>
     Ok(())
 }
 
-/// Adds a number of at most three digits.
-pub fn push_short_number(out: &mut Vec<u8>, n: u64) -> Result<(), AllocError>
-    requires { n < 1000 }
-    ensures { OnOk result (out.new.items ≡ out.old.items ++ decimal n) }
-{
-    if n < 10 {
-        out.extend_from_slice(&one_digit(n))
-    } else if n < 100 {
-        out.extend_from_slice(&two_digits(n))
-    } else {
-        out.extend_from_slice(&three_digits(n))
-    }
-}
-
 /// Adds a number of at most three digits behind a space.
 pub fn push_behind_space(out: &mut Vec<u8>, n: u64) -> Result<(), AllocError>
     requires { n < 1000 }
@@ -59,17 +45,6 @@ pub fn push_behind_space(out: &mut Vec<u8>, n: u64) -> Result<(), AllocError>
         let [first, second, last] = three_digits(n);
         out.extend_from_slice(&[b' ', first, second, last])
     }
-}
-
-/// Adds a number of one digit.
-#[inline(always)]
-#[tactic(auto, using(std::proofs::lemmas::Fmt::decimal_digit))]
-pub fn push_digit(out: &mut Vec<u8>, n: u64) -> Result<(), AllocError>
-    requires { n < 10 }
-    ensures { OnOk result (out.new.items ≡ out.old.items ++ decimal n) }
-{
-    out.push(b'0' + n as u8)?;
-    Ok(())
 }
 
 /// The digits of a number of three.

@@ -14,13 +14,13 @@ use category_store::{Library, Share};
 use ctype_classes::Ctype;
 use int_format::int_format;
 use langinfo::{CONV_NUMBERS, LentConv, LentText, lent_conv, nl_langinfo};
-use lc_base::{Amount, ByteText, Category, FormatRefusal, Item, List};
+use lc_base::{Amount, ByteText, Category, FormatRefusal, Item, List, push_number};
 use mask_compose::Object;
 use messages_cat::Messages;
 use monetary_cat::Monetary;
 use numeric_cat::Numeric;
 use script_commands::Read;
-use script_out::{Said, Texts, Why, push_number};
+use script_out::{Said, Texts, Why};
 use script_words::{CommandText, Format, UncheckedTime, WrittenNumber};
 use std::alloc::{AllocError, Global};
 use strfmon::strfmon;
@@ -195,7 +195,7 @@ fn push_sizes_text(out: &mut Vec<u8>, sizes: &[u8]) -> Result<(), AllocError>
     match sizes {
         [] => Ok(()),
         [first, rest @ ..] => {
-            push_number(out, u64::from(*first))?;
+            push_number(out, u128::from(*first))?;
             push_more_sizes(out, rest)
         }
     }
@@ -207,7 +207,7 @@ fn push_more_sizes(out: &mut Vec<u8>, sizes: &[u8]) -> Result<(), AllocError>
 {
     for size in sizes {
         out.push(b';')?;
-        push_number(out, u64::from(*size))?;
+        push_number(out, u128::from(*size))?;
     }
     Ok(())
 }

@@ -87,7 +87,7 @@ impl Worker {
         self.outcome = self.lines_of(common, turns);
     }
 
-    // The same, with being out of memory, which ends it.
+    // Makes the lines of its turns among these of a round, or says that it is out of memory.
     fn lines_of<R: Wait, P: Pause>(
         &mut self,
         common: &Common<'_, R, P>,

@@ -22,7 +22,7 @@ pub fn for_each_beside<R: Threads + Sync, T: Send, F: Fn(usize, &mut T) + Sync>(
     each_from(rt, f, 0, s);
 }
 
-// The same where the slice stands at a place of a longer one.
+// Calls f(base + i, &mut s[i]) at each place of a slice that stands at `base` of a longer one.
 #[cycle(each)]
 fn each_from<R: Threads + Sync, T: Send, F: Fn(usize, &mut T) + Sync>(
     rt: &R,

@@ -82,7 +82,10 @@ fn new_part(
 }
 
 /// Copies of parts.
-pub(crate) fn copied_parts(alloc: Global, parts: &[LibraryPart]) -> Result<Vec<LibraryPart>, AllocError>
+pub(crate) fn copied_parts(
+    alloc: Global,
+    parts: &[LibraryPart],
+) -> Result<Vec<LibraryPart>, AllocError>
     ensures { IfOk result (λ copies. copies.items ≡ parts.now) }
 {
     let mut copies = Vec::new(alloc);

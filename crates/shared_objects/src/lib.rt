@@ -7,10 +7,10 @@ mod draft;
 mod fault;
 mod locale;
 mod mark;
-mod reads;
 mod marked_library;
-mod with_offers;
+mod reads;
 mod view;
+mod with_offers;
 
 pub use catalog::CatalogParts;
 pub use draft::Draft;

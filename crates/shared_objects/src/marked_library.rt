@@ -16,11 +16,11 @@ use crate::draft::copied_parts;
 use crate::fault::{JoinFault, NewFault, OpenFault};
 use crate::locale::{LocaleParts, locale_of, object_of};
 use crate::mark::{joined_mark, mark_of, parts_mark};
-use crate::with_offers::LibraryWithOffers;
 use crate::view::View;
+use crate::with_offers::LibraryWithOffers;
 use category_store::{Library, Share};
 use lc_base::{Category, Mask, TextFault};
-use library_parts::{Books, Made, PART_LIMIT, LibraryPart, PartFault, made_of};
+use library_parts::{Books, LibraryPart, Made, PART_LIMIT, PartFault, made_of};
 use mask_compose::Object;
 use script_lang::Bundle;
 use std::alloc::{AllocError, Global};
@@ -113,11 +113,19 @@ impl MarkedLibrary {
 
     /// A library, and behind it another, whose meaning of a name of both holds. Nothing is read again:
     /// both may be dropped before the new one, or later.
-    pub fn join(alloc: Global, first: &MarkedLibrary, second: &MarkedLibrary) -> Result<MarkedLibrary, JoinFault>
+    pub fn join(
+        alloc: Global,
+        first: &MarkedLibrary,
+        second: &MarkedLibrary,
+    ) -> Result<MarkedLibrary, JoinFault>
         ensures { Joins result first.now second.now }
     {
         if first.has_room(second) {
-            let with_offers = LibraryWithOffers::joined(alloc, &first.with_offers, &second.with_offers)?;
+            let with_offers = LibraryWithOffers::joined(
+                alloc,
+                &first.with_offers,
+                &second.with_offers,
+            )?;
             let books = Books::joined(alloc, &first.books, &second.books)?;
             Ok(MarkedLibrary {
                 with_offers,

@@ -40,7 +40,10 @@ impl<'a> View<'a> {
     pub(crate) fn of(with_offers: &'a LibraryWithOffers, locale: &'a LocaleParts) -> View<'a>
         ensures { result ≡ record { library = with_offers.now; object = parts_of locale.now } }
     {
-        View { with_offers, locale }
+        View {
+            with_offers,
+            locale,
+        }
     }
 
     /// The compiled locale of a category.

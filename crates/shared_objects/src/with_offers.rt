@@ -51,7 +51,11 @@ impl LibraryWithOffers {
     }
 
     /// Two libraries as one, with what its names offer at first.
-    pub fn joined(alloc: Global, first: &LibraryWithOffers, second: &LibraryWithOffers) -> Result<LibraryWithOffers, AllocError>
+    pub fn joined(
+        alloc: Global,
+        first: &LibraryWithOffers,
+        second: &LibraryWithOffers,
+    ) -> Result<LibraryWithOffers, AllocError>
         requires { length first.now.locales + length second.now.locales < 2 ^ 31 }
         ensures { IfOk result (λ s. s ≡ joined first.now second.now) }
     {

@@ -4,9 +4,9 @@ ghost use Rattle.std.specs.Prelude.{◌≡◌, ◌+◌, ◌^◌, ◌<◌, ◌≤
 ghost use Rattle.src_lines.specs.Atoms.{digit, decimal, hexadecimal, octal, number, number_atom, escaped, name, name_atom, atom, is_bare, IsNext};
 ghost use Rattle.src_lines.specs.Rows.{line_of};
 
+use crate::LogicalLine;
 use crate::line::OperandPiece;
 use lc_base::{ByteText, Reason, is_blank};
-use crate::LogicalLine;
 use std::alloc::{AllocError, Global};
 
 /// The least part of a line that has a meaning of its own.

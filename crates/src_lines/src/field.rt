@@ -10,8 +10,8 @@ ghost use Rattle.src_lines.specs.Fields.{field, fields};
 use crate::cells::Atoms;
 use crate::operand::skip_blanks;
 use crate::text::{RunEnd, run};
-use lc_base::{Place, TextFault};
 use crate::{Lines, LogicalLine};
+use lc_base::{Place, TextFault};
 use std::alloc::Global;
 
 /// A part of a line up to a bare blank, or the line's end.

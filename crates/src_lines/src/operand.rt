@@ -12,8 +12,8 @@ use crate::atom::next_atom;
 use crate::line::{Line, Operand};
 use crate::shape::shape_of;
 use crate::text::{RunEnd, has_bare, run, text};
-use lc_base::{ByteText, Limit, List, Place, Reason, TextFault};
 use crate::{LineStart, Lines, LogicalLine, advanced, blanks, next_word};
+use lc_base::{ByteText, Limit, List, Place, Reason, TextFault};
 use std::alloc::Global;
 
 /// How many operands a line has at most.

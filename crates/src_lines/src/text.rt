@@ -9,11 +9,11 @@ ghost use Rattle.src_lines.specs.Rows.{line_of};
 ghost use Rattle.src_lines.specs.Atoms.{items_from};
 ghost use Rattle.src_lines.specs.Tokens.{has_bare, ends_run, is_closed, run, text};
 
+use crate::LogicalLine;
 use crate::atom::{Atom, next_atom};
 use crate::cells::Atoms;
 use crate::pieces::Pieces;
 use lc_base::{Reason, TextFault, is_blank};
-use crate::LogicalLine;
 use std::alloc::{AllocError, Global};
 
 /// What ends a run.

@@ -229,7 +229,8 @@ pub fn is_plain(c: &MoneyConversion) -> bool
     }
 }
 
-/// The same as `conversion_of`, at once where a letter stands behind the `%`.
+/// The conversion that bytes behind a `%` begin with, and how many bytes it takes; at once where it is a
+/// letter alone.
 #[inline(always)]
 pub fn quick_conversion(bytes: &[u8]) -> Option<(MoneyConversion, usize)>
     ensures is { result ≡ conversion bytes.now }

@@ -159,7 +159,13 @@ fn fraction_width(m: &Monetary, precision: usize) -> u128
 
 /// The layout of an amount of this sign.
 #[inline(always)]
-fn layout_of(m: &Monetary, c: &MoneyConversion, own: &Look, negative: bool, decimal: Decimal) -> Widths
+fn layout_of(
+    m: &Monetary,
+    c: &MoneyConversion,
+    own: &Look,
+    negative: bool,
+    decimal: Decimal,
+) -> Widths
     requires few { decimal.digits ≤ 20 }
     requires precision { decimal.precision ≡ precision_of m.now c.now }
     requires small { decimal.precision < 2 ^ 32 }

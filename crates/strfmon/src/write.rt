@@ -185,7 +185,8 @@ fn put_conversion(target: &mut [u8], m: &Monetary, c: &MoneyConversion, amount: 
     width
 }
 
-/// The same of a conversion that is more than a letter, in code of its own.
+/// Writes the text of an amount, as `put_conversion` does, in code of its own: for a conversion that is more
+/// than a letter.
 #[inline(never)]
 fn put_other(target: &mut [u8], m: &Monetary, c: &MoneyConversion, amount: Amount) -> u128
     ensures width { result ≡ length (conversion_text m.now c.now amount) }

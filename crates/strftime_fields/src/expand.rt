@@ -70,7 +70,8 @@ pub fn put_whole<L: Ledger, O: Output>(
     put_left(t, tm, max, &mut left, steps, out, lent)
 }
 
-/// The same of any format, in calls.
+/// Adds what any format gives, with so many formats within one another, up to the first `%` that begins no
+/// conversion, and says where that stands. Each part is a call in the program.
 #[cycle(expand)]
 #[inline(always)]
 pub fn put_format<L: Ledger, O: Output>(
@@ -158,7 +159,7 @@ fn put_pieces<'a, L: Ledger, O: Output>(
     *out = text;
 }
 
-/// The same, with a copy of the time, which stays in registers too.
+/// Adds what the next pieces give, as `put_pieces`, with a copy of the time, which stays in registers too.
 #[inline(always)]
 fn put_quick<'a, L: Ledger, O: Output>(
     t: &'a Time,
@@ -177,7 +178,7 @@ fn put_quick<'a, L: Ledger, O: Output>(
     put_pieces(t, &tm.here(), max, left, steps, out, lent);
 }
 
-/// The same, in code of its own.
+/// Adds what the next pieces give, as `put_pieces`, in code of its own.
 #[inline(never)]
 fn put_quick_apart<'a, L: Ledger, O: Output>(
     t: &'a Time,

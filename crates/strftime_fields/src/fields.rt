@@ -43,7 +43,7 @@ impl<'a> TimeFields<'a> {
         TimeFields { tm, zone }
     }
 
-    /// The same time: a loop over one of its own keeps it in registers.
+    /// The time once more: a loop over one of its own keeps it in registers.
     #[inline(always)]
     pub fn here(&self) -> TimeFields<'a>
         ensures { result ≡ self.now }

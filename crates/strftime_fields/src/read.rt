@@ -49,7 +49,7 @@ pub fn short_of(rest: &[u8]) -> Option<Short>
     }
 }
 
-/// The same of the bytes from a place on.
+/// The piece at a place of a format, if it is a byte or a conversion without a modifier.
 #[inline(always)]
 pub fn short_at(format: &[u8], at: usize) -> Option<Short>
     requires { at ≤ length format.now }

@@ -52,7 +52,8 @@ fn follow_format<'a, L: Ledger>(
     }
 }
 
-/// The same with a conversion, with so many formats within one another.
+/// How far a text was read with a conversion, with so many formats within one another; nothing where it, or
+/// a conversion of its format of the locale, is not read.
 #[cycle(follow)]
 pub fn follow_conversion<'a, L: Ledger>(
     levels: u8,

@@ -46,7 +46,7 @@ impl LastRead {
         }
     }
 
-    /// The same with a value of a kind, in the place of an earlier one.
+    /// What was read, and now a value of a kind, in the place of an earlier one.
     pub fn with(mut self, kind: Kind, value: u8) -> LastRead
         ensures { result ≡ keep kind value self }
     {
@@ -66,7 +66,7 @@ impl LastRead {
         self
     }
 
-    /// The same with a day of the year.
+    /// What was read, and now a day of the year.
     pub fn with_year_day(mut self, day: u16) -> LastRead
         ensures { result ≡ record self { year_day = Some day } }
     {
@@ -74,7 +74,7 @@ impl LastRead {
         self
     }
 
-    /// The same with a year.
+    /// What was read, and now a year.
     pub fn with_year(mut self, year: u16) -> LastRead
         ensures { result ≡ record self { year = Some year } }
     {

@@ -74,7 +74,8 @@ pub fn strptime_counted<L: Ledger>(
     }
 }
 
-/// The same with a ledger that has not begun.
+/// The fields of a text by a format, and the index of the first byte that is not read, with a ledger that
+/// has not begun.
 fn strptime_from<L: Ledger>(
     t: &Time,
     format: &[u8],

@@ -81,7 +81,7 @@ fn seat_all<P: Part>(
     Ok(())
 }
 
-// The same object once more, where there is one.
+// The object once more, where there is one.
 fn share_any<P: Part>(object: &Option<Object<P>>) -> Option<Object<P>>
     ensures { result ≡ object.now }
 {
@@ -561,7 +561,8 @@ impl<P: Part> Shared<P> {
         self.turns.meet(&mut a.seat, &mut b.seat);
     }
 
-    /// The same of a thread that has ended, by the seat that `end` gave, and another.
+    /// Afterwards a thread and the seat that `end` gave of one that has ended have each seen what either had
+    /// seen.
     pub fn meet_ended(&self, ended: &mut Seat<Locales<P>>, mine: &mut Mine<P>)
         requires ended { IsSeatOf self.now ended.old }
         requires thread { IsThreadOf self.now mine.old }
@@ -605,7 +606,7 @@ impl<P: Part> Shared<P> {
         }
     }
 
-    // The same by a turn, which leaves the cached object.
+    // The global object with its version, by a turn. The object that the thread read last stays.
     fn ask<R: Wait>(&self, rt: &R, mine: &mut Mine<P>) -> (u32, Object<P>)
         requires { IsThreadOf self.now mine.old }
         ensures saw { SawMore mine.old mine.new }

@@ -220,7 +220,7 @@ fn quotas(rt: HostRuntime) -> Result<(), Fail> {
     Ok(())
 }
 
-// The same by four threads.
+// Four threads each write the numbers from 1 on, and count each call at the mark of its place.
 fn write_by_four<R: Threads + Wait + Sync>(
     rt: &R,
     turns: &Turns<Register>,

@@ -86,7 +86,7 @@ pub enum Shows {
     Alternative(Quantity, Layout),
     /// What a format of the locale gives.
     Format(TimeText),
-    /// The same for a format of eras, or for the second one where that is empty.
+    /// What the first format of the locale gives, which is that of eras, or the second where it is empty.
     EraFormat(TimeText, TimeText),
     /// The era's name, or else the century.
     EraName,

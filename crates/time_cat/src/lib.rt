@@ -14,7 +14,7 @@ mod texts;
 mod time;
 mod tm;
 
-pub use conversion::{TimeConversion, Layout, NameList, Quantity, Shows, TimeText, conversion_of};
+pub use conversion::{Layout, NameList, Quantity, Shows, TimeConversion, TimeText, conversion_of};
 pub use name::{NAME_FRONT, Name};
 pub use parsed::Parsed;
 pub use step::{Step, step_at};

@@ -3,7 +3,6 @@
 use crate::lacking::tell_lacking;
 use category_store::{Compiled, Share};
 use clap::ArgMatches;
-use tool_reads::{LentCategories, class_lines, conv_json, conv_lines, info_json, info_lines, item_categories, lower_lines, money_line, number_line, parsed_json, parsed_lines, time_line, upper_lines};
 use lc_base::{ByteText, Category};
 use numeric_cat::Numeric;
 use std::alloc::{AllocError, Global};
@@ -15,6 +14,10 @@ use tool_decimals::{decimals_line, read_line};
 use tool_files::{Loaded, Wanted, fault_problem, library_of, load, load_text};
 use tool_import::{source_path, standard_text};
 use tool_messages::{Answer, Problem};
+use tool_reads::{
+    LentCategories, class_lines, conv_json, conv_lines, info_json, info_lines, item_categories,
+    lower_lines, money_line, number_line, parsed_json, parsed_lines, time_line, upper_lines,
+};
 use tool_times::tm_of;
 
 /// What a command answers that reads a locale.
@@ -87,7 +90,8 @@ fn loaded<R: Files>(
     }
 }
 
-/// The same where the words name a locale: by its path, or by its name in a folder.
+/// Reads the files of a command whose words name a locale, by its path or by its name in a folder, and of the
+/// locale these categories.
 pub fn loaded_locale<R: Files>(
     rt: &R,
     alloc: Global,

@@ -4,7 +4,7 @@ use crate::locale::{lent, loaded_locale, number_of, wanted_files};
 use category_store::{Library, Share};
 use charset::Charset;
 use clap::ArgMatches;
-use lc_base::{ByteText, CATEGORIES, decimal_number};
+use lc_base::{ByteText, CATEGORIES, decimal_number, is_posix_locale};
 use std::alloc::{AllocError, Global};
 use std::env;
 use std::rt::{Env, Files};
@@ -132,7 +132,7 @@ fn opened_locale<R: Files>(
     given: &ArgMatches<'_>,
     name: &str,
 ) -> Result<Opened, Problem> {
-    let loaded = if name == "C" || name == "POSIX" {
+    let loaded = if is_posix_locale(name.as_bytes()) {
         load(rt, alloc, &wanted_files(given, None), &CATEGORIES)
     } else {
         loaded_locale(rt, alloc, given, path_of(name), &CATEGORIES)

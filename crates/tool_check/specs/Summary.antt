@@ -1,13 +1,13 @@
 -- What accepted files have, as a table (our own).
 use Rattle.std.specs.Prelude.{ℕ, ◌+◌, ◌^◌, ◌==◌, Bool, false, ◌&&◌, List, [], ◌∷◌, ◌++◌, length, drop, codes, zero, suc, unwrap_or, if◌then◌else◌}
 use Rattle.std.specs.List.{flat_map}
-use Rattle.std.specs.Borrow.{Bor}
 use Rattle.std.specs.Fmt.{decimal}
 use Rattle.lc_base.specs.Categories.{category_name}
 use Rattle.keywords.specs.declared.source.Body.{Body}
 use Rattle.keywords.specs.declared.source.Body.TheVariants.{Copy, Entries}
 use Rattle.keywords.specs.declared.source.Section.{Section}
 use Rattle.charset.specs.CodedSet.{CodedSet, set_name, has}
+use Rattle.ctype_classes.specs.Table.{class_names}
 use Rattle.ctype_classes.specs.Classes.{Classes, class_answer, numbered_answer}
 
 -- a row: a name, blanks up to the fifteenth byte, and what stands behind them
@@ -54,23 +54,6 @@ numbered_count set classes number = count_below (λ w. has set w && is_numbered 
 abbrev pub class_row : CodedSet → Classes → List ℕ → List ℕ
 class_row set classes class = row class (decimal (class_count set classes class))
 
--- the classes that each locale has (XBD 7.3.1)
-unfoldable pub standard_classes : List (List ℕ)
-standard_classes =
-    codes "upper" ∷
-    codes "lower" ∷
-    codes "alpha" ∷
-    codes "digit" ∷
-    codes "alnum" ∷
-    codes "space" ∷
-    codes "cntrl" ∷
-    codes "punct" ∷
-    codes "graph" ∷
-    codes "print" ∷
-    codes "xdigit" ∷
-    codes "blank" ∷
-    []
-
 -- the summary of a charmap
 abbrev pub charmap_summary : List ℕ → CodedSet → List ℕ
 charmap_summary path set = accepted_line path ++ row (codes "charset") (set_name set)
@@ -78,9 +61,5 @@ charmap_summary path set = accepted_line path ++ row (codes "charset") (set_name
 -- the summary of a locale: its sections, its charset, and how many characters each class has, those last that it declares
 abbrev pub locale_summary : List ℕ → List Section → CodedSet → Classes → List (List ℕ) → List ℕ
 locale_summary path sections set classes declared =
-    accepted_line path ++ flat_map section_row sections ++ row (codes "charset") (set_name set) ++ flat_map (class_row set classes) standard_classes
+    accepted_line path ++ flat_map section_row sections ++ row (codes "charset") (set_name set) ++ flat_map (class_row set classes) class_names
     ++ flat_map (class_row set classes) declared
-
--- a name that is lent
-abbrev pub name_seen : Bor (List ℕ) → List ℕ
-name_seen name = name.now

@@ -13,14 +13,16 @@ use crate::declared::declared_classes;
 use crate::odd::{finding_messages, joined, source_findings};
 use crate::summary::{push_charmap, push_locale};
 use crate::told_once::{Told, push_untold};
+use crate::{Fault, Finding, faults_of, is_charmap};
 use category_store::{Library, Share};
 use charset::Charset;
 use keywords::Section;
 use lc_base::{ByteText, List, TextFault};
 use std::alloc::{AllocError, Global};
 use std::rt::Files;
-use crate::{Fault, Finding, faults_of, is_charmap};
-use tool_files::{Loaded, Sources, Wanted, charset_of, fault_message, file_text, library_of, load_with};
+use tool_files::{
+    Loaded, Sources, Wanted, charset_of, fault_message, file_text, library_of, load_with,
+};
 use tool_messages::Problem;
 
 /// What is checked.

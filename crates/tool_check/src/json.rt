@@ -6,14 +6,16 @@ ghost use Rattle.tool_messages.specs.declared.answer.Problem.TheVariants.{Memory
 use crate::checked::{Checking, charmap_summary, locale_summary};
 use crate::odd::{finding_words, oddity_name, source_findings};
 use crate::told_once::{Told, is_new};
-use lc_base::{ByteText, Place, Reason, TextFault, next_line};
+use crate::{Fault, Finding, faults_of, is_charmap};
+use lc_base::{ByteText, Place, Reason, TextFault, next_line, push_number};
 use reason_rules::{name_of, rule_of};
 use std::alloc::{AllocError, Global};
 use std::rt::Files;
-use crate::{Fault, Finding, faults_of, is_charmap};
-use tool_files::{FaultParts, Loaded, Sources, Wanted, charset_of, fault_parts, file_text, library_of, load_with};
+use tool_files::{
+    FaultParts, Loaded, Sources, Wanted, charset_of, fault_parts, file_text, library_of, load_with,
+};
 use tool_json::{Writer, push_flag, push_member, push_number_member, push_text};
-use tool_messages::{Problem, line_of, push_number};
+use tool_messages::{Problem, line_of};
 
 /// A fault with its rule.
 #[derive(Drop)]
@@ -280,9 +282,9 @@ fn key_of(alloc: Global, parts: &FaultParts) -> Result<Vec<u8>, AllocError> {
     let mut key = Vec::new(alloc);
     key.extend_from_slice(parts.file.as_bytes())?;
     key.extend_from_slice(b":")?;
-    push_number(&mut key, u64::from(parts.place.line))?;
+    push_number(&mut key, u128::from(parts.place.line))?;
     key.extend_from_slice(b":")?;
-    push_number(&mut key, u64::from(parts.place.column))?;
+    push_number(&mut key, u128::from(parts.place.column))?;
     key.extend_from_slice(b": ")?;
     key.extend_from_slice(parts.reason.as_bytes())?;
     key.extend_from_slice(b": ")?;

@@ -4,9 +4,9 @@ ghost use Rattle.std.specs.Prelude.{◌≡◌, ◌++◌, IfOk};
 ghost use Rattle.tool_messages.specs.Message.{BeginsWith, fault_head};
 ghost use Rattle.tool_check.specs.Odd.{AreFindingMessages, oddity_name, source_findings};
 
+use crate::{Finding, Oddity, findings_in};
 use lc_base::{Block, ByteText, is_blank};
 use std::alloc::{AllocError, Global};
-use crate::{Finding, Oddity, findings_in};
 use tool_messages::{Spot, line_of, push_fault, push_word};
 
 /// What is found of the first of these sources that its reader passes over.

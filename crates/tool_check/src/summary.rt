@@ -4,23 +4,17 @@ ghost use Rattle.std.specs.Prelude.{◌≡◌, ◌+◌, ◌≤◌, ◌^◌, ◌+
 ghost use Rattle.std.specs.List.{flat_map};
 ghost use Rattle.std.specs.Fmt.{decimal};
 ghost use Rattle.charset.specs.CodedSet.{set_name};
-ghost use Rattle.tool_check.specs.Summary.{row, accepted_line, keyword_count, body_text, section_row, count_below, is_numbered, numbered_count, class_count, class_row, standard_classes, charmap_summary, locale_summary, name_seen};
+ghost use Rattle.ctype_classes.specs.Table.{class_names};
+ghost use Rattle.tool_check.specs.Summary.{row, accepted_line, keyword_count, body_text, section_row, count_below, is_numbered, numbered_count, class_count, class_row, charmap_summary, locale_summary};
 
 use charset::Charset;
-use ctype_classes::Ctype;
+use ctype_classes::{Ctype, class_names};
 use keywords::{Body, Section};
-use lc_base::ByteText;
+use lc_base::{ByteText, push_number};
 use std::alloc::AllocError;
-use tool_messages::push_number;
 
 /// The blanks between a name that is empty and what stands behind it.
 const BLANKS: &[u8] = b"               ";
-
-/// The classes that each locale has.
-const CLASSES: [&[u8]; 12] = [
-    b"upper", b"lower", b"alpha", b"digit", b"alnum", b"space", b"cntrl", b"punct", b"graph",
-    b"print", b"xdigit", b"blank",
-];
 
 /// Adds the summary of a charmap.
 pub fn push_charmap(output: &mut Vec<u8>, path: &[u8], charset: &Charset) -> Result<(), AllocError>
@@ -104,7 +98,7 @@ fn push_body(output: &mut Vec<u8>, body: &Body) -> Result<(), AllocError>
 fn push_keyword_count(output: &mut Vec<u8>, count: u64) -> Result<(), AllocError>
     ensures { OnOk result (output.new.items ≡ output.old.items ++ keyword_count count) }
 {
-    push_number(output, count)?;
+    push_number(output, u128::from(count))?;
     if count == 1 {
         output.extend_from_slice(b" keyword")
     } else {
@@ -113,15 +107,14 @@ fn push_keyword_count(output: &mut Vec<u8>, count: u64) -> Result<(), AllocError
 }
 
 /// Adds how many characters each class has that each locale has.
-#[tactic(auto, unfolding(crate::specs::Summary::standard_classes))]
 fn push_standard_classes(
     output: &mut Vec<u8>,
     ctype: &Ctype,
     charset: &Charset,
 ) -> Result<(), AllocError>
-    ensures { OnOk result (output.new.items ≡ output.old.items ++ flat_map (class_row charset.now ctype.now.classes) standard_classes) }
+    ensures { OnOk result (output.new.items ≡ output.old.items ++ flat_map (class_row charset.now ctype.now.classes) class_names) }
 {
-    push_classes(output, ctype, charset, &CLASSES)
+    push_classes(output, ctype, charset, class_names())
 }
 
 /// Adds how many characters each of these classes has.
@@ -129,12 +122,12 @@ fn push_classes(
     output: &mut Vec<u8>,
     ctype: &Ctype,
     charset: &Charset,
-    classes: &[&[u8]],
+    classes: &[&str],
 ) -> Result<(), AllocError>
-    ensures { OnOk result (output.new.items ≡ output.old.items ++ flat_map (class_row charset.now ctype.now.classes) (map name_seen classes.now)) }
+    ensures { OnOk result (output.new.items ≡ output.old.items ++ flat_map (class_row charset.now ctype.now.classes) (map (λ name. name.now) classes.now)) }
 {
     for class in classes {
-        push_class(output, ctype, charset, class)?;
+        push_class(output, ctype, charset, class.as_bytes())?;
     }
     Ok(())
 }
@@ -164,7 +157,7 @@ fn push_class(
     ensures { OnOk result (output.new.items ≡ output.old.items ++ class_row charset.now ctype.now.classes class.now) }
 {
     push_name(output, class)?;
-    push_number(output, class_count(ctype, charset, class))?;
+    push_number(output, u128::from(class_count(ctype, charset, class)))?;
     output.extend_from_slice(b"\n")
 }
 

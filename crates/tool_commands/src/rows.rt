@@ -51,7 +51,7 @@ pub struct ArgRow {
 pub enum Takes {
     /// A word that has to be there.
     Word,
-    /// The same, unless the argument with this name is given, beside which it may not stand.
+    /// A word that has to be there, unless the argument with this name is given, beside which it may not stand.
     WordUnless(&'static str),
     /// A word that may be there.
     MaybeWord,
@@ -59,7 +59,7 @@ pub enum Takes {
     Words,
     /// Words, of which there is at least one.
     SomeWords,
-    /// The same, unless the argument with this name is given.
+    /// Words, of which there is at least one, unless the argument with this name is given.
     SomeWordsUnless(&'static str),
     /// A file behind the argument's name, or behind a letter.
     File(Option<char>),

@@ -7,14 +7,15 @@ use crate::files::file_text;
 use crate::folders::{is_file, path_in};
 use crate::loading::{Loaded, Reading, charset_name};
 use crate::parts::with_categories;
+use crate::{CopiedName, Sources, copied_names, fault_problem};
 use charset::Charset;
-use lc_base::{Block, ByteText, CATEGORIES, Category, Limit, List, Reason, TextFault};
-use locale_sources::is_posix;
+use lc_base::{
+    Block, ByteText, CATEGORIES, Category, Limit, List, Reason, TextFault, is_posix_locale,
+};
 use std::alloc::{AllocError, Global};
 use std::mem;
 use std::rt::Files;
 use tool_messages::Problem;
-use crate::{CopiedName, Sources, copied_names, fault_problem};
 
 /// The most files of locales.
 const FILES_MOST: usize = 64;
@@ -166,7 +167,7 @@ fn add_copied<R: Files>(
 {
     let name = copied.name.as_bytes();
     let locales = sources.locales.as_slice();
-    if is_posix(name) || number_named(locales, name) < locales.len() {
+    if is_posix_locale(name) || number_named(locales, name) < locales.len() {
         return Ok(());
     }
     add_found(rt, alloc, reading, copied, sources)
@@ -211,7 +212,11 @@ fn add_next<R: Files>(
 }
 
 /// Keeps of each source but the first just what is copied of it.
-pub fn keep_parts(alloc: Global, sources: &mut Sources, parts: &[CopiedCategory]) -> Result<(), AllocError> {
+pub fn keep_parts(
+    alloc: Global,
+    sources: &mut Sources,
+    parts: &[CopiedCategory],
+) -> Result<(), AllocError> {
     let blocks = mem::replace(&mut sources.locales, List::of(Vec::new(alloc))).into_vec();
     let mut kept = Vec::new(alloc);
     let mut number = 0usize;

@@ -3,7 +3,7 @@
 use crate::compiled::sections_in;
 use charset::Charset;
 use keywords::{Body, Section};
-use lc_base::{Block, ByteText, CATEGORIES, Category, List, Place, TextFault, next_line};
+use lc_base::{Block, ByteText, Category, List, Place, TextFault, category_named, next_line};
 use std::alloc::{AllocError, Global};
 use tool_words::word_at;
 
@@ -115,16 +115,6 @@ fn section_behind(inside: Option<Category>, word: &[u8]) -> Option<Category> {
         return None;
     }
     inside
-}
-
-/// The category with a name.
-fn category_named(name: &[u8]) -> Option<Category> {
-    for category in CATEGORIES.iter() {
-        if category.name() == name {
-            return Some(*category);
-        }
-    }
-    None
 }
 
 /// Adds the name on a line with this number, if the line begins with `copy` and stands in a section.

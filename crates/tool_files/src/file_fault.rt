@@ -8,9 +8,9 @@ ghost use Rattle.tool_messages.specs.Status.{IsSpoken};
 ghost use Rattle.tool_files.specs.Told.{file_of, place_in, is_format, IsMessage, IsFileMessage, IsTold};
 
 use crate::copies::name_at;
-use crate::spelled_bytes::{byte_place, from_place};
 use crate::hints::{push_hint_of_bytes, push_hint_of_limit};
 use crate::sources::{FilePath, Sources};
+use crate::spelled_bytes::{byte_place, from_place};
 use charset::Charset;
 use lc_base::{Block, ByteText, Place, Reason, TextFault};
 use script_out::push_refusal;

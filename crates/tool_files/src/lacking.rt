@@ -5,10 +5,10 @@ ghost use Rattle.lc_base.specs.Categories.{categories};
 ghost use Rattle.tool_files.specs.Lacking.{has_category, has_section, is_lacking, lacking_among};
 
 use crate::loading::Loaded;
+use crate::sections_in;
 use keywords::Section;
 use lc_base::{CATEGORIES, Category, TextFault};
 use std::alloc::{AllocError, Global};
-use crate::sections_in;
 
 /// Those of these categories of which the first source that was read has no section, each once; none where there is
 /// no source, or one that is refused.

@@ -6,13 +6,13 @@ ghost use Rattle.tool_messages.specs.Status.{IsSpoken};
 use crate::chains::{follow_all, keep_parts};
 use crate::files::file_text;
 use crate::parts::with_categories;
+use crate::{CopiedName, Sources, charset_of, copied_names, fault_problem, read_block};
 use charset::Charset;
 use keywords::Section;
 use lc_base::{Block, ByteText, Category, List};
 use std::alloc::{AllocError, Global};
 use std::rt::Files;
 use tool_messages::Problem;
-use crate::{CopiedName, Sources, charset_of, copied_names, fault_problem, read_block};
 
 /// The files that the words of a command name.
 #[derive(Clone, Copy)]
@@ -79,7 +79,8 @@ pub fn load<R: Files>(
     }
 }
 
-/// The same where the path and the text of the locale are given.
+/// Reads the charmap of a command and, of a locale whose path and text are given and of those that it copies,
+/// the sections of these categories. The lines of the others are empty.
 pub fn load_text<R: Files>(
     rt: &R,
     alloc: Global,

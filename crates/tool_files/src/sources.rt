@@ -3,6 +3,7 @@
 use lc_base::{Block, ByteText, List};
 use std::alloc::{AllocError, Global};
 use std::mem;
+use tool_messages::base_name;
 
 /// A file by its path, with the number of its first line among the lines of all files.
 #[derive(Drop)]
@@ -109,13 +110,4 @@ fn line_behind(first_line: u32, text: &[u8]) -> u32 {
         }
     }
     line
-}
-
-/// The last part of a path.
-fn base_name(path: &[u8]) -> &[u8] {
-    let mut last = path;
-    for part in path.split(|byte| *byte == b'/') {
-        last = part;
-    }
-    last
 }

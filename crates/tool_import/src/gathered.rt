@@ -2,12 +2,11 @@
 
 use crate::locating::path_in_folders;
 use gnu_source::{Named, copied_names};
-use lc_base::{ByteText, List};
-use locale_sources::is_posix;
+use lc_base::{ByteText, List, is_posix_locale};
 use std::alloc::{AllocError, Global};
 use std::rt::Files;
 use tool_files::file_text;
-use tool_messages::Problem;
+use tool_messages::{Problem, base_name};
 
 /// The most files of a locale.
 const FILES_MOST: usize = 64;
@@ -52,15 +51,6 @@ fn push_file(
     Ok(())
 }
 
-/// The last part of a path.
-pub fn base_name(path: &[u8]) -> &[u8] {
-    let mut last = path;
-    for part in path.split(|byte| *byte == b'/') {
-        last = part;
-    }
-    last
-}
-
 /// The names of the locales that the file with a number copies, if there is one.
 fn names_at(alloc: Global, files: &[GnuFile], number: usize) -> Result<List<ByteText>, AllocError> {
     match files.get(number) {
@@ -87,7 +77,7 @@ fn add_named<R: Files>(
 
 /// Whether a name needs no file.
 fn is_there(files: &[GnuFile], name: &[u8]) -> bool {
-    is_posix(name) || files.iter().any(|file| file.name.as_bytes() == name)
+    is_posix_locale(name) || files.iter().any(|file| file.name.as_bytes() == name)
 }
 
 /// Adds the file of a locale, where a folder has it.

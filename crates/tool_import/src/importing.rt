@@ -1,7 +1,7 @@
 //! Sources that are imported one after another.
 
+use crate::gathered::gnu_files;
 use crate::locating::source_path;
-use crate::gathered::{base_name, gnu_files};
 use crate::notes::{push_notes, push_summary};
 use crate::system::imported_files;
 use lc_base::ByteText;
@@ -9,7 +9,7 @@ use std::alloc::{AllocError, Global};
 use std::fs;
 use std::rt::Files;
 use tool_files::path_in;
-use tool_messages::{Problem, push_word};
+use tool_messages::{Problem, base_name, push_word};
 
 /// How sources are imported.
 #[derive(Clone, Copy)]

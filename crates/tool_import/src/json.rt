@@ -1,8 +1,8 @@
 //! What comes of imports, as JSON text.
 
-use crate::locating::source_path;
-use crate::gathered::{GnuFile, base_name, gnu_files, path_of};
+use crate::gathered::{GnuFile, gnu_files, path_of};
 use crate::importing::{Importing, written};
+use crate::locating::source_path;
 use crate::notes::{Tally, each_note, tallies_of};
 use crate::system::imported_files;
 use gnu_source::Imported;
@@ -11,7 +11,7 @@ use std::alloc::{AllocError, Global};
 use std::rt::Files;
 use tool_files::path_in;
 use tool_json::{Writer, push_flag, push_member, push_number_member};
-use tool_messages::Problem;
+use tool_messages::{Problem, base_name};
 
 /// Imports a source, and adds what comes of it as an object: the file that was read, whether it was imported and
 /// written, the standard source or the file that it went to, why there is none where that is so, and what was left

@@ -2,8 +2,9 @@
 
 use crate::gathered::{GnuFile, path_of};
 use gnu_source::Note;
+use lc_base::push_number;
 use std::alloc::{AllocError, Global};
-use tool_messages::{push_number, push_word};
+use tool_messages::push_word;
 
 /// How many notes have a code, and the first of them.
 #[derive(Clone, Copy)]
@@ -32,7 +33,7 @@ pub fn push_summary(
         push_note(out, files, &tally.first)?;
         if tally.count > 1 {
             out.extend_from_slice(b" (")?;
-            push_number(out, tally.count)?;
+            push_number(out, u128::from(tally.count))?;
             out.extend_from_slice(b" times)")?;
         }
         out.extend_from_slice(b"\n")?;
@@ -81,9 +82,9 @@ fn is_counted(tallies: &mut [Tally], note: &Note) -> bool {
 fn push_note(out: &mut Vec<u8>, files: &[GnuFile], note: &Note) -> Result<(), AllocError> {
     push_word(out, path_of(files, note.at.file).as_bytes())?;
     out.extend_from_slice(b":")?;
-    push_number(out, u64::from(note.at.line))?;
+    push_number(out, u128::from(note.at.line))?;
     out.extend_from_slice(b":")?;
-    push_number(out, u64::from(note.at.column))?;
+    push_number(out, u128::from(note.at.column))?;
     out.extend_from_slice(b": ")?;
     out.extend_from_slice(note.code.code().as_bytes())?;
     out.extend_from_slice(b": ")?;

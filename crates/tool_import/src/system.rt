@@ -2,11 +2,11 @@
 
 use crate::gathered::{GnuFile, gnu_files, named_files, path_of, text_of};
 use gnu_source::{ImportFault, Imported, Origin, import};
-use lc_base::{ByteText, Place, Reason, TextFault};
+use lc_base::{ByteText, Place, Reason, TextFault, push_number};
 use std::alloc::{AllocError, Global};
 use std::rt::Files;
-use tool_messages::{Problem, push_number, push_word};
 use tool_files::text_problem;
+use tool_messages::{Problem, push_word};
 
 /// The standard source that a system's source gives, with its notes left out.
 pub fn standard_text<R: Files>(
@@ -45,7 +45,7 @@ fn problem_at(alloc: Global, files: &[GnuFile], at: Origin, reason: Reason) -> P
     )
 }
 
-/// The same of a line that gives a standard line which is refused, with the place of that.
+/// The problem of a line that gives a standard line which breaks a rule, with the place of that line.
 fn problem_made(
     alloc: Global,
     files: &[GnuFile],
@@ -83,9 +83,9 @@ fn with_made_place(alloc: Global, message: &[u8], made: Place) -> Result<ByteTex
     let mut more = Vec::new(alloc);
     more.extend_from_slice(message)?;
     more.extend_from_slice(b"hint: this is line ")?;
-    push_number(&mut more, u64::from(made.line))?;
+    push_number(&mut more, u128::from(made.line))?;
     more.extend_from_slice(b", column ")?;
-    push_number(&mut more, u64::from(made.column))?;
+    push_number(&mut more, u128::from(made.column))?;
     more.extend_from_slice(b" of the source that the import makes\n")?;
     Ok(ByteText::from_vec(more))
 }

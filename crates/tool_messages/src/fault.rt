@@ -4,7 +4,7 @@ ghost use Rattle.std.specs.Prelude.{◌≡◌, ◌++◌, OnOk};
 ghost use Rattle.tool_messages.specs.Message.{BeginsWith, fault_head, fault_line};
 
 use crate::word::push_word;
-use crate::text::push_number;
+use lc_base::push_number;
 use std::alloc::AllocError;
 
 /// How many bytes of a line are shown in front of a place.
@@ -59,9 +59,9 @@ fn push_head(out: &mut Vec<u8>, spot: &Spot<'_>, reason: &[u8]) -> Result<(), Al
 {
     push_word(out, spot.file)?;
     out.extend_from_slice(b":")?;
-    push_number(out, u64::from(spot.line))?;
+    push_number(out, u128::from(spot.line))?;
     out.extend_from_slice(b":")?;
-    push_number(out, u64::from(spot.column))?;
+    push_number(out, u128::from(spot.column))?;
     out.extend_from_slice(b": ")?;
     out.extend_from_slice(reason)
 }

@@ -2,7 +2,7 @@
 
 use itoa::Buffer;
 use keywords::{Element, Operands, Rule, rule_of, takes_of};
-use lc_base::CATEGORIES;
+use lc_base::{CATEGORIES, push_number};
 use std::alloc::AllocError;
 
 /// What a keyword takes.
@@ -47,7 +47,7 @@ pub fn push_wanted(out: &mut Vec<u8>, wanted: Wanted) -> Result<(), AllocError> 
             push_form(out, element, wanted.rule)
         }
         Operands::Several(element) => {
-            push_count(out, wanted.rule)?;
+            push_operand_count(out, wanted.rule)?;
             out.extend_from_slice(several_word(element, wanted.rule))?;
             push_form(out, element, wanted.rule)
         }
@@ -78,10 +78,10 @@ fn several_word(element: Element, rule: Rule) -> &'static [u8] {
 }
 
 /// Adds how many operands a rule wants, if it says so.
-fn push_count(out: &mut Vec<u8>, rule: Rule) -> Result<(), AllocError> {
+fn push_operand_count(out: &mut Vec<u8>, rule: Rule) -> Result<(), AllocError> {
     match rule {
         Rule::Names(count) => {
-            out.extend_from_slice(Buffer::new().format(count).as_bytes())?;
+            push_number(out, count as u128)?;
             out.extend_from_slice(b" ")
         }
         Rule::Digits => out.extend_from_slice(b"at most 100 "),

@@ -8,10 +8,10 @@ ghost use Rattle.tool_reads.specs.Printed.{case_line, character, character_line,
 use crate::wrong_word::{unknown_problem, usage_problem};
 use charset::Charset;
 use ctype_classes::Ctype;
-use lc_base::{ByteText, decimal_number};
+use lc_base::{ByteText, decimal_number, push_number};
 use script_words::behind_front;
 use std::alloc::{AllocError, Global};
-use tool_messages::{Problem, push_number};
+use tool_messages::Problem;
 
 /// What a character is.
 const WANTED: &[u8] =
@@ -143,7 +143,7 @@ fn push_character(lines: &mut Vec<u8>, charset: &Charset, value: u32) -> Result<
 {
     match charset.encode(value) {
         Some(code) => lines.extend_from_slice(code.as_bytes())?,
-        None => push_number(lines, u64::from(value))?,
+        None => push_number(lines, u128::from(value))?,
     }
     lines.extend_from_slice(b"\n")
 }

@@ -7,11 +7,10 @@ ghost use Rattle.tool_reads.specs.Printed.{conv_lines, field, more_sizes, number
 
 use crate::info::push_quoted_field;
 use langinfo::{ConvText, FieldName, Lconv, localeconv};
-use lc_base::ByteText;
+use lc_base::{ByteText, push_number};
 use monetary_cat::Monetary;
 use numeric_cat::Numeric;
 use std::alloc::{AllocError, Global};
-use tool_messages::push_number;
 
 /// A line `NAME=VALUE` for each field of localeconv, in the order of the standard's structure (XSH localeconv).
 pub fn conv_lines(
@@ -50,7 +49,7 @@ fn push_numbers(lines: &mut Vec<u8>, fields: &[(FieldName, u8)]) -> Result<(), A
     ensures { OnOk result (lines.new.items ≡ lines.old.items ++ number_lines fields.now) }
 {
     for (name, number) in fields {
-        push_count(lines, name.as_bytes(), *number)?;
+        push_number_field(lines, name.as_bytes(), *number)?;
     }
     Ok(())
 }
@@ -65,12 +64,12 @@ fn push_text(lines: &mut Vec<u8>, name: &[u8], text: &ConvText) -> Result<(), Al
 }
 
 #[tactic(auto, unfolding(crate::specs::Printed::field))]
-fn push_count(lines: &mut Vec<u8>, name: &[u8], count: u8) -> Result<(), AllocError>
+fn push_number_field(lines: &mut Vec<u8>, name: &[u8], count: u8) -> Result<(), AllocError>
     ensures { OnOk result (lines.new.items ≡ lines.old.items ++ field name.now (decimal count)) }
 {
     lines.extend_from_slice(name)?;
     lines.extend_from_slice(b"=")?;
-    push_number(lines, u64::from(count))?;
+    push_number(lines, u128::from(count))?;
     lines.extend_from_slice(b"\n")
 }
 
@@ -91,7 +90,7 @@ fn push_between(lines: &mut Vec<u8>, sizes: &[u8]) -> Result<(), AllocError>
     match sizes {
         [] => Ok(()),
         [first, rest @ ..] => {
-            push_number(lines, u64::from(*first))?;
+            push_number(lines, u128::from(*first))?;
             push_more_sizes(lines, rest)
         }
     }
@@ -103,7 +102,7 @@ fn push_more_sizes(lines: &mut Vec<u8>, sizes: &[u8]) -> Result<(), AllocError>
 {
     for size in sizes {
         lines.push(b';')?;
-        push_number(lines, u64::from(*size))?;
+        push_number(lines, u128::from(*size))?;
     }
     Ok(())
 }

@@ -7,6 +7,7 @@ ghost use Rattle.script_words.specs.Tables.{items_table};
 ghost use Rattle.tool_reads.specs.Answers.{Answers, Tells, all_of, beside};
 ghost use Rattle.tool_reads.specs.JsonReads.{info_json, is_asked, is_named, item_member, item_members, members_json};
 
+use crate::{ITEM_NAMES, item_of, no_item, text_of};
 use json::Writer;
 use langinfo::LentCategories;
 use lc_base::{ByteText, Item};
@@ -14,7 +15,6 @@ use script_words::item_named;
 use std::alloc::Global;
 use tool_json::{json_line, new_writer, push_member};
 use tool_messages::Problem;
-use crate::{ITEM_NAMES, item_of, no_item, text_of};
 
 /// An object with a member for each item that is named, or for all of them without names, in the order of the
 /// standard's table (XSH nl_langinfo).

@@ -5,6 +5,7 @@ ghost use Rattle.tool_reads.specs.Answers.{Answers};
 ghost use Rattle.tool_reads.specs.Printed.{year_number};
 ghost use Rattle.tool_reads.specs.JsonReads.{clock_members, date_members, day_members, fields_json, number_if, parsed_json};
 
+use crate::problem_of;
 use json::Writer;
 use lc_base::ByteText;
 use std::alloc::{AllocError, Global};
@@ -12,7 +13,6 @@ use strptime_fields::{Parsed, strptime};
 use time_cat::Time;
 use tool_json::{json_line, new_writer, push_number_member};
 use tool_messages::Problem;
-use crate::problem_of;
 
 /// An object with a member for each field that a text has, and one for the number of bytes that were read
 /// (XSH strptime). Refused where the format is none, or the text does not meet it.
@@ -50,9 +50,9 @@ fn push_date(json: &mut Writer, fields: &Parsed) -> Result<(), AllocError>
     ensures before { json.new.before ≡ json.old.before }
     ensures tokens { OnOk result (json.new.tokens ≡ json.old.tokens ++ date_members fields.now) }
 {
-    push_number(json, "year", year_number(fields.year))?;
-    push_number(json, "mon", wide(fields.mon))?;
-    push_number(json, "mday", wide(fields.mday))
+    push_number_if(json, "year", year_number(fields.year))?;
+    push_number_if(json, "mon", wide(fields.mon))?;
+    push_number_if(json, "mday", wide(fields.mday))
 }
 
 #[tactic(auto, unfolding(crate::specs::JsonReads::clock_members))]
@@ -60,9 +60,9 @@ fn push_clock(json: &mut Writer, fields: &Parsed) -> Result<(), AllocError>
     ensures before { json.new.before ≡ json.old.before }
     ensures tokens { OnOk result (json.new.tokens ≡ json.old.tokens ++ clock_members fields.now) }
 {
-    push_number(json, "hour", wide(fields.hour))?;
-    push_number(json, "min", wide(fields.min))?;
-    push_number(json, "sec", wide(fields.sec))
+    push_number_if(json, "hour", wide(fields.hour))?;
+    push_number_if(json, "min", wide(fields.min))?;
+    push_number_if(json, "sec", wide(fields.sec))
 }
 
 #[tactic(auto, unfolding(crate::specs::JsonReads::day_members))]
@@ -70,8 +70,8 @@ fn push_days(json: &mut Writer, fields: &Parsed) -> Result<(), AllocError>
     ensures before { json.new.before ≡ json.old.before }
     ensures tokens { OnOk result (json.new.tokens ≡ json.old.tokens ++ day_members fields.now) }
 {
-    push_number(json, "wday", wide(fields.wday))?;
-    push_number(json, "yday", wide_day(fields.yday))
+    push_number_if(json, "wday", wide(fields.wday))?;
+    push_number_if(json, "yday", wide_day(fields.yday))
 }
 
 /// A year, which is not negative.
@@ -102,7 +102,7 @@ fn wide_day(day: Option<u16>) -> Option<u64>
     }
 }
 
-fn push_number(json: &mut Writer, name: &str, value: Option<u64>) -> Result<(), AllocError>
+fn push_number_if(json: &mut Writer, name: &str, value: Option<u64>) -> Result<(), AllocError>
     ensures before { json.new.before ≡ json.old.before }
     ensures tokens { OnOk result (json.new.tokens ≡ json.old.tokens ++ number_if name.now value) }
 {

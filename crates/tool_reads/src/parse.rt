@@ -5,11 +5,11 @@ ghost use Rattle.tool_reads.specs.Answers.{Answers};
 ghost use Rattle.tool_reads.specs.Printed.{fields_text, number_field, parsed_lines, year_number};
 
 use crate::format_fault::problem_of;
-use lc_base::ByteText;
+use lc_base::{ByteText, push_number};
 use std::alloc::{AllocError, Global};
 use strptime_fields::{Parsed, strptime};
 use time_cat::Time;
-use tool_messages::{Problem, push_number};
+use tool_messages::Problem;
 
 /// A line `NAME=VALUE` for each field that a text has, and one for the number of bytes that were read
 /// (XSH strptime). Refused where the format is none, or the text does not meet it.
@@ -81,7 +81,7 @@ fn push_field(lines: &mut Vec<u8>, name: &[u8], value: Option<u64>) -> Result<()
         Some(value) => {
             lines.extend_from_slice(name)?;
             lines.extend_from_slice(b"=")?;
-            push_number(lines, value)?;
+            push_number(lines, u128::from(value))?;
             lines.extend_from_slice(b"\n")
         }
         None => Ok(()),

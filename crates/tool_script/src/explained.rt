@@ -8,11 +8,10 @@ ghost use Rattle.tool_script.specs.Explained.{bare_line, comment, explained_line
 
 use crate::commands::{command_of, lines_by_thread};
 use handle_table::Refusal;
-use lc_base::{ByteText, List};
+use lc_base::{ByteText, List, push_labelled};
 use script_commands::Placed;
 use script_out::{OutLine, Said, Why, push_line};
 use std::alloc::{AllocError, Global};
-use tool_messages::push_number;
 
 /// The words of the reasons for which commands are refused.
 const REASONS: [&[u8]; 18] = [
@@ -111,20 +110,19 @@ fn push_counts(out: &mut Vec<u8>, lines: &[OutLine], reasons: &[&[u8]]) -> Resul
     ensures { OnOk result (out.new.items ≡ out.old.items ++ counts_text lines.now (map line_seen reasons.now)) }
 {
     for reason in reasons {
-        push_count(out, reason, refused_count(lines, reason))?;
+        push_refused_count(out, reason, refused_count(lines, reason))?;
     }
     Ok(())
 }
 
 /// Adds how many lines are refused for a reason, if any is.
-fn push_count(out: &mut Vec<u8>, reason: &[u8], count: usize) -> Result<(), AllocError>
+fn push_refused_count(out: &mut Vec<u8>, reason: &[u8], count: usize) -> Result<(), AllocError>
     ensures { OnOk result (out.new.items ≡ out.old.items ++ count_text reason.now count) }
 {
     if count == 0 {
         return Ok(());
     }
-    out.extend_from_slice(b"# refused: ")?;
-    push_number(out, count as u64)?;
+    push_labelled(out, b"# refused: ", count as u128)?;
     out.push(b' ')?;
     out.extend_from_slice(reason)?;
     out.push(b'\n')?;

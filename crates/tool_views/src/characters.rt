@@ -2,15 +2,9 @@
 
 use crate::table::{Row, push_row};
 use charset::Charset;
-use ctype_classes::Ctype;
+use ctype_classes::{Ctype, class_names};
+use lc_base::push_number;
 use std::alloc::{AllocError, Global};
-use tool_messages::push_number;
-
-/// The classes of the standard.
-const CLASSES: [&str; 12] = [
-    "upper", "lower", "alpha", "digit", "alnum", "space", "cntrl", "punct", "graph", "print",
-    "xdigit", "blank",
-];
 
 /// Classes of which each character of the others is in one: `print` has those of `graph`, and that has the
 /// letters, digits and signs.
@@ -144,7 +138,7 @@ fn found_of(alloc: Global, sides: &Sides<'_>) -> Result<Found, AllocError> {
         upper: Tally::new(alloc),
         lower: Tally::new(alloc),
     };
-    for class in &CLASSES {
+    for class in class_names() {
         found.classes.push(Members {
             class,
             left: Tally::new(alloc),
@@ -251,7 +245,7 @@ fn is_in(ctype: &Ctype, number: Option<usize>, character: u32) -> bool {
 /// How many characters one locale alone has in a class, and the first of them.
 fn members_text(alloc: Global, sides: &Sides<'_>, tally: &Tally) -> Result<Vec<u8>, AllocError> {
     let mut text = Vec::new(alloc);
-    push_number(&mut text, tally.count)?;
+    push_number(&mut text, u128::from(tally.count))?;
     text.extend_from_slice(b" more")?;
     for (i, character) in tally.first.as_slice().iter().enumerate() {
         text.extend_from_slice(if i == 0 { b": " } else { b" " })?;
@@ -304,7 +298,7 @@ fn images_text(
     tally: &Tally,
 ) -> Result<Vec<u8>, AllocError> {
     let mut text = Vec::new(alloc);
-    push_number(&mut text, tally.count)?;
+    push_number(&mut text, u128::from(tally.count))?;
     text.extend_from_slice(b":")?;
     for character in tally.first.as_slice() {
         text.extend_from_slice(b" ")?;

@@ -1,7 +1,8 @@
 //! The language that the name of a locale tells, and how it is written.
 
-use lc_base::cut_at;
+use lc_base::{cut_at, is_posix_locale};
 use std::alloc::{AllocError, Global};
+use tool_messages::base_name;
 
 /// The languages that are written from right to left.
 const RIGHT_TO_LEFT: [&[u8]; 22] = [
@@ -52,10 +53,10 @@ struct Parts<'a> {
 
 /// The language that a name tells, which may be a path.
 pub fn language_of(alloc: Global, name: &[u8]) -> Result<Language, AllocError> {
-    let parts = parts_of(last_part(name));
+    let parts = parts_of(base_name(name));
     let script = script_of(parts.modifier);
     let mut tag = Vec::new(alloc);
-    if is_posix(parts.language) {
+    if is_posix_locale(parts.language) {
         tag.extend_from_slice(b"en")?;
     } else if is_language(parts.language) {
         push_tag(&mut tag, &parts, script)?;
@@ -81,15 +82,6 @@ fn push_tag(tag: &mut Vec<u8>, parts: &Parts<'_>, script: &[u8]) -> Result<(), A
     Ok(())
 }
 
-/// The last part of a path.
-fn last_part(path: &[u8]) -> &[u8] {
-    let mut last = path;
-    for part in path.split(|byte| *byte == b'/') {
-        last = part;
-    }
-    last
-}
-
 fn parts_of(name: &[u8]) -> Parts<'_> {
     let (front, modifier) = cut_at(b'@', name).unwrap_or((name, b""));
     let (front, _) = cut_at(b'.', front).unwrap_or((front, b""));
@@ -99,11 +91,6 @@ fn parts_of(name: &[u8]) -> Parts<'_> {
         territory,
         modifier,
     }
-}
-
-/// Whether a part is the name of the POSIX locale.
-fn is_posix(part: &[u8]) -> bool {
-    matches!(part, [b'C'] | [b'P', b'O', b'S', b'I', b'X'])
 }
 
 /// Whether a part is two or three small letters.

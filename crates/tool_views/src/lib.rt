@@ -7,8 +7,8 @@ mod differences;
 mod glance;
 mod json;
 mod language;
-mod page;
 mod padding;
+mod page;
 mod table;
 mod values;
 

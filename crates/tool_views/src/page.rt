@@ -106,11 +106,11 @@ fn push_byte(out: &mut Vec<u8>, byte: u8, is_text: bool) -> Result<(), AllocErro
         b'>' => out.extend_from_slice(b"&gt;"),
         b'"' => out.extend_from_slice(b"&quot;"),
         _ if byte < 128 || is_text => out.extend_from_slice(&[byte]),
-        _ => push_number(out, byte),
+        _ => push_escaped_byte(out, byte),
     }
 }
 
-fn push_number(out: &mut Vec<u8>, byte: u8) -> Result<(), AllocError> {
+fn push_escaped_byte(out: &mut Vec<u8>, byte: u8) -> Result<(), AllocError> {
     let digits = b"0123456789abcdef";
     let high = digits[usize::from(byte / 16)];
     let low = digits[usize::from(byte % 16)];

@@ -1,10 +1,9 @@
 //! The values of a locale's keywords but for those of `LC_CTYPE` that are sets of characters.
 
-use lc_base::ByteText;
+use lc_base::{ByteText, push_number};
 use monetary_cat::{MonNumber, MonText, Monetary};
 use std::alloc::{AllocError, Global};
 use time_cat::{Time, TimeText};
-use tool_messages::push_number;
 use tool_reads::LentCategories;
 
 /// The value of a keyword, or of one of its operands.
@@ -212,7 +211,7 @@ fn push_digits(alloc: Global, values: &mut Vec<Value>, time: &Time) -> Result<()
         text.extend_from_slice(b".. ")?;
     }
     text.push(b'(')?;
-    push_number(&mut text, count)?;
+    push_number(&mut text, u128::from(count))?;
     text.push(b')')?;
     values.push(Value {
         category: "LC_TIME",
@@ -234,7 +233,7 @@ fn push_operand(
     let mut name = Vec::new(alloc);
     name.extend_from_slice(keyword.as_bytes())?;
     name.push(b' ')?;
-    push_number(&mut name, u64::from(number).saturating_add(1))?;
+    push_number(&mut name, u128::from(number) + 1)?;
     let mut text = Vec::new(alloc);
     script_out::push_quoted(&mut text, operand)?;
     values.push(Value {
@@ -296,7 +295,7 @@ fn push_size(text: &mut Vec<u8>, size: u8) -> Result<(), AllocError> {
     if size == 127 {
         text.extend_from_slice(b"-1")
     } else {
-        push_number(text, u64::from(size))
+        push_number(text, u128::from(size))
     }
 }
 
@@ -304,7 +303,7 @@ fn push_signed(text: &mut Vec<u8>, number: i32) -> Result<(), AllocError> {
     if number < 0 {
         text.push(b'-')?;
     }
-    push_number(text, u64::from(number.unsigned_abs()))
+    push_number(text, u128::from(number.unsigned_abs()))
 }
 
 fn push_value(

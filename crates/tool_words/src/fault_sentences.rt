@@ -6,10 +6,9 @@ use crate::eras::push_era;
 use crate::operands::{push_takes, push_wrong_operand};
 use crate::parts::{first_operand, from_column, push_named, word_at};
 use crate::phrases::{Phrase, phrase_of};
-use lc_base::{ByteText, Reason, next_line};
+use lc_base::{ByteText, Reason, next_line, push_number};
 use reason_rules::{name_of, rule_of};
 use std::alloc::AllocError;
-use tool_messages::push_number;
 
 /// A fault at its place.
 #[derive(Clone, Copy)]
@@ -34,7 +33,7 @@ pub fn push_told(out: &mut Vec<u8>, shown: &Shown<'_>) -> Result<(), AllocError>
     match shown.reason {
         Reason::WrongOperand => push_wrong_operand(out, shown.source, shown.column, keyword),
         Reason::BadNumber => push_value(out, keyword, part),
-        Reason::WrongCount => push_count(out, keyword, operand_count(shown.text, shown.line)),
+        Reason::WrongCount => push_text_count(out, keyword, operand_count(shown.text, shown.line)),
         Reason::BadEra => push_era(out, first_operand(part)),
         Reason::EmptyRadix => push_rule(
             out,
@@ -86,9 +85,9 @@ fn push_value(out: &mut Vec<u8>, keyword: &[u8], part: &[u8]) -> Result<(), Allo
 }
 
 /// Adds how many texts a keyword has, and what it takes.
-fn push_count(out: &mut Vec<u8>, keyword: &[u8], count: u64) -> Result<(), AllocError> {
+fn push_text_count(out: &mut Vec<u8>, keyword: &[u8], count: u64) -> Result<(), AllocError> {
     push_rule(out, keyword, b" has ")?;
-    push_number(out, count)?;
+    push_number(out, u128::from(count))?;
     out.extend_from_slice(if count == 1 { b" text" } else { b" texts" })?;
     push_takes(out, keyword)
 }

@@ -4,12 +4,12 @@
 mod copies;
 mod counts;
 mod eras;
+mod fault_sentences;
 mod gnu;
 mod operands;
 mod parts;
 mod phrases;
-mod fault_sentences;
 
+pub use fault_sentences::{Shown, push_told};
 pub use gnu::push_gnu_hint;
 pub use parts::word_at;
-pub use fault_sentences::{Shown, push_told};
