@@ -1,9 +1,8 @@
 #!/usr/bin/env python3
 """Shows by what a built program prints that the threads of a round are under way at once: beside.py PROGRAM
 
-Runs each of two scripts until an output shows it, at most so often, and has that output judged by tests/replay.py.
-Prints a line for each: its name, 0 where an output showed it and is right, else 1, and how many runs there were. What
-is wrong stands behind it, on lines that begin with a blank.
+Runs each of two scripts until an output shows it, at most so often, and has that output judged by a replay. Each
+script is one test.
 
 Between its calls a thread makes reads of some 1 ms each, so that it is under way for longer than threads take to
 begin, and than a processor stays with one of them. Nearly each run then shows it. Where that was measured, each of 800
@@ -11,12 +10,12 @@ runs of either script did: 200 by four processors and 200 by one, among the othe
 many ahead of that work (nice -n -20); and with reads that took a quarter of the time, 799 of 800 runs of both. So a
 right program hardly ever needs a second run, and one that never shows it in 200 or 50 runs is taken for wrong.
 """
-import os
-import subprocess
 import sys
-import tempfile
 
-HERE = os.path.dirname(os.path.realpath(__file__))
+from judging import judged
+from programs import answer
+from results import Results
+
 # A locale whose %c stands for 16 * 16 * 16 conversions.
 LOCALE = """.locale a UTF-8
 LC_TIME
@@ -58,49 +57,30 @@ def gave_each_other(output):
     return {(b"A", b"handle B"), (b"B", b"handle A")} <= got
 
 
-def printed(program, mode, bundle):
-    """What the program prints of a bundle."""
-    done = subprocess.run([program, mode], input=bundle.encode(), capture_output=True, timeout=60, check=False)
-    if done.returncode != 0:
-        sys.exit("%s ended with %d" % (mode, done.returncode))
-    return done.stdout
-
-
-def replayed(program, bundle, output):
-    """What the replay tells of an output: nothing where it may be printed."""
-    with tempfile.TemporaryDirectory() as folder:
-        files = [os.path.join(folder, name) for name in ("bundle", "output")]
-        for name, text in zip(files, (bundle.encode(), output)):
-            with open(name, "wb") as file:
-                file.write(text)
-        words = [sys.executable, os.path.join(HERE, "replay.py"), *files, "program=" + program]
-        done = subprocess.run(words, stdout=subprocess.PIPE, stderr=subprocess.STDOUT, check=False)
-    return done.stdout.decode("latin-1") if done.returncode != 0 else ""
-
-
-def check(program, name, most, bundle, shows, otherwise):
-    """Runs a script until an output shows what it is for, and tells of it."""
+def until_shown(program, name, most, bundle, shows):
+    """What is wrong of the first output that shows what its script is for, or None; and how many runs there were."""
     for count in range(1, most + 1):
-        output = printed(program, "run", bundle)
-        if shows(output):
-            wrong = replayed(program, bundle, output)
-            break
-    else:
-        wrong = otherwise
-    print(name, 1 if wrong else 0, count, flush=True)
-    for line in wrong.splitlines():
-        print("  " + line, flush=True)
+        came = answer(name, [program, "run"], bundle)
+        if came.status != 0:
+            return f"status {came.status} in place of 0", count
+        if shows(came.output):
+            return judged(bundle, came.output, program=program), count
+    return "no output shows it", most
 
 
-def main(path):
-    program = os.path.abspath(path)
-    bundle = contended()
-    alone = printed(program, "serial", bundle)
-    check(program, "run_differs_from_serial", 200, bundle, lambda output: output != alone,
-          "run printed what serial prints in each of 200 runs")
-    check(program, "handles_both_ways", 50, mutual(), gave_each_other,
-          "in none of 50 runs did each of two threads get a handle of the other in one round")
+def main(program):
+    results = Results("overlap")
+    script = contended().encode()
+    alone = answer("serial", [program, "serial"], script).output
+    for name, most, bundle, shows in (
+        ("run_differs_from_serial", 200, script, lambda output: output != alone),
+        ("handles_both_ways", 50, mutual().encode(), gave_each_other),
+    ):
+        wrong, count = until_shown(program, name, most, bundle, shows)
+        print(f"overlap: {name}: {count} runs", flush=True)
+        results.judges(name, wrong)
+    return results.end()
 
 
 if __name__ == "__main__":
-    main(*sys.argv[1:])
+    sys.exit(main(*sys.argv[1:]))

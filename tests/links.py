@@ -1,13 +1,19 @@
 #!/usr/bin/env python3
-"""Looks whether each link of the documents leads to a file, and to a heading of it: tests/links.py. Prints a
-line for each that does not, and ends with 1 where there is one."""
+"""Looks whether each link of the documents leads to a file, and to a heading of it, and whether nothing unexpected
+stands at the top of the repository: tests/links.py"""
 import functools
 import glob
 import os
 import re
+import subprocess
 import sys
 
-TOP = os.path.dirname(os.path.dirname(os.path.realpath(__file__)))
+from programs import TOP
+from results import Results
+
+# What may stand at the top.
+FILES = ".gitignore CHANGELOG.md CONTRIBUTING.md HANDLES README.md VERSION crates.txt install".split()
+FOLDERS = ".ci bench completions crates docs examples include packaging python tests".split()
 
 
 def text_lines(path):
@@ -50,12 +56,23 @@ def faults(document):
                 yield f"{document}:{number}: no heading #{anchor} in {file or document}"
 
 
+def at_top():
+    """What git knows at the top, or would add; all that stands there, where the folder is no clone."""
+    if not os.path.exists(f"{TOP}/.git"):
+        return set(os.listdir(TOP))
+    words = ["git", "ls-files", "--cached", "--others", "--exclude-standard", "--deduplicate"]
+    said = subprocess.run(words, cwd=TOP, capture_output=True, text=True, check=True)
+    return {path.partition("/")[0] for path in said.stdout.splitlines() if os.path.lexists(f"{TOP}/{path}")}
+
+
 def main():
+    results = Results("links")
     paths = [it for form in ("*.md", "bench/*.md", "docs/*.md") for it in glob.glob(f"{TOP}/{form}")]
-    documents = [os.path.relpath(it, TOP) for it in paths]
-    found = [fault for document in sorted(documents) for fault in faults(document)]
-    print("\n".join(found), end="\n" if found else "")
-    return 1 if found else 0
+    for document in sorted(os.path.relpath(it, TOP) for it in paths):
+        results.judges(document, list(faults(document)))
+    unexpected = sorted(at_top() - {*FILES, *FOLDERS})
+    results.judges("the top of the repository", [f"{it} is not expected" for it in unexpected])
+    return results.end()
 
 
 if __name__ == "__main__":

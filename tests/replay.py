@@ -790,24 +790,31 @@ def judged(line, call, *rest):
         raise Wrong("%s -- wanted: %s" % (line.text, wrong)) from None
 
 
+def wrong(bundle, output, rows=16, generations=65535, program=None):
+    """What is wrong of an output of a bundle; None where it may be printed."""
+    try:
+        want(output == "" or output.endswith("\n"), "the last line ends")
+        lines = [Line(line) for line in output.split("\n")[:-1]]
+        check = Check(Bundle(bundle), lines, rows, generations)
+        check.run()
+        if program and lines:
+            Serial(program, rows, generations).judges(check)
+    except Wrong as told:
+        return str(told)
+    return None
+
+
 def main(bundle, output, *options):
     given = dict(option.split("=") for option in options)
-    with open(bundle, encoding="latin-1", newline="\n") as it:
-        read = Bundle(it.read())
-    with open(output, encoding="latin-1", newline="\n") as it:
-        text = it.read()
-    try:
-        want(text == "" or text.endswith("\n"), "the last line ends")
-        lines = [Line(line) for line in text.split("\n")[:-1]]
-        rows, generations = int(given.get("rows", 16)), int(given.get("generations", 65535))
-        check = Check(read, lines, rows, generations)
-        check.run()
-        if "program" in given and lines:
-            Serial(given["program"], rows, generations).judges(check)
-    except Wrong as wrong:
-        print("%s: %s" % (output, wrong))
-        return 1
-    return 0
+    numbers = {name: int(given[name]) for name in ("rows", "generations") if name in given}
+    texts = []
+    for path in (bundle, output):
+        with open(path, encoding="latin-1", newline="\n") as it:
+            texts.append(it.read())
+    told = wrong(*texts, **numbers, program=given.get("program"))
+    if told:
+        print("%s: %s" % (output, told))
+    return 1 if told else 0
 
 
 if __name__ == "__main__":

@@ -89,66 +89,67 @@ END LC_NUMERIC
 """
 
 
-def main(seed, threads, rounds, commands):
-    some = random.Random(seed)
-    names = ["T%d" % i for i in range(threads)]
-    variables = ["a", "b", "c", "d", "e"]
-    places = ["us", "fr", "part", "new", "C", "POSIX", '""', "nowhere", '"LC_CTYPE=C;LC_NUMERIC=fr;LC_MONETARY=us;LC_TIME=part;LC_MESSAGES=C"']
-    categories = ["LC_CTYPE", "LC_NUMERIC", "LC_MONETARY", "LC_TIME", "LC_MESSAGES", "LC_ALL"]
+VARIABLES = ["a", "b", "c", "d", "e"]
+PLACES = ["us", "fr", "part", "new", "C", "POSIX", '""', "nowhere"]
+PLACES += ['"LC_CTYPE=C;LC_NUMERIC=fr;LC_MONETARY=us;LC_TIME=part;LC_MESSAGES=C"']
+CATEGORIES = ["LC_CTYPE", "LC_NUMERIC", "LC_MONETARY", "LC_TIME", "LC_MESSAGES", "LC_ALL"]
+MASKS = ["LC_ALL", "LC_NUMERIC", "LC_NUMERIC,LC_TIME", "0", "2", "31", "33", *CATEGORIES]
+READS = ["info RADIXCHAR", "info THOUSEP", 'money "%n" 1234.5', 'time "%x" 2021-01-03 14:05:06 0 2', "class alpha 97"]
+READS += ["upper 97", 'number "%\'d" 1234567', 'parse "%x" "02/03/2021"']
+
+
+def command_kinds(some, names):
+    """The commands of threads of these names, each with its weight and what draws it."""
+    def handle():
+        return "%s.%d.%d" % (some.choice(names), some.randrange(3), some.randrange(1, 5))
 
     def named():
         if some.random() < 0.08:
             return "GLOBAL"
-        if some.random() < 0.15:
-            return "%s.%d.%d" % (some.choice(names), some.randrange(3), some.randrange(1, 5))
-        return some.choice(variables)
-
-    def mask():
-        return some.choice(["LC_ALL", "LC_NUMERIC", "LC_NUMERIC,LC_TIME", "0", "2", "31", "33", *categories])
-
-    def read():
-        return some.choice(["info RADIXCHAR", "info THOUSEP", 'money "%n" 1234.5', 'time "%x" 2021-01-03 14:05:06 0 2', "class alpha 97", "upper 97", 'number "%\'d" 1234567', 'parse "%x" "02/03/2021"'])
+        return handle() if some.random() < 0.15 else some.choice(VARIABLES)
 
     def read_of():
-        word, rest = read().split(" ", 1)
+        word, rest = some.choice(READS).split(" ", 1)
         return "%s_l %s %s" % (word, named(), rest)
 
-    def open_catalog():
-        if some.random() < 0.3:
-            return "%s.%d.%d" % (some.choice(names), some.randrange(3), some.randrange(1, 5))
-        return some.choice(variables)
+    def catalog():
+        return handle() if some.random() < 0.3 else some.choice(VARIABLES)
 
-    kinds = [
-        (24, lambda: "new %s %s %s" % (some.choice(variables), mask(), some.choice(places))),
-        (4, lambda: "new %s %s %s %s" % (some.choice(variables), mask(), some.choice(places), named())),
-        (5, lambda: "dup %s %s" % (some.choice(variables), named())),
+    return [
+        (24, lambda: "new %s %s %s" % (some.choice(VARIABLES), some.choice(MASKS), some.choice(PLACES))),
+        (4, lambda: "new %s %s %s %s" % (some.choice(VARIABLES), some.choice(MASKS), some.choice(PLACES), named())),
+        (5, lambda: "dup %s %s" % (some.choice(VARIABLES), named())),
         (5, lambda: "free %s" % named()),
         (8, lambda: "use %s" % named()),
         (2, lambda: "use ?"),
         (8, lambda: "hold %s" % named()),
         (4, lambda: "release %s" % named()),
-        (3, lambda: "setlocale %s %s" % (some.choice(categories), some.choice(places))),
-        (3, lambda: "setlocale %s" % some.choice(categories)),
+        (3, lambda: "setlocale %s %s" % (some.choice(CATEGORIES), some.choice(PLACES))),
+        (3, lambda: "setlocale %s" % some.choice(CATEGORIES)),
         (2, lambda: "install %s" % some.choice(["f2", "p2", "n1"])),
         (10, lambda: "post %d %s" % (some.randrange(3), named())),
-        (20, lambda: "fetch %s %s.%d" % (some.choice(variables), some.choice(names), some.randrange(3))),
+        (20, lambda: "fetch %s %s.%d" % (some.choice(VARIABLES), some.choice(names), some.randrange(3))),
         (4, lambda: "pins %s" % named()),
-        (12, read),
+        (12, lambda: some.choice(READS)),
         (12, read_of),
-        (6, lambda: "catopen %s %s" % (some.choice(variables), some.choice(["greet", "greet", "other"]))),
-        (8, lambda: 'catgets %s %d %d "?"' % (open_catalog(), some.randrange(1, 3), some.randrange(1, 4))),
-        (3, lambda: "catclose %s" % open_catalog()),
+        (6, lambda: "catopen %s %s" % (some.choice(VARIABLES), some.choice(["greet", "greet", "other"]))),
+        (8, lambda: 'catgets %s %d %d "?"' % (catalog(), some.randrange(1, 3), some.randrange(1, 4))),
+        (3, lambda: "catclose %s" % catalog()),
     ]
-    weights = [weight for weight, _ in kinds]
-    sys.stdout.write(LOCALES)
+
+
+def bundle(seed, threads, rounds, commands):
+    """The bundle that a seed draws."""
+    some, names = random.Random(seed), ["T%d" % i for i in range(threads)]
+    weights, draws = zip(*command_kinds(some, names))
+    lines = []
     for number in range(rounds):
-        if number:
-            print(".round")
+        lines += [".round"] * (number > 0)
         for name in names:
-            print(".thread", name)
-            for _ in range(commands):
-                print(some.choices(kinds, weights)[0][1]())
+            lines.append(".thread " + name)
+            lines += [some.choices(draws, weights)[0]() for _ in range(commands)]
+    return LOCALES + "".join(line + "\n" for line in lines)
 
 
 if __name__ == "__main__":
-    main(*map(int, sys.argv[1:]))
+    sys.stdout.write(bundle(*map(int, sys.argv[1:])))

@@ -1,11 +1,11 @@
 #!/usr/bin/env python3
-"""Looks whether each place that tells the version tells that of the file VERSION: tests/versions.py. Prints a
-line for each that does not, and ends with 1 where there is one."""
-import os
+"""Looks whether each place that tells the version tells that of the file VERSION: tests/versions.py"""
 import re
 import sys
 
-TOP = os.path.dirname(os.path.dirname(os.path.realpath(__file__)))
+from programs import TOP
+from results import Results
+
 VERSION = r"(\d+\.\d+(?:\.\d+)?)"
 PLACES = [
     ("VERSION", rf"\A{VERSION}\n\Z"),
@@ -36,14 +36,14 @@ def told(path, form):
 
 
 def main():
+    results = Results("versions")
     wanted = told(*PLACES[0])
-    versions = [(path, told(path, form)) for path, form in PLACES]
-    wrong = [f"{path}: {version or 'no version'}, not {wanted}" for path, version in versions if version != wanted or not version]
-    major, minor = wanted.split(".")[:2]
-    number = str(100 * int(major) + int(minor))
-    wrong += [f"{path}: the number is not {number}" for path, form in NUMBERS if told(path, form) != number]
-    print("\n".join(wrong), end="\n" if wrong else "")
-    return 1 if wrong else 0
+    for path, form in PLACES:
+        results.compares(path, told(path, form), wanted or "a version")
+    major, minor = (wanted or "0.0").split(".")[:2]
+    for path, form in NUMBERS:
+        results.compares(path, told(path, form), str(100 * int(major) + int(minor)))
+    return results.end()
 
 
 if __name__ == "__main__":

@@ -5,10 +5,9 @@ It also counts the threads that are started, and what scripts of many calls allo
 
     each_call.py PROGRAM BUNDLE OUTPUT
 
-OUTPUT is what serial prints for the bundle, which has one round, whose threads share no handles. Prints a
-line for each kind of fault: its name, 0 where each run ended as it must and else 1, and how many runs there
-were. What went wrong stands on lines behind it that begin with a blank. The faults come from preload.c,
-which is compiled by cc; where there is no cc, a line says so, and only the fronts are run."""
+OUTPUT is what serial prints for the bundle, which has one round, whose threads share no handles. Prints the number of
+runs of each kind of fault, which is one test, and below it what went wrong. The faults come from preload.c, which is
+compiled by cc; where there is no cc, only the fronts are run."""
 import itertools
 import os
 import shutil
@@ -19,6 +18,10 @@ import tempfile
 from concurrent.futures import ThreadPoolExecutor
 
 HERE = os.path.dirname(os.path.realpath(__file__))
+sys.path.insert(0, os.path.dirname(HERE))
+from programs import answer  # noqa: E402
+from results import Results  # noqa: E402
+
 KINDS = ["FAULTS_ALLOCATION", "FAULTS_THREAD", "FAULTS_READ", "FAULTS_WRITE"]
 DONE, REFUSED, READ_FAULT, WRITE_FAULT, MEMORY = 0, 3, 4, 5, 6
 LIMIT = 16777216
@@ -81,19 +84,15 @@ class Program:
             settings.update(LD_PRELOAD=self.preload, FAULTS_COUNTS=file)
             settings.update((f"FAULTS_{name.upper()}", str(value)) for name, value in faults.items())
         words = [self.path] + mode.split()
-        with open(os.memfd_create("input"), "w+b") as source:
-            source.write(text)
-            source.seek(0)
-            done = subprocess.run(
-                words, stdin=source, capture_output=True, env=settings, timeout=60, check=False)
-        if done.stderr:
-            return f"{done.returncode}, and wrote to standard error", done.stdout, [0] * len(KINDS)
+        done = answer(f"{mode} {faults}", words, text, env=settings)
+        if done.messages:
+            return f"{done.status}, and wrote to standard error", done.output, [0] * len(KINDS)
         if self.preload is None:
-            return done.returncode, done.stdout, [0] * len(KINDS)
+            return done.status, done.output, [0] * len(KINDS)
         with open(file, "rb") as counts:
             made = struct.unpack(f"{len(KINDS)}Q", counts.read())
         os.unlink(file)
-        return done.returncode, done.stdout, made
+        return done.status, done.output, made
 
     def reached(self, kind, mode, text, **faults):
         """How many calls of a kind a run without a failing one makes."""
@@ -104,7 +103,6 @@ def preloaded(folder):
     """The library of the faults, or None where there is no compiler."""
     compiler = shutil.which("cc")
     if compiler is None:
-        print("no cc: no call is made to fail", file=sys.stderr)
         return None
     library = os.path.join(folder, "preload.so")
     source = os.path.join(HERE, "preload.c")
@@ -127,13 +125,11 @@ def outputs_of(output):
     return made
 
 
-def check(name, rows):
-    """Runs rows, each a call that gives what is wrong or None, and tells of them."""
+def checked(rows):
+    """Runs rows, each a call that gives what is wrong or None: how many there are, and what was wrong."""
     with ThreadPoolExecutor(os.cpu_count()) as pool:
         wrong = [said for said in pool.map(lambda row: row(), rows) if said is not None]
-    print(name, 1 if wrong else 0, len(rows), flush=True)
-    for said in wrong[:10]:
-        print("  " + said, flush=True)
+    return len(rows), wrong
 
 
 def row(program, mode, text, allowed, **faults):
@@ -245,34 +241,52 @@ def no_more_reads(program, size, other):
     return tried
 
 
-def main():
-    path, bundle, output = os.path.abspath(sys.argv[1]), read(sys.argv[2]), read(sys.argv[3])
-    wanted = {"serial": [output], "run": outputs_of(output)}
+def kinds_of_mode(program, mode, bundle, outputs):
+    """The kinds of faults in a run of a mode that may print these outputs: names, and their rows."""
+    return {
+        f"refused_allocations_of_{mode}": lambda: allocations(program, mode, bundle, outputs),
+        f"failing_reads_of_{mode}": lambda: reads(program, mode, bundle),
+        f"failing_writes_of_{mode}": lambda: writes(program, mode, bundle, outputs),
+        f"room_of_100_bytes_of_{mode}": lambda: [row(program, mode, bundle, is_front(100, outputs), room=100)],
+        f"output_that_takes_nothing_of_{mode}": lambda: [row(program, mode, bundle, is_front(0, outputs), nothing=1)],
+        f"single_bytes_of_{mode}": lambda: [
+            row(program, mode, bundle, is_just(DONE, outputs), read_step=1, write_step=1)],
+    }
+
+
+def kinds_of_faults(program, bundle, output):
+    """All kinds of faults that are preloaded."""
+    by_run, bad_line = outputs_of(output), [b"refused: 1:1 BadLine directive\n"]
+    usage, too_large = [b"refused: usage\n"], [b"refused: too large\n"]
+    return {
+        **kinds_of_mode(program, "serial", bundle, [output]),
+        **kinds_of_mode(program, "run", bundle, by_run),
+        "threads_begun_beside": lambda: begun_beside(program),
+        "steps_without_memory": lambda: steps(program),
+        "threads_that_do_not_start": lambda: threads(program, "run", bundle, by_run),
+        "failing_writes_of_a_refusal": lambda: writes(program, "check", b".end\n", bad_line),
+        "failing_writes_of_wrong_words": lambda: writes(program, "chek", bundle, usage),
+        "failing_writes_of_too_large": lambda: writes(program, "check", bytes(LIMIT + 1), too_large),
+        "no_read_past_the_limit": lambda: [no_more_reads(program, LIMIT + 1, 2 * LIMIT)],
+    }
+
+
+def main(path, bundle_path, output_path):
+    bundle, output = read(bundle_path), read(output_path)
+    results = Results("failing calls")
     with tempfile.TemporaryDirectory() as folder:
-        program = Program(path, preloaded(folder), folder)
-        check("fronts_of_the_bundle", [
-            row(program, "serial", bundle[:end], is_cut) for end in range(len(bundle))])
+        program = Program(os.path.abspath(path), preloaded(folder), folder)
+        fronts = [row(program, "serial", bundle[:end], is_cut) for end in range(len(bundle))]
+        results.judges("fronts_of_the_bundle", checked(fronts)[1])
+        kinds = kinds_of_faults(program, bundle, output)
         if program.preload is None:
-            return
-        for mode, outputs in wanted.items():
-            check(f"refused_allocations_of_{mode}", allocations(program, mode, bundle, outputs))
-            check(f"failing_reads_of_{mode}", reads(program, mode, bundle))
-            check(f"failing_writes_of_{mode}", writes(program, mode, bundle, outputs))
-            check(f"room_of_100_bytes_of_{mode}", [
-                row(program, mode, bundle, is_front(100, outputs), room=100)])
-            check(f"output_that_takes_nothing_of_{mode}", [
-                row(program, mode, bundle, is_front(0, outputs), nothing=1)])
-            check(f"single_bytes_of_{mode}", [
-                row(program, mode, bundle, is_just(DONE, outputs), read_step=1, write_step=1)])
-        check("threads_begun_beside", begun_beside(program))
-        check("steps_without_memory", steps(program))
-        check("threads_that_do_not_start", threads(program, "run", bundle, wanted["run"]))
-        check("failing_writes_of_a_refusal", writes(
-            program, "check", b".end\n", [b"refused: 1:1 BadLine directive\n"]))
-        check("failing_writes_of_wrong_words", writes(program, "chek", bundle, [b"refused: usage\n"]))
-        check("failing_writes_of_too_large", writes(
-            program, "check", bytes(LIMIT + 1), [b"refused: too large\n"]))
-        check("no_read_past_the_limit", [no_more_reads(program, LIMIT + 1, 2 * LIMIT)])
+            results.leaves_out("each call failing", "there is no cc", len(kinds))
+            kinds = {}
+        for name, rows in kinds.items():
+            count, wrong = checked(rows())
+            print(f"failing calls: {name}: {count} runs", flush=True)
+            results.judges(name, wrong[:10] if count else "there was no run")
+    return results.end()
 
 
 def read(path):
@@ -281,4 +295,4 @@ def read(path):
 
 
 if __name__ == "__main__":
-    main()
+    sys.exit(main(*sys.argv[1:]))

@@ -1,16 +1,19 @@
 #!/usr/bin/env python3
-"""completions.py: whether each command and option of the tool stands in the completions for bash, zsh and fish, and
-whether a shell that is installed completes by them what the table below says; of zsh only that it reads the file.
-Prints what is lacking or wrong; the status is 1 where something is."""
+"""Looks whether each command and option of the tool stands in the completions for bash, zsh and fish, and whether a
+shell that is installed completes by them what the table below says; of zsh only that it reads the file:
+completions.py"""
 import os
 import re
 import shutil
-import subprocess
 import sys
 import tempfile
 
-TABLE = "crates/tool_commands/src/rows.rt"
-FILES = {it: f"completions/{it}" for it in ("locale_tool.bash", "_locale_tool", "locale_tool.fish")}
+sys.path.insert(0, os.path.dirname(os.path.dirname(os.path.realpath(__file__))))
+from programs import TOP, answer  # noqa: E402
+from results import Results  # noqa: E402
+
+TABLE = f"{TOP}/crates/tool_commands/src/rows.rt"
+FILES = {it: f"{TOP}/completions/{it}" for it in ("locale_tool.bash", "_locale_tool", "locale_tool.fish")}
 # Stands for the tool, whose items and reasons the completions ask for.
 STUB = """#!/bin/sh
 case $1 in
@@ -55,27 +58,29 @@ CASES = [
 ]
 
 
+def read(path):
+    with open(path, encoding="utf-8") as file:
+        return file.read()
+
+
 def quoted(form):
-    return re.findall(form, open(TABLE).read())
+    return re.findall(form, read(TABLE))
 
 
-def lacking():
-    """What a completion does not name."""
+def check_names(results):
+    """Whether each completion names the commands, the options, and what they are about."""
     commands = quoted(r'name: "(\w+)",\n\s+about: ')
     abouts = quoted(r'about: "([^"]*)"')
     options = quoted(r'name: "([a-z]+)",\n\s+takes: Takes::(?:File|Folders?|Flag|When|Text)')
-    told = []
+    results.judges(TABLE, None if len(commands) == 16 and len(options) >= 5 else "the table is not read")
     for name, path in FILES.items():
-        text = open(path).read()
         forms = [rf"\b{it}\b" for it in [*commands, "help"]]
         option = r"-l {}\b" if name.endswith("fish") else r"--{}\b"
         forms += [option.format(it) for it in [*options, "help", "version"]]
         if not name.endswith("bash"):
             forms += [re.escape(it) for it in abouts]
-        told += [f"{path} lacks {it}" for it in forms if not re.search(it, text)]
-    if not (len(commands) == 16 and len(options) >= 5):
-        told.append(f"the table of {TABLE} is not read")
-    return told
+        text = read(path)
+        results.judges(name, [f"it lacks {it}" for it in forms if not re.search(it, text)])
 
 
 def by_bash(words):
@@ -88,37 +93,43 @@ def by_fish(words):
     return ["fish", "--no-config", "-c", f"source $argv[1]; complete -C $argv[2]", FILES["locale_tool.fish"], line]
 
 
-def wrong(folder):
-    """What a shell completes otherwise."""
+def make_stub(folder):
+    """Makes a folder with a stub of the tool, files, and a folder."""
     os.mkdir(f"{folder}/folder")
     for name in ("source", "a bundle"):
         open(f"{folder}/{name}", "w").close()
     with open(f"{folder}/locale_tool", "w") as it:
         it.write(STUB)
     os.chmod(f"{folder}/locale_tool", 0o755)
+
+
+def check_shell(results, folder, shell, line_of):
+    """Whether a shell completes each line of the table as it says."""
     inside = {**os.environ, "PATH": f"{folder}:{os.environ['PATH']}", "HOME": folder}
-    told = []
-    for shell, line_of in (("bash", by_bash), ("fish", by_fish)):
-        if not shutil.which(shell):
-            print(f"{shell} is not installed: its completion is not tried")
-            continue
-        for words, wanted in CASES:
-            line = [os.path.abspath(it) if it in FILES.values() else it for it in line_of(words)]
-            said = subprocess.run(line, cwd=folder, env=inside, capture_output=True, text=True, timeout=60)
-            came = [it.split("\t")[0].replace("\\ ", " ").rstrip("/") for it in said.stdout.splitlines()]
-            if sorted(came) != sorted(wanted) or said.stderr:
-                told.append(f"{shell} completes {words} by {came} in place of {wanted}\n{said.stderr}")
-    return told
+    for words, wanted in CASES:
+        name = f"{shell} {' '.join(words)}"
+        came = answer(name, line_of(words), cwd=folder, env=inside)
+        texts = [it.split("\t")[0].replace("\\ ", " ").rstrip("/") for it in came.output.decode().splitlines()]
+        results.compares(name, (sorted(texts), came.messages), (sorted(wanted), b""))
 
 
 def main():
-    told = lacking()
+    results = Results("completions")
+    check_names(results)
     with tempfile.TemporaryDirectory() as folder:
-        told += wrong(folder)
+        make_stub(folder)
+        for shell, line_of in (("bash", by_bash), ("fish", by_fish)):
+            if shutil.which(shell):
+                check_shell(results, folder, shell, line_of)
+            else:
+                results.leaves_out(shell, "it is not installed", len(CASES))
     if shutil.which("zsh"):
-        told += subprocess.run(["zsh", "-n", FILES["_locale_tool"]], capture_output=True, text=True).stderr.splitlines()
-    print("\n".join(told) if told else "completions: all commands and options")
-    return 1 if told else 0
+        came = answer("zsh", ["zsh", "-n", FILES["_locale_tool"]])
+        results.compares("zsh reads its file", (came.status, came.messages), (0, b""))
+    else:
+        results.leaves_out("zsh", "it is not installed")
+    return results.end()
 
 
-sys.exit(main())
+if __name__ == "__main__":
+    sys.exit(main())
