@@ -4,3 +4,4 @@ pub mod Outcome
 pub mod Thread
 pub mod Board
 pub mod Seen
+pub mod Granted

@@ -2,13 +2,11 @@
 
 ghost use Rattle.std.specs.Prelude.{◌≡◌, ◌+◌, ℕ, Ok, Some, IfOk, OnOk};
 ghost use Rattle.std.specs.Option.{option_map};
-ghost use Rattle.handle_table.specs.Entry.{History};
-ghost use Rattle.catalog_handles.specs.Entry as catalogs;
-ghost use Rattle.script_lines.specs.Board.{LeavesAsked, Leaves};
 ghost use Rattle.category_store.specs.LibraryData.{LibraryData};
-ghost use Rattle.script_lines.specs.Catalogs.{Books as CatalogBooks, number_of, handle_meant, open_line};
+ghost use Rattle.script_lines.specs.Catalogs.{Books as CatalogBooks, number_of, handle_meant};
+ghost use Rattle.script_lines.specs.Granted.{Grants, OpensBook, message_wished};
 ghost use Rattle.script_lines.specs.Seen.{caller};
-ghost use Rattle.script_wishes.specs.Wishes.{OpensCatalog, GetsMessage, ClosesCatalog};
+ghost use Rattle.script_wishes.specs.Wishes.{OpensCatalog, ClosesCatalog};
 
 use crate::board::{Board, Side};
 use crate::catalogs::{Books, handle_meant, handle_reply_shown};
@@ -33,8 +31,7 @@ pub fn open_line<B: Board>(
 ) -> OutLine
     requires ready { B.ready 1 board.old side.old }
     requires caller { at.thread ≡ B.Side.number_of side.old }
-    ensures leaves { (H : History) (M : catalogs.History) → B.at board.old side.old H → B.catalogs_at board.old side.old M
-        → Leaves (B.setting_of board.old) library.now books.now (B.later (B.setting_of board.old) (B.Side.number_of side.old)) (B.catalogs_later (B.setting_of board.old) (B.Side.number_of side.old)) (B.at board.new side.new) (B.catalogs_at board.new side.new) H M (caller at) (Ok (OpensCatalog name.now)) result }
+    ensures leaves { Grants B.Board B.Side.Side library.now books.now board.old side.old board.new side.new (caller at) (Ok (OpensCatalog name.now)) result }
     ensures number { B.Side.number_of side.new ≡ B.Side.number_of side.old }
     ensures setting { B.setting_of board.new ≡ B.setting_of board.old }
     ensures ready { (n : ℕ) → B.ready (n + 1) board.old side.old → B.ready n board.new side.new }
@@ -63,9 +60,7 @@ fn book_line<B: Board>(
 ) -> OutLine
     requires ready { B.ready 1 board.old side.old }
     requires caller { at.thread ≡ B.Side.number_of side.old }
-    ensures asked { (H : History) (M : catalogs.History) → B.at board.old side.old H → B.catalogs_at board.old side.old M
-        → LeavesAsked (B.setting_of board.old) (B.later (B.setting_of board.old) (B.Side.number_of side.old)) (B.catalogs_later (B.setting_of board.old) (B.Side.number_of side.old)) (B.at board.new side.new) (B.catalogs_at board.new side.new) at.thread H M
-        (option_map catalogs.Open (option_map number_of book)) (λ asked. open_line (caller at) version asked (option_map number_of book)) result }
+    ensures asked { OpensBook B.Board B.Side.Side board.old side.old board.new side.new (caller at) version (option_map number_of book) result }
     ensures number { B.Side.number_of side.new ≡ B.Side.number_of side.old }
     ensures setting { B.setting_of board.new ≡ B.setting_of board.old }
     ensures ready { (n : ℕ) → B.ready (n + 1) board.old side.old → B.ready n board.new side.new }
@@ -92,8 +87,7 @@ pub fn message_line<B: Board>(
 ) -> Result<OutLine, AllocError>
     requires ready { B.ready 1 board.old side.old }
     requires caller { at.thread ≡ B.Side.number_of side.old }
-    ensures leaves { IfOk result (λ l. (library : LibraryData) (H : History) (M : catalogs.History) → B.at board.old side.old H → B.catalogs_at board.old side.old M
-        → Leaves (B.setting_of board.old) library books.now (B.later (B.setting_of board.old) (B.Side.number_of side.old)) (B.catalogs_later (B.setting_of board.old) (B.Side.number_of side.old)) (B.at board.new side.new) (B.catalogs_at board.new side.new) H M (caller at) (Ok (GetsMessage handle wanted.entry.set wanted.entry.message wanted.entry.default.now)) l) }
+    ensures leaves { IfOk result (λ l. (library : LibraryData) → Grants B.Board B.Side.Side library books.now board.old side.old board.new side.new (caller at) (message_wished handle wanted.entry) l) }
     ensures number { OnOk result (B.Side.number_of side.new ≡ B.Side.number_of side.old) }
     ensures setting { OnOk result (B.setting_of board.new ≡ B.setting_of board.old) }
     ensures ready { OnOk result ((n : ℕ) → B.ready (n + 1) board.old side.old → B.ready n board.new side.new) }
@@ -114,8 +108,7 @@ pub fn close_line<B: Board>(
 ) -> OutLine
     requires ready { B.ready 1 board.old side.old }
     requires caller { at.thread ≡ B.Side.number_of side.old }
-    ensures leaves { (library : LibraryData) (books : CatalogBooks) (H : History) (M : catalogs.History) → B.at board.old side.old H → B.catalogs_at board.old side.old M
-        → Leaves (B.setting_of board.old) library books (B.later (B.setting_of board.old) (B.Side.number_of side.old)) (B.catalogs_later (B.setting_of board.old) (B.Side.number_of side.old)) (B.at board.new side.new) (B.catalogs_at board.new side.new) H M (caller at) (Ok (ClosesCatalog handle)) result }
+    ensures leaves { (library : LibraryData) (books : CatalogBooks) → Grants B.Board B.Side.Side library books board.old side.old board.new side.new (caller at) (Ok (ClosesCatalog handle)) result }
     ensures number { B.Side.number_of side.new ≡ B.Side.number_of side.old }
     ensures setting { B.setting_of board.new ≡ B.setting_of board.old }
     ensures ready { (n : ℕ) → B.ready (n + 1) board.old side.old → B.ready n board.new side.new }

@@ -2,7 +2,6 @@
 
 ghost use Rattle.std.specs.Prelude.{◌≡◌, ◌+◌, ◌<◌, ◌^◌, ℕ, List, Ok, IfOk, OnOk};
 ghost use Rattle.std.specs.Option.{option_map};
-ghost use Rattle.handle_table.specs.Entry.{History};
 ghost use Rattle.handle_table.specs.Seen.{op_of};
 ghost use Rattle.catalog_handles.specs.Entry as catalogs;
 ghost use Rattle.category_store.specs.Library.{opening};
@@ -10,11 +9,9 @@ ghost use Rattle.category_store.specs.Shelf.{IsNumbered, IsInstallable};
 ghost use Rattle.script_wishes.specs.Seen.{task_seen, turn_seen, variable_seen, wished};
 ghost use Rattle.script_wishes.specs.Variables.{Bound, variable_of, variable_bound, bindings_after};
 ghost use Rattle.script_wishes.specs.Wishes.{Calls, ReadsOf, Reads, AsksName, Fitting, TaskMay};
-ghost use Rattle.script_lines.specs.Board.{Leaves, LeavesLine, LeavesReadBetween, LeavesTurn};
-ghost use Rattle.script_lines.specs.Catalogs.{Books as CatalogBooks};
+ghost use Rattle.script_lines.specs.Granted.{GivesLine, ReadsBetween, Grants, TakesTurn, BindsBy};
 ghost use Rattle.script_lines.specs.Lines.{object_line};
 ghost use Rattle.script_lines.specs.Seen.{caller};
-ghost use Rattle.script_lines.specs.Thread.{BindsAs};
 
 use crate::board::{Board, Side};
 use crate::catalog_lines::{close_line, message_line, open_line};
@@ -52,12 +49,8 @@ pub fn turn_line<B: Board>(
     requires thread { turn.thread ≡ B.Side.number_of thread.old.side }
     requires fits { TaskMay library.now (B.may (B.setting_of board.old)) (task_seen turn.task) }
     requires few { thread.old.lines + 1 < 2 ^ 32 }
-    ensures leaves { IfOk result (λ l. (H : History) (M : catalogs.History) (bounds : List Bound) → B.at board.old thread.old.side H → B.catalogs_at board.old thread.old.side M
-        → BindsAs (B.Side.number_of thread.old.side) thread.old.variables bounds
-        → LeavesTurn (B.setting_of board.old) library.now books.now (B.later (B.setting_of board.old) (B.Side.number_of thread.old.side)) (B.catalogs_later (B.setting_of board.old) (B.Side.number_of thread.old.side))
-        (B.at board.new thread.new.side) (B.catalogs_at board.new thread.new.side) H M bounds thread.old.lines (turn_seen turn.entry) l) }
-    ensures variables { IfOk result (λ l. (bounds : List Bound) → BindsAs (B.Side.number_of thread.old.side) thread.old.variables bounds
-        → BindsAs (B.Side.number_of thread.old.side) thread.new.variables (bindings_after (B.Side.number_of thread.old.side) bounds (task_seen turn.entry.task) l.reply)) }
+    ensures leaves { IfOk result (TakesTurn B.Board B.Side.Side library.now books.now board.old thread.old board.new thread.new (turn_seen turn.entry)) }
+    ensures variables { IfOk result (λ l. BindsBy B.Side.Side thread.old thread.new (task_seen turn.entry.task) l.reply) }
     ensures number { OnOk result (B.Side.number_of thread.new.side ≡ B.Side.number_of thread.old.side) }
     ensures lines { OnOk result (thread.new.lines ≡ thread.old.lines + 1) }
     ensures setting { OnOk result (B.setting_of board.new ≡ B.setting_of board.old) }
@@ -77,8 +70,7 @@ fn bind_said<S: Side>(
     task: Task<'_>,
     reply: &Said,
 ) -> Result<(), AllocError>
-    ensures variables { OnOk result ((bounds : List Bound) → BindsAs (S.number_of thread.old.side) thread.old.variables bounds
-        → BindsAs (S.number_of thread.old.side) thread.new.variables (bindings_after (S.number_of thread.old.side) bounds (task_seen task.entry) reply.now)) }
+    ensures variables { OnOk result (BindsBy S.Side thread.old thread.new (task_seen task.entry) reply.now) }
     ensures side { OnOk result (thread.new.side ≡ thread.old.side) }
     ensures lines { OnOk result (thread.new.lines ≡ thread.old.lines) }
 {
@@ -140,8 +132,7 @@ pub fn granted<B: Board>(
     requires ready { B.ready 2 board.old side.old }
     requires caller { at.thread ≡ B.Side.number_of side.old }
     requires fits { IfOk (wished wish) (Fitting (B.may (B.setting_of board.old))) }
-    ensures leaves { IfOk result (λ l. (H : History) (M : catalogs.History) → B.at board.old side.old H → B.catalogs_at board.old side.old M
-        → Leaves (B.setting_of board.old) library.now books.now (B.later (B.setting_of board.old) (B.Side.number_of side.old)) (B.catalogs_later (B.setting_of board.old) (B.Side.number_of side.old)) (B.at board.new side.new) (B.catalogs_at board.new side.new) H M (caller at) (wished wish.entry) l) }
+    ensures leaves { IfOk result (Grants B.Board B.Side.Side library.now books.now board.old side.old board.new side.new (caller at) (wished wish.entry)) }
     ensures number { OnOk result (B.Side.number_of side.new ≡ B.Side.number_of side.old) }
     ensures setting { OnOk result (B.setting_of board.new ≡ B.setting_of board.old) }
     ensures ready { OnOk result ((n : ℕ) → B.ready (n + 2) board.old side.old → B.ready n board.new side.new) }
@@ -176,7 +167,7 @@ fn call_line<B: Board>(
     requires ready { B.ready 1 board.old side.old }
     requires caller { at.thread ≡ B.Side.number_of side.old }
     requires fits { B.may (B.setting_of board.old) (op_of op) }
-    ensures leaves { IfOk result (λ l. (books : CatalogBooks) (H : History) → B.at board.old side.old H → LeavesLine (B.setting_of board.old) library.now books (B.later (B.setting_of board.old) (B.Side.number_of side.old)) (B.at board.new side.new) H (caller at) (Ok (Calls categories (op_of op))) l) }
+    ensures leaves { IfOk result (GivesLine B.Board B.Side.Side library.now board.old side.old board.new side.new (caller at) (Ok (Calls categories (op_of op)))) }
     ensures catalogs { OnOk result ((M : catalogs.History) → B.catalogs_at board.old side.old M → B.catalogs_at board.new side.new M) }
     ensures number { OnOk result (B.Side.number_of side.new ≡ B.Side.number_of side.old) }
     ensures setting { OnOk result (B.setting_of board.new ≡ B.setting_of board.old) }
@@ -200,7 +191,7 @@ fn read_of_line<B: Board>(
     requires ready { B.ready 2 board.old side.old }
     requires caller { at.thread ≡ B.Side.number_of side.old }
     requires fits { Fitting (B.may (B.setting_of board.old)) (ReadsOf named read.now) }
-    ensures leaves { IfOk result (λ l. (books : CatalogBooks) (H : History) → B.at board.old side.old H → LeavesLine (B.setting_of board.old) library.now books (B.later (B.setting_of board.old) (B.Side.number_of side.old)) (B.at board.new side.new) H (caller at) (Ok (ReadsOf named read.now)) l) }
+    ensures leaves { IfOk result (GivesLine B.Board B.Side.Side library.now board.old side.old board.new side.new (caller at) (Ok (ReadsOf named read.now))) }
     ensures catalogs { OnOk result ((M : catalogs.History) → B.catalogs_at board.old side.old M → B.catalogs_at board.new side.new M) }
     ensures number { OnOk result (B.Side.number_of side.new ≡ B.Side.number_of side.old) }
     ensures setting { OnOk result (B.setting_of board.new ≡ B.setting_of board.old) }
@@ -226,7 +217,7 @@ fn read_between<B: Board>(
     requires ready { B.ready 2 board.old side.old }
     requires caller { at.thread ≡ B.Side.number_of side.old }
     requires fits { Fitting (B.may (B.setting_of board.old)) (ReadsOf named read.now) }
-    ensures leaves { IfOk result (λ l. (H : History) → B.at board.old side.old H → LeavesReadBetween (B.setting_of board.old) library.now (B.later (B.setting_of board.old) (B.Side.number_of side.old)) (B.at board.new side.new) H (caller at) named read.now l) }
+    ensures leaves { IfOk result (ReadsBetween B.Board B.Side.Side library.now board.old side.old board.new side.new (caller at) named read.now) }
     ensures catalogs { OnOk result ((M : catalogs.History) → B.catalogs_at board.old side.old M → B.catalogs_at board.new side.new M) }
     ensures number { OnOk result (B.Side.number_of side.new ≡ B.Side.number_of side.old) }
     ensures setting { OnOk result (B.setting_of board.new ≡ B.setting_of board.old) }
@@ -268,7 +259,7 @@ fn read_line<B: Board>(
 ) -> Result<OutLine, AllocError>
     requires ready { B.ready 0 board.old side.old }
     requires caller { at.thread ≡ B.Side.number_of side.old }
-    ensures leaves { IfOk result (λ l. (books : CatalogBooks) (H : History) → B.at board.old side.old H → LeavesLine (B.setting_of board.old) library.now books (B.later (B.setting_of board.old) (B.Side.number_of side.old)) (B.at board.new side.new) H (caller at) (Ok (Reads read.now)) l) }
+    ensures leaves { IfOk result (GivesLine B.Board B.Side.Side library.now board.old side.old board.new side.new (caller at) (Ok (Reads read.now))) }
     ensures catalogs { OnOk result ((M : catalogs.History) → B.catalogs_at board.old side.old M → B.catalogs_at board.new side.new M) }
     ensures number { OnOk result (B.Side.number_of side.new ≡ B.Side.number_of side.old) }
     ensures setting { OnOk result (B.setting_of board.new ≡ B.setting_of board.old) }
@@ -295,7 +286,7 @@ fn name_line<B: Board>(
 ) -> Result<OutLine, AllocError>
     requires ready { B.ready 0 board.old side.old }
     requires caller { at.thread ≡ B.Side.number_of side.old }
-    ensures leaves { IfOk result (λ l. (books : CatalogBooks) (H : History) → B.at board.old side.old H → LeavesLine (B.setting_of board.old) library.now books (B.later (B.setting_of board.old) (B.Side.number_of side.old)) (B.at board.new side.new) H (caller at) (Ok (AsksName categories)) l) }
+    ensures leaves { IfOk result (GivesLine B.Board B.Side.Side library.now board.old side.old board.new side.new (caller at) (Ok (AsksName categories))) }
     ensures catalogs { OnOk result ((M : catalogs.History) → B.catalogs_at board.old side.old M → B.catalogs_at board.new side.new M) }
     ensures number { OnOk result (B.Side.number_of side.new ≡ B.Side.number_of side.old) }
     ensures setting { OnOk result (B.setting_of board.new ≡ B.setting_of board.old) }

@@ -22,7 +22,8 @@ use Rattle.script_run.specs.declared.worker.Worker.{Worker}
 use Rattle.script_seats.specs.Seated.{Gates, IsNoEnd, MayCall}
 use Rattle.script_run.specs.Timed.{Timed, own_lines, turns_made, turn_made}
 use Rattle.script_run.specs.Beside.{library_and_books_of, turns_of}
-use Rattle.script_run.specs.Rounds.{Each, reader_at, MayWork, IsFor, IsForAsked, IsReady, AreBetween, turns_to}
+use Rattle.script_run.specs.Workers.{MayWork}
+use Rattle.script_run.specs.Rounds.{Each, reader_at, IsFor, IsForAsked, IsReady, AreBetween, turns_to}
 use Rattle.script_run.proofs.AskedSeen.{asked_few}
 use Rattle.script_run.proofs.Counting.{few_turns_to, turns_next}
 use Rattle.script_run.proofs.Rounding.{turns_of_near}

@@ -75,19 +75,19 @@ library_and_books_of plan = library_and_books plan.library (books_of plan)
 
 -- a thread can make the line of a turn: the table is of the library's names, its quota lets the thread make two calls, and the task
 -- is one that may be asked for
-pub record CanAdd (gate : Gates) (library_and_books : LibraryAndBooks) (t : ScriptThread Seated) (turn : Turn) : Type 0 where
-  pub numbered : IsNumbered library_and_books.library
-  pub installable : IsInstallable library_and_books.library
-  pub opening : gate.locales.terms.setting.opening ≡ opening library_and_books.library
+pub record CanAdd (gate : Gates) (texts : LibraryAndBooks) (t : ScriptThread Seated) (turn : Turn) : Type 0 where
+  pub numbered : IsNumbered texts.library
+  pub installable : IsInstallable texts.library
+  pub opening : gate.locales.terms.setting.opening ≡ opening texts.library
   pub calls : CanCall 2 gate t.side
   pub few : t.lines + 1 < 2 ^ 32
   pub own : turn.thread ≡ t.side.number
-  pub fits : TaskMay library_and_books.library (MayCall gate.locales.terms.setting) turn.task
+  pub fits : TaskMay texts.library (MayCall gate.locales.terms.setting) turn.task
 
 -- what a turn leaves of its thread, which prints this line: what the thread has seen and bound by it
-pub record AddsLine (gate : Gates) (library_and_books : LibraryAndBooks) (turn : Turn) (old new : ScriptThread Seated) (l : OutLine) : Type 0 where
+pub record AddsLine (gate : Gates) (texts : LibraryAndBooks) (turn : Turn) (old new : ScriptThread Seated) (l : OutLine) : Type 0 where
   pub leaves : (bounds : List Bound) → BindsAs old.side.number old.variables bounds
-      → LeavesTurn gate.locales.terms.setting library_and_books.library library_and_books.books (MayFollow gate.locales.terms.setting old.side.number) (MayFollowAsked gate.locales.terms.setting old.side.number)
+      → LeavesTurn gate.locales.terms.setting texts.library texts.books (MayFollow gate.locales.terms.setting old.side.number) (MayFollowAsked gate.locales.terms.setting old.side.number)
       (IsSeatedAt gate.locales new.side) (IsAskingAt gate.catalogs new.side) old.side.mine.seen old.side.reader.seen bounds old.lines turn l
   pub variables : (bounds : List Bound) → BindsAs old.side.number old.variables bounds
       → BindsAs old.side.number new.variables (bindings_after old.side.number bounds turn.task l.reply)
@@ -96,10 +96,10 @@ pub record AddsLine (gate : Gates) (library_and_books : LibraryAndBooks) (turn :
   pub calls : (n : ℕ) → CanCall (n + 2) gate old.side → CanCall n gate new.side
 
 -- the same, with the line behind those given before
-pub record Adds (gate : Gates) (library_and_books : LibraryAndBooks) (turn : Turn) (old new : ScriptThread Seated) (given given' : List OutLine) : Type 0 where
+pub record Adds (gate : Gates) (texts : LibraryAndBooks) (turn : Turn) (old new : ScriptThread Seated) (given given' : List OutLine) : Type 0 where
   pub line : OutLine
   pub added : given' ≡ given ++ line ∷ []
-  pub adds : AddsLine gate library_and_books turn old new line
+  pub adds : AddsLine gate texts turn old new line
 
 -- ---- a round
 
@@ -108,13 +108,13 @@ abbrev pub turns_of : ℕ → List Turn → List Turn
 turns_of thread turns = filter (λ (t : Turn). t.thread == thread) turns
 
 -- the same of several turns, of which each may make two calls
-pub record CanWork (gate : Gates) (library_and_books : LibraryAndBooks) (t : ScriptThread Seated) (turns : List Turn) : Type 0 where
-  pub numbered : IsNumbered library_and_books.library
-  pub installable : IsInstallable library_and_books.library
-  pub opening : gate.locales.terms.setting.opening ≡ opening library_and_books.library
+pub record CanWork (gate : Gates) (texts : LibraryAndBooks) (t : ScriptThread Seated) (turns : List Turn) : Type 0 where
+  pub numbered : IsNumbered texts.library
+  pub installable : IsInstallable texts.library
+  pub opening : gate.locales.terms.setting.opening ≡ opening texts.library
   pub calls : CanCall (2 * length turns) gate t.side
   pub few : t.lines + length turns < 2 ^ 32
-  pub fits : All (λ (turn : Turn). TaskMay library_and_books.library (MayCall gate.locales.terms.setting) turn.task) turns
+  pub fits : All (λ (turn : Turn). TaskMay texts.library (MayCall gate.locales.terms.setting) turn.task) turns
 
 -- the line has asked no catalog before so many entries of theirs
 abbrev pub HasAskedSince : ℕ → Timed → Type 0
@@ -133,25 +133,25 @@ pub record Works (gate : Gates) (plan : PlanData) (those : List Turn) (old new :
 
 -- the same, whatever the thread has made before
 abbrev pub WorksOn : Gates → LibraryAndBooks → List Turn → ScriptThread Seated → ScriptThread Seated → List OutLine → List OutLine → Type 0
-WorksOn gate library_and_books turns old new lines lines' =
-    (plan : PlanData) (made : List Timed) → library_and_books_of plan ≡ library_and_books → IsWorker gate plan old made → Works gate plan turns old new made lines lines'
+WorksOn gate texts turns old new lines lines' =
+    (plan : PlanData) (made : List Timed) → library_and_books_of plan ≡ texts → IsWorker gate plan old made → Works gate plan turns old new made lines lines'
 
 -- ---- the end of a thread
 
 -- a thread can be closed: its quota lets it make a Release for each open Hold, and its end
-pub record CanClose (gate : Gates) (library_and_books : LibraryAndBooks) (t : ScriptThread Seated) : Type 0 where
-  pub numbered : IsNumbered library_and_books.library
-  pub installable : IsInstallable library_and_books.library
-  pub opening : gate.locales.terms.setting.opening ≡ opening library_and_books.library
+pub record CanClose (gate : Gates) (texts : LibraryAndBooks) (t : ScriptThread Seated) : Type 0 where
+  pub numbered : IsNumbered texts.library
+  pub installable : IsInstallable texts.library
+  pub opening : gate.locales.terms.setting.opening ≡ opening texts.library
   pub calls : CanCall (length t.side.holds.items + 1) gate t.side
   pub few : t.lines + length t.side.holds.items + 1 < 2 ^ 32
 
 -- what giving up the open Holds leaves: a Release of each in the order made, and a thread that can end
-pub record GivesUp (gate : Gates) (library_and_books : LibraryAndBooks) (round : ℕ) (old new : ScriptThread Seated) (lines lines' : List OutLine) : Type 0 where
-  pub can : CanClose gate library_and_books new
+pub record GivesUp (gate : Gates) (texts : LibraryAndBooks) (round : ℕ) (old new : ScriptThread Seated) (lines lines' : List OutLine) : Type 0 where
+  pub can : CanClose gate texts new
   pub empty : new.side.holds.items ≡ []
   pub number : new.side.number ≡ old.side.number
-  pub works : WorksOn gate library_and_books (releases round old.side.number (open_holds old.side.mine.seen old.side.number)) old new lines lines'
+  pub works : WorksOn gate texts (releases round old.side.number (open_holds old.side.mine.seen old.side.number)) old new lines lines'
 
 -- what the end of a thread leaves: its seat, and the line of its last call
 pub record EndsSeat (gate : Gate Setting) (round : ℕ) (t : ScriptThread Seated) (seat : Caller Setting (ops.Op Share) (replies.Reply Share)) (given given' : List OutLine) : Type 0 where

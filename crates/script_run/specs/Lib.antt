@@ -1,3 +1,4 @@
 pub mod Timed
 pub mod Beside
+pub mod Workers
 pub mod Rounds

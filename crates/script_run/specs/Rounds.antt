@@ -24,10 +24,11 @@ use Rattle.catalog_handles.specs.Stamps.{IsRising}
 use Rattle.catalog_handles.specs.Reader as readers
 use Rattle.catalog_handles.specs.Reader.{ReaderData}
 use Rattle.script_lines.specs.Catalogs.{Books, catalog_setting}
+use Rattle.script_run.specs.declared.worker.Common.{Common}
 use Rattle.script_run.specs.declared.worker.Worker.{Worker}
 use Rattle.script_seats.specs.Seated.{Gates}
 use Rattle.script_run.specs.Timed.{Timed, AreTimed, IsWhole, AreAsked, lines_in, turns_made, own_lines, last_end, stacked}
-use Rattle.script_run.specs.Beside.{LibraryAndBooks, library_and_books_of, HasMade, IsWorker, CanWork, Works, turns_of}
+use Rattle.script_run.specs.Beside.{LibraryAndBooks, library_and_books_of, HasMade, IsWorker, Works, turns_of}
 
 -- a fact of each element, by its place
 abbrev pub Each : {A : Type 0} → List A → (ℕ → A → Type 0) → Type 0
@@ -40,6 +41,10 @@ EachTwo xs ys P = (i : ℕ) (d : _) → i < length xs → P i (slice_index_or xs
 -- the plan of a bundle, its library and its catalogs
 abbrev pub plan_made : Bundle → LibraryData → Books → PlanData
 plan_made bundle library books = record { bundle = bundle; library = library; books = books.books }
+
+-- the plan of a bundle, with what workers share
+abbrev pub plan_of : {R P : Type 0} → Bundle → Common R P → PlanData
+plan_of bundle common = plan_made bundle common.library.now common.books.now
 
 -- a worker as its table sees it
 abbrev pub mine_of : Worker → Thread
@@ -75,14 +80,10 @@ pub record IsFirst (mines : List Thread) (all : List ReaderData) (i : ℕ) (w : 
 
 -- ---- while a round runs
 
--- the worker may take its turns of the round
-abbrev pub MayWork : Gates → LibraryAndBooks → List Turn → Worker → Type 0
-MayWork gate library_and_books turns w = CanWork gate library_and_books w.thread (turns_of w.thread.side.number turns)
-
 -- what its work leaves, unless it was out of memory
-pub record HasWorked (gate : Gates) (library_and_books : LibraryAndBooks) (turns : List Turn) (old new : Worker) : Type 0 where
+pub record HasWorked (gate : Gates) (texts : LibraryAndBooks) (turns : List Turn) (old new : Worker) : Type 0 where
   pub number : OnOk new.outcome (new.thread.side.number ≡ old.thread.side.number)
-  pub works : OnOk new.outcome ((plan : PlanData) (made : List Timed) → library_and_books_of plan ≡ library_and_books → IsWorker gate plan old.thread made
+  pub works : OnOk new.outcome ((plan : PlanData) (made : List Timed) → library_and_books_of plan ≡ texts → IsWorker gate plan old.thread made
       → Works gate plan (turns_of old.thread.side.number turns) old.thread new.thread made old.lines.items new.lines.items)
 
 -- the worker has given its lines away
@@ -122,6 +123,10 @@ pub record HasMet (gate : Gates) (seen : History) (asked : CatalogHistory) (old 
   pub more : SeesMore gate old new
   pub other : GoesOnFrom (mine_of new).seen seen
   pub asked_other : readers.GoesOnFrom (reader_at new).seen asked
+
+-- the same of what another worker had seen
+abbrev pub HasMetWorker : Gates → Worker → Worker → Worker → Type 0
+HasMetWorker gate other old new = HasMet gate (mine_of other).seen (reader_at other).seen old new
 
 -- all workers have met: there is a history that goes on from what each had seen, and what each has seen goes on from it; and so
 -- there is one of the catalogs

@@ -12,8 +12,8 @@ ghost use Rattle.script_plan.specs.Plan.{IsSound};
 ghost use Rattle.script_plan.specs.Prints.{Prints};
 ghost use Rattle.script_plan.specs.Serial.{setting};
 ghost use Rattle.script_seats.specs.Seated.{gates};
-ghost use Rattle.script_run.specs.Beside.{library_and_books};
-ghost use Rattle.script_run.specs.Rounds.{Each, EachTwo, plan_made, mine_of, reader_at, IsFor, IsForAsked, IsFirst, MayWork, HasWorked, HasGiven, IsOfBoth, IsOrderly, HasSeenOf, SeesMore, HasMet, AllMet, AreBetween, SeatSeesMore, AreClosing};
+ghost use Rattle.script_run.specs.Workers.{gates_of, texts_of, MayWork};
+ghost use Rattle.script_run.specs.Rounds.{Each, EachTwo, plan_of, mine_of, reader_at, IsFor, IsForAsked, IsFirst, HasWorked, HasGiven, IsOfBoth, IsOrderly, HasSeenOf, SeesMore, HasMetWorker, AllMet, AreBetween, SeatSeesMore, AreClosing};
 
 use crate::worker::{Common, Worker};
 use catalog_handles::{BookShare, Reader, SharedCatalogs};
@@ -106,12 +106,12 @@ fn all_rounds<R: Threads + Wait + Sync, P: Pause + Sync>(
     bundle: &Bundle,
     mut workers: Vec<Worker>,
 ) -> Result<(Vec<OutLine>, Seats), AllocError>
-    requires sound { IsSound (plan_made bundle.now common.now.library.now common.now.books.now) }
-    requires terms { IsFor (plan_made bundle.now common.now.library.now common.now.books.now) common.now.shared.now.terms }
+    requires sound { IsSound (plan_of bundle.now common.now) }
+    requires terms { IsFor (plan_of bundle.now common.now) common.now.shared.now.terms }
     requires asked { IsForAsked common.now.shared.now.terms common.now.catalogs.now.terms }
     requires catalogs { common.now.books.now.blocks ≡ bundle.now.catalogs }
-    requires begun { AreBetween (gates common.now.shared.now common.now.catalogs.now) (plan_made bundle.now common.now.library.now common.now.books.now) 0 [] workers.items }
-    ensures { IfOk result (λ r. AreClosing (gates common.now.shared.now common.now.catalogs.now) (plan_made bundle.now common.now.library.now common.now.books.now) r.1.items [] r.0.items) }
+    requires begun { AreBetween (gates_of common.now) (plan_of bundle.now common.now) 0 [] workers.items }
+    ensures { IfOk result (λ r. AreClosing (gates_of common.now) (plan_of bundle.now common.now) r.1.items [] r.0.items) }
 {
     let mut lines = Vec::new(common.alloc);
     for i in 0..bundle.rounds {
@@ -130,12 +130,12 @@ fn side_by_side<R: Threads + Wait + Sync, P: Pause + Sync>(
     workers: &mut [Worker],
     turns: &[Turn<'_>],
 )
-    requires { Each workers.old (λ i w. MayWork (gates common.now.shared.now common.now.catalogs.now) (library_and_books common.now.library.now common.now.books.now) (map turn_seen turns.now) w) }
-    ensures { EachTwo workers.old workers.new (λ i old new. HasWorked (gates common.now.shared.now common.now.catalogs.now) (library_and_books common.now.library.now common.now.books.now) (map turn_seen turns.now) old new) }
+    requires { Each workers.old (λ i w. MayWork (gates_of common.now) (texts_of common.now) (map turn_seen turns.now) w) }
+    ensures { EachTwo workers.old workers.new (λ i old new. HasWorked (gates_of common.now) (texts_of common.now) (map turn_seen turns.now) old new) }
 {
     let work = |_: usize, worker: &mut Worker|
-        requires { MayWork (gates common.now.shared.now common.now.catalogs.now) (library_and_books common.now.library.now common.now.books.now) (map turn_seen turns.now) worker.old }
-        ensures { HasWorked (gates common.entry.now.shared.now common.entry.now.catalogs.now) (library_and_books common.entry.now.library.now common.entry.now.books.now) (map turn_seen turns.entry.now) worker.old worker.new }
+        requires { MayWork (gates_of common.now) (texts_of common.now) (map turn_seen turns.now) worker.old }
+        ensures { HasWorked (gates_of common.entry.now) (texts_of common.entry.now) (map turn_seen turns.entry.now) worker.old worker.new }
     { worker.work(common, turns) };
     for_each_beside(common.rt, workers, &work);
 }
@@ -178,7 +178,7 @@ fn meet_each(
     requires first { IsOfBoth (gates shared.now catalogs.now) first.old }
     requires threads { Each others.old (λ i w. IsOfBoth (gates shared.now catalogs.now) w) }
     ensures first { SeesMore (gates shared.now catalogs.now) first.old first.new }
-    ensures others { EachTwo others.old others.new (λ i old new. HasMet (gates shared.now catalogs.now) (mine_of first.old).seen (reader_at first.old).seen old new) }
+    ensures others { EachTwo others.old others.new (λ i old new. HasMetWorker (gates shared.now catalogs.now) first.old old new) }
     ensures seen { Each others.old (λ i w. HasSeenOf w first.new) }
 {
     for other in others {
@@ -223,12 +223,12 @@ fn close_all<R: Threads + Wait + Sync, P: Pause + Sync>(
     lines: &mut Vec<OutLine>,
     workers: Vec<Worker>,
 ) -> Result<Seats, AllocError>
-    requires sound { IsSound (plan_made bundle.now common.now.library.now common.now.books.now) }
-    requires terms { IsFor (plan_made bundle.now common.now.library.now common.now.books.now) common.now.shared.now.terms }
+    requires sound { IsSound (plan_of bundle.now common.now) }
+    requires terms { IsFor (plan_of bundle.now common.now) common.now.shared.now.terms }
     requires asked { IsForAsked common.now.shared.now.terms common.now.catalogs.now.terms }
     requires catalogs { common.now.books.now.blocks ≡ bundle.now.catalogs }
-    requires between { AreBetween (gates common.now.shared.now common.now.catalogs.now) (plan_made bundle.now common.now.library.now common.now.books.now) bundle.now.rounds lines.old.items workers.items }
-    ensures { IfOk result (λ seats. AreClosing (gates common.now.shared.now common.now.catalogs.now) (plan_made bundle.now common.now.library.now common.now.books.now) seats.items [] lines.new.items) }
+    requires between { AreBetween (gates_of common.now) (plan_of bundle.now common.now) bundle.now.rounds lines.old.items workers.items }
+    ensures { IfOk result (λ seats. AreClosing (gates_of common.now) (plan_of bundle.now common.now) seats.items [] lines.new.items) }
 {
     let mut seats = Vec::new(common.alloc);
     for mut worker in workers {

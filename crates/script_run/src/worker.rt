@@ -1,12 +1,10 @@
 //! A thread of the script that runs beside the others.
 
-ghost use Rattle.std.specs.Prelude.{◌≡◌, [], map, IfOk, OnOk, List};
+ghost use Rattle.std.specs.Prelude.{◌≡◌, [], map, IfOk, OnOk};
 ghost use Rattle.turn_gate.specs.Callers.{IsSeatOf};
 ghost use Rattle.script_wishes.specs.Seen.{turn_seen};
-ghost use Rattle.script_plan.specs.Plan.{PlanData};
-ghost use Rattle.script_run.specs.Timed.{Timed};
-ghost use Rattle.script_seats.specs.Seated.{gates};
-ghost use Rattle.script_run.specs.Beside.{library_and_books, library_and_books_of, CanAdd, AddsLine, Adds, CanWork, IsWorker, WorksOn, CanClose, GivesUp, EndsSeat, Closes, turns_of};
+ghost use Rattle.script_run.specs.Beside.{CanAdd, AddsLine, CanClose, EndsSeat};
+ghost use Rattle.script_run.specs.Workers.{gates_of, texts_of, MayWork, MakesTurns, MakesTurn, GivesUpAll, ClosesWorker};
 
 use catalog_handles::{BookShare, SharedCatalogs};
 use category_store::{Library, Share};
@@ -51,8 +49,8 @@ fn seat_line<R: Wait, P, G: OneTable>(
 ) -> Result<OutLine, AllocError>
     requires table { common.now.shared.now ≡ G.gate }
     requires catalogs { common.now.catalogs.now ≡ G.desk }
-    requires can { CanAdd (gates common.now.shared.now common.now.catalogs.now) (library_and_books common.now.library.now common.now.books.now) thread.old (turn_seen turn) }
-    ensures { IfOk result (λ l. AddsLine (gates common.now.shared.now common.now.catalogs.now) (library_and_books common.now.library.now common.now.books.now) (turn_seen turn.entry) thread.old thread.new l) }
+    requires can { CanAdd (gates_of common.now) (texts_of common.now) thread.old (turn_seen turn) }
+    ensures { IfOk result (λ l. AddsLine (gates_of common.now) (texts_of common.now) (turn_seen turn.entry) thread.old thread.new l) }
 {
     let mut board = Beside::<R, G>::new(common.rt, common.shared, common.catalogs);
     let line = turn_line(
@@ -80,8 +78,8 @@ impl Worker {
 
     /// Makes the lines of its turns among these of a round, in order. It ends when it is out of memory.
     pub fn work<R: Wait, P: Pause>(&mut self, common: &Common<'_, R, P>, turns: &[Turn<'_>])
-        requires can { CanWork (gates common.now.shared.now common.now.catalogs.now) (library_and_books common.now.library.now common.now.books.now) self.old.thread (turns_of self.old.thread.side.number (map turn_seen turns.now)) }
-        ensures works { OnOk self.new.outcome (WorksOn (gates common.now.shared.now common.now.catalogs.now) (library_and_books common.now.library.now common.now.books.now) (turns_of self.old.thread.side.number (map turn_seen turns.now)) self.old.thread self.new.thread self.old.lines.items self.new.lines.items) }
+        requires can { MayWork (gates_of common.now) (texts_of common.now) (map turn_seen turns.now) self.old }
+        ensures works { OnOk self.new.outcome (MakesTurns (gates_of common.now) (texts_of common.now) (map turn_seen turns.now) self.old self.new) }
         ensures number { OnOk self.new.outcome (self.new.thread.side.number ≡ self.old.thread.side.number) }
     {
         self.outcome = self.lines_of(common, turns);
@@ -93,8 +91,8 @@ impl Worker {
         common: &Common<'_, R, P>,
         turns: &[Turn<'_>],
     ) -> Result<(), AllocError>
-        requires can { CanWork (gates common.now.shared.now common.now.catalogs.now) (library_and_books common.now.library.now common.now.books.now) self.old.thread (turns_of self.old.thread.side.number (map turn_seen turns.now)) }
-        ensures works { OnOk result (WorksOn (gates common.now.shared.now common.now.catalogs.now) (library_and_books common.now.library.now common.now.books.now) (turns_of self.old.thread.side.number (map turn_seen turns.now)) self.old.thread self.new.thread self.old.lines.items self.new.lines.items) }
+        requires can { MayWork (gates_of common.now) (texts_of common.now) (map turn_seen turns.now) self.old }
+        ensures works { OnOk result (MakesTurns (gates_of common.now) (texts_of common.now) (map turn_seen turns.now) self.old self.new) }
         ensures number { OnOk result (self.new.thread.side.number ≡ self.old.thread.side.number) }
     {
         let number = self.thread.number();
@@ -115,8 +113,8 @@ impl Worker {
         common: &Common<'_, R, P>,
         turn: Turn<'_>,
     ) -> Result<(), AllocError>
-        requires { CanAdd (gates common.now.shared.now common.now.catalogs.now) (library_and_books common.now.library.now common.now.books.now) self.old.thread (turn_seen turn) }
-        ensures { OnOk result (Adds (gates common.now.shared.now common.now.catalogs.now) (library_and_books common.now.library.now common.now.books.now) (turn_seen turn.entry) self.old.thread self.new.thread self.old.lines.items self.new.lines.items) }
+        requires { CanAdd (gates_of common.now) (texts_of common.now) self.old.thread (turn_seen turn) }
+        ensures { OnOk result (MakesTurn (gates_of common.now) (texts_of common.now) (turn_seen turn.entry) self.old self.new) }
     {
         let line = seat_line::<R, P, Brand>(common, &mut self.thread, turn)?;
         self.lines.push(line)?;
@@ -130,9 +128,8 @@ impl Worker {
         common: &Common<'_, R, P>,
         round: u32,
     ) -> Result<(Vec<OutLine>, Seat<Locales<Share>>), AllocError>
-        requires can { CanClose (gates common.now.shared.now common.now.catalogs.now) (library_and_books common.now.library.now common.now.books.now) self.thread }
-        ensures closes { IfOk result (λ r. (plan : PlanData) (made : List Timed) → library_and_books_of plan ≡ library_and_books common.now.library.now common.now.books.now → IsWorker (gates common.now.shared.now common.now.catalogs.now) plan self.thread made
-            → Closes (gates common.now.shared.now common.now.catalogs.now) plan round self.thread r.1 made self.lines.items r.0.items) }
+        requires can { CanClose (gates_of common.now) (texts_of common.now) self.thread }
+        ensures closes { IfOk result (λ r. ClosesWorker (gates_of common.now) (texts_of common.now) round self r.1 r.0.items) }
         ensures seat { IfOk result (λ r. IsSeatOf common.now.shared.now r.1 × (r.1.number ≡ self.thread.side.number)) }
     {
         self.release_all(common, round)?;
@@ -145,7 +142,7 @@ impl Worker {
         common: &Common<'_, R, P>,
         round: u32,
     ) -> Result<(Vec<OutLine>, Seat<Locales<Share>>), AllocError>
-        requires can { CanClose (gates common.now.shared.now common.now.catalogs.now) (library_and_books common.now.library.now common.now.books.now) self.thread }
+        requires can { CanClose (gates_of common.now) (texts_of common.now) self.thread }
         requires empty { self.thread.side.holds.items ≡ [] }
         ensures ends { IfOk result (λ r. EndsSeat common.now.shared.now round self.thread r.1 self.lines.items r.0.items) }
         ensures seat { IfOk result (λ r. IsSeatOf common.now.shared.now r.1 × (r.1.number ≡ self.thread.side.number)) }
@@ -168,8 +165,8 @@ impl Worker {
         common: &Common<'_, R, P>,
         round: u32,
     ) -> Result<(), AllocError>
-        requires { CanClose (gates common.now.shared.now common.now.catalogs.now) (library_and_books common.now.library.now common.now.books.now) self.old.thread }
-        ensures { OnOk result (GivesUp (gates common.now.shared.now common.now.catalogs.now) (library_and_books common.now.library.now common.now.books.now) round self.old.thread self.new.thread self.old.lines.items self.new.lines.items) }
+        requires { CanClose (gates_of common.now) (texts_of common.now) self.old.thread }
+        ensures { OnOk result (GivesUpAll (gates_of common.now) (texts_of common.now) round self.old self.new) }
     {
         let thread = self.thread.number();
         while let Some(handle) = self.thread.side.first_hold() {

@@ -7,7 +7,8 @@ use Rattle.script_plan.specs.Plan.{PlanData}
 use Rattle.script_run.specs.declared.worker.Worker.{Worker}
 use Rattle.script_seats.specs.Seated.{Gates, gates}
 use Rattle.script_run.specs.Beside.{LibraryAndBooks, library_and_books, library_and_books_of}
-use Rattle.script_run.specs.Rounds.{Each, EachTwo, plan_made, IsOfBoth, IsOrderly, MayWork, HasWorked, HasGiven, AllMet}
+use Rattle.script_run.specs.Workers.{MayWork}
+use Rattle.script_run.specs.Rounds.{Each, EachTwo, plan_made, IsOfBoth, IsOrderly, HasWorked, HasGiven, AllMet}
 use Rattle.script_run.proofs.Rounding.{between_next, in_order_at}
 use Rattle.script_run.proofs.Running.{library_and_books_made}
 use Rattle.script_run.proofs.Stacking.{written}
