@@ -74,3 +74,8 @@ line_step text print words i other front front' total below is so_far =
 pub none_left : {W : Type 0} (text : W → List ℕ) (words : List W) → length words < 1 → map text words ≡ []
 none_left text [] none = refl
 none_left text (w ∷ ws) none = absurd (omega arith)
+
+-- the names of rows are those of the table that the rows are
+pub names_of_rows : {N V : Type 0} (bytes : N → List ℕ) (rows : List (N × V)) (table : List (List ℕ × V)) → map (λ row. (bytes row.0, row.1)) rows ≡ table → map (λ row. bytes row.0) rows ≡ map (λ row. row.0) table
+names_of_rows bytes [] table is = ap (map (λ row. row.0)) is
+names_of_rows bytes (row ∷ rows) table is = ap (λ names. bytes row.0 ∷ names) (names_of_rows bytes rows (map (λ row. (bytes row.0, row.1)) rows) refl) ∙ ap (map (λ row. row.0)) is

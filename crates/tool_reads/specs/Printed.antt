@@ -1,5 +1,5 @@
 -- What the commands of the tool that read a locale print, over the definitions of the calls (XSH strfmon, strftime, strptime, fprintf, nl_langinfo, localeconv, iswctype, towupper, towlower; the form of the lines is our own).
-use Rattle.std.specs.Prelude.{ℕ, ℤ, pos, negsuc, Bool, true, false, List, [], ◌∷◌, ◌++◌, ◌-◌, length, replicate, nat_le, Option, Some, None, option_map, Ok, Err, codes, if◌then◌else◌}
+use Rattle.std.specs.Prelude.{ℕ, ℤ, pos, negsuc, Bool, true, false, List, [], ◌∷◌, ◌++◌, ◌-◌, length, map, replicate, nat_le, Option, Some, None, option_map, Ok, Err, codes, if◌then◌else◌}
 use Rattle.std.specs.Fmt.{decimal}
 use Rattle.std.specs.List.{flat_map}
 use Rattle.charset.specs.CodedSet.{CodedSet, encoded, named, valued}
@@ -15,6 +15,8 @@ use Rattle.strftime_fields.specs.Answers.{answer}
 use Rattle.int_format.specs.Ints.{at_most, ints}
 use Rattle.time_cat.specs.declared.parsed.Parsed.{Parsed}
 use Rattle.strptime_fields.specs.Scans.{Scanned, scan}
+use Rattle.langinfo.specs.Items.{info}
+use Rattle.langinfo.specs.declared.categories.LentCategories.{LentCategories}
 use Rattle.langinfo.specs.declared.conv.Lconv.{Lconv}
 use Rattle.langinfo.specs.declared.field.ConvText.{ConvText}
 use Rattle.langinfo.specs.declared.field.ConvText.TheVariants.{Bytes, Sizes}
@@ -84,6 +86,10 @@ parsed_lines values format text = parsed_text (scan values format text)
 
 -- ---- items
 
+-- the text of an item in a locale whose categories are lent
+abbrev pub text_in : LentCategories → Item → List ℕ
+text_in locale = λ item. info locale.ctype.now locale.numeric.now locale.monetary.now locale.time.now locale.messages.now item
+
 -- the text of an item that has this name, alone in a line
 abbrev pub plain_line : (Item → List ℕ) → List ℕ → Defined (List ℕ)
 plain_line text name = and_then (value_or_wrong (first_named items_table name)) (λ item. Ok (text item ++ 10 ∷ []))
@@ -94,62 +100,7 @@ named_line text name = and_then (value_or_wrong (first_named items_table name)) 
 
 -- the names of all items
 abbrev pub item_names : List (List ℕ)
-item_names =
-    codes "CODESET" ∷
-    codes "RADIXCHAR" ∷
-    codes "THOUSEP" ∷
-    codes "YESEXPR" ∷
-    codes "NOEXPR" ∷
-    codes "CRNCYSTR" ∷
-    codes "D_T_FMT" ∷
-    codes "D_FMT" ∷
-    codes "T_FMT" ∷
-    codes "T_FMT_AMPM" ∷
-    codes "AM_STR" ∷
-    codes "PM_STR" ∷
-    codes "DAY_1" ∷
-    codes "DAY_2" ∷
-    codes "DAY_3" ∷
-    codes "DAY_4" ∷
-    codes "DAY_5" ∷
-    codes "DAY_6" ∷
-    codes "DAY_7" ∷
-    codes "ABDAY_1" ∷
-    codes "ABDAY_2" ∷
-    codes "ABDAY_3" ∷
-    codes "ABDAY_4" ∷
-    codes "ABDAY_5" ∷
-    codes "ABDAY_6" ∷
-    codes "ABDAY_7" ∷
-    codes "MON_1" ∷
-    codes "MON_2" ∷
-    codes "MON_3" ∷
-    codes "MON_4" ∷
-    codes "MON_5" ∷
-    codes "MON_6" ∷
-    codes "MON_7" ∷
-    codes "MON_8" ∷
-    codes "MON_9" ∷
-    codes "MON_10" ∷
-    codes "MON_11" ∷
-    codes "MON_12" ∷
-    codes "ABMON_1" ∷
-    codes "ABMON_2" ∷
-    codes "ABMON_3" ∷
-    codes "ABMON_4" ∷
-    codes "ABMON_5" ∷
-    codes "ABMON_6" ∷
-    codes "ABMON_7" ∷
-    codes "ABMON_8" ∷
-    codes "ABMON_9" ∷
-    codes "ABMON_10" ∷
-    codes "ABMON_11" ∷
-    codes "ABMON_12" ∷
-    codes "ERA" ∷
-    codes "ALT_DIGITS" ∷
-    codes "ERA_D_FMT" ∷
-    codes "ERA_T_FMT" ∷
-    codes "ERA_D_T_FMT" ∷ []
+item_names = map (λ row. row.0) items_table
 
 -- the text of each item that is named; without names all items with their names
 abbrev pub info_lines : (Item → List ℕ) → List (List ℕ) → Defined (List ℕ)

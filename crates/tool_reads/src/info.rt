@@ -1,83 +1,23 @@
 //! The items of a locale.
 
 ghost use Rattle.std.specs.Prelude.{◌≡◌, ◌++◌, Ok, IfOk, IfErr, OnOk, map};
-ghost use Rattle.langinfo.specs.Items.{info};
 ghost use Rattle.script_out.specs.Output.{quoted};
 ghost use Rattle.lc_base.specs.Tables.{first_named};
 ghost use Rattle.script_words.specs.Tables.{items_table};
 ghost use Rattle.tool_reads.specs.Answers.{Answers, IsOf, Tells, WrongWord, beside, each_of, value_or_wrong};
-ghost use Rattle.tool_reads.specs.Printed.{field, info_lines, item_names, named_line, plain_line};
+ghost use Rattle.tool_reads.specs.Printed.{field, info_lines, item_names, named_line, plain_line, text_in};
 
 use crate::wrong_word::usage_problem;
 use langinfo::{LentCategories, nl_langinfo};
 use lc_base::{ByteText, Item};
 use script_out::push_quoted;
-use script_words::item_named;
+use script_words::{item_named, item_rows};
 use std::alloc::{AllocError, Global};
 use tool_messages::Problem;
 
 /// What an item is.
 const WANTED: &[u8] =
     b"there is no such item; `locale_tool info` prints all of them with their names";
-
-/// The names of all items.
-pub const ITEM_NAMES: [&str; 55] = [
-    "CODESET",
-    "RADIXCHAR",
-    "THOUSEP",
-    "YESEXPR",
-    "NOEXPR",
-    "CRNCYSTR",
-    "D_T_FMT",
-    "D_FMT",
-    "T_FMT",
-    "T_FMT_AMPM",
-    "AM_STR",
-    "PM_STR",
-    "DAY_1",
-    "DAY_2",
-    "DAY_3",
-    "DAY_4",
-    "DAY_5",
-    "DAY_6",
-    "DAY_7",
-    "ABDAY_1",
-    "ABDAY_2",
-    "ABDAY_3",
-    "ABDAY_4",
-    "ABDAY_5",
-    "ABDAY_6",
-    "ABDAY_7",
-    "MON_1",
-    "MON_2",
-    "MON_3",
-    "MON_4",
-    "MON_5",
-    "MON_6",
-    "MON_7",
-    "MON_8",
-    "MON_9",
-    "MON_10",
-    "MON_11",
-    "MON_12",
-    "ABMON_1",
-    "ABMON_2",
-    "ABMON_3",
-    "ABMON_4",
-    "ABMON_5",
-    "ABMON_6",
-    "ABMON_7",
-    "ABMON_8",
-    "ABMON_9",
-    "ABMON_10",
-    "ABMON_11",
-    "ABMON_12",
-    "ERA",
-    "ALT_DIGITS",
-    "ERA_D_FMT",
-    "ERA_T_FMT",
-    "ERA_D_T_FMT",
-];
 
 /// The text of each item in a line; without names each item as `NAME="TEXT"` (XSH nl_langinfo).
 ///
@@ -87,7 +27,7 @@ pub fn info_lines(
     locale: &LentCategories<'_>,
     names: &[&str],
 ) -> Result<ByteText, Problem>
-    ensures { Answers (λ lines. lines) result (info_lines (λ item. info locale.entry.now.ctype.now locale.entry.now.numeric.now locale.entry.now.monetary.now locale.entry.now.time.now locale.entry.now.messages.now item) (map (λ name. name.now) names.entry.now)) }
+    ensures { Answers (λ lines. lines) result (info_lines (text_in locale.entry.now) (map (λ name. name.now) names.entry.now)) }
 {
     match names {
         [] => all_named(alloc, locale),
@@ -95,10 +35,11 @@ pub fn info_lines(
     }
 }
 
+#[tactic(auto, using(crate::proofs::AnswerLemmas::names_of_rows))]
 fn all_named(alloc: Global, locale: &LentCategories<'_>) -> Result<ByteText, Problem>
-    ensures { Answers (λ lines. lines) result (each_of (named_line (λ item. info locale.entry.now.ctype.now locale.entry.now.numeric.now locale.entry.now.monetary.now locale.entry.now.time.now locale.entry.now.messages.now item)) item_names) }
+    ensures { Answers (λ lines. lines) result (each_of (named_line (text_in locale.entry.now)) item_names) }
 {
-    named_lines(alloc, locale, &ITEM_NAMES)
+    named_lines(alloc, locale, item_rows())
 }
 
 #[tactic(auto, using(crate::proofs::AnswerLemmas::one_more_line, crate::proofs::AnswerLemmas::no_line, crate::proofs::AnswerLemmas::last_line))]
@@ -107,7 +48,7 @@ fn plain_lines(
     locale: &LentCategories<'_>,
     names: &[&str],
 ) -> Result<ByteText, Problem>
-    ensures { Answers (λ lines. lines) result (each_of (plain_line (λ item. info locale.entry.now.ctype.now locale.entry.now.numeric.now locale.entry.now.monetary.now locale.entry.now.time.now locale.entry.now.messages.now item)) (map (λ name. name.now) names.entry.now)) }
+    ensures { Answers (λ lines. lines) result (each_of (plain_line (text_in locale.entry.now)) (map (λ name. name.now) names.entry.now)) }
 {
     let mut lines = Vec::new(alloc);
     for name in names {
@@ -123,8 +64,8 @@ fn push_plain(
     locale: &LentCategories<'_>,
     name: &str,
 ) -> Result<(), Problem>
-    ensures added { OnOk result (beside lines.old.items (plain_line (λ item. info locale.entry.now.ctype.now locale.entry.now.numeric.now locale.entry.now.monetary.now locale.entry.now.time.now locale.entry.now.messages.now item) name.now) ≡ Ok lines.new.items) }
-    ensures told { IfErr result (λ problem. Tells problem (plain_line (λ item. info locale.entry.now.ctype.now locale.entry.now.numeric.now locale.entry.now.monetary.now locale.entry.now.time.now locale.entry.now.messages.now item) name.now)) }
+    ensures added { OnOk result (beside lines.old.items (plain_line (text_in locale.entry.now) name.now) ≡ Ok lines.new.items) }
+    ensures told { IfErr result (λ problem. Tells problem (plain_line (text_in locale.entry.now) name.now)) }
 {
     let item = item_of(alloc, name)?;
     let text = text_of(alloc, locale, item)?;
@@ -137,13 +78,13 @@ fn push_plain(
 fn named_lines(
     alloc: Global,
     locale: &LentCategories<'_>,
-    names: &[&str],
+    rows: &[(&str, Item)],
 ) -> Result<ByteText, Problem>
-    ensures { Answers (λ lines. lines) result (each_of (named_line (λ item. info locale.entry.now.ctype.now locale.entry.now.numeric.now locale.entry.now.monetary.now locale.entry.now.time.now locale.entry.now.messages.now item)) (map (λ name. name.now) names.entry.now)) }
+    ensures { Answers (λ lines. lines) result (each_of (named_line (text_in locale.entry.now)) (map (λ row. row.0.now) rows.entry.now)) }
 {
     let mut lines = Vec::new(alloc);
-    for name in names {
-        push_named(alloc, &mut lines, locale, name)?;
+    for row in rows {
+        push_named(alloc, &mut lines, locale, row.0)?;
     }
     Ok(ByteText::from_vec(lines))
 }
@@ -155,8 +96,8 @@ fn push_named(
     locale: &LentCategories<'_>,
     name: &str,
 ) -> Result<(), Problem>
-    ensures added { OnOk result (beside lines.old.items (named_line (λ item. info locale.entry.now.ctype.now locale.entry.now.numeric.now locale.entry.now.monetary.now locale.entry.now.time.now locale.entry.now.messages.now item) name.now) ≡ Ok lines.new.items) }
-    ensures told { IfErr result (λ problem. Tells problem (named_line (λ item. info locale.entry.now.ctype.now locale.entry.now.numeric.now locale.entry.now.monetary.now locale.entry.now.time.now locale.entry.now.messages.now item) name.now)) }
+    ensures added { OnOk result (beside lines.old.items (named_line (text_in locale.entry.now) name.now) ≡ Ok lines.new.items) }
+    ensures told { IfErr result (λ problem. Tells problem (named_line (text_in locale.entry.now) name.now)) }
 {
     let item = item_of(alloc, name)?;
     let text = text_of(alloc, locale, item)?;
@@ -199,7 +140,7 @@ pub fn text_of(
     locale: &LentCategories<'_>,
     item: Item,
 ) -> Result<ByteText, AllocError>
-    ensures { IfOk result (λ text. text ≡ info locale.entry.now.ctype.now locale.entry.now.numeric.now locale.entry.now.monetary.now locale.entry.now.time.now locale.entry.now.messages.now item) }
+    ensures { IfOk result (λ text. text ≡ text_in locale.entry.now item) }
 {
     nl_langinfo(
         alloc,

@@ -1,17 +1,17 @@
 //! The items of a locale.
 
 ghost use Rattle.std.specs.Prelude.{◌≡◌, ◌∷◌, [], ◌++◌, Ok, IfErr, OnOk, map};
-ghost use Rattle.langinfo.specs.Items.{info};
 ghost use Rattle.lc_base.specs.Tables.{first_named};
 ghost use Rattle.script_words.specs.Tables.{items_table};
+ghost use Rattle.tool_reads.specs.Printed.{text_in};
 ghost use Rattle.tool_reads.specs.Answers.{Answers, Tells, all_of, beside};
 ghost use Rattle.tool_reads.specs.JsonReads.{info_json, is_asked, is_named, item_member, item_members, members_json};
 
-use crate::{ITEM_NAMES, item_of, no_item, text_of};
+use crate::{item_of, no_item, text_of};
 use json::Writer;
 use langinfo::LentCategories;
 use lc_base::{ByteText, Item};
-use script_words::item_named;
+use script_words::{item_named, item_rows};
 use std::alloc::Global;
 use tool_json::{json_line, new_writer, push_member};
 use tool_messages::Problem;
@@ -20,16 +20,16 @@ use tool_messages::Problem;
 /// standard's table (XSH nl_langinfo).
 ///
 /// A word that names no item is a wrong word.
-#[tactic(auto, using(crate::proofs::AnswerLemmas::passed_on))]
+#[tactic(auto, using(crate::proofs::AnswerLemmas::passed_on, crate::proofs::AnswerLemmas::names_of_rows))]
 pub fn info_json(
     alloc: Global,
     locale: &LentCategories<'_>,
     names: &[&str],
 ) -> Result<ByteText, Problem>
-    ensures { Answers (λ line. line) result (info_json (λ item. info locale.entry.now.ctype.now locale.entry.now.numeric.now locale.entry.now.monetary.now locale.entry.now.time.now locale.entry.now.messages.now item) (map (λ name. name.now) names.entry.now)) }
+    ensures { Answers (λ line. line) result (info_json (text_in locale.entry.now) (map (λ name. name.now) names.entry.now)) }
 {
     let _named = items_of(alloc, names)?;
-    items_json(alloc, locale, names, &ITEM_NAMES)
+    items_json(alloc, locale, names, item_rows())
 }
 
 /// The items with these names.
@@ -53,14 +53,14 @@ fn items_json(
     alloc: Global,
     locale: &LentCategories<'_>,
     asked: &[&str],
-    names: &[&str],
+    rows: &[(&str, Item)],
 ) -> Result<ByteText, Problem>
-    ensures { Answers (λ line. line) result (members_json (item_members (λ item. info locale.entry.now.ctype.now locale.entry.now.numeric.now locale.entry.now.monetary.now locale.entry.now.time.now locale.entry.now.messages.now item) (map (λ name. name.now) asked.entry.now) (map (λ name. name.now) names.entry.now))) }
+    ensures { Answers (λ line. line) result (members_json (item_members (text_in locale.entry.now) (map (λ name. name.now) asked.entry.now) (map (λ row. row.0.now) rows.entry.now))) }
 {
     let mut json = new_writer(alloc);
     json.begin_object()?;
-    for name in names {
-        push_item(alloc, &mut json, locale, asked, name)?;
+    for row in rows {
+        push_item(alloc, &mut json, locale, asked, row.0)?;
     }
     json.end_object()?;
     Ok(json_line(json)?)
@@ -76,8 +76,8 @@ fn push_item(
     name: &str,
 ) -> Result<(), Problem>
     ensures before { json.new.before ≡ json.old.before }
-    ensures added { OnOk result (beside json.old.tokens (item_member (λ item. info locale.entry.now.ctype.now locale.entry.now.numeric.now locale.entry.now.monetary.now locale.entry.now.time.now locale.entry.now.messages.now item) (map (λ name. name.now) asked.entry.now) name.now) ≡ Ok json.new.tokens) }
-    ensures told { IfErr result (λ problem. Tells problem (item_member (λ item. info locale.entry.now.ctype.now locale.entry.now.numeric.now locale.entry.now.monetary.now locale.entry.now.time.now locale.entry.now.messages.now item) (map (λ name. name.now) asked.entry.now) name.now)) }
+    ensures added { OnOk result (beside json.old.tokens (item_member (text_in locale.entry.now) (map (λ name. name.now) asked.entry.now) name.now) ≡ Ok json.new.tokens) }
+    ensures told { IfErr result (λ problem. Tells problem (item_member (text_in locale.entry.now) (map (λ name. name.now) asked.entry.now) name.now)) }
 {
     if !is_asked(asked, name) {
         return Ok(());

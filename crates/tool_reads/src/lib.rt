@@ -18,7 +18,7 @@ mod wrong_word;
 pub use characters::{class_lines, lower_lines, upper_lines};
 pub use conv::conv_lines;
 pub use format_fault::problem_of;
-pub use info::{ITEM_NAMES, info_lines, item_of, no_item, text_of};
+pub use info::{info_lines, item_of, no_item, text_of};
 pub use json_conv::conv_json;
 pub use json_info::info_json;
 pub use json_parse::parsed_json;

@@ -1,7 +1,7 @@
 //! The values of a locale's keywords but for those of `LC_CTYPE` that are sets of characters.
 
+use langinfo::{LentConv, LentText, lent_conv};
 use lc_base::{ByteText, push_number};
-use monetary_cat::{MonNumber, MonText, Monetary};
 use std::alloc::{AllocError, Global};
 use time_cat::{Time, TimeText};
 use tool_reads::LentCategories;
@@ -26,48 +26,23 @@ impl Drop for Value {
     }
 }
 
-/// The keywords of `LC_MONETARY` with a text, before and behind `mon_grouping`.
-const MONEY_TEXTS: [(&str, MonText); 4] = [
-    ("int_curr_symbol", MonText::IntCurrSymbol),
-    ("currency_symbol", MonText::CurrencySymbol),
-    ("mon_decimal_point", MonText::MonDecimalPoint),
-    ("mon_thousands_sep", MonText::MonThousandsSep),
-];
+/// The number that stands for one which the locale does not tell, and for the end of grouping.
+const CHAR_MAX: u8 = 127;
 
-const MONEY_SIGNS: [(&str, MonText); 2] = [
-    ("positive_sign", MonText::PositiveSign),
-    ("negative_sign", MonText::NegativeSign),
-];
-
-/// The keywords of `LC_MONETARY` with a number.
-const MONEY_NUMBERS: [(&str, MonNumber); 14] = [
-    ("int_frac_digits", MonNumber::IntFracDigits),
-    ("frac_digits", MonNumber::FracDigits),
-    ("p_cs_precedes", MonNumber::PCsPrecedes),
-    ("p_sep_by_space", MonNumber::PSepBySpace),
-    ("n_cs_precedes", MonNumber::NCsPrecedes),
-    ("n_sep_by_space", MonNumber::NSepBySpace),
-    ("p_sign_posn", MonNumber::PSignPosn),
-    ("n_sign_posn", MonNumber::NSignPosn),
-    ("int_p_cs_precedes", MonNumber::IntPCsPrecedes),
-    ("int_p_sep_by_space", MonNumber::IntPSepBySpace),
-    ("int_n_cs_precedes", MonNumber::IntNCsPrecedes),
-    ("int_n_sep_by_space", MonNumber::IntNSepBySpace),
-    ("int_p_sign_posn", MonNumber::IntPSignPosn),
-    ("int_n_sign_posn", MonNumber::IntNSignPosn),
-];
+/// How many of localeconv's texts are of `LC_NUMERIC`; the others are of `LC_MONETARY`.
+const NUMERIC_TEXTS: usize = 3;
 
 /// The formats of `LC_TIME`.
-const FORMATS: [(&str, TimeText); 3] = [
-    ("d_t_fmt", TimeText::DateTime),
-    ("d_fmt", TimeText::Date),
-    ("t_fmt", TimeText::Clock),
+const FORMATS: [(&[u8], TimeText); 3] = [
+    (b"d_t_fmt", TimeText::DateTime),
+    (b"d_fmt", TimeText::Date),
+    (b"t_fmt", TimeText::Clock),
 ];
 
-const ERA_FORMATS: [(&str, TimeText); 3] = [
-    ("era_d_fmt", TimeText::EraDate),
-    ("era_t_fmt", TimeText::EraClock),
-    ("era_d_t_fmt", TimeText::EraDateTime),
+const ERA_FORMATS: [(&[u8], TimeText); 3] = [
+    (b"era_d_fmt", TimeText::EraDate),
+    (b"era_t_fmt", TimeText::EraClock),
+    (b"era_d_t_fmt", TimeText::EraDateTime),
 ];
 
 /// The most alternative digits.
@@ -79,104 +54,82 @@ const DIGITS_SHOWN: u32 = 3;
 /// The values, in the order of the standard. There are as many of each locale.
 pub fn values_of(alloc: Global, locale: &LentCategories<'_>) -> Result<Vec<Value>, AllocError> {
     let mut values = Vec::new(alloc);
-    push_money(alloc, &mut values, locale.monetary)?;
-    let numeric = locale.numeric;
-    push_quoted(
-        alloc,
-        &mut values,
-        "LC_NUMERIC",
-        "decimal_point",
-        numeric.decimal_point(),
-    )?;
-    push_quoted(
-        alloc,
-        &mut values,
-        "LC_NUMERIC",
-        "thousands_sep",
-        numeric.thousands_sep(),
-    )?;
-    push_sizes(
-        alloc,
-        &mut values,
-        "LC_NUMERIC",
-        "grouping",
-        numeric.group_chars(),
-    )?;
+    let LentConv { texts, numbers } = lent_conv(locale.numeric, locale.monetary);
+    let (numeric, monetary) = texts.split_at(NUMERIC_TEXTS);
+    push_texts(alloc, &mut values, "LC_MONETARY", monetary)?;
+    push_numbers(alloc, &mut values, &numbers)?;
+    push_texts(alloc, &mut values, "LC_NUMERIC", numeric)?;
     push_time(alloc, &mut values, locale.time)?;
     push_quoted(
         alloc,
         &mut values,
         "LC_MESSAGES",
-        "yesexpr",
+        b"yesexpr",
         locale.messages.yesexpr(),
     )?;
     push_quoted(
         alloc,
         &mut values,
         "LC_MESSAGES",
-        "noexpr",
+        b"noexpr",
         locale.messages.noexpr(),
     )?;
     Ok(values)
 }
 
-fn push_money(
+/// Adds the texts of localeconv's fields.
+fn push_texts(
     alloc: Global,
     values: &mut Vec<Value>,
-    monetary: &Monetary,
+    category: &'static str,
+    fields: &[(&[u8], LentText<'_>)],
 ) -> Result<(), AllocError> {
-    push_money_texts(alloc, values, monetary, &MONEY_TEXTS)?;
-    push_sizes(
-        alloc,
-        values,
-        "LC_MONETARY",
-        "mon_grouping",
-        monetary.group_chars(),
-    )?;
-    push_money_texts(alloc, values, monetary, &MONEY_SIGNS)?;
-    for (keyword, key) in &MONEY_NUMBERS {
-        let mut text = Vec::new(alloc);
-        push_signed(&mut text, monetary.number(*key))?;
-        push_value(alloc, values, "LC_MONETARY", keyword, text)?;
+    for (keyword, text) in fields {
+        match text {
+            LentText::Bytes(bytes) => push_quoted(alloc, values, category, keyword, bytes)?,
+            LentText::Sizes(sizes) => push_sizes(alloc, values, category, keyword, sizes)?,
+        }
     }
     Ok(())
 }
 
-fn push_money_texts(
+/// Adds the numbers of localeconv's fields.
+fn push_numbers(
     alloc: Global,
     values: &mut Vec<Value>,
-    monetary: &Monetary,
-    rows: &[(&str, MonText)],
+    fields: &[(&[u8], u8)],
 ) -> Result<(), AllocError> {
-    for (keyword, key) in rows {
-        push_quoted(alloc, values, "LC_MONETARY", keyword, monetary.text(*key))?;
+    for (keyword, number) in fields {
+        let mut text = Vec::new(alloc);
+        push_told(&mut text, *number)?;
+        push_value(alloc, values, "LC_MONETARY", keyword, text)?;
     }
     Ok(())
 }
 
 fn push_time(alloc: Global, values: &mut Vec<Value>, time: &Time) -> Result<(), AllocError> {
     for i in 0..7u8 {
-        push_operand(alloc, values, "abday", i, time.abday(i).as_bytes())?;
+        push_operand(alloc, values, b"abday", i, time.abday(i).as_bytes())?;
     }
     for i in 0..7u8 {
-        push_operand(alloc, values, "day", i, time.day(i).as_bytes())?;
+        push_operand(alloc, values, b"day", i, time.day(i).as_bytes())?;
     }
     for i in 0..12u8 {
-        push_operand(alloc, values, "abmon", i, time.abmon(i).as_bytes())?;
+        push_operand(alloc, values, b"abmon", i, time.abmon(i).as_bytes())?;
     }
     for i in 0..12u8 {
-        push_operand(alloc, values, "mon", i, time.mon(i).as_bytes())?;
+        push_operand(alloc, values, b"mon", i, time.mon(i).as_bytes())?;
     }
     push_formats(alloc, values, time, &FORMATS)?;
-    push_operand(alloc, values, "am_pm", 0, time.am_pm(0).as_bytes())?;
-    push_operand(alloc, values, "am_pm", 1, time.am_pm(1).as_bytes())?;
+    push_operand(alloc, values, b"am_pm", 0, time.am_pm(0).as_bytes())?;
+    push_operand(alloc, values, b"am_pm", 1, time.am_pm(1).as_bytes())?;
     push_formats(
         alloc,
         values,
         time,
-        &[("t_fmt_ampm", TimeText::HalfDayClock)],
+        &[(b"t_fmt_ampm", TimeText::HalfDayClock)],
     )?;
-    push_quoted(alloc, values, "LC_TIME", "era", time.era_list())?;
+    push_quoted(alloc, values, "LC_TIME", b"era", time.era_list())?;
     push_formats(alloc, values, time, &ERA_FORMATS)?;
     push_digits(alloc, values, time)
 }
@@ -185,7 +138,7 @@ fn push_formats(
     alloc: Global,
     values: &mut Vec<Value>,
     time: &Time,
-    rows: &[(&str, TimeText)],
+    rows: &[(&[u8], TimeText)],
 ) -> Result<(), AllocError> {
     for (keyword, key) in rows {
         push_quoted(alloc, values, "LC_TIME", keyword, time.text(*key))?;
@@ -226,12 +179,12 @@ fn push_digits(alloc: Global, values: &mut Vec<Value>, time: &Time) -> Result<()
 fn push_operand(
     alloc: Global,
     values: &mut Vec<Value>,
-    keyword: &str,
+    keyword: &[u8],
     number: u8,
     operand: &[u8],
 ) -> Result<(), AllocError> {
     let mut name = Vec::new(alloc);
-    name.extend_from_slice(keyword.as_bytes())?;
+    name.extend_from_slice(keyword)?;
     name.push(b' ')?;
     push_number(&mut name, u128::from(number) + 1)?;
     let mut text = Vec::new(alloc);
@@ -249,7 +202,7 @@ fn push_quoted(
     alloc: Global,
     values: &mut Vec<Value>,
     category: &'static str,
-    keyword: &str,
+    keyword: &[u8],
     operand: &[u8],
 ) -> Result<(), AllocError> {
     let mut text = Vec::new(alloc);
@@ -262,7 +215,7 @@ fn push_sizes(
     alloc: Global,
     values: &mut Vec<Value>,
     category: &'static str,
-    keyword: &str,
+    keyword: &[u8],
     sizes: &[u8],
 ) -> Result<(), AllocError> {
     let mut text = Vec::new(alloc);
@@ -270,7 +223,7 @@ fn push_sizes(
         if !text.is_empty() {
             text.push(b';')?;
         }
-        push_size(&mut text, *size)?;
+        push_told(&mut text, *size)?;
     }
     if text.is_empty() {
         text.extend_from_slice(b"-1")?;
@@ -291,29 +244,23 @@ fn used(sizes: &[u8]) -> &[u8] {
     rest
 }
 
-fn push_size(text: &mut Vec<u8>, size: u8) -> Result<(), AllocError> {
-    if size == 127 {
+/// Adds a number; one that the locale does not tell is written as in a source.
+fn push_told(text: &mut Vec<u8>, number: u8) -> Result<(), AllocError> {
+    if number == CHAR_MAX {
         text.extend_from_slice(b"-1")
     } else {
-        push_number(text, u128::from(size))
+        push_number(text, u128::from(number))
     }
-}
-
-fn push_signed(text: &mut Vec<u8>, number: i32) -> Result<(), AllocError> {
-    if number < 0 {
-        text.push(b'-')?;
-    }
-    push_number(text, u128::from(number.unsigned_abs()))
 }
 
 fn push_value(
     alloc: Global,
     values: &mut Vec<Value>,
     category: &'static str,
-    keyword: &str,
+    keyword: &[u8],
     text: Vec<u8>,
 ) -> Result<(), AllocError> {
-    let keyword = ByteText::of(alloc, keyword.as_bytes())?;
+    let keyword = ByteText::of(alloc, keyword)?;
     values.push(Value {
         category,
         keyword,
