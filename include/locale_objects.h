@@ -323,7 +323,7 @@ void lobj_builder_free(lobj_builder *builder);
  * Gives a library that has the locales and catalogs of both. Nothing is compiled again: they share what was compiled,
  * and each of the three is freed by itself, in any order. The locales of the first keep their numbers, and those of the
  * second follow them. A name that both have is that of the second from then on, and so is the native locale, if the
- * second names one. The mark is another: lobj_locale_in gives a locale of the first as one of the new library.
+ * second names one, be it "C" or "POSIX". The mark is another: lobj_locale_in gives a locale of the first as one of the new library.
  * LOBJ_TOO_MANY: together they have more than 4096 locales, or catalogs. LOBJ_NO_MEMORY. Only LOBJ_OK writes `*out`,
  * which is then the caller's to free.
  */

@@ -261,6 +261,33 @@ static void join_libraries(const lobj_library *library) {
     lobj_library_free(again);
 }
 
+/* Whether the first text joined with the second has this radix character in its native locale. */
+static bool is_native_point(const char *first, const char *second, const char *point) {
+    lobj_library *one = NULL, *other = NULL, *joined = NULL;
+    lobj_locale posix, native;
+    lobj_fault fault;
+    CHECK(is(lobj_read(first, strlen(first), &one, &fault, NULL, 0), LOBJ_OK, 0));
+    CHECK(is(lobj_read(second, strlen(second), &other, &fault, NULL, 0), LOBJ_OK, 0));
+    CHECK(is(lobj_join(one, other, &joined), LOBJ_OK, 0));
+    lobj_library_free(one);
+    lobj_library_free(other);
+    lobj_posix_locale(joined, &posix);
+    CHECK(is(lobj_newlocale(joined, LOBJ_NUMERIC_MASK, NULL, 0, posix, &native), LOBJ_OK, 0));
+    const bool is_right = is_point(joined, native, point);
+    lobj_library_free(joined);
+    return is_right;
+}
+
+/* The native locale of a join is the second's, if it names one, be it the POSIX locale. */
+static void join_native_locales(void) {
+    static const char de[] = ".locale de UTF-8\nLC_NUMERIC\ndecimal_point \",\"\nEND LC_NUMERIC\n.end\n.native de\n";
+    static const char fa[] = ".locale fa UTF-8\nLC_NUMERIC\ndecimal_point \"/\"\nEND LC_NUMERIC\n.end\n.native fa\n";
+    static const char unnamed[] = ".locale fa UTF-8\n.end\n", posix[] = ".native C\n", also_posix[] = ".native POSIX\n";
+    CHECK(is_native_point(de, fa, "/") && is_native_point(fa, de, ","));
+    CHECK(is_native_point(de, unnamed, ",") && is_native_point(unnamed, de, ",") && is_native_point(unnamed, unnamed, "."));
+    CHECK(is_native_point(de, posix, ".") && is_native_point(de, also_posix, ".") && is_native_point(posix, de, ","));
+}
+
 /* Messages by their catalog, set and number; what is no catalog of the library, or no message, leaves the buffer. */
 static void read_messages(const lobj_library *library) {
     lobj_locale posix, half, nothing;
@@ -980,6 +1007,7 @@ int main(int count, char **words) {
     refuse_parts();
     refuse_many();
     join_libraries(library);
+    join_native_locales();
     read_messages(library);
     run_out_of_memory();
     run_out_in_parts(library);

@@ -1,5 +1,5 @@
 -- Worked examples of two libraries as one.
-use Rattle.std.specs.Prelude.{◌≡◌, ℕ, List, [], ◌∷◌, codes, Some, Ok, refl}
+use Rattle.std.specs.Prelude.{◌≡◌, ℕ, List, [], ◌∷◌, codes, Some, None, Ok, refl}
 use Rattle.category_store.specs.Locale.{Locale, posix_locale}
 use Rattle.category_store.specs.LibraryData.{LibraryData}
 use Rattle.category_store.specs.Library.{numbers}
@@ -16,7 +16,7 @@ system = record {
   names = (codes "a", 1) ∷ (codes "b", 2) ∷ [];
   first = (codes "a", 1) ∷ (codes "b", 2) ∷ [];
   keys = (codes "k", 3) ∷ [];
-  native = 1;
+  native = Some 1;
 }
 
 -- c and another b; c is native
@@ -26,7 +26,7 @@ own = record {
   names = (codes "c", 1) ∷ (codes "b", 2) ∷ [];
   first = (codes "c", 1) ∷ (codes "b", 2) ∷ [];
   keys = [];
-  native = 1;
+  native = Some 1;
 }
 
 -- c has a number behind those of a and b; b is the one of the later library
@@ -35,13 +35,17 @@ joined-names : joined system own ≡ record {
   names = (codes "a", 1) ∷ (codes "b", 2) ∷ (codes "c", 3) ∷ [];
   first = (codes "c", 4) ∷ (codes "b", 5) ∷ (codes "a", 1) ∷ [];
   keys = (codes "k", 3) ∷ [];
-  native = 3;
+  native = Some 3;
 }
 joined-names = refl
 
 -- the native locale of the earlier library, where the later has none
-joined-native : (joined system (record own { native = 0 })).native ≡ 1
+joined-native : (joined system (record own { native = None })).native ≡ Some 1
 joined-native = refl
+
+-- the POSIX locale, where the later library names it
+joined-posix : (joined system (record own { native = Some 0 })).native ≡ Some 0
+joined-posix = refl
 
 numbers-joined : numbers (joined system own) (codes "c") 2 ≡ Ok (0 ∷ 3 ∷ 0 ∷ 0 ∷ 0 ∷ [])
 numbers-joined = refl
@@ -53,5 +57,5 @@ named-earlier : locale_named (joined own system) (codes "b") ≡ Some (locale (c
 named-earlier = refl
 
 -- nothing is lost or added by a library that has nothing
-joined-empty : joined system (record { locales = []; names = []; first = []; keys = []; native = 0 }) ≡ system
+joined-empty : joined system (record { locales = []; names = []; first = []; keys = []; native = None }) ≡ system
 joined-empty = refl

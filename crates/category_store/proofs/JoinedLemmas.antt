@@ -12,7 +12,7 @@ use Rattle.charset.specs.Portable.{Name}
 use Rattle.category_store.specs.Locale.{Locale, posix_locale, locale_among}
 use Rattle.category_store.specs.LibraryData.{LibraryData}
 use Rattle.category_store.proofs.Installable.{with_either, found_as}
-use Rattle.category_store.specs.Joined.{numbered_after, with_others, moved, later_else, entry_at, joined, KeepsNumbers, StandsBehind, NamesLater, InstallsLater}
+use Rattle.category_store.specs.Joined.{numbered_after, with_others, moved, later_else, entry_at, joined, KeepsNumbers, StandsBehind, NamesLater, InstallsLater, NativeLater, number_among, names_of_both}
 use Rattle.category_store.specs.declared.names.Names.{Names}
 use Rattle.category_store.specs.Within.{AreWithin, IsWithin}
 
@@ -216,3 +216,12 @@ names_later earlier later h k name = later_means earlier.locales later.locales e
 
 pub installs_later : (earlier later : LibraryData) → AreWithin (length earlier.locales) earlier.keys → AreWithin (length later.locales) later.keys → InstallsLater earlier later (joined earlier later)
 installs_later earlier later h k key = later_means earlier.locales later.locales earlier.keys later.keys key h k
+
+-- ---- the native locale
+
+native_is : (earlier later : LibraryData) (first second : Option ℕ) → NativeLater (record earlier { native = first }) (record later { native = second }) (joined (record earlier { native = first }) (record later { native = second }))
+native_is earlier later first None = (λ n e. absurd cc, λ e. refl)
+native_is earlier later first (Some m) = (λ n e. let same : m ≡ n = cc in ap (λ (k : ℕ). Some (number_among (names_of_both earlier.names later.names) later.names k)) same, λ e. absurd cc)
+
+pub native_later : (earlier later : LibraryData) → NativeLater earlier later (joined earlier later)
+native_later earlier later = native_is earlier later earlier.native later.native

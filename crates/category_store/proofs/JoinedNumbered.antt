@@ -1,6 +1,6 @@
 -- The names of two libraries as one have numbers that are on its shelf.
-use Rattle.std.proofs.Common.{ℕ, zero, suc, ◌+◌, ◌≤◌, true, false, cond, List, [], ◌∷◌, length, arith}
-use Rattle.std.specs.Prelude.{◌==◌}
+use Rattle.std.proofs.Common.{ℕ, zero, suc, ◌+◌, ◌≤◌, Option, Some, None, List, [], ◌∷◌, length, arith}
+use Rattle.std.specs.Prelude.{unwrap_or}
 use Rattle.lc_base.specs.Tables.{first_named}
 use Rattle.lc_base.specs.Named.{with_named}
 use Rattle.charset.specs.Portable.{Name}
@@ -20,12 +20,10 @@ among_up_to : (m : ℕ) (names own : List (Name × ℕ)) (n : ℕ) → AreUpTo m
 among_up_to m names own zero counted = omega arith
 among_up_to m names own (suc k) counted = or_zero m (first_named names (entry_at own k).0) (found_up_to m names (entry_at own k).0 counted)
 
-native_up_to : (m : ℕ) (names earlier : List (Name × ℕ)) (first : ℕ) (later : List (Name × ℕ)) (second : ℕ) → AreUpTo m names → native_of_both names earlier first later second ≤ m
-native_up_to m names earlier first later second counted =
-    elim (second == 0) as (λ b. cond b (number_among names earlier first) (number_among names later second) ≤ m) [
-      | true ↦ among_up_to m names earlier first counted
-      | false ↦ among_up_to m names later second counted
-    ]
+native_up_to : (m : ℕ) (names earlier : List (Name × ℕ)) (first : Option ℕ) (later : List (Name × ℕ)) (second : Option ℕ) → AreUpTo m names → unwrap_or (native_of_both names earlier first later second) 0 ≤ m
+native_up_to m names earlier first later (Some n) counted = among_up_to m names later n counted
+native_up_to m names earlier (Some n) later None counted = among_up_to m names earlier n counted
+native_up_to m names earlier None later None counted = omega arith
 
 pub joined_numbered : (earlier later : LibraryData) → IsNumbered (joined earlier later)
 joined_numbered earlier later =

@@ -27,10 +27,10 @@ categories_follow view result (Some fault) x y locales e gives = absurd cc
 
 -- ---- the library of sources
 
-abbrev catalog_with : List Locale → List (Name × ℕ) → List (Name × ℕ) → List (Name × ℕ) → ℕ → LibraryData
+abbrev catalog_with : List Locale → List (Name × ℕ) → List (Name × ℕ) → List (Name × ℕ) → Option ℕ → LibraryData
 catalog_with locales names first keys native = record { locales = locales; names = names; first = first; keys = keys; native = native }
 
-pub library_is : (S : List Source) (native : Option Name) (locales : List Locale) (names first keys : List (Name × ℕ)) (n : ℕ)
+pub library_is : (S : List Source) (native : Option Name) (locales : List Locale) (names first keys : List (Name × ℕ)) (n : Option ℕ)
     → unless_fault (copy_fault S) (locales_of S) ≡ Ok locales → names ≡ names_of S → first ≡ locale_numbers S → keys ≡ keys_of S → n ≡ native_number names native
     → catalog_from native S ≡ Ok (record { locales = locales; names = names; first = first; keys = keys; native = n })
 library_is S native locales names first keys n are_locales are_names are_first are_keys are_native =
@@ -39,7 +39,7 @@ library_is S native locales names first keys n are_locales are_names are_first a
     ∙ (ap (λ (ns : List (Name × ℕ)). Ok (catalog_with locales ns (locale_numbers S) (keys_of S) (native_number (names_of S) native))) (sym are_names)
     ∙ (ap (λ (fs : List (Name × ℕ)). Ok (catalog_with locales names fs (keys_of S) (native_number (names_of S) native))) (sym are_first)
     ∙ (ap (λ (ks : List (Name × ℕ)). Ok (catalog_with locales names first ks (native_number (names_of S) native))) (sym are_keys)
-    ∙ ap (λ (m : ℕ). Ok (catalog_with locales names first keys m)) number)))
+    ∙ ap (λ (m : Option ℕ). Ok (catalog_with locales names first keys m)) number)))
 
 -- ---- names
 

@@ -74,14 +74,14 @@ pub or_zero : (m : ℕ) (o : Option ℕ) → IfSome o (λ n. n ≤ m) → unwrap
 or_zero m None up = omega arith
 or_zero m (Some n) up = up
 
-native_up_to : (names : List (Name × ℕ)) (native : Option Name) → AreCounted names → native_number names native ≤ length names
+native_up_to : (names : List (Name × ℕ)) (native : Option Name) → AreCounted names → unwrap_or (native_number names native) 0 ≤ length names
 native_up_to names None counted = omega arith
 native_up_to names (Some name) counted = or_zero (length names) (plain_number names name) (plain_up_to names name counted)
 
 -- the names of a library and its native locale have numbers up to that of the names
 pub record IsCounted (c : LibraryData) : Type 0 where
   pub names : AreCounted c.names
-  pub native : c.native ≤ length c.names
+  pub native : unwrap_or c.native 0 ≤ length c.names
 
 sources_counted : (sources : List Source) (native : Option Name) (locales : List Locale) → IsCounted (catalog_of sources native locales)
 sources_counted sources native locales =
@@ -103,7 +103,7 @@ catalog_counted native sources c e =
 
 number_up_to : (c : LibraryData) (name : Name) → IsCounted c → IfSome (number_of c name) (λ n. n ≤ length c.names)
 number_up_to c name counted =
-    elim (length name == 0) as (λ b. IfSome (cond b (Some c.native) (plain_number c.names name)) (λ n. n ≤ length c.names)) [
+    elim (length name == 0) as (λ b. IfSome (cond b (Some (unwrap_or c.native 0)) (plain_number c.names name)) (λ n. n ≤ length c.names)) [
       | true ↦ counted.native
       | false ↦ plain_up_to c.names name counted.names
     ]

@@ -1,5 +1,5 @@
 -- Two libraries as one: the locales of the later behind those of the earlier, and what the names then mean (our own).
-use Rattle.std.specs.Prelude.{◌≡◌, ℕ, zero, suc, ◌+◌, ◌≤◌, ◌==◌, List, [], ◌∷◌, ◌++◌, length, map, slice_get, Option, unwrap_or, option_map, if◌then◌else◌}
+use Rattle.std.specs.Prelude.{◌≡◌, ℕ, zero, suc, ◌+◌, ◌≤◌, List, [], ◌∷◌, ◌++◌, length, map, slice_get, Option, Some, None, unwrap_or, option_map}
 use Rattle.std.specs.Option.{option_or}
 use Rattle.lc_base.specs.Tables.{first_named}
 use Rattle.lc_base.specs.Named.{with_named}
@@ -41,9 +41,9 @@ abbrev pub number_among : List (Name × ℕ) → List (Name × ℕ) → ℕ → 
 number_among names own zero = 0
 number_among names own (suc k) = unwrap_or (first_named names (entry_at own k).0) 0
 
--- the number of the native locale among the names of both: the later one's, if it names one
-abbrev pub native_of_both : List (Name × ℕ) → (earlier : List (Name × ℕ)) → ℕ → (later : List (Name × ℕ)) → ℕ → ℕ
-native_of_both names earlier first later second = if second == 0 then number_among names earlier first else number_among names later second
+-- the number of the native locale among the names of both: the later one's, if it names one, and else the earlier one's
+abbrev pub native_of_both : List (Name × ℕ) → (earlier : List (Name × ℕ)) → Option ℕ → (later : List (Name × ℕ)) → Option ℕ → Option ℕ
+native_of_both names earlier first later second = option_or (option_map (number_among names later) second) (option_map (number_among names earlier) first)
 
 -- ---- libraries
 
@@ -74,6 +74,13 @@ KeepsNumbers earlier c = (n : ℕ) → n ≤ length earlier.locales → locale_a
 -- the locales of the later library stand behind so many others
 abbrev pub StandsBehind : ℕ → LibraryData → LibraryData → Type 0
 StandsBehind count later c = (n : ℕ) → 1 ≤ n → locale_at c (count + n) ≡ locale_at later n
+
+-- the native locale is the later library's, whichever it names, the POSIX locale too; where it names none, it is the earlier
+-- library's
+abbrev pub NativeLater : LibraryData → LibraryData → LibraryData → Type 0
+NativeLater earlier later c =
+    ((n : ℕ) → later.native ≡ Some n → c.native ≡ Some (number_among c.names later.names n))
+    × (later.native ≡ None → c.native ≡ option_map (number_among c.names earlier.names) earlier.native)
 
 -- a name means what it means in the later library, and else what it means in the earlier one
 abbrev pub NamesLater : LibraryData → LibraryData → LibraryData → Type 0

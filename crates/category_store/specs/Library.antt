@@ -48,10 +48,9 @@ keys_of sources = keys_after [] 1 sources
 abbrev pub plain_number : List (Name × ℕ) → Name → Option ℕ
 plain_number names name = if is_posix_locale name then Some 0 else first_named names name
 
--- the number of the native locale's name; the POSIX locale's where no name is given
-abbrev pub native_number : List (Name × ℕ) → Option Name → ℕ
-native_number names None = 0
-native_number names (Some name) = unwrap_or (plain_number names name) 0
+-- the number of the native locale's name, if one is given
+abbrev pub native_number : List (Name × ℕ) → Option Name → Option ℕ
+native_number names native = option_map (λ name. unwrap_or (plain_number names name) 0) native
 
 -- what sources make whose locales are compiled
 abbrev pub catalog_of : List Source → Option Name → List Locale → LibraryData
@@ -87,9 +86,9 @@ catalog charmaps locales later native = charsets charmaps >>= λ sets. catalog_o
 abbrev pub locale_at : LibraryData → ℕ → Locale
 locale_at c n = locale_among c.locales n
 
--- the number of a name: an empty one is the native locale's
+-- the number of a name: an empty one is the native locale's, the POSIX locale's where none is named
 abbrev pub number_of : LibraryData → Name → Option ℕ
-number_of c name = if length name == 0 then Some c.native else plain_number c.names name
+number_of c name = if length name == 0 then Some (unwrap_or c.native 0) else plain_number c.names name
 
 -- a category's number: 0 outside of the mask
 abbrev pub number_in : LibraryData → ℕ → Category → Name → Result ℕ Category

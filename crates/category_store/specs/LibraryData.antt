@@ -1,5 +1,5 @@
 -- What a library of compiled locales says, as data.
-use Rattle.std.specs.Prelude.{ℕ, List}
+use Rattle.std.specs.Prelude.{ℕ, List, Option}
 use Rattle.category_store.specs.Locale.{Locale}
 
 -- a library
@@ -12,5 +12,5 @@ pub record LibraryData : Type 0 where
   pub first : List (List ℕ × ℕ)
   -- the keys of later versions, each with the number of the compiled one
   pub keys : List (List ℕ × ℕ)
-  -- the number of the native locale's name
-  pub native : ℕ
+  -- the number of the native locale's name, if the library names one
+  pub native : Option ℕ

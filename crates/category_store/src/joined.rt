@@ -101,14 +101,14 @@ fn number_among(names: &ByName<u32>, own: &ByName<u32>, number: u32) -> u32
     names.get(name).copied().unwrap_or(0)
 }
 
-/// The number of the native locale among the names of both.
-fn native_of_both(names: &ByName<u32>, earlier: &Names, later: &Names) -> u32
+/// The number of the native locale among the names of both: the later one's, if it names one, and else the earlier one's.
+fn native_of_both(names: &ByName<u32>, earlier: &Names, later: &Names) -> Option<u32>
     ensures { result ≡ native_of_both names.now earlier.now.names earlier.now.native later.now.names later.now.native }
 {
-    if later.native == 0 {
-        number_among(names, &earlier.names, earlier.native)
-    } else {
-        number_among(names, &later.names, later.native)
+    match (later.native, earlier.native) {
+        (Some(number), _) => Some(number_among(names, &later.names, number)),
+        (None, Some(number)) => Some(number_among(names, &earlier.names, number)),
+        (None, None) => None,
     }
 }
 

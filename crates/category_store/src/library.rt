@@ -9,7 +9,7 @@ ghost use Rattle.lc_base.specs.Blocks.{IsSized};
 ghost use Rattle.locale_sources.specs.Copies.{locale_numbers, copy_fault};
 ghost use Rattle.category_store.specs.Compiled.{locales_of};
 ghost use Rattle.category_store.specs.Library.{catalog, catalog_over, catalog_from, locale_at, number_of, number_in, numbers, names_given, posix_object, object_of, offer_at, first_offer, name_at, opening, later, unless_fault};
-ghost use Rattle.category_store.specs.Joined.{joined, KeepsNumbers, StandsBehind, NamesLater, InstallsLater};
+ghost use Rattle.category_store.specs.Joined.{joined, KeepsNumbers, StandsBehind, NamesLater, InstallsLater, NativeLater};
 ghost use Rattle.category_store.specs.Shelf.{IsNumbered, IsInstallable};
 
 use crate::joined::join_names;
@@ -94,7 +94,7 @@ impl Library {
     ///
     /// The locales of the earlier library keep their numbers, and those of the later follow them. A
     /// name or key of both means what it means in the later library, whose native locale is the
-    /// native locale if it names one.
+    /// native locale if it names one, the POSIX locale too.
     pub fn joined(alloc: Global, earlier: &Library, later: &Library) -> Result<Library, AllocError>
         requires { length earlier.now.locales + length later.now.locales < 2 ^ 31 }
         ensures library { IfOk result (λ l. l ≡ joined earlier.now later.now) }
@@ -102,6 +102,7 @@ impl Library {
         ensures behind { IfOk result (StandsBehind (length earlier.now.locales) later.now) }
         ensures named { IfOk result (NamesLater earlier.now later.now) }
         ensures keyed { IfOk result (InstallsLater earlier.now later.now) }
+        ensures native { IfOk result (NativeLater earlier.now later.now) }
         ensures numbered { IfOk result IsNumbered }
     {
         let count = earlier.locales.len() as u32;
@@ -137,7 +138,7 @@ impl Library {
         ensures { result ≡ number_of self.now name.now }
     {
         if name.is_empty() {
-            return Some(self.names.native);
+            return Some(self.names.native.unwrap_or(0));
         }
         plain_number(&self.names.names, name)
     }

@@ -19,8 +19,8 @@ pub struct Names {
     pub first: ByName<u32>,
     /// The keys of later versions, with their numbers.
     pub keys: ByName<u32>,
-    /// The number of the native locale's name.
-    pub native: u32,
+    /// The number of the native locale's name, if one is named.
+    pub native: Option<u32>,
 }
 
 impl Drop for Names {
@@ -108,12 +108,12 @@ pub fn plain_number(names: &ByName<u32>, name: &[u8]) -> Option<u32>
     names.get(name).copied()
 }
 
-/// The number of the native locale's name.
-fn native_number(names: &ByName<u32>, native: Option<&[u8]>) -> u32
+/// The number of the native locale's name, if one is given.
+fn native_number(names: &ByName<u32>, native: Option<&[u8]>) -> Option<u32>
     ensures { result ≡ native_number names.now (option_copied native.entry) }
 {
     match native {
-        None => 0,
-        Some(name) => plain_number(names, name).unwrap_or(0),
+        None => None,
+        Some(name) => Some(plain_number(names, name).unwrap_or(0)),
     }
 }

@@ -45,7 +45,7 @@ library = record {
   names = (codes "us", 1) ∷ [];
   first = (codes "us", 1) ∷ [];
   keys = [];
-  native = 1;
+  native = Some 1;
 }
 
 -- ---- which catalog a name names, and its messages

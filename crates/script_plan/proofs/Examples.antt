@@ -52,7 +52,7 @@ library = record {
   names = (codes "a", 1) ∷ (codes "b", 2) ∷ [];
   first = (codes "a", 1) ∷ (codes "b", 2) ∷ [];
   keys = (codes "k", 3) ∷ [];
-  native = 1;
+  native = Some 1;
 }
 
 abbrev pub placed : ℕ → ℕ → List Command → List Placed

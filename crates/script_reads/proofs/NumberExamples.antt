@@ -1,5 +1,5 @@
 -- What the command of whole numbers replies of an object, at worked examples.
-use Rattle.std.proofs.Common.{◌≡◌, ℕ, List, [], ◌∷◌, refl}
+use Rattle.std.proofs.Common.{◌≡◌, ℕ, List, [], ◌∷◌, Some, refl}
 use Rattle.std.specs.Prelude.{ℤ, pos, negsuc, codes}
 use Rattle.digit_groups.specs.Digits.{last_digits}
 use Rattle.digit_groups.specs.Groups.{separated}
@@ -21,7 +21,7 @@ library = record {
   names = (codes "a", 1) ∷ [];
   first = (codes "a", 1) ∷ [];
   keys = [];
-  native = 1;
+  native = Some 1;
 }
 
 abbrev of_a : ℕ → List ℕ → List ℤ → Said

@@ -58,7 +58,7 @@ library = record {
   names = (codes "a", 1) ∷ [];
   first = (codes "a", 1) ∷ [];
   keys = [];
-  native = 1;
+  native = Some 1;
 }
 
 -- what a read replies of an object whose categories are all of that locale, and of the POSIX locale

@@ -29,7 +29,7 @@ library = record {
   names = (codes "us", 1) ∷ (codes "half", 2) ∷ [];
   first = (codes "us", 1) ∷ (codes "half", 2) ∷ [];
   keys = [];
-  native = 2;
+  native = Some 2;
 }
 
 abbrev parts : ℕ → ℕ → ℕ → ℕ → ℕ → Parts
@@ -63,7 +63,7 @@ bundle_first text fault h = ap (λ (b : Reads Bundle). b >>= λ (b : Bundle). ma
 
 -- no locale, whatever the threads and rounds of the script are
 no_blocks : (threads : List (List ℕ)) (rounds : ℕ) → marked_of (record { charmaps = []; locales = []; later = []; catalogs = []; native = None; threads = threads; rounds = rounds; commands = [] }) 7
-    ≡ Ok (record { library = record { locales = []; names = []; first = []; keys = []; native = 0 }; books = []; mark = 7 })
+    ≡ Ok (record { library = record { locales = []; names = []; first = []; keys = []; native = None }; books = []; mark = 7 })
 no_blocks threads rounds = refl
 
 -- ---- locales of a library
@@ -139,7 +139,7 @@ marked = record posix_locale {
 }
 
 abbrev with_marked : Parts → Shared
-with_marked ps = record { library = record { locales = marked ∷ []; names = []; first = []; keys = []; native = 0 }; object = ps }
+with_marked ps = record { library = record { locales = marked ∷ []; names = []; first = []; keys = []; native = None }; object = ps }
 
 own_ctype : (ctype_in (with_marked (parts 1 0 0 0 0))).codeset ≡ codes "marked"
 own_ctype = refl

@@ -1,9 +1,9 @@
 use Rattle.std.proofs.Common.{◌∙◌, ℕ, length, ap, subst, sym, arith, length-append}
-use Rattle.category_store.specs.Joined.{later_else, KeepsNumbers, StandsBehind, NamesLater, InstallsLater}
+use Rattle.category_store.specs.Joined.{later_else, KeepsNumbers, StandsBehind, NamesLater, InstallsLater, NativeLater}
 use Rattle.category_store.specs.LibraryData.{LibraryData}
 use Rattle.category_store.specs.Shelf.{IsNumbered}
 use Rattle.category_store.specs.Within.{AreWithin, IsWithin}
-use Rattle.category_store.proofs.JoinedLemmas.{joined_sound, keeps_numbers, stands_behind, names_later, installs_later}
+use Rattle.category_store.proofs.JoinedLemmas.{joined_sound, keeps_numbers, stands_behind, names_later, installs_later, native_later}
 use Rattle.category_store.proofs.JoinedNumbered.{joined_numbered}
 use Rattle.category_store.proofs.library.Library.joined.Goals as goal
 
@@ -41,3 +41,6 @@ returns-clause-keyed c =
 
 pub returns-clause-numbered : goal.returns-clause-numbered
 returns-clause-numbered c = subst IsNumbered (sym (returns-clause-library c)) (joined_numbered c.args.earlier.now c.args.later.now)
+
+pub returns-clause-native : goal.returns-clause-native
+returns-clause-native c = subst (NativeLater c.args.earlier.now c.args.later.now) (sym (returns-clause-library c)) (native_later c.args.earlier.now c.args.later.now)
