@@ -10,36 +10,60 @@ A `Library` is compiled from locale sources, and never changes. A `Locale` is a 
 global: no call changes what another thread reads.
 """
 
+from typing import TYPE_CHECKING, Any
+
 from ._faults import (
+    AmountError,
     AmountFault,
+    FormatError,
     FormatFault,
     ImportFault,
     LibraryMissing,
+    LibraryMissingError,
     LocaleError,
+    NumberError,
     NumberFault,
+    SourceError,
     SourceFault,
+    SystemSourceError,
+    TextError,
+    TimeError,
     TimeFault,
     UnknownLocale,
+    UnknownLocaleError,
     UnknownName,
+    UnknownNameError,
 )
-from ._library import Catalog, Library, Locale
 from ._values import ParsedTime
 from ._version import __version__
 
+if TYPE_CHECKING:
+    from ._library import Catalog, Library, Locale
+
 __all__ = [
-    "AmountFault",
+    "AmountError",
     "Catalog",
-    "FormatFault",
-    "ImportFault",
+    "FormatError",
     "Library",
-    "LibraryMissing",
+    "LibraryMissingError",
     "Locale",
     "LocaleError",
-    "NumberFault",
+    "NumberError",
     "ParsedTime",
-    "SourceFault",
-    "TimeFault",
-    "UnknownLocale",
-    "UnknownName",
+    "SourceError",
+    "SystemSourceError",
+    "TextError",
+    "TimeError",
+    "UnknownLocaleError",
+    "UnknownNameError",
     "__version__",
 ]
+
+
+def __getattr__(name: str) -> Any:
+    # (the shared library is loaded by what needs it, so that its fault can be imported and caught)
+    if name in ("Catalog", "Library", "Locale"):
+        from . import _library
+
+        return getattr(_library, name)
+    raise AttributeError(f"module {__name__!r} has no attribute {name!r}")

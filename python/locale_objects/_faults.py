@@ -2,19 +2,20 @@
 
 from __future__ import annotations
 
-from typing import Optional
+from typing import Optional, Tuple
 
 __all__ = [
     "LocaleError",
-    "SourceFault",
-    "UnknownLocale",
-    "FormatFault",
-    "AmountFault",
-    "NumberFault",
-    "TimeFault",
-    "UnknownName",
-    "ImportFault",
-    "LibraryMissing",
+    "SourceError",
+    "UnknownLocaleError",
+    "FormatError",
+    "AmountError",
+    "NumberError",
+    "TextError",
+    "TimeError",
+    "UnknownNameError",
+    "SystemSourceError",
+    "LibraryMissingError",
 ]
 
 
@@ -22,11 +23,11 @@ class LocaleError(Exception):
     """The class of all faults of this package."""
 
 
-class LibraryMissing(LocaleError, OSError):
+class LibraryMissingError(LocaleError, ImportError):
     """The shared library, or the tool that imports sources, was not found, or the library has another version."""
 
 
-class SourceFault(LocaleError, ValueError):
+class SourceError(LocaleError, ValueError):
     """A charmap, a locale source or a message catalog breaks a rule."""
 
     def __init__(self, file: str, line: int, column: int, reason: str, rule: str = "", text: str = ""):
@@ -45,11 +46,11 @@ class SourceFault(LocaleError, ValueError):
         place = f"{file}:{line}:{column}" if line else file
         super().__init__(f"{place}: {reason}" + (f": {rule}" if rule else ""))
 
-    def __reduce__(self):
+    def __reduce__(self) -> Tuple[object, ...]:
         return type(self), (self.file, self.line, self.column, self.reason, self.rule, self.text)
 
 
-class UnknownLocale(LocaleError, LookupError):
+class UnknownLocaleError(LocaleError, LookupError):
     """No locale of the library has the name, or it lacks a category that was asked for."""
 
     def __init__(self, name: str, category: Optional[str] = None):
@@ -60,39 +61,49 @@ class UnknownLocale(LocaleError, LookupError):
         lacking = f" has no {category}" if category else " is not in the library"
         super().__init__(f"the locale {name!r}{lacking}")
 
-    def __reduce__(self):
+    def __reduce__(self) -> Tuple[object, ...]:
         return type(self), (self.name, self.category)
 
 
-class FormatFault(LocaleError, ValueError):
-    """A format has a `%` that begins no conversion, or one without a value."""
+class FormatError(LocaleError, ValueError):
+    """A format has a `%` that begins no conversion, or one without a value, or a character that is none."""
 
     def __init__(self, format: str, at: int, why: str):
         self.format = format
         self.at = at
-        """The index of the `%` in the format."""
+        """The index in the format of the `%`, or of the character."""
         super().__init__(f"{why} at index {at} of {format!r}")
         self._why = why
 
-    def __reduce__(self):
+    def __reduce__(self) -> Tuple[object, ...]:
         return type(self), (self.format, self.at, self._why)
 
 
-class AmountFault(LocaleError, ValueError):
+class AmountError(LocaleError, ValueError):
     """An amount is not finite, or has more than 18 fraction digits, or needs more than 64 bits."""
 
 
-class NumberFault(LocaleError, ValueError):
-    """A text is no whole number of 64 bits as the locale writes it."""
+class NumberError(LocaleError, ValueError):
+    """A number needs more than 64 bits, or a text is no such whole number as the locale writes it."""
 
 
-class TimeFault(LocaleError, ValueError):
-    """A time has a field out of its range, or a text does not meet the format."""
+class TextError(LocaleError, ValueError):
+    """A text has a character that is none, or is not one character where one is asked for."""
 
 
-class UnknownName(LocaleError, LookupError):
+class TimeError(LocaleError, ValueError):
+    """A time has a field out of its range, or a text does not meet the format, or tells no date that there is."""
+
+
+class UnknownNameError(LocaleError, LookupError):
     """There is no such item, class, category, or message catalog."""
 
 
-class ImportFault(LocaleError, ValueError):
+class SystemSourceError(LocaleError, ValueError):
     """A source of the system could not be imported; the text has what the tool says."""
+
+
+# The names until 1.0, which the next version drops.
+SourceFault, UnknownLocale, FormatFault, AmountFault = SourceError, UnknownLocaleError, FormatError, AmountError
+NumberFault, TimeFault, UnknownName, ImportFault = NumberError, TimeError, UnknownNameError, SystemSourceError
+LibraryMissing = LibraryMissingError

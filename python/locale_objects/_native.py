@@ -8,7 +8,8 @@ import weakref
 from ctypes import POINTER, byref, c_bool, c_char_p, c_int32, c_int64, c_size_t, c_uint8, c_uint32, c_uint64, c_void_p
 from typing import Callable, Dict, List, Optional, Sequence, Tuple
 
-from ._faults import LibraryMissing, LocaleError, SourceFault, TimeFault
+from ._faults import LibraryMissingError, LocaleError, SourceError, TimeError
+from ._sources import BAD_NAME as NAME_RULE
 from ._sources import Source
 from ._values import TM_FIELDS
 from ._version import __version__
@@ -131,7 +132,7 @@ def _loaded() -> ctypes.CDLL:
         try:
             library = ctypes.CDLL(path)
         except OSError as fault:
-            raise LibraryMissing(
+            raise LibraryMissingError(
                 f"{path} cannot be loaded: {fault}; ./install puts it in PREFIX/lib, and LOCALE_OBJECTS_LIBRARY names it"
             ) from fault
         _check_version(library, path)
@@ -145,9 +146,9 @@ def _check_version(library: ctypes.CDLL, path: str) -> None:
         library.lobj_version.restype, library.lobj_version.argtypes = c_uint32, []
         version = library.lobj_version()
     except AttributeError:
-        raise LibraryMissing(f"{path} does not tell its version: this package wants version {wanted} of the library") from None
+        raise LibraryMissingError(f"{path} does not tell its version: this package wants version {wanted} of the library") from None
     if str(version // 100) != wanted:
-        raise LibraryMissing(
+        raise LibraryMissingError(
             f"{path} is version {version // 100}.{version % 100} of the library: this package wants version {wanted}; "
             "./install puts both in place"
         )
@@ -188,7 +189,7 @@ for _name, (_arguments, _result) in _PROTOTYPES.items():
     try:
         _call = getattr(_C, _name)
     except AttributeError:
-        raise LibraryMissing(f"{_C._name} has no {_name}: it is older than this package, of version {__version__}") from None
+        raise LibraryMissingError(f"{_C._name} has no {_name}: it is older than this package, of version {__version__}") from None
     _call.argtypes, _call.restype = _arguments, _result
 
 _FIRST_SIZE = 256
@@ -206,7 +207,7 @@ def _fault(answer: Answer) -> Exception:
     if answer.code == NO_MEMORY:
         return MemoryError("the library is out of memory")
     if answer.code == TM_RANGE:
-        return TimeFault(f"the {TM_FIELDS[answer.n - 1]} of the time is out of its range")
+        return TimeError(f"the {TM_FIELDS[answer.n - 1]} of the time is out of its range")
     return LocaleError(f"the library answered {answer.code}, {answer.n}")
 
 
@@ -225,7 +226,7 @@ def _text(call: Callable, *arguments, size: int = _FIRST_SIZE) -> bytes:
 _PART_FAULTS = {
     TOO_MANY: ("TooMany", "a library has at most 4096 charmaps, 4096 locales and 4096 message catalogs"),
     TOO_LONG: ("TooLong", "a source has less than 2^31 bytes, and all sources less than 2^31 lines"),
-    BAD_NAME: ("BadName", "a name has 1 to 64 letters, digits, `_`, `.`, `-` and `@`, and is neither C nor POSIX"),
+    BAD_NAME: ("BadName", NAME_RULE),
     NAME_TWICE: ("NameTwice", "a name is given once"),
     NO_CHARMAP: ("NoCharmap", "a charset is `UTF-8`, `POSIX` or a charmap that is given"),
 }
@@ -238,9 +239,9 @@ def _refused(answer: Answer, fault: Fault, message: bytes, sources: Sequence[Sou
         source = sources[fault.part]
         reason, _, rule = message.decode("utf-8", "replace").partition(": ")
         line = source.text[fault.start : fault.start + fault.length].decode("utf-8", "replace")
-        return SourceFault(source.file, fault.line, fault.column, reason, rule, line)
+        return SourceError(source.file, fault.line, fault.column, reason, rule, line)
     if answer.code in _PART_FAULTS:
-        return SourceFault(sources[fault.part].file, 0, 0, *_PART_FAULTS[answer.code])
+        return SourceError(sources[fault.part].file, 0, 0, *_PART_FAULTS[answer.code])
     return _fault(answer)
 
 
@@ -284,7 +285,7 @@ class Handle:
         at = c_void_p()
         answer = _C.lobj_join(self._at, other._at, byref(at))
         if answer.code == TOO_MANY:
-            raise ValueError("both libraries have more than 4096 locales together")
+            raise SourceError("the joined library", 0, 0, *_PART_FAULTS[TOO_MANY])
         if answer.code != OK:
             raise _fault(answer)
         return Handle(at)

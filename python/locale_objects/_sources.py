@@ -5,11 +5,12 @@ from __future__ import annotations
 import os
 import re
 import subprocess
-from typing import Iterable, NamedTuple
+from typing import Iterable, NamedTuple, Union
 
-from ._faults import ImportFault, LibraryMissing
+from ._faults import LibraryMissingError, SourceError, SystemSourceError
 
 NAME = re.compile(r"[A-Za-z0-9_.@-]{1,64}\Z")
+BAD_NAME = "a name has 1 to 64 letters, digits, `_`, `.`, `-` and `@`, and is neither C nor POSIX"
 
 
 CHARMAP, LOCALE, CATALOG = range(3)
@@ -29,15 +30,27 @@ class Source(NamedTuple):
 
 
 def named(name: str, kind: str) -> str:
-    """A name that a block may have."""
+    """A name that a source may have."""
+    if not isinstance(name, str):
+        raise TypeError(f"the name of a {kind} is a str, and not a {type(name).__name__}")
     if not NAME.match(name) or name in ("C", "POSIX"):
-        raise ValueError(f"{name!r} is no name of a {kind}: 1 to 64 letters, digits, '_', '.', '-' and '@', and neither C nor POSIX")
+        raise SourceError(repr(name), 0, 0, "BadName", f"{BAD_NAME} (it is to be the name of a {kind})")
     return name
 
 
-def as_bytes(text) -> bytes:
-    """The bytes of a source."""
-    return text.encode("utf-8", "surrogateescape") if isinstance(text, str) else bytes(text)
+def as_bytes(text: Union[str, bytes, bytearray, memoryview], name: str) -> bytes:
+    """The bytes of a source with a name."""
+    if isinstance(text, (bytes, bytearray, memoryview)):
+        return bytes(text)
+    if not isinstance(text, str):
+        raise TypeError(f"a source is a str or bytes, and not a {type(text).__name__}")
+    try:
+        return text.encode("utf-8", "surrogateescape")
+    except UnicodeEncodeError as fault:
+        before = text[: fault.start]
+        line = before.count("\n") + 1
+        column = len(before.rpartition("\n")[2].encode("utf-8", "surrogateescape")) + 1
+        raise SourceError(name, line, column, "UnknownCharacter", "a lone surrogate is no character") from None
 
 
 def imported(name: str, tool: str, folders: Iterable[str]) -> bytes:
@@ -46,14 +59,16 @@ def imported(name: str, tool: str, folders: Iterable[str]) -> bytes:
     try:
         ran = subprocess.run(words, stdin=subprocess.DEVNULL, capture_output=True, check=False)
     except FileNotFoundError as missing:
-        raise LibraryMissing(
+        raise LibraryMissingError(
             f"{tool} is not installed: ./install puts it in PREFIX/bin; LOCALE_TOOL names another one"
         ) from missing
+    except OSError as fault:
+        raise LibraryMissingError(f"{tool} cannot be run: {fault}; LOCALE_TOOL names another one") from fault
     if ran.returncode:
-        raise ImportFault(ran.stderr.decode("utf-8", "replace").strip() or f"{tool} import {name} ended with {ran.returncode}")
+        raise SystemSourceError(ran.stderr.decode("utf-8", "replace").strip() or f"{tool} import {name} ended with {ran.returncode}")
     return ran.stdout
 
 
-def name_of_file(path) -> str:
+def name_of_file(path: Union[str, "os.PathLike[str]"]) -> str:
     """The name of the locale in a file: that of the file without its folder."""
     return os.path.basename(os.fspath(path))

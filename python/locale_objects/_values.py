@@ -9,7 +9,7 @@ from decimal import Decimal
 from operator import index
 from typing import Any, NamedTuple, Optional, Tuple, Union
 
-from ._faults import AmountFault, TimeFault
+from ._faults import AmountError, TimeError
 
 Amount = Union[Decimal, int]
 Moment = Union[datetime.datetime, datetime.date, time.struct_time]
@@ -71,13 +71,13 @@ def _checked_parts(amount: Amount) -> Tuple[int, int]:
     else:
         raise TypeError(f"an amount is a Decimal or an int, and not a {type(amount).__name__}")
     if not LEAST <= units <= MOST:
-        raise AmountFault(f"{shown(amount)} does not fit 64 bits: {DIGITS_FIT}")
+        raise AmountError(f"{shown(amount)} does not fit 64 bits: {DIGITS_FIT}")
     return units, scale
 
 
 def _decimal_parts(amount: Decimal) -> Tuple[int, int]:
     if not amount.is_finite():
-        raise AmountFault(f"{shown(amount)} is no amount: it is not finite")
+        raise AmountError(f"{shown(amount)} is no amount: it is not finite")
     sign, given, exponent = amount.as_tuple()
     digits = "".join(map(str, given)).lstrip("0")
     if not digits:
@@ -85,16 +85,19 @@ def _decimal_parts(amount: Decimal) -> Tuple[int, int]:
     zeros = min(len(digits) - len(digits.rstrip("0")), max(-exponent - MOST_SCALE, 0))
     digits, exponent = digits[: len(digits) - zeros], exponent + zeros
     if -exponent > MOST_SCALE:
-        raise AmountFault(f"{shown(amount)} has {-exponent} fraction digits: at most {MOST_SCALE} can be told")
+        raise AmountError(f"{shown(amount)} has {-exponent} fraction digits: at most {MOST_SCALE} can be told")
     if len(digits) + max(exponent, 0) > MOST_DIGITS:
-        raise AmountFault(f"{shown(amount)} does not fit 64 bits: {DIGITS_FIT}")
+        raise AmountError(f"{shown(amount)} does not fit 64 bits: {DIGITS_FIT}")
     units = int(digits) * 10 ** max(exponent, 0)
     return -units if sign else units, max(-exponent, 0)
 
 
 def _minutes(seconds: float) -> int:
     """Seconds east of UTC as whole minutes, towards UTC."""
-    return int(seconds / 60)
+    try:
+        return int(seconds / 60)
+    except (OverflowError, ValueError):
+        raise TimeError("the offset of the time is out of its range") from None
 
 
 def put_time(when: Moment, into: Any) -> str:
@@ -119,7 +122,7 @@ def put_time(when: Moment, into: Any) -> str:
     fields, zone = _time_fields(when)
     for number, field in enumerate(fields):
         if not LEAST_FIELD <= index(field) <= MOST_FIELD:
-            raise TimeFault(f"the {TM_FIELDS[number - (number > 8)]} of the time is out of its range")
+            raise TimeError(f"the {TM_FIELDS[number - (number > 8)]} of the time is out of its range")
     _pack(into, 0, *fields)
     return zone
 
@@ -165,15 +168,21 @@ class ParsedTime(NamedTuple):
     def date(self) -> datetime.date:
         """The date, where the text tells one: by year, month and day, or by year and day of the year."""
         if self.year is None:
-            raise TimeFault("the text tells no year")
-        if self.month is not None and self.day is not None:
-            return datetime.date(self.year, self.month, self.day)
-        if self.day_of_year is not None:
-            return datetime.date(self.year, 1, 1) + datetime.timedelta(days=self.day_of_year - 1)
-        raise TimeFault("the text tells no date")
+            raise TimeError("the text tells no year")
+        try:
+            if self.month is not None and self.day is not None:
+                return datetime.date(self.year, self.month, self.day)
+            if self.day_of_year is not None:
+                day = datetime.date(self.year, 1, 1) + datetime.timedelta(days=self.day_of_year - 1)
+                if day.year != self.year:
+                    raise ValueError("the year has no such day")
+                return day
+        except (OverflowError, ValueError) as fault:
+            raise TimeError(f"the text tells no date that there is: {fault}") from None
+        raise TimeError("the text tells no date")
 
     def datetime(self) -> datetime.datetime:
         """The date with the time of day, in which what is not told is 0."""
         if self.second == 60:
-            raise TimeFault("a datetime has no leap second")
+            raise TimeError("a datetime has no leap second")
         return datetime.datetime.combine(self.date(), datetime.time(self.hour or 0, self.minute or 0, self.second or 0))

@@ -1,5 +1,6 @@
 """Tests of the package over the built library: `tests/python/run` says where it is."""
 
+import copy
 import ctypes.util
 import datetime
 import gc
@@ -18,9 +19,10 @@ import time
 import unittest
 from decimal import Decimal
 
+import locale_objects
 from locale_objects import (
-    AmountFault, FormatFault, Library, LibraryMissing, NumberFault, SourceFault, TimeFault, UnknownLocale, UnknownName,
-    __version__, _native, _quick,
+    AmountError, FormatError, Library, LibraryMissingError, LocaleError, NumberError, SourceError, SystemSourceError, TextError,
+    TimeError, UnknownLocaleError, UnknownNameError, __version__, _native, _quick,
 )
 
 US = """LC_CTYPE
@@ -197,7 +199,7 @@ class Texts(unittest.TestCase):
         self.assertEqual(self.us.read_number("1,234,567"), 1234567)
         self.assertEqual(self.de.read_number("-1.234.567"), -1234567)
         for wrong in ("", "1.234.567", "1234567", "-0", "01", " 1", "1 ", "+1", "1,23", "9,223,372,036,854,775,808", "x", "\ud800"):
-            with self.subTest(text=wrong), self.assertRaises(NumberFault):
+            with self.subTest(text=wrong), self.assertRaises(NumberError):
                 self.us.read_number(wrong)
 
     def test_items(self):
@@ -264,7 +266,7 @@ class Values(unittest.TestCase):
         self.assertEqual((mixed.name("monetary"), mixed.name("time")), ("de", "us"))
         self.assertEqual(library.locale(mixed.name()), mixed)
         self.assertIn("<Locale us of", repr(library.locale("us")))
-        with self.assertRaises(UnknownName):
+        with self.assertRaises(UnknownNameError):
             mixed.name("collate")
 
     def test_catalogs(self):
@@ -283,7 +285,7 @@ class Values(unittest.TestCase):
         self.assertEqual(library.locale().catalog("greetings").get(1, 1), "hello")
         for set, number in ((0, 0), (256, 1), (1, 1 << 40), (-1, 1)):
             self.assertEqual(us.get(set, number, "none"), "none")
-        with self.assertRaises(UnknownName):
+        with self.assertRaises(UnknownNameError):
             library.locale("de").catalog("farewells")
         with self.assertRaises(TypeError):
             us.get("1", 1)
@@ -297,7 +299,7 @@ class Values(unittest.TestCase):
         self.assertEqual([both.locale(it).money(1) for it in both.names], ["$1.00", "$1.00", "1,00 €"])
         self.assertEqual(both.locale("us").catalog("greetings").get(1, 1), "Hello")
         self.assertEqual(first.locale("shop").money(1), "1,00 €")
-        with self.assertRaises(UnknownLocale):
+        with self.assertRaises(UnknownLocaleError):
             first.locale("de")
         del first, second
         gc.collect()
@@ -321,7 +323,7 @@ class Faults(unittest.TestCase):
         self.us = self.library.locale("us")
 
     def test_source(self):
-        with self.assertRaises(SourceFault) as met:
+        with self.assertRaises(SourceError) as met:
             Library.from_texts({"us": US, "xx": "LC_NUMERIC\ngrouping 3\ndecimal_point \"\"\nEND LC_NUMERIC\n"})
         fault = met.exception
         self.assertEqual((fault.file, fault.line, fault.column, fault.reason), ("xx", 3, 15, "EmptyRadix"))
@@ -329,24 +331,24 @@ class Faults(unittest.TestCase):
         self.assertEqual((again.file, again.line), ("xx", 3))
 
     def test_unknown(self):
-        with self.assertRaises(UnknownLocale):
+        with self.assertRaises(UnknownLocaleError):
             self.library.locale("fr")
-        with self.assertRaises(UnknownName):
+        with self.assertRaises(UnknownNameError):
             self.us.item("D_D_FMT")
-        with self.assertRaises(UnknownName):
+        with self.assertRaises(UnknownNameError):
             self.us.is_class("q", "vowel")
         with self.assertRaises(TypeError):
             self.library.locale("us", collate="de")
 
     def test_formats(self):
-        with self.assertRaises(FormatFault) as met:
+        with self.assertRaises(FormatError) as met:
             self.us.money(1, format="äö %n %q")
         self.assertEqual(met.exception.at, 6)
-        with self.assertRaises(FormatFault):
+        with self.assertRaises(FormatError):
             self.us.money(format="%n")
-        with self.assertRaises(FormatFault):
+        with self.assertRaises(FormatError):
             self.us.time(MOMENT, "%Q")
-        with self.assertRaises(TimeFault):
+        with self.assertRaises(TimeError):
             self.us.parse_time("x", "%d")
 
     def test_amounts(self):
@@ -357,10 +359,10 @@ class Faults(unittest.TestCase):
             "NaN", "sNaN", "-Infinity", "Infinity", "1E+30", "1E-19", "9223372036854775808", "-9223372036854775809", "1E+999999999999999",
             "0.1234567890123456789", "1E-999999999999999", many, f"0.{many}",
         ):
-            with self.subTest(amount=wrong[:30]), self.assertRaises(AmountFault):
+            with self.subTest(amount=wrong[:30]), self.assertRaises(AmountError):
                 self.us.money(Decimal(wrong))
         for wrong in (2**63, -(2**63) - 1, 10**5000):
-            with self.assertRaises(AmountFault):
+            with self.assertRaises(AmountError):
                 self.us.money(wrong)
         rows = [
             ("9223372036854775807", "$9,223,372,036,854,775,807.00"), ("-9223372036854775808", "-$9,223,372,036,854,775,808.00"),
@@ -372,7 +374,7 @@ class Faults(unittest.TestCase):
         with self.assertRaises(TypeError):
             self.us.money("1")
         for wrong in (2**63, -(2**63) - 1, 10**5000):
-            with self.assertRaises(OverflowError):
+            with self.assertRaises(NumberError):
                 self.us.number(wrong)
         for wrong in (True, 1.0, "1", None):
             with self.assertRaises(TypeError):
@@ -381,7 +383,7 @@ class Faults(unittest.TestCase):
     def test_times(self):
         fields = list(MOMENT.timetuple())
         for at, wrong in ((0, 10000), (0, 2**32 + 2026), (1, 13), (2, 0), (3, 24), (5, 61), (7, 367), (7, -(2**40))):
-            with self.subTest(field=at), self.assertRaises(TimeFault):
+            with self.subTest(field=at), self.assertRaises(TimeError):
                 self.us.time(time.struct_time((*fields[:at], wrong, *fields[at + 1:])))
         for wrong in (0, "2026", None, datetime.time(1)):
             with self.assertRaises(TypeError):
@@ -393,9 +395,72 @@ class Faults(unittest.TestCase):
         for call in (
             lambda: self.us.money(1, format=b"%n"), lambda: self.us.time(MOMENT, 5), lambda: self.us.number(1, format=None),
             lambda: self.us.read_number(b"1"), lambda: self.us.parse_time(b"1", "%d"), lambda: self.library.locale(5),
+            lambda: Library.from_texts({"us": 5}), lambda: Library.from_texts({5: US}), lambda: Library([US]), lambda: Library(5),
+            lambda: self.library.locale("us", base=5), lambda: self.library.joined("us"), lambda: self.us.item(5),
+            lambda: self.us.name(5), lambda: self.us.is_class("a", 5), lambda: self.us.is_class(5, "alpha"), lambda: self.us.upper(5),
+            lambda: self.us.lower(b"A"), lambda: self.us.catalog(5), lambda: self.us.money([1]), lambda: self.us.time("now"),
         ):
             with self.assertRaises(TypeError):
                 call()
+
+    def test_lone_surrogates(self):
+        """Each text with a character that is none has the fault of what it was to be."""
+        wrong = "a\ud800b"
+        for kind, call in (
+            (UnknownLocaleError, lambda: self.library.locale(wrong)), (UnknownNameError, lambda: self.us.item(wrong)),
+            (UnknownNameError, lambda: self.us.is_class("a", wrong)), (UnknownNameError, lambda: self.us.catalog(wrong)),
+            (FormatError, lambda: self.us.money(1, format=wrong)), (FormatError, lambda: self.us.number(1, format=wrong)),
+            (FormatError, lambda: self.us.time(MOMENT, wrong)), (FormatError, lambda: self.us.parse_time("1", wrong)),
+            (TextError, lambda: self.us.parse_time(wrong, "%d")), (NumberError, lambda: self.us.read_number(wrong)),
+            (SourceError, lambda: Library.from_texts({"us": "LC_TIME\n" + wrong})), (SourceError, lambda: Library.from_texts({wrong: US})),
+            (TimeError, lambda: self.us.time(MOMENT.replace(tzinfo=datetime.timezone(datetime.timedelta(0), wrong)))),
+            (TextError, lambda: self.us.is_class("ab", "alpha")), (TextError, lambda: self.us.is_class("", "alpha")),
+        ):
+            with self.subTest(kind=kind), self.assertRaises(kind) as met:
+                call()
+            self.assertIsInstance(met.exception, LocaleError)
+        with self.assertRaises(FormatError) as met:
+            self.us.time(MOMENT, wrong)
+        self.assertEqual(met.exception.at, 1)
+        with self.assertRaises(SourceError) as met:
+            Library.from_texts({"us": "LC_TIME\nä" + wrong})
+        self.assertEqual((met.exception.line, met.exception.column), (2, 4))
+        self.assertEqual(self.us.upper(wrong), "A\ud800B")
+
+    def test_dates_that_are_none(self):
+        for text, format in (
+            ("366 2026", "%j %Y"), ("30 2 2026", "%d %m %Y"), ("29 2 2026", "%d %m %Y"), ("1 1 0000", "%d %m %Y"), ("14", "%d"),
+            ("2026", "%Y"),
+        ):
+            with self.subTest(text=text), self.assertRaises(TimeError):
+                self.us.parse_time(text, format).date()
+        self.assertEqual(self.us.parse_time("366 2024", "%j %Y").date(), datetime.date(2024, 12, 31))
+        with self.assertRaises(TimeError):
+            self.us.time(time.struct_time(MOMENT.timetuple(), {"tm_zone": "X", "tm_gmtoff": float("inf")}))
+
+    def test_of_others(self):
+        with self.assertRaises(UnknownLocaleError):
+            self.library.locale("us", base=made().locale("us"))
+        many = Library.from_texts({f"x{n}": "" for n in range(2500)})
+        with self.assertRaises(SourceError) as met:
+            many.joined(many)
+        self.assertEqual(met.exception.reason, "TooMany")
+
+    def test_tools(self):
+        with tempfile.TemporaryDirectory() as folder:
+            for tool in (os.path.join(folder, "none"), folder):
+                with self.subTest(tool=tool), self.assertRaises(LibraryMissingError):
+                    Library.from_system("de_DE", tool=tool)
+        with self.assertRaises(SystemSourceError):
+            Library.from_system("de_DE", tool="false")
+
+    def test_former_names(self):
+        for former, name in (
+            ("SourceFault", "SourceError"), ("UnknownLocale", "UnknownLocaleError"), ("FormatFault", "FormatError"),
+            ("AmountFault", "AmountError"), ("NumberFault", "NumberError"), ("TimeFault", "TimeError"),
+            ("UnknownName", "UnknownNameError"), ("ImportFault", "SystemSourceError"), ("LibraryMissing", "LibraryMissingError"),
+        ):
+            self.assertIs(getattr(locale_objects, former), getattr(locale_objects, name))
 
     def test_version(self):
         class Other:
@@ -406,22 +471,27 @@ class Faults(unittest.TestCase):
             Other.lobj_version = lambda number=number: number
             _native._check_version(Other, "other.so")
         Other.lobj_version = lambda: 100 * major + 203
-        with self.assertRaisesRegex(LibraryMissing, f"other.so is version {major + 2}.3 of the library"):
+        with self.assertRaisesRegex(LibraryMissingError, f"other.so is version {major + 2}.3 of the library"):
             _native._check_version(Other, "other.so")
         libc = ctypes.util.find_library("c") or "libc.so.6"
-        ran = subprocess.run(
-            [sys.executable, "-c", "import locale_objects"], env={**os.environ, "LOCALE_OBJECTS_LIBRARY": libc},
-            capture_output=True, text=True,
-        )
-        self.assertIn("does not tell its version", ran.stderr)
+        program = "from locale_objects import LibraryMissingError\ntry:\n    from locale_objects import Library\nexcept ImportError as fault:\n"
+        program += "    assert isinstance(fault, LibraryMissingError)\n    print(fault)\n"
+        for path, told in ((libc, "does not tell its version"), ("/nowhere/at_all.so", "cannot be loaded")):
+            ran = subprocess.run(
+                [sys.executable, "-c", program], env={**os.environ, "LOCALE_OBJECTS_LIBRARY": path}, capture_output=True, text=True,
+            )
+            self.assertIn(told, ran.stdout, ran.stderr)
 
     def test_names(self):
-        for wrong in ("", "C", "POSIX", "a b", "x" * 65):
-            with self.subTest(name=wrong), self.assertRaises(ValueError):
+        for wrong in ("", "C", "POSIX", "a b", "x" * 65, "\ud800"):
+            with self.subTest(name=wrong), self.assertRaises(SourceError) as met:
                 Library.from_texts({wrong: US})
+            self.assertEqual((met.exception.line, met.exception.reason), (0, "BadName"))
+        with self.assertRaises(UnknownLocaleError):
+            Library.from_texts({"us": US}, charsets={"de": "UTF-8"})
 
     def test_sources_as_such(self):
-        with self.assertRaises(SourceFault) as met:
+        with self.assertRaises(SourceError) as met:
             Library.from_texts({"us": US}, charsets={"us": "LATIN"})
         fault = met.exception
         self.assertEqual((fault.file, fault.line, fault.column, fault.reason), ("us", 0, 0, "NoCharmap"))
@@ -431,12 +501,12 @@ class Faults(unittest.TestCase):
                 os.mkdir(os.path.join(folder, part))
                 with open(os.path.join(folder, part, "us"), "w", encoding="utf-8") as it:
                     it.write(US)
-            with self.assertRaises(SourceFault) as met:
+            with self.assertRaises(SourceError) as met:
                 Library.from_files(os.path.join(folder, "a", "us"), os.path.join(folder, "b", "us"))
         self.assertEqual((met.exception.file, met.exception.reason), (os.path.join(folder, "b", "us"), "NameTwice"))
 
     def test_catalogs(self):
-        with self.assertRaises(SourceFault) as met:
+        with self.assertRaises(SourceError) as met:
             Library.from_texts({"us": US}, catalogs={("greetings", "us"): "$set 1\n1 Hello\n1x Again\n"})
         fault = met.exception
         self.assertEqual((fault.file, fault.line, fault.reason, fault.text), ("greetings", 3, "BadMessage", "1x Again"))
@@ -447,6 +517,130 @@ def in_child(amount: int) -> str:
 
 
 KEPT = made().locale("us")
+
+
+MISUSE = r"""
+import gc, itertools
+from locale_objects import Catalog, Library, Locale
+
+TEXT = 'LC_NUMERIC\ndecimal_point ","\nEND LC_NUMERIC\n' + "".join(
+    f"LC_{it}\nEND LC_{it}\n" for it in ("CTYPE", "MONETARY", "TIME", "MESSAGES")
+)
+JUNK = (None, 5, "x", b"x", [], object())
+
+
+def used(locale, catalog):
+    for _ in range(3):
+        gc.collect()
+        assert locale.money(5) and locale.number(7) == "7" and locale.item("RADIXCHAR") == ",", locale
+        assert catalog.get(1, 1) == "Hello", catalog
+
+
+def attempt(call):
+    try:
+        call()
+        return True
+    except (TypeError, ValueError, AttributeError, LookupError, NotImplementedError):
+        return False
+
+
+def made():
+    library = Library.from_texts({"us": TEXT}, catalogs={("hello", "us"): "1 Hello\n"})
+    locale = library.locale("us")
+    return {"library": library, "locale": locale, "catalog": locale.catalog("hello")}
+
+
+attempts = changed = 0
+for which, kind in (("library", Library), ("locale", Locale), ("catalog", Catalog)):
+    names = [it for it in dir(kind) if not it.startswith("_")] + ["__class__", "__dict__", "__weakref__", "__doc__", "__slots__"]
+    for name, value in itertools.product(names, (*JUNK, "other")):
+        of = made()
+        one = of.pop(which)
+        other = made()[which] if value == "other" else value
+        attempts += 1
+        changed += attempt(lambda: setattr(one, name, other)) + attempt(lambda: delattr(one, name))
+        locale, catalog = of.get("locale", one), of.get("catalog", one)
+        of = one = other = None
+        used(locale, catalog)
+    for words in ((), ([],), (None,), (5,), ("us",), (made()["library"],), (made()["library"], 5), (made()["library"], "us", 5)):
+        of = made()
+        one = of.pop(which)
+        attempts += 1
+        changed += attempt(lambda: one.__init__(*words))
+        for state in (None, {"library": None}, (None, {"library": None})):
+            changed += attempt(lambda: one.__setstate__(state))
+        empty = kind.__new__(kind)
+        for call in ("money", "number", "time", "item", "get", "locale", "names", "upper", "conv", "joined", "__repr__", "__hash__"):
+            attempt(lambda: getattr(empty, call)(*words))
+        del empty
+        attempt(lambda: kind(*words))
+        locale, catalog = of.get("locale", one), of.get("catalog", one)
+        of = one = None
+        used(locale, catalog)
+assert not changed, changed
+print(attempts)
+"""
+"""What a program may do with what is public of a library, a locale and a catalog; it ends in order."""
+
+
+class Misuse(unittest.TestCase):
+    """Nothing that is public can be changed, and no use of it ends the process."""
+
+    def test_attributes(self):
+        ran = subprocess.run(
+            [sys.executable, "-c", MISUSE], capture_output=True, text=True,
+            env={**os.environ, "PYTHONMALLOC": "debug", "MALLOC_PERTURB_": "165"},
+        )
+        self.assertEqual(ran.returncode, 0, ran.stderr)
+        self.assertGreater(int(ran.stdout), 200)
+
+    def test_made_once(self):
+        library = made()
+        us = library.locale("us")
+        for call in (lambda: library.__init__([]), lambda: us.__init__(), lambda: locale_objects.Locale(), lambda: locale_objects.Catalog()):
+            with self.assertRaises(TypeError):
+                call()
+        with self.assertRaises(AttributeError):
+            us.library = None
+        gc.collect()
+        self.assertEqual(us.money(5), "$5.00")
+
+    def test_copies(self):
+        library = Library.from_texts({"us": US, "de": DE}, catalogs={("greetings", "us"): "1 Hello\n"})
+        mixed = library.locale("us", monetary="de")
+        catalog = mixed.catalog("greetings")
+        for it in (library, mixed, catalog):
+            self.assertIs(copy.copy(it), it)
+            self.assertIs(copy.deepcopy({"kept": [it]})["kept"][0], it)
+        for protocol in range(pickle.HIGHEST_PROTOCOL + 1):
+            others, other, messages = pickle.loads(pickle.dumps((library, mixed, catalog), protocol))
+            self.assertIs(other.library, others)
+            self.assertEqual((others.names, other.name(), other.money(1)), (library.names, mixed.name(), "1,00 €"))
+            self.assertEqual((messages.name, messages.get(1, 1)), ("greetings", "Hello"))
+            self.assertEqual(others.locale("us", monetary="de"), other)
+
+    def test_pickled_joins(self):
+        first, second = Library.from_texts({"us": US, "shop": DE}), Library.from_texts({"de": DE, "shop": US})
+        both = first.joined(second).joined(Library.from_texts({"us": DE}))
+        former = first.joined(second).locale("us")
+        again, shop = pickle.loads(pickle.dumps((both, both.locale("shop"))))
+        self.assertEqual((again.names, again.locale("us").money(1), shop.money(1)), (both.names, "1,00 €", "$1.00"))
+        self.assertEqual(pickle.loads(pickle.dumps(former)).money(1), "$1.00")
+
+    def test_spawned(self):
+        """A pool of processes that are begun anew is given locales."""
+        with multiprocessing.get_context("spawn").Pool(2) as pool:
+            self.assertEqual(pool.map(made().locale("us").money, range(3)), ["$0.00", "$1.00", "$2.00"])
+
+    def test_shown(self):
+        library = Library.from_texts({f"{'x' * 50}{n}": US for n in range(300)})
+        names = library.names
+        locale = library.locale(names[0], monetary=names[1], time=names[2], messages=names[3], numeric=names[4])
+        for it in (library, locale, made(), made().locale("us")):
+            self.assertLessEqual(len(repr(it)), 200)
+        self.assertIn("and 299 more", repr(library))
+        self.assertEqual(repr(made()), "<Library of us, de>")
+        self.assertEqual(repr(made().locale("us")), "<Locale us of <Library of us, de>>")
 
 
 class Threads(unittest.TestCase):
