@@ -2,7 +2,7 @@
 use Rattle.std.proofs.Common.{◌≡◌, ◌++◌, refl}
 use Rattle.std.specs.Prelude.{codes}
 use Rattle.std.specs.Fmt.{digits}
-use Rattle.bundle_maker.specs.declared.text.TheConstants.{MOST_COMMANDS}
+use Rattle.bundle_maker.specs.Limits.{MOST_COMMANDS}
 use Rattle.bundle_maker.specs.Generated.{locales_text, next_number, number_behind, drawn_command, command_line, commands_text, generated}
 
 -- ---- numbers

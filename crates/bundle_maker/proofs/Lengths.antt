@@ -7,7 +7,7 @@ use Rattle.std.proofs.Math.Nat.{mod-lt, div-le_self}
 use Rattle.std.proofs.lemmas.Fmt.{length-decimal-le}
 use Rattle.std.proofs.lemmas.List.FromFn.{length-range_with_len}
 use Rattle.script_out.specs.Output.{newline}
-use Rattle.bundle_maker.specs.declared.text.TheConstants.{MOST_COMMANDS}
+use Rattle.bundle_maker.specs.Limits.{MOST_COMMANDS}
 use Rattle.bundle_maker.specs.Generated.{us_locale, fr_locale, locales_text, number_behind, two_digits, two_numbers, amount_command, day_command, class_command, commands_with, drawn_command, command_line, own_line, commands_text, thread_text, generated}
 
 -- ---- commands

@@ -1,7 +1,7 @@
 //! The text of a made bundle.
 
 ghost use Rattle.std.specs.Prelude.{◌≡◌, ◌+◌, ◌*◌, ◌≤◌, ◌++◌, length, IfOk, OnOk};
-ghost use Rattle.bundle_maker.specs.declared.text.TheConstants.{MOST_COMMANDS};
+ghost use Rattle.bundle_maker.specs.Limits.{MOST_COMMANDS};
 ghost use Rattle.bundle_maker.specs.Generated.{next_number, own_line, commands_text, thread_text, generated};
 
 use crate::commands::push_command;

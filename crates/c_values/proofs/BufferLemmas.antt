@@ -9,7 +9,7 @@ use Rattle.text_buffer.specs.declared.unwritten.Unwritten.{Unwritten}
 use Rattle.text_buffer.specs.declared.unwritten.Unwritten.TheVariants.{Refused, TooSmall}
 use Rattle.text_buffer.specs.Written.{Written}
 use Rattle.text_buffer.proofs.WrittenLemmas.{IsThere, is_there, is_refused, IsTooLong, is_too_long}
-use Rattle.c_values.specs.declared.answer.TheConstants.{OK, TOO_SMALL}
+use Rattle.c_values.specs.Codes.{OK, TOO_SMALL}
 use Rattle.c_values.specs.Answers.{answered, size_told, filled, told, closed, refusal_told, text_told}
 
 -- what stands from a place on, once a byte is written there

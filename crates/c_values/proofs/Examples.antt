@@ -8,7 +8,7 @@ use Rattle.shared_objects.specs.declared.locale.LocaleParts.{LocaleParts}
 use Rattle.shared_objects.specs.Shared.{Shared, MarkedLibraryData}
 use Rattle.shared_objects.specs.Objects.{first_object}
 use Rattle.shared_objects.specs.Locales.{posix_of}
-use Rattle.c_values.specs.declared.answer.TheConstants.{OK, NO_LOCALE, BAD_MASK, NO_DATA, TOO_SMALL, BAD_FORMAT, MISSING, BAD_AMOUNT, TM_RANGE, NO_ITEM, NO_CLASS, MISMATCH}
+use Rattle.c_values.specs.Codes.{OK, NO_LOCALE, BAD_MASK, NO_DATA, TOO_SMALL, BAD_FORMAT, MISSING, BAD_AMOUNT, TM_RANGE, NO_ITEM, NO_CLASS, MISMATCH}
 use Rattle.c_values.specs.declared.times.LobjTm.{LobjTm}
 use Rattle.c_values.specs.declared.parsed.LobjParsed.{LobjParsed}
 use Rattle.c_values.specs.Items.{item_of}
@@ -18,7 +18,7 @@ use Rattle.c_values.specs.Answers.{answered, told, joint_name, category_with, co
 
 -- a library without locales, and its POSIX object
 abbrev marked : MarkedLibraryData
-marked = record { library = record { locales = []; names = []; first = []; keys = []; native = 0 }; books = []; mark = 9 }
+marked = record { library = record { locales = []; names = []; first = []; keys = []; native = None }; books = []; mark = 9 }
 
 abbrev posix : Shared
 posix = first_object marked.library

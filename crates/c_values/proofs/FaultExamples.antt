@@ -4,7 +4,7 @@ use Rattle.lc_base.specs.declared.place.Place.{Place}
 use Rattle.lc_base.specs.declared.reason.Reason.TheVariants.{EmptyRadix, NoEnd}
 use Rattle.library_parts.specs.declared.fault.Wrong.TheVariants.{NameTwice, Text}
 use Rattle.shared_objects.specs.Shared.{MarkedLibraryData}
-use Rattle.c_values.specs.declared.answer.TheConstants.{OK, BAD_TEXT, NAME_TWICE}
+use Rattle.c_values.specs.Codes.{OK, BAD_TEXT, NAME_TWICE}
 use Rattle.c_values.specs.declared.fault.LobjFault.{LobjFault}
 use Rattle.c_values.specs.Answers.{answered}
 use Rattle.c_values.specs.Faults.{text_fault, part_fault, message_of, message_told, IsWrongTold, IsRead, IsBuilt}
@@ -34,7 +34,7 @@ abbrev sevens : LobjFault
 sevens = record { part = 7; line = 7; column = 7; reason = 7; start = 7; length = 7 }
 
 abbrev marked : MarkedLibraryData
-marked = record { library = record { locales = []; names = []; first = []; keys = []; native = 0 }; books = []; mark = 9 }
+marked = record { library = record { locales = []; names = []; first = []; keys = []; native = None }; books = []; mark = 9 }
 
 -- a library leaves the fault and the buffer as they were
 read_whole : IsRead [] (Ok marked) (answered OK 0) None (Some marked) sevens sevens (codes "x") (codes "x")

@@ -9,7 +9,7 @@ use Rattle.shared_objects.specs.declared.locale.LocaleParts.{LocaleParts}
 use Rattle.shared_objects.specs.Shared.{MarkedLibraryData}
 use Rattle.shared_objects.specs.Locales.{new_locale}
 use Rattle.c_values.specs.declared.answer.LobjAnswer.{LobjAnswer}
-use Rattle.c_values.specs.declared.answer.TheConstants.{BAD_MASK}
+use Rattle.c_values.specs.Codes.{BAD_MASK}
 use Rattle.c_values.specs.Answers.{answered, locale_told, new_told, most}
 
 -- newlocale by a mask whose bits are known

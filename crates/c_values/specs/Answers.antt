@@ -32,7 +32,7 @@ use Rattle.shared_objects.specs.Shared.{Shared, MarkedLibraryData}
 use Rattle.shared_objects.specs.Locales.{new_locale}
 use Rattle.shared_objects.specs.Objects.{ctype_in, numeric_in, monetary_in, time_in, messages_in, name_in, names_in}
 use Rattle.c_values.specs.declared.answer.LobjAnswer.{LobjAnswer}
-use Rattle.c_values.specs.declared.answer.TheConstants.{OK, NO_LOCALE, BAD_MASK, NO_DATA, TOO_SMALL, BAD_FORMAT, MISSING, BAD_AMOUNT, TM_RANGE, NO_ITEM, NO_CLASS, MISMATCH}
+use Rattle.c_values.specs.Codes.{OK, NO_LOCALE, BAD_MASK, NO_DATA, TOO_SMALL, BAD_FORMAT, MISSING, BAD_AMOUNT, TM_RANGE, NO_ITEM, NO_CLASS, MISMATCH}
 use Rattle.c_values.specs.declared.amounts.LobjAmount.{LobjAmount}
 use Rattle.c_values.specs.declared.times.LobjTm.{LobjTm}
 use Rattle.c_values.specs.declared.parsed.LobjParsed.{LobjParsed}

@@ -7,7 +7,7 @@ use Rattle.charset.specs.CodedSet.{is_scalar}
 use Rattle.shared_objects.specs.Shared.{Shared}
 use Rattle.shared_objects.specs.Objects.{ctype_in}
 use Rattle.c_values.specs.declared.answer.LobjAnswer.{LobjAnswer}
-use Rattle.c_values.specs.declared.answer.TheConstants.{NOT_UTF8, BAD_CHARACTER}
+use Rattle.c_values.specs.Codes.{NOT_UTF8, BAD_CHARACTER}
 use Rattle.c_values.specs.declared.cased.Case.{Case}
 use Rattle.c_values.specs.declared.cased.Case.TheVariants.{Upper, Lower}
 use Rattle.c_values.specs.Answers.{refused, told}

@@ -6,7 +6,7 @@ use Rattle.shared_objects.specs.declared.fault.OpenFault.TheVariants.{NoLocale, 
 use Rattle.shared_objects.specs.Shared.{MarkedLibraryData}
 use Rattle.shared_objects.specs.Catalogs.{has_catalog, message_in}
 use Rattle.c_values.specs.declared.answer.LobjAnswer.{LobjAnswer}
-use Rattle.c_values.specs.declared.answer.TheConstants.{OK, NO_LOCALE, NO_CATALOG, NO_MESSAGE}
+use Rattle.c_values.specs.Codes.{OK, NO_LOCALE, NO_CATALOG, NO_MESSAGE}
 use Rattle.c_values.specs.Answers.{answered, refused, told}
 
 -- a catalog that is opened, at the place for it, which stays where there is none

@@ -6,13 +6,14 @@ use Rattle.lc_base.specs.Lines.{is_newline}
 use Rattle.lc_base.specs.Reading.{Reads}
 use Rattle.reason_rules.specs.Words.{reason_text}
 use Rattle.reason_rules.specs.Rows.{row_of}
+use Rattle.reason_rules.specs.Table.{rule_at}
 use Rattle.library_parts.specs.declared.part.LibraryPart.{LibraryPart}
 use Rattle.library_parts.specs.declared.fault.Wrong.{Wrong}
 use Rattle.library_parts.specs.declared.fault.Wrong.TheVariants.{TooLong, BadName, NameTwice, TooMany, NoCharmap, Text}
 use Rattle.library_parts.specs.Told.{Tells}
 use Rattle.shared_objects.specs.Shared.{MarkedLibraryData}
 use Rattle.c_values.specs.declared.answer.LobjAnswer.{LobjAnswer}
-use Rattle.c_values.specs.declared.answer.TheConstants.{OK, TOO_LONG, BAD_TEXT, TOO_MANY, BAD_NAME, NAME_TWICE, NO_CHARMAP}
+use Rattle.c_values.specs.Codes.{OK, TOO_LONG, BAD_TEXT, TOO_MANY, BAD_NAME, NAME_TWICE, NO_CHARMAP}
 use Rattle.c_values.specs.declared.fault.LobjFault.{LobjFault}
 use Rattle.c_values.specs.Answers.{answered, told}
 
@@ -62,10 +63,9 @@ as_refusal put = answered BAD_TEXT put.n
 abbrev pub message_told : List ℕ → List ℕ → LobjAnswer × List ℕ
 message_told buffer message = let put = told buffer message in (as_refusal put.0, put.1)
 
--- a text is refused for a reason: of the answer and the buffer before and after, the message is the reason with a rule
-pub record IsRefused (reason : Reason) (a : LobjAnswer) (old new : List ℕ) : Type 0 where
-  pub rule : List ℕ
-  pub is : (a, new) ≡ message_told old (message_of reason rule)
+-- a text is refused for a reason: of the answer and the buffer before and after, the message is the reason with its rule
+abbrev pub IsRefused : Reason → LobjAnswer → List ℕ → List ℕ → Type 0
+IsRefused reason a old new = (a, new) ≡ message_told old (message_of reason (rule_at (row_of reason)))
 
 -- the fault of a part's text is told: of the answer, the fault after, and the buffer before and after
 abbrev pub IsTextTold : ℕ → List ℕ → Place → Reason → LobjAnswer → LobjFault → List ℕ → List ℕ → Type 0

@@ -4,5 +4,6 @@ pub mod Cased
 pub mod Conv
 pub mod Table
 pub mod Faults
-pub mod Rules
 pub mod Catalogs
+pub mod Limits
+pub mod Codes

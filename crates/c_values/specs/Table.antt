@@ -8,7 +8,7 @@ use Rattle.langinfo.specs.declared.categories.LentCategories.{LentCategories}
 use Rattle.shared_objects.specs.Shared.{Shared}
 use Rattle.shared_objects.specs.Objects.{ctype_in, numeric_in, monetary_in, time_in, messages_in}
 use Rattle.c_values.specs.declared.answer.LobjAnswer.{LobjAnswer}
-use Rattle.c_values.specs.declared.answer.TheConstants.{OK, NO_LOCALE, TOO_SMALL}
+use Rattle.c_values.specs.Codes.{OK, NO_LOCALE, TOO_SMALL}
 use Rattle.c_values.specs.Answers.{answered}
 use Rattle.c_values.specs.Cased.{length_told}
 use Rattle.c_values.specs.Conv.{conv_in}

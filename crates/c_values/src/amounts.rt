@@ -2,7 +2,7 @@
 
 ghost use Rattle.std.specs.Prelude.{◌≡◌, ◌≤◌, length, map, take};
 ghost use Rattle.std.specs.List.{list_all};
-ghost use Rattle.c_values.specs.declared.amounts.TheConstants.{MOST};
+ghost use Rattle.c_values.specs.Limits.{MOST};
 ghost use Rattle.c_values.specs.Answers.{is_scaled, amount_of};
 
 use strfmon::Amount;

@@ -3,7 +3,7 @@
 ghost use Rattle.std.specs.Prelude.{◌≡◌, ◌≤◌, true, length, take};
 ghost use Rattle.std.specs.List.{list_all};
 ghost use Rattle.int_format.specs.Ints.{is_number};
-ghost use Rattle.c_values.specs.declared.amounts.TheConstants.{MOST};
+ghost use Rattle.c_values.specs.Limits.{MOST};
 
 use crate::amounts::MOST;
 

@@ -5,7 +5,7 @@ use Rattle.std.proofs.lemmas.Bool.{lt-ltb, lt-leb}
 use Rattle.lc_base.specs.declared.place.Place.{Place}
 use Rattle.lc_base.specs.declared.reason.Reason.TheVariants.{NameTwice, PortableMoved, OverLimit}
 use Rattle.lc_base.specs.declared.reason.Limit.TheVariants.{Names}
-use Rattle.charset.specs.declared.names.TheConstants.{NAME_LIMIT}
+use Rattle.charset.specs.Limits.{NAME_LIMIT}
 use Rattle.charset.specs.CodedSet.{big_endian}
 use Rattle.charmap_reader.specs.Subject.{Subject}
 use Rattle.charset.specs.Entries.{Entry}

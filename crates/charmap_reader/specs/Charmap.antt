@@ -18,7 +18,7 @@ use Rattle.src_lines.specs.Logical.{ends_head, front}
 use Rattle.src_lines.specs.Pieces.{only_bytes}
 use Rattle.src_lines.specs.Tokens.{tokens}
 use Rattle.src_lines.specs.Fields.{fields}
-use Rattle.charset.specs.declared.names.TheConstants.{NAME_LIMIT}
+use Rattle.charset.specs.Limits.{NAME_LIMIT}
 use Rattle.charset.specs.Portable.{portable_code}
 use Rattle.charset.specs.CodedSet.{CodedSet, listed, big_endian}
 use Rattle.charset.specs.Entries.{Entry, added}

@@ -1,7 +1,7 @@
 -- The names of a charmap as they are kept: fronts, and spans of tails.
 use Rattle.std.specs.Prelude.{◌≡◌, ℕ, ◌+◌, ◌^◌, ◌<◌, ◌≤◌, Bool, true, false, List, [], ◌++◌, length, get_or, map, flat_map, All, Some, None}
 use Rattle.std.specs.List.{range_with_len}
-use Rattle.charset.specs.declared.names.TheConstants.{NAME_LIMIT}
+use Rattle.charset.specs.Limits.{NAME_LIMIT}
 use Rattle.charset.specs.declared.spans.Block.{Block}
 use Rattle.charset.specs.declared.spans.Span.{Span}
 use Rattle.charset.specs.Portable.{Name}

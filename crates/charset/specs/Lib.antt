@@ -12,3 +12,4 @@ pub mod Spans
 pub mod Blocks
 pub mod CharacterNames
 pub mod Listing
+pub mod Limits

@@ -8,7 +8,7 @@ use Rattle.generations.proofs.Says.{free_row_has}
 use Rattle.lc_base.specs.declared.handle.Handle.{Handle}
 use Rattle.lc_base.specs.declared.handle.Named.TheVariants.{Global}
 use Rattle.handle_table.specs.declared.row.Row.{Row}
-use Rattle.lc_base.specs.declared.cells.TheConstants.{CELLS}
+use Rattle.lc_base.specs.Cells.{CELLS}
 use Rattle.handle_table.specs.Entry.{History, Setting}
 use Rattle.handle_table.specs.History.{made, live, holding, pins, free_row, selection, posted, object}
 use Rattle.generations.specs.Grid.{GridData, cell}

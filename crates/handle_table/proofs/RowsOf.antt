@@ -7,7 +7,7 @@ use Rattle.generations.specs.Kind.{nth}
 use Rattle.lc_base.specs.declared.handle.Handle.{Handle}
 use Rattle.lc_base.specs.declared.handle.Named.{Named}
 use Rattle.handle_table.specs.declared.row.Row.{Row}
-use Rattle.handle_table.specs.declared.row.TheConstants.{MAX_THREADS}
+use Rattle.handle_table.specs.Limits.{MAX_THREADS}
 use Rattle.handle_table.specs.Numbers.{object_handles}
 use Rattle.handle_table.specs.Entry.{Free, Use, Hold, Release, End, Entry, History, Setting, names, is_accepted}
 use Rattle.handle_table.specs.History.{makes, live, selection, holding, pins}

@@ -9,8 +9,8 @@ use Rattle.lc_base.specs.declared.handle.Handle.{Handle}
 use Rattle.lc_base.specs.declared.handle.Named.{Named}
 use Rattle.lc_base.specs.declared.handle.Named.TheVariants.{Global}
 use Rattle.handle_table.specs.declared.row.Row.{Row}
-use Rattle.handle_table.specs.declared.row.TheConstants.{MAX_THREADS}
-use Rattle.lc_base.specs.declared.cells.TheConstants.{CELLS}
+use Rattle.handle_table.specs.Limits.{MAX_THREADS}
+use Rattle.lc_base.specs.Cells.{CELLS}
 use Rattle.handle_table.specs.Numbers.{object_handles}
 use Rattle.handle_table.specs.Entry.{History, Setting}
 use Rattle.handle_table.specs.Shelf.{opening_offer, shelf, installs}

@@ -12,3 +12,4 @@ pub mod Lasting
 pub mod Kept
 pub mod Effects
 pub mod Accepted
+pub mod Limits

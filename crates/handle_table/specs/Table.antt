@@ -2,8 +2,8 @@
 use Rattle.std.specs.Prelude.{◌≡◌, ℕ, ◌<◌, ◌≤◌, Bool, false, List, [], ◌∷◌, length, Some}
 use Rattle.mask_compose.specs.Offer.{Offered, AreOnShelf}
 use Rattle.lc_base.specs.declared.handle.Handle.{Handle}
-use Rattle.handle_table.specs.declared.row.TheConstants.{MAX_THREADS}
-use Rattle.lc_base.specs.declared.cells.TheConstants.{CELLS}
+use Rattle.handle_table.specs.Limits.{MAX_THREADS}
+use Rattle.lc_base.specs.Cells.{CELLS}
 use Rattle.handle_table.specs.Entry.{Op, New, Dup, Free, Use, Hold, Release, SetGlobal, Install, Post, Fetch, Pins, End, History, Setting, names}
 use Rattle.handle_table.specs.Shelf.{shelf, installs}
 use Rattle.handle_table.specs.History.{made, makes, live, sets, global, object, selection, holding, pins, free_row, posted}

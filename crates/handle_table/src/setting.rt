@@ -33,7 +33,7 @@ impl<P: Part> Drop for Setting<P> {
 impl<P: Part> Model for Setting<P> {
     ghost use Rattle.std.specs.Prelude.{◌≤◌, length};
     ghost use Rattle.handle_table.specs.Entry.{Setting as SettingData};
-    ghost use Rattle.handle_table.specs.declared.row.TheConstants.{MAX_THREADS};
+    ghost use Rattle.handle_table.specs.Limits.{MAX_THREADS};
 
     ghost Value = { SettingData };
 

@@ -17,3 +17,4 @@ pub mod Cuts
 pub mod Numbers
 pub mod Tables
 pub mod Named
+pub mod Cells

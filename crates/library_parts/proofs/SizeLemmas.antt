@@ -16,7 +16,7 @@ use Rattle.library_parts.specs.declared.part.LibraryPart.{LibraryPart}
 use Rattle.library_parts.specs.declared.part.PartKind.{PartKind}
 use Rattle.library_parts.specs.declared.part.PartKind.TheVariants.{Charmap, Source, Catalog}
 use Rattle.library_parts.specs.declared.seen.Seen.{Seen}
-use Rattle.library_parts.specs.declared.seen.TheConstants.{PART_LIMIT, SIZE_LIMIT}
+use Rattle.library_parts.specs.Limits.{PART_LIMIT, SIZE_LIMIT}
 use Rattle.library_parts.specs.Lines.{line_count}
 use Rattle.library_parts.specs.Parts.{is_named, key, names_in, with_name, is_long, wrong_with, with_part, parts_seen}
 use Rattle.library_parts.specs.Places.{AreSized, behind_part, block, blocks_of, same_kind}

@@ -4,3 +4,4 @@ pub mod Parts
 pub mod Places
 pub mod Books
 pub mod Made
+pub mod Limits

@@ -12,7 +12,7 @@ use Rattle.library_parts.specs.declared.part.LibraryPart.{LibraryPart}
 use Rattle.library_parts.specs.declared.part.PartKind.{PartKind}
 use Rattle.library_parts.specs.declared.part.PartKind.TheVariants.{Charmap, Source, Catalog}
 use Rattle.library_parts.specs.declared.seen.Seen.{Seen}
-use Rattle.library_parts.specs.declared.seen.TheConstants.{PART_LIMIT, SIZE_LIMIT}
+use Rattle.library_parts.specs.Limits.{PART_LIMIT, SIZE_LIMIT}
 use Rattle.library_parts.specs.Lines.{line_count}
 use Rattle.library_parts.specs.Told.{Tells}
 

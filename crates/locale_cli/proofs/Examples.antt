@@ -3,10 +3,10 @@ use Rattle.std.proofs.Common.{◌≡◌, ℕ, length, List, [], ◌∷◌, None,
 use Rattle.std.specs.Prelude.{codes}
 use Rattle.std.specs.Fmt.{decimal}
 use Rattle.std.proofs.lemmas.Fmt.{decimal_digit}
-use Rattle.locale_cli.specs.declared.words.TheConstants.{DEFAULT_ROWS, MOST_ROWS, DEFAULT_GENERATIONS, MOST_GENERATIONS}
+use Rattle.locale_cli.specs.Limits.{DEFAULT_ROWS, MOST_ROWS, DEFAULT_GENERATIONS, MOST_GENERATIONS}
 use Rattle.locale_cli.specs.declared.answer.Status.TheVariants.{Done, TooLarge}
 use Rattle.locale_cli.specs.declared.words.Mode.TheVariants.{Check, Serial, Run}
-use Rattle.locale_cli.specs.declared.top.TheConstants.{INPUT_LIMIT}
+use Rattle.locale_cli.specs.Limits.{INPUT_LIMIT}
 use Rattle.locale_cli.specs.Answer.{counts_line, answer_for, IsAnswer}
 use Rattle.locale_cli.specs.Status.{status_of, due_status}
 use Rattle.locale_cli.specs.Words.{mode_of, with_option, number_up_to}

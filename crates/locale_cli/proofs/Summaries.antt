@@ -11,7 +11,7 @@ use Rattle.script_out.specs.declared.output.OutLine.{OutLine}
 use Rattle.script_plan.specs.Plan.{PlanData}
 use Rattle.script_plan.specs.Serial.{serial_lines, setting}
 use Rattle.bundle_maker.specs.Summary.{is_refused, bytes_of, refused_count, reply_bytes, summary}
-use Rattle.locale_cli.specs.declared.words.TheConstants.{DEFAULT_ROWS, DEFAULT_GENERATIONS}
+use Rattle.locale_cli.specs.Limits.{DEFAULT_ROWS, DEFAULT_GENERATIONS}
 use Rattle.locale_cli.specs.Made.{made_line}
 
 -- a sum over lines does not, where its terms do not

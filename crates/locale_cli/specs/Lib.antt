@@ -5,3 +5,4 @@ pub mod Run
 pub mod Request
 pub mod Made
 pub mod StatusCode
+pub mod Limits

@@ -12,7 +12,7 @@ use Rattle.bundle_maker.specs.Generated.{generated}
 use Rattle.bundle_maker.specs.Summary.{summary}
 use Rattle.locale_cli.specs.declared.answer.Status.{Status}
 use Rattle.locale_cli.specs.declared.answer.Status.TheVariants.{Memory}
-use Rattle.locale_cli.specs.declared.words.TheConstants.{DEFAULT_ROWS, DEFAULT_GENERATIONS}
+use Rattle.locale_cli.specs.Limits.{DEFAULT_ROWS, DEFAULT_GENERATIONS}
 use Rattle.locale_cli.specs.Answer.{text_for, answer_for}
 use Rattle.locale_cli.specs.Run.{SinkStep, Wrote}
 use Rattle.locale_cli.specs.Status.{status_of}

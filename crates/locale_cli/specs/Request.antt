@@ -5,7 +5,7 @@ use Rattle.std.specs.List.{list_all}
 use Rattle.std.specs.Str.{bytes_eq}
 use Rattle.std.specs.Str.Parse.{digits_value}
 use Rattle.script_words.specs.Words.{behind_front}
-use Rattle.bundle_maker.specs.declared.text.TheConstants.{MOST_COMMANDS}
+use Rattle.bundle_maker.specs.Limits.{MOST_COMMANDS}
 use Rattle.locale_cli.specs.declared.request.Recipe.{Recipe}
 use Rattle.locale_cli.specs.declared.request.Request.{Request}
 use Rattle.locale_cli.specs.declared.request.Request.TheVariants.{Read, Make}

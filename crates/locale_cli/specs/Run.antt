@@ -3,7 +3,7 @@ use Rattle.std.specs.Prelude.{◌≡◌, ℕ, ◌+◌, List, Option, ◌⊎◌}
 use Rattle.std.specs.Io.KnownBytes.{Appends}
 use Rattle.lc_base.specs.Faults.{Rose}
 use Rattle.lc_base.specs.Bytes.{CameExactly, CameAtMost, AddsPrefix}
-use Rattle.locale_cli.specs.declared.top.TheConstants.{INPUT_LIMIT}
+use Rattle.locale_cli.specs.Limits.{INPUT_LIMIT}
 use Rattle.locale_cli.specs.declared.answer.Status.{Status}
 use Rattle.locale_cli.specs.declared.answer.Status.TheVariants.{ReadFault, WriteFault, Memory, TooLarge}
 use Rattle.locale_cli.specs.declared.words.Mode.{Mode}

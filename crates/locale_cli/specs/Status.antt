@@ -6,7 +6,7 @@ use Rattle.lc_base.specs.declared.reason.Reason.{Reason}
 use Rattle.lc_base.specs.Bytes.{CameExactly, AddsPrefix}
 use Rattle.lc_base.specs.Reading.{Reads}
 use Rattle.script_plan.specs.declared.plan.Counts.{Counts}
-use Rattle.locale_cli.specs.declared.top.TheConstants.{INPUT_LIMIT}
+use Rattle.locale_cli.specs.Limits.{INPUT_LIMIT}
 use Rattle.locale_cli.specs.declared.answer.Status.{Status}
 use Rattle.locale_cli.specs.declared.answer.Status.TheVariants.{Done, Usage, Refused, ReadFault, WriteFault, Memory, TooLarge}
 use Rattle.locale_cli.specs.declared.words.Mode.{Mode}

@@ -2,8 +2,8 @@
 
 ghost use Rattle.std.specs.Prelude.{◌≡◌, map, IfOk};
 ghost use Rattle.lc_base.specs.Reading.{Gives};
-ghost use Rattle.bundle_maker.specs.declared.text.TheConstants.{MOST_COMMANDS};
-ghost use Rattle.locale_cli.specs.declared.words.TheConstants.{DEFAULT_ROWS, DEFAULT_GENERATIONS};
+ghost use Rattle.bundle_maker.specs.Limits.{MOST_COMMANDS};
+ghost use Rattle.locale_cli.specs.Limits.{DEFAULT_ROWS, DEFAULT_GENERATIONS};
 ghost use Rattle.locale_cli.specs.Answer.{answer_for};
 ghost use Rattle.locale_cli.specs.Made.{made_line, made_text};
 ghost use Rattle.locale_cli.specs.Words.{IsFromOneTo};

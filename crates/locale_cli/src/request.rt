@@ -4,7 +4,7 @@ ghost use Rattle.std.specs.Prelude.{◌≡◌, ◌≤◌, ◌<◌, ◌^◌, true
 ghost use Rattle.std.specs.Char.{is_ascii_digit};
 ghost use Rattle.std.specs.List.{list_all};
 ghost use Rattle.std.specs.Str.Parse.{digits_value};
-ghost use Rattle.bundle_maker.specs.declared.text.TheConstants.{MOST_COMMANDS};
+ghost use Rattle.bundle_maker.specs.Limits.{MOST_COMMANDS};
 ghost use Rattle.locale_cli.specs.Words.{IsFromOneTo};
 ghost use Rattle.locale_cli.specs.Request.{wide_value, wide_number, seed_number, seed_once, no_recipe, with_part, with_parts, recipe_request, make_request, request_of, IsRecipe, IsPossible};
 

@@ -7,7 +7,7 @@ ghost use Rattle.lc_base.specs.Bytes.{CameAtMost, AddsPrefix};
 ghost use Rattle.locale_cli.specs.declared.words.Mode.{Mode};
 ghost use Rattle.locale_cli.specs.declared.words.Mode.TheVariants.{Check};
 ghost use Rattle.locale_cli.specs.declared.request.Request.TheVariants.{Read, Make};
-ghost use Rattle.bundle_maker.specs.declared.text.TheConstants.{MOST_COMMANDS};
+ghost use Rattle.bundle_maker.specs.Limits.{MOST_COMMANDS};
 ghost use Rattle.locale_cli.specs.Words.{IsFromOneTo, IsSized};
 ghost use Rattle.locale_cli.specs.Request.{request_of};
 ghost use Rattle.locale_cli.specs.Made.{made_status, IsMade, IsMadeRefused, IsMadeCut, RanMade};

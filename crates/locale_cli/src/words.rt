@@ -1,7 +1,7 @@
 //! The words of the command line.
 
 ghost use Rattle.std.specs.Prelude.{◌≡◌, IfSome, option_map};
-ghost use Rattle.locale_cli.specs.declared.words.TheConstants.{MOST_ROWS, MOST_GENERATIONS};
+ghost use Rattle.locale_cli.specs.Limits.{MOST_ROWS, MOST_GENERATIONS};
 ghost use Rattle.locale_cli.specs.Words.{is_unpadded, from_one_to, number_up_to, once, none_given, with_option, with_options, sizes, serial_mode, run_mode, check_mode, mode_named, mode_of, IsFromOneTo, AreWithin, IsSized};
 
 use lc_base::{ByteText, decimal_number};

@@ -8,7 +8,7 @@ use Rattle.library_parts.specs.Told.{Tells}
 use Rattle.shared_objects.specs.Parts.{part_of}
 use Rattle.shared_objects.specs.Shared.{MarkedLibraryData}
 use Rattle.c_values.specs.declared.answer.LobjAnswer.{LobjAnswer}
-use Rattle.c_values.specs.declared.answer.TheConstants.{OK, NO_MEMORY, NO_ITEM, TOO_MANY}
+use Rattle.c_values.specs.Codes.{OK, NO_MEMORY, NO_ITEM, TOO_MANY}
 use Rattle.c_values.specs.declared.fault.LobjFault.{LobjFault}
 use Rattle.c_values.specs.Answers.{answered}
 use Rattle.c_values.specs.Faults.{IsRead, IsBuilt}

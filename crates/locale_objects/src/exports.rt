@@ -11,16 +11,17 @@ ghost use Rattle.shared_objects.specs.Catalogs.{opened};
 ghost use Rattle.shared_objects.specs.Joined.{joined};
 ghost use Rattle.shared_objects.specs.Locales.{name_with, posix_of, shared_of, marked_in};
 ghost use Rattle.shared_objects.specs.Parts.{marked_built};
-ghost use Rattle.reason_rules.specs.declared.table.TheConstants.{ROW_COUNT};
-ghost use Rattle.c_values.specs.declared.answer.TheConstants.{NO_ITEM, OK, TOO_LONG, VERSION};
+ghost use Rattle.reason_rules.specs.Limits.{ROW_COUNT};
+ghost use Rattle.reason_rules.specs.Table.{name_at, rule_at};
+ghost use Rattle.c_values.specs.Codes.{NO_ITEM, OK, TOO_LONG};
+ghost use Rattle.c_values.specs.Limits.{VERSION};
 ghost use Rattle.c_values.specs.declared.cased.Case.TheVariants.{Upper, Lower};
 ghost use Rattle.c_values.specs.Cased.{cased_told};
 ghost use Rattle.c_values.specs.Catalogs.{catalog_told, message_by};
 ghost use Rattle.c_values.specs.Conv.{conv_text, lconv_by};
 ghost use Rattle.c_values.specs.Items.{item_of};
-ghost use Rattle.c_values.specs.Rules.{IsTold};
 ghost use Rattle.c_values.specs.Table.{HasTexts, IsTabled};
-ghost use Rattle.c_values.specs.Answers.{answered, of_object, by_object, refused, IsNumberTold, IsReadBack, AreClassesTold, name_told, own_name_told, new_told, number_told, class_told, item_told, conv_told, amounts_told, tm_given, tm_told, numbers_told, scan_by};
+ghost use Rattle.c_values.specs.Answers.{answered, of_object, by_object, refused, IsNumberTold, IsReadBack, AreClassesTold, name_told, own_name_told, new_told, number_told, class_told, item_told, conv_told, amounts_told, tm_given, tm_told, numbers_told, scan_by, told};
 ghost use Rattle.locale_objects.specs.Libraries.{kind_of, IsAddedBehind, IsBegun, IsBuiltUnlessMemory, IsJoinedUnlessMemory, IsReadUnlessMemory};
 
 use crate::builder::Builder;
@@ -152,7 +153,7 @@ pub extern "C" fn lobj_join(
 /// Gives the rule of the reason with a number.
 #[unsafe(no_mangle)]
 pub extern "C" fn lobj_rule(buffer: &mut [u8], reason: u32) -> LobjAnswer
-    ensures there { reason < ROW_COUNT → IsTold result buffer.old buffer.new }
+    ensures there { reason < ROW_COUNT → (result, buffer.new) ≡ told buffer.old (rule_at reason) }
     ensures none { ROW_COUNT ≤ reason → (result, buffer.new) ≡ refused buffer.old NO_ITEM 0 }
 {
     put_rule(buffer, reason)
@@ -161,7 +162,7 @@ pub extern "C" fn lobj_rule(buffer: &mut [u8], reason: u32) -> LobjAnswer
 /// Gives the name of the reason with a number.
 #[unsafe(no_mangle)]
 pub extern "C" fn lobj_reason_name(buffer: &mut [u8], reason: u32) -> LobjAnswer
-    ensures there { reason < ROW_COUNT → IsTold result buffer.old buffer.new }
+    ensures there { reason < ROW_COUNT → (result, buffer.new) ≡ told buffer.old (name_at reason) }
     ensures none { ROW_COUNT ≤ reason → (result, buffer.new) ≡ refused buffer.old NO_ITEM 0 }
 {
     put_reason_name(buffer, reason)

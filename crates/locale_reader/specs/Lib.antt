@@ -7,3 +7,4 @@ pub mod Section
 pub mod Source
 pub mod Words
 pub mod Kept
+pub mod Limits

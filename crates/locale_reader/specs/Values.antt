@@ -16,7 +16,7 @@ use Rattle.keywords.specs.declared.source.Value.{Value}
 use Rattle.keywords.specs.declared.source.Value.TheVariants.{Text, Number, Chars, Pair}
 use Rattle.keywords.specs.declared.row.Element.{Element}
 use Rattle.keywords.specs.declared.row.Element.TheVariants.{CasePair, Word, Quote, Whole}
-use Rattle.locale_reader.specs.declared.text.TheConstants.{TEXT_LIMIT}
+use Rattle.locale_reader.specs.Limits.{TEXT_LIMIT}
 
 -- an operand with the place of its first byte
 abbrev pub Placed : Type 0

@@ -1,2 +1,4 @@
 pub mod Rows
 pub mod Words
+pub mod Limits
+pub mod Table

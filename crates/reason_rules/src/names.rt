@@ -2,6 +2,7 @@
 
 ghost use Rattle.std.specs.Prelude.{◌≡◌};
 ghost use Rattle.reason_rules.specs.Rows.{row_of, part_row, limit_row};
+ghost use Rattle.reason_rules.specs.Table.{name_at, rule_at};
 
 use crate::table::row_at;
 use lc_base::{Limit, LinePart, Reason};
@@ -51,7 +52,9 @@ pub fn row_of(reason: Reason) -> u32
 }
 
 /// The name of the row of a reason.
-pub fn name_of(reason: Reason) -> &'static str {
+pub fn name_of(reason: Reason) -> &'static str
+    ensures { result.now ≡ name_at (row_of reason) }
+{
     match row_at(row_of(reason)) {
         Some(row) => row.name,
         None => "",
@@ -59,7 +62,9 @@ pub fn name_of(reason: Reason) -> &'static str {
 }
 
 /// The rule of the row of a reason.
-pub fn rule_of_reason(reason: Reason) -> &'static str {
+pub fn rule_of_reason(reason: Reason) -> &'static str
+    ensures { result.now ≡ rule_at (row_of reason) }
+{
     match row_at(row_of(reason)) {
         Some(row) => row.rule,
         None => "",

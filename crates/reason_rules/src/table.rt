@@ -1,7 +1,9 @@
 //! The rows of the table of reasons and refusals.
 
-ghost use Rattle.std.specs.Prelude.{◌≡◌, ◌<◌, ◌≤◌, IsSome, None};
-ghost use Rattle.reason_rules.specs.declared.table.TheConstants.{ROW_COUNT};
+ghost use Rattle.std.specs.Prelude.{◌≡◌, ◌<◌, ◌≤◌, IsSome, None, slice_get};
+ghost use Rattle.std.specs.Option.{option_map};
+ghost use Rattle.reason_rules.specs.Limits.{ROW_COUNT};
+ghost use Rattle.reason_rules.specs.Table.{rule_table, row_said};
 
 /// A rule: what breaks it is refused for the reason with this name.
 #[derive(Clone, Copy)]
@@ -21,6 +23,7 @@ pub const ROW_COUNT: u32 = 77;
 /// The row with a number from 0, for each reason of a bundle, a charmap or a source, for each refusal of a
 /// command, and for what the tool refuses of a source beyond its reader.
 pub fn row_at(number: u32) -> Option<ReasonRow>
+    ensures said { option_map row_said result ≡ slice_get rule_table number }
     ensures there { number < ROW_COUNT → IsSome result }
     ensures none { ROW_COUNT ≤ number → result ≡ None }
 {
@@ -31,18 +34,21 @@ pub fn row_at(number: u32) -> Option<ReasonRow>
         23..=30 => fourth_rows(number),
         31..=38 => fifth_rows(number),
         39..=46 => sixth_rows(number),
-        47..=54 => seventh_rows(number),
-        55..=61 => eighth_rows(number),
-        62..=67 => ninth_rows(number),
-        68..=72 => tenth_rows(number),
-        73..=76 => eleventh_rows(number),
+        47..=51 => seventh_rows(number),
+        52..=54 => eighth_rows(number),
+        55..=61 => ninth_rows(number),
+        62..=67 => tenth_rows(number),
+        68..=72 => eleventh_rows(number),
+        73..=76 => twelfth_rows(number),
         _ => None,
     }
 }
 
+#[tactic(auto, unfolding(crate::specs::Table::rule_table))]
 fn first_rows(number: u32) -> Option<ReasonRow>
     requires below { number ≤ 7 }
-    ensures { IsSome result }
+    ensures said { option_map row_said result ≡ slice_get rule_table number }
+    ensures there { IsSome result }
 {
     let row = match number {
         0 => ReasonRow {
@@ -98,10 +104,12 @@ fn first_rows(number: u32) -> Option<ReasonRow>
     Some(row)
 }
 
+#[tactic(auto, unfolding(crate::specs::Table::rule_table))]
 fn second_rows(number: u32) -> Option<ReasonRow>
     requires below { number ≤ 15 }
     requires above { 8 ≤ number }
-    ensures { IsSome result }
+    ensures said { option_map row_said result ≡ slice_get rule_table number }
+    ensures there { IsSome result }
 {
     let row = match number {
         8 => ReasonRow {
@@ -157,10 +165,12 @@ fn second_rows(number: u32) -> Option<ReasonRow>
     Some(row)
 }
 
+#[tactic(auto, unfolding(crate::specs::Table::rule_table))]
 fn third_rows(number: u32) -> Option<ReasonRow>
     requires below { number ≤ 22 }
     requires above { 16 ≤ number }
-    ensures { IsSome result }
+    ensures said { option_map row_said result ≡ slice_get rule_table number }
+    ensures there { IsSome result }
 {
     let row = match number {
         16 => ReasonRow {
@@ -210,10 +220,12 @@ fn third_rows(number: u32) -> Option<ReasonRow>
     Some(row)
 }
 
+#[tactic(auto, unfolding(crate::specs::Table::rule_table))]
 fn fourth_rows(number: u32) -> Option<ReasonRow>
     requires below { number ≤ 30 }
     requires above { 23 ≤ number }
-    ensures { IsSome result }
+    ensures said { option_map row_said result ≡ slice_get rule_table number }
+    ensures there { IsSome result }
 {
     let row = match number {
         23 => ReasonRow {
@@ -269,10 +281,12 @@ fn fourth_rows(number: u32) -> Option<ReasonRow>
     Some(row)
 }
 
+#[tactic(auto, unfolding(crate::specs::Table::rule_table))]
 fn fifth_rows(number: u32) -> Option<ReasonRow>
     requires below { number ≤ 38 }
     requires above { 31 ≤ number }
-    ensures { IsSome result }
+    ensures said { option_map row_said result ≡ slice_get rule_table number }
+    ensures there { IsSome result }
 {
     let row = match number {
         31 => ReasonRow {
@@ -328,10 +342,12 @@ fn fifth_rows(number: u32) -> Option<ReasonRow>
     Some(row)
 }
 
+#[tactic(auto, unfolding(crate::specs::Table::rule_table))]
 fn sixth_rows(number: u32) -> Option<ReasonRow>
     requires below { number ≤ 46 }
     requires above { 39 ≤ number }
-    ensures { IsSome result }
+    ensures said { option_map row_said result ≡ slice_get rule_table number }
+    ensures there { IsSome result }
 {
     let row = match number {
         39 => ReasonRow {
@@ -387,10 +403,12 @@ fn sixth_rows(number: u32) -> Option<ReasonRow>
     Some(row)
 }
 
+#[tactic(auto, unfolding(crate::specs::Table::rule_table))]
 fn seventh_rows(number: u32) -> Option<ReasonRow>
-    requires below { number ≤ 54 }
+    requires below { number ≤ 51 }
     requires above { 47 ≤ number }
-    ensures { IsSome result }
+    ensures said { option_map row_said result ≡ slice_get rule_table number }
+    ensures there { IsSome result }
 {
     let row = match number {
         47 => ReasonRow {
@@ -423,6 +441,19 @@ fn seventh_rows(number: u32) -> Option<ReasonRow>
             breaks: "era \"+:1:2019/05/01:+*\"",
             keeps: "era \"+:1:2019/05/01:+*:Reiwa:%EC%Ey\"",
         },
+        _ => return None,
+    };
+    Some(row)
+}
+
+#[tactic(auto, unfolding(crate::specs::Table::rule_table))]
+fn eighth_rows(number: u32) -> Option<ReasonRow>
+    requires below { number ≤ 54 }
+    requires above { 52 ≤ number }
+    ensures said { option_map row_said result ≡ slice_get rule_table number }
+    ensures there { IsSome result }
+{
+    let row = match number {
         52 => ReasonRow {
             name: "BadFormat",
             rule: "a `%` of a format begins a conversion: of a time one of aAbBcCdDeFgGhHIjmMnprRStTuUVwWxXyYzZ%, or E and one of cCxXyY, or O and one of deHImMSuUVwWy; of an amount i, n or %; of a number d, i, u or %, and for `locale_tool number` f",
@@ -446,10 +477,12 @@ fn seventh_rows(number: u32) -> Option<ReasonRow>
     Some(row)
 }
 
-fn eighth_rows(number: u32) -> Option<ReasonRow>
+#[tactic(auto, unfolding(crate::specs::Table::rule_table))]
+fn ninth_rows(number: u32) -> Option<ReasonRow>
     requires below { number ≤ 61 }
     requires above { 55 ≤ number }
-    ensures { IsSome result }
+    ensures said { option_map row_said result ≡ slice_get rule_table number }
+    ensures there { IsSome result }
 {
     let row = match number {
         55 => ReasonRow {
@@ -499,10 +532,12 @@ fn eighth_rows(number: u32) -> Option<ReasonRow>
     Some(row)
 }
 
-fn ninth_rows(number: u32) -> Option<ReasonRow>
+#[tactic(auto, unfolding(crate::specs::Table::rule_table))]
+fn tenth_rows(number: u32) -> Option<ReasonRow>
     requires below { number ≤ 67 }
     requires above { 62 ≤ number }
-    ensures { IsSome result }
+    ensures said { option_map row_said result ≡ slice_get rule_table number }
+    ensures there { IsSome result }
 {
     let row = match number {
         62 => ReasonRow {
@@ -546,10 +581,12 @@ fn ninth_rows(number: u32) -> Option<ReasonRow>
     Some(row)
 }
 
-fn tenth_rows(number: u32) -> Option<ReasonRow>
+#[tactic(auto, unfolding(crate::specs::Table::rule_table))]
+fn eleventh_rows(number: u32) -> Option<ReasonRow>
     requires below { number ≤ 72 }
     requires above { 68 ≤ number }
-    ensures { IsSome result }
+    ensures said { option_map row_said result ≡ slice_get rule_table number }
+    ensures there { IsSome result }
 {
     let row = match number {
         68 => ReasonRow {
@@ -587,10 +624,12 @@ fn tenth_rows(number: u32) -> Option<ReasonRow>
     Some(row)
 }
 
-fn eleventh_rows(number: u32) -> Option<ReasonRow>
+#[tactic(auto, unfolding(crate::specs::Table::rule_table))]
+fn twelfth_rows(number: u32) -> Option<ReasonRow>
     requires below { number ≤ 76 }
     requires above { 73 ≤ number }
-    ensures { IsSome result }
+    ensures said { option_map row_said result ≡ slice_get rule_table number }
+    ensures there { IsSome result }
 {
     let row = match number {
         73 => ReasonRow {

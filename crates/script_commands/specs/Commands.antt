@@ -16,7 +16,7 @@ use Rattle.script_commands.specs.declared.command.Read.{Read}
 use Rattle.script_commands.specs.declared.command.Read.TheVariants.{Info, Conv, Class, Upper, Lower, Money, Time, Number, Parse}
 use Rattle.script_commands.specs.declared.command.Target.{Target}
 use Rattle.script_commands.specs.declared.command.Target.TheVariants.{Global, Variable, Handle}
-use Rattle.script_words.specs.declared.given.TheConstants.{DEFAULT_MAX, AMOUNT_LIMIT, FORMAT_LIMIT, NUMBER_LIMIT, TEXT_LIMIT}
+use Rattle.script_words.specs.Limits.{DEFAULT_MAX, AMOUNT_LIMIT, FORMAT_LIMIT, NUMBER_LIMIT, TEXT_LIMIT}
 use Rattle.script_words.specs.declared.given.UncheckedTime.{UncheckedTime}
 use Rattle.script_commands.specs.declared.known.Known.{Known}
 use Rattle.script_commands.specs.Known.{lacks_key, thread_number}

@@ -1,6 +1,6 @@
 -- Numbers of a command that are in range (our own).
 use Rattle.std.specs.Prelude.{ℕ, ◌<◌, Option, Some, None}
-use Rattle.lc_base.specs.declared.cells.TheConstants.{CELLS}
+use Rattle.lc_base.specs.Cells.{CELLS}
 use Rattle.script_commands.specs.declared.command.Command.{Command}
 use Rattle.script_commands.specs.declared.command.Command.TheVariants.{New, Dup, Free, Use, Selected, Hold, Release, Setlocale, LocaleName, Install, Post, Fetch, Pins, Read, ReadOf, CatOpen, CatGets, CatClose}
 use Rattle.script_commands.specs.declared.command.OpenCatalog.{OpenCatalog}

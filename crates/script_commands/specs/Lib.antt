@@ -1,3 +1,4 @@
 pub mod Known
 pub mod InRange
 pub mod Commands
+pub mod Limits

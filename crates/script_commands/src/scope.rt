@@ -1,7 +1,7 @@
 //! Where the names in commands are looked for.
 
 ghost use Rattle.std.specs.Prelude.{◌<◌, ◌≤◌, length};
-ghost use Rattle.script_commands.specs.declared.known.TheConstants.{THREAD_LIMIT};
+ghost use Rattle.script_commands.specs.Limits.{THREAD_LIMIT};
 
 use crate::known::Known;
 use lc_base::{ByteText, List};

@@ -20,7 +20,7 @@ use Rattle.script_commands.specs.declared.command.Command.TheVariants.{Install, 
 use Rattle.script_commands.specs.declared.command.Placed.{Placed}
 use Rattle.script_commands.specs.declared.command.Read.{Read}
 use Rattle.script_commands.specs.declared.known.Known.{Known}
-use Rattle.script_commands.specs.declared.known.TheConstants.{THREAD_LIMIT}
+use Rattle.script_commands.specs.Limits.{THREAD_LIMIT}
 use Rattle.script_commands.specs.Known.{has_block, has_key, lacks_charset, lacks_locale}
 use Rattle.script_commands.specs.Commands.{or_wrong, argument, read_as, no_more, is_over, target, target_word, lone_target, catalog_word, cell, known_key, key, command_text, base, new_command, dup_command, selection, use_command, setlocale_command, install_command, post_command, fetch_command, read_command, read_of_command, info_words, conv_words, class_words, upper_words, lower_words, money_words, time_words, number_words, parse_words, catopen_command, catgets_command, catclose_command, command_among, handle_read_command, own_read_command, catalog_command, shared_command, command, objects_table, shared_table, catalogs_table, own_reads_table, handle_reads_table}
 use Rattle.script_words.specs.declared.table.Directive.{Directive}
@@ -31,7 +31,7 @@ use Rattle.script_words.specs.Tables.{directives_table}
 use Rattle.script_words.specs.Names.{is_formed, is_locale_name, is_part_name, is_charmap_name, is_thread_name}
 use Rattle.lc_base.specs.Numbers.{decimal_number}
 use Rattle.script_words.specs.Words.{text_of_word, categories_of_word, mask_of_word, variable_of_word, key_of_word, cell_number}
-use Rattle.script_lang.specs.declared.bundle.TheConstants.{CHARMAP_LIMIT, LOCALE_LIMIT, LATER_LIMIT, CATALOG_LIMIT, ROUND_LIMIT, COMMAND_LIMIT}
+use Rattle.script_lang.specs.Limits.{CHARMAP_LIMIT, LOCALE_LIMIT, LATER_LIMIT, CATALOG_LIMIT, ROUND_LIMIT, COMMAND_LIMIT}
 use Rattle.script_lang.specs.declared.bundle.Bundle.{Bundle}
 use Rattle.script_lang.specs.declared.reading.BlockKind.{BlockKind}
 use Rattle.script_lang.specs.declared.reading.BlockKind.TheVariants as kinds

@@ -2,8 +2,8 @@
 use Rattle.std.proofs.Common.{ℕ, ◌+◌, ◌<◌, ◌≤◌, ◌^◌, List, [], ◌∷◌, ◌++◌, length, Option, Some, None, arith, length-append}
 use Rattle.std.specs.List.{All}
 use Rattle.std.proofs.lemmas.List.Elements.{All-push, All-nil}
-use Rattle.script_commands.specs.declared.known.TheConstants.{THREAD_LIMIT}
-use Rattle.script_lang.specs.declared.bundle.TheConstants.{ROUND_LIMIT, COMMAND_LIMIT}
+use Rattle.script_commands.specs.Limits.{THREAD_LIMIT}
+use Rattle.script_lang.specs.Limits.{ROUND_LIMIT, COMMAND_LIMIT}
 use Rattle.script_commands.specs.declared.command.Command.{Command}
 use Rattle.script_commands.specs.declared.command.Command.TheVariants.{New, Dup, Free, Use, Selected, Hold, Release, Setlocale, LocaleName, Install, Post, Fetch, Pins, Read, ReadOf, CatOpen, CatGets, CatClose}
 use Rattle.script_commands.specs.declared.command.OpenCatalog.{OpenCatalog}

@@ -6,7 +6,7 @@ use Rattle.lc_base.specs.declared.reason.Reason.TheVariants.{BadLine, OverLimit}
 use Rattle.lc_base.specs.declared.reason.LinePart.TheVariants.{Thread}
 use Rattle.lc_base.specs.declared.reason.Limit.TheVariants.{Commands}
 use Rattle.lc_base.specs.Reading.{Reads, ◌>>=◌}
-use Rattle.script_lang.specs.declared.bundle.TheConstants.{COMMAND_LIMIT}
+use Rattle.script_lang.specs.Limits.{COMMAND_LIMIT}
 use Rattle.script_commands.specs.declared.command.Command.{Command}
 use Rattle.script_commands.specs.declared.known.Known.{Known}
 use Rattle.script_lang.specs.declared.reading.Reading.{Reading}

@@ -6,8 +6,8 @@ use Rattle.lc_base.specs.declared.reason.Reason.TheVariants.{NoEnd}
 use Rattle.lc_base.specs.Blocks.{IsSized}
 use Rattle.lc_base.specs.Lines.{lines_of}
 use Rattle.lc_base.specs.Reading.{Reads, ◌>>=◌}
-use Rattle.script_lang.specs.declared.bundle.TheConstants.{CHARMAP_LIMIT, LOCALE_LIMIT, LATER_LIMIT, CATALOG_LIMIT, ROUND_LIMIT, COMMAND_LIMIT}
-use Rattle.script_commands.specs.declared.known.TheConstants.{THREAD_LIMIT}
+use Rattle.script_lang.specs.Limits.{CHARMAP_LIMIT, LOCALE_LIMIT, LATER_LIMIT, CATALOG_LIMIT, ROUND_LIMIT, COMMAND_LIMIT}
+use Rattle.script_commands.specs.Limits.{THREAD_LIMIT}
 use Rattle.script_lang.specs.declared.bundle.Bundle.{Bundle}
 use Rattle.script_commands.specs.declared.command.Command.TheVariants.{Install}
 use Rattle.script_commands.specs.declared.command.Placed.{Placed}

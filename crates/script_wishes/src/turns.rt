@@ -1,8 +1,8 @@
 //! Whose turn it is.
 
 ghost use Rattle.std.specs.Prelude.{◌≡◌, ◌≤◌, ◌++◌, length, map, IfOk, OnOk};
-ghost use Rattle.script_commands.specs.declared.known.TheConstants.{THREAD_LIMIT};
-ghost use Rattle.script_lang.specs.declared.bundle.TheConstants.{ROUND_LIMIT};
+ghost use Rattle.script_commands.specs.Limits.{THREAD_LIMIT};
+ghost use Rattle.script_lang.specs.Limits.{ROUND_LIMIT};
 ghost use Rattle.script_wishes.specs.Seen.{turn_seen, placed_seen};
 ghost use Rattle.script_wishes.specs.Turns.{turn_of, in_round, thread_turns, turns_of_threads, round_turns, command_turns};
 

@@ -4,3 +4,4 @@ pub mod Words
 pub mod Numbers
 pub mod Seen
 pub mod Tables
+pub mod Limits

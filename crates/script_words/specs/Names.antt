@@ -3,7 +3,7 @@ use Rattle.std.specs.Prelude.{ℕ, ◌==◌, nat_lt, nat_le, Bool, not, ◌&&◌
 use Rattle.std.specs.List.{list_all}
 use Rattle.std.specs.Str.{bytes_eq}
 use Rattle.lc_base.specs.BuiltIn.{is_built_in_charset, is_posix_locale}
-use Rattle.script_words.specs.declared.names.TheConstants.{LOCALE_NAME_LIMIT, THREAD_NAME_LIMIT, CLASS_NAME_LIMIT}
+use Rattle.script_words.specs.Limits.{LOCALE_NAME_LIMIT, THREAD_NAME_LIMIT, CLASS_NAME_LIMIT}
 
 -- `A` to `Z` or `a` to `z`
 abbrev pub is_letter : ℕ → Bool

@@ -3,7 +3,7 @@ use Rattle.std.specs.Prelude.{ℕ, ◌^◌, ℤ, pos, negsuc, neg_ℤ, ◌==◌,
 use Rattle.std.specs.Char.{is_ascii_digit}
 use Rattle.std.specs.List.{list_all}
 use Rattle.std.specs.Str.Parse.{digits_value}
-use Rattle.script_words.specs.declared.given.TheConstants.{TIME_DIGITS, WHOLE_DIGITS, FRACTION_DIGITS, NUMBER_DIGITS}
+use Rattle.script_words.specs.Limits.{TIME_DIGITS, WHOLE_DIGITS, FRACTION_DIGITS, NUMBER_DIGITS}
 use Rattle.lc_base.specs.Amounts.{MoneyAmount}
 use Rattle.lc_base.specs.Cuts.{cut_at}
 use Rattle.lc_base.specs.Numbers.{few_digits}

@@ -12,8 +12,8 @@ use Rattle.script_words.specs.declared.categories.CategoryArgument.{CategoryArgu
 use Rattle.script_words.specs.declared.categories.CategoryArgument.TheVariants.{All, One}
 use Rattle.script_words.specs.declared.word.Quoting.{Quoting}
 use Rattle.script_words.specs.declared.word.Quoting.TheVariants.{Text, Escape, High, Low, Closed}
-use Rattle.script_words.specs.declared.given.TheConstants.{ZONE_LIMIT, MAX_LIMIT}
-use Rattle.lc_base.specs.declared.cells.TheConstants.{CELLS}
+use Rattle.script_words.specs.Limits.{ZONE_LIMIT, MAX_LIMIT}
+use Rattle.lc_base.specs.Cells.{CELLS}
 use Rattle.script_words.specs.Names.{is_locale_name, is_thread_name, is_class_name}
 
 -- ---- texts

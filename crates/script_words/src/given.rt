@@ -52,7 +52,7 @@ impl Drop for Format {
 
 impl Model for Format {
     ghost use Rattle.std.specs.Prelude.{ℕ, ◌≤◌, List, length};
-    ghost use Rattle.script_words.specs.declared.given.TheConstants.{FORMAT_LIMIT};
+    ghost use Rattle.script_words.specs.Limits.{FORMAT_LIMIT};
 
     ghost Value = { List ℕ };
 
@@ -62,7 +62,7 @@ impl Model for Format {
 }
 
 impl Format {
-    ghost use Rattle.script_words.specs.declared.given.TheConstants.{FORMAT_LIMIT};
+    ghost use Rattle.script_words.specs.Limits.{FORMAT_LIMIT};
 
     /// The format of a text; `None` where the text has more than 1024 bytes.
     pub fn of(text: ByteText) -> Option<Format>
@@ -137,7 +137,7 @@ impl Drop for CommandText {
 
 impl Model for CommandText {
     ghost use Rattle.std.specs.Prelude.{ℕ, ◌≤◌, List, length};
-    ghost use Rattle.script_words.specs.declared.given.TheConstants.{TEXT_LIMIT};
+    ghost use Rattle.script_words.specs.Limits.{TEXT_LIMIT};
 
     ghost Value = { List ℕ };
 
@@ -147,7 +147,7 @@ impl Model for CommandText {
 }
 
 impl CommandText {
-    ghost use Rattle.script_words.specs.declared.given.TheConstants.{TEXT_LIMIT};
+    ghost use Rattle.script_words.specs.Limits.{TEXT_LIMIT};
 
     /// The text; `None` where it has more than 1024 bytes.
     pub fn of(text: ByteText) -> Option<CommandText>

@@ -4,7 +4,7 @@ ghost use Rattle.std.specs.Prelude.{◌≡◌, ◌++◌, ◌^◌, ◌<◌, ◌�
 ghost use Rattle.std.specs.Char.{is_ascii_digit};
 ghost use Rattle.std.specs.List.{list_all};
 ghost use Rattle.std.specs.Str.Parse.{digits_value_after};
-ghost use Rattle.script_words.specs.declared.given.TheConstants.{FRACTION_DIGITS};
+ghost use Rattle.script_words.specs.Limits.{FRACTION_DIGITS};
 ghost use Rattle.script_words.specs.Numbers.{short_number, offset_of_word, three_numbers, are_digits, within, signed_units, amount_of, unsigned_amount, amount_of_word, number_of, number_of_word};
 
 use crate::given::{FRACTION_DIGITS, NUMBER_DIGITS, TIME_DIGITS, WHOLE_DIGITS, WrittenNumber};

@@ -1,7 +1,7 @@
 -- Two libraries as one (our own).
 use Rattle.std.specs.Prelude.{◌≡◌, ℕ, ◌+◌, nat_le, Bool, ◌&&◌, ◌++◌, length, Option, Some, None, Result, Ok, Err, if◌then◌else◌}
 use Rattle.category_store.specs.Joined as libraries
-use Rattle.library_parts.specs.declared.seen.TheConstants.{PART_LIMIT}
+use Rattle.library_parts.specs.Limits.{PART_LIMIT}
 use Rattle.shared_objects.specs.declared.fault.JoinFault.{JoinFault}
 use Rattle.shared_objects.specs.declared.fault.JoinFault.TheVariants.{TooMany, Memory}
 use Rattle.shared_objects.specs.Shared.{MarkedLibraryData}

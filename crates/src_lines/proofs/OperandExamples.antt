@@ -10,7 +10,7 @@ use Rattle.src_lines.specs.declared.line.Operand.TheVariants.{Plain, Quoted, Dot
 use Rattle.src_lines.specs.declared.line.Line.{Line}
 use Rattle.src_lines.specs.declared.atom.Atom.TheVariants.{Bare, Number, Made}
 use Rattle.src_lines.specs.declared.field.Field.{Field}
-use Rattle.src_lines.specs.declared.operand.TheConstants.{MAX_OPERANDS}
+use Rattle.src_lines.specs.Limits.{MAX_OPERANDS}
 use Rattle.src_lines.specs.Atoms.{items_from, up_to}
 use Rattle.src_lines.specs.Pieces.{only_bytes}
 use Rattle.src_lines.specs.Tokens.{tokens, operands, separated, operand, run, text}

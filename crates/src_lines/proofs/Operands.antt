@@ -6,7 +6,7 @@ use Rattle.lc_base.specs.declared.place.Place.{Place}
 use Rattle.lc_base.specs.declared.fault.TextFault.{TextFault}
 use Rattle.lc_base.specs.declared.fault.TextFault.TheVariants.{At, Memory}
 use Rattle.lc_base.specs.Reading.{Reads, ◌>>=◌, Fails}
-use Rattle.src_lines.specs.declared.operand.TheConstants.{MAX_OPERANDS}
+use Rattle.src_lines.specs.Limits.{MAX_OPERANDS}
 use Rattle.src_lines.specs.declared.line.Operand.{Operand}
 use Rattle.src_lines.specs.Places.{Logical, place_at}
 use Rattle.src_lines.specs.Atoms.{Item, items_from}

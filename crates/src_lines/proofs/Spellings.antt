@@ -14,7 +14,7 @@ use Rattle.src_lines.specs.declared.line.Operand.TheVariants.{Plain, Quoted, Dot
 use Rattle.src_lines.specs.declared.atom.Atom.{Atom}
 use Rattle.src_lines.specs.declared.atom.Atom.TheVariants.{Bare, Number, Made}
 use Rattle.src_lines.specs.declared.text.RunEnd.TheVariants.{AtSeparator}
-use Rattle.src_lines.specs.declared.operand.TheConstants.{MAX_OPERANDS}
+use Rattle.src_lines.specs.Limits.{MAX_OPERANDS}
 use Rattle.src_lines.specs.Words.{blanks, solid, next_word}
 use Rattle.lc_base.specs.Blanks.{is_blank}
 use Rattle.src_lines.specs.Places.{Logical, place_at}

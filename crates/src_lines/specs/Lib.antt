@@ -14,3 +14,4 @@ pub mod Held
 pub mod Stored
 pub mod Steps
 pub mod Cells
+pub mod Limits

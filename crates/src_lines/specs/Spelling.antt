@@ -6,7 +6,7 @@ use Rattle.src_lines.specs.declared.line.OperandPiece.{OperandPiece}
 use Rattle.src_lines.specs.declared.line.OperandPiece.TheVariants.{Byte, Name}
 use Rattle.src_lines.specs.declared.line.Operand.{Operand}
 use Rattle.src_lines.specs.declared.line.Operand.TheVariants.{Plain, Quoted, Dots, Pair}
-use Rattle.src_lines.specs.declared.operand.TheConstants.{MAX_OPERANDS}
+use Rattle.src_lines.specs.Limits.{MAX_OPERANDS}
 use Rattle.lc_base.specs.Blanks.{is_blank}
 use Rattle.src_lines.specs.Places.{Logical}
 use Rattle.src_lines.specs.Tokens.{tokens}

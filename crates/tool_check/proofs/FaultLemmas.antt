@@ -4,7 +4,7 @@ use Rattle.std.specs.List.{insert}
 use Rattle.std.proofs.lemmas.List.Elements.{All-cons, All-append, All-take, All-drop, All-nil}
 use Rattle.lc_base.specs.declared.block.Block.{Block}
 use Rattle.tool_files.specs.Library.{library}
-use Rattle.tool_check.specs.declared.looks.TheConstants.{LOOK_COUNT}
+use Rattle.tool_check.specs.Limits.{LOOK_COUNT}
 use Rattle.tool_check.specs.declared.fault.Fault.{Fault}
 use Rattle.tool_check.specs.Looks.{AreAlone, look_at}
 use Rattle.tool_check.specs.Found.{has_line, place_of, with_fault, IsFaultAlone, IsFaultOf, IsFoundAlone}

@@ -4,7 +4,7 @@ use Rattle.std.specs.List.{list_any, list_all, insert, position_or_len}
 use Rattle.lc_base.specs.declared.block.Block.{Block}
 use Rattle.tool_files.specs.Library.{library}
 use Rattle.tool_check.specs.Looks.{AreAlone, look_at}
-use Rattle.tool_check.specs.declared.looks.TheConstants.{LOOK_COUNT}
+use Rattle.tool_check.specs.Limits.{LOOK_COUNT}
 use Rattle.tool_check.specs.declared.fault.Fault.{Fault}
 
 -- whether a fault stands on this line

@@ -5,3 +5,4 @@ pub mod Found
 pub mod Odd
 pub mod Summary
 pub mod Checked
+pub mod Limits

@@ -8,7 +8,7 @@ use Rattle.script_out.specs.Output.{printed}
 use Rattle.script_plan.specs.Plan.{PlanData, plan_of}
 use Rattle.script_plan.specs.Prints.{Prints}
 use Rattle.script_plan.specs.Serial.{serial_lines, setting}
-use Rattle.tool_script.specs.declared.played.TheConstants.{ROWS, GENERATIONS}
+use Rattle.tool_script.specs.Limits.{ROWS, GENERATIONS}
 use Rattle.tool_script.specs.declared.played.Played.{Played}
 use Rattle.tool_script.specs.declared.played.Playing.{Playing}
 use Rattle.tool_script.specs.Explained.{explained_text, is_refused}

@@ -1,5 +1,5 @@
 use Rattle.std.proofs.Common.{◌≡◌, length, map, take}
-use Rattle.c_values.specs.declared.amounts.TheConstants.{MOST}
+use Rattle.c_values.specs.Limits.{MOST}
 use Rattle.c_values.specs.Answers.{amount_of}
 use Rattle.c_values.proofs.amounts.amounts_given.Given as goal
 

@@ -4,7 +4,7 @@ use Rattle.std.specs.Str.{bytes_eq, is_utf8}
 use Rattle.std.specs.Str.Lossy.{utf8_valid_len}
 use Rattle.std.proofs.lemmas.Str.{is_utf8-from_IsUtf8}
 use Rattle.shared_objects.specs.Objects.{ctype_in}
-use Rattle.c_values.specs.declared.answer.TheConstants.{NOT_UTF8, BAD_CHARACTER}
+use Rattle.c_values.specs.Codes.{NOT_UTF8, BAD_CHARACTER}
 use Rattle.c_values.specs.Answers.{refused, told}
 use Rattle.c_values.specs.Cased.{pairs_of, cased_text, utf8_told}
 use Rattle.c_values.proofs.CasedLemmas.{not_utf8}

@@ -5,7 +5,7 @@ use Rattle.langinfo.specs.declared.categories.LentCategories.{LentCategories}
 use Rattle.std.proofs.lemmas.Bool.Decides.{nat_tests}
 use Rattle.text_buffer.specs.Written.{over}
 use Rattle.shared_objects.specs.Shared.{Shared}
-use Rattle.c_values.specs.declared.answer.TheConstants.{OK}
+use Rattle.c_values.specs.Codes.{OK}
 use Rattle.c_values.specs.Answers.{answered}
 use Rattle.c_values.specs.Table.{all_texts, has_room, laid, Tabled, texts_by}
 use Rattle.c_values.proofs.TableLemmas.{text_stands, texts_same}

@@ -1,7 +1,7 @@
 use Rattle.std.proofs.Common.{◌≡◌, ◌^◌, ◌<◌, ◌≤◌, ◌+◌, min, length, Some, sym, ap, ◌∙◌, arith}
 use Rattle.std.specs.Prelude.{option_map}
 use Rattle.std.proofs.Math.Nat.{pow-le-pow_right}
-use Rattle.charset.specs.declared.names.TheConstants.{NAME_LIMIT}
+use Rattle.charset.specs.Limits.{NAME_LIMIT}
 use Rattle.charset.specs.CodedSet.{big_endian}
 use Rattle.charset.specs.Code.{code_bytes}
 use Rattle.charmap_reader.specs.Seen.{seen}

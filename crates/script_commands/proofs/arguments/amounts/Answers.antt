@@ -1,6 +1,6 @@
 use Rattle.std.proofs.Common.{◌-◌, length, arith}
 use Rattle.lc_base.specs.declared.reason.Limit.TheVariants as limits
-use Rattle.script_words.specs.declared.given.TheConstants.{AMOUNT_LIMIT}
+use Rattle.script_words.specs.Limits.{AMOUNT_LIMIT}
 use Rattle.script_words.specs.Numbers.{amount_of_word}
 use Rattle.script_words.specs.Spans.{span}
 use Rattle.script_commands.specs.Commands.{amounts}

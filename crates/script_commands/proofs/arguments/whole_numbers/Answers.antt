@@ -1,6 +1,6 @@
 use Rattle.std.proofs.Common.{◌-◌, length, arith}
 use Rattle.lc_base.specs.declared.reason.Limit.TheVariants as limits
-use Rattle.script_words.specs.declared.given.TheConstants.{NUMBER_LIMIT}
+use Rattle.script_words.specs.Limits.{NUMBER_LIMIT}
 use Rattle.script_words.specs.Numbers.{number_of_word}
 use Rattle.script_words.specs.Spans.{span}
 use Rattle.script_commands.specs.Commands.{whole_numbers}

@@ -1,5 +1,5 @@
 use Rattle.std.proofs.Common.{◌+◌, ◌<◌}
-use Rattle.charset.specs.declared.names.TheConstants.{NAME_LIMIT}
+use Rattle.charset.specs.Limits.{NAME_LIMIT}
 use Rattle.charset.specs.declared.spans.Span.{Span}
 use Rattle.charset.specs.Spans.{Adds}
 use Rattle.charset.proofs.NameLemmas.{kept_more, kept_push, block_formed, added_none, added_some}
