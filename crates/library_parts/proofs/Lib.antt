@@ -1,4 +1,4 @@
 pub mod BlockLemmas
 pub mod SizeLemmas
-pub mod Laws
+pub mod PartLaws
 mod Examples

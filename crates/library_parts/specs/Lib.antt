@@ -5,3 +5,4 @@ pub mod Places
 pub mod Books
 pub mod Made
 pub mod Limits
+pub mod Laws

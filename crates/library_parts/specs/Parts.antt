@@ -1,6 +1,5 @@
 -- The checks of parts by their names and sizes (our own).
-use Rattle.std.specs.Prelude.{ℕ, ◌+◌, ◌==◌, nat_le, Bool, false, not, ◌&&◌, ◌||◌, List, [], ◌∷◌, ◌++◌, length, codes, Option, Some, None, is_some, Ok, Err, if◌then◌else◌}
-use Rattle.std.specs.Str.{bytes_eq}
+use Rattle.std.specs.Prelude.{ℕ, ◌+◌, ◌==◌, nat_le, Bool, false, not, ◌&&◌, ◌||◌, List, [], ◌∷◌, ◌++◌, length, Option, Some, None, is_some, Ok, Err, if◌then◌else◌}
 use Rattle.lc_base.specs.BuiltIn.{is_built_in_charset}
 use Rattle.lc_base.specs.Named.{with_named}
 use Rattle.lc_base.specs.Tables.{first_named}
