@@ -11,8 +11,10 @@
  *
  * Locales. A `lobj_locale` is a plain value, to be copied and compared by its fields: nothing is to be freed.
  * It has the mark of the library that made it. A call that is given what is no locale of its library answers
- * LOBJ_NO_LOCALE. The mark is that of the text that was read, or of the parts: two libraries of one text take each
- * other's locales, which mean the same in both. A `lobj_catalog`, a message catalog, is such a value as well.
+ * LOBJ_NO_LOCALE. The mark is a hash of the text that was read, of the parts in their order, or of the marks of the two
+ * libraries that were joined. So libraries of the same text, or of the same parts in the same order, take each other's
+ * locales, which mean the same in both; any others have other marks, unless two hashes of 64 bits are equal. A
+ * `lobj_catalog`, a message catalog, is such a value as well.
  *
  * Texts are given by a pointer and a number of bytes, need no NUL, and may have any bytes. Buffers are
  * given with their size. A text that a call gives begins at the start of the buffer and is followed by a
@@ -356,8 +358,10 @@ lobj_answer lobj_newlocale(const lobj_library *library, uint32_t mask, const cha
 /*
  * The name of the locale that has the category of a mask with one bit: the one that was named, also where its source
  * copies the category of another (getlocalename_l of later versions of POSIX). With LOBJ_ALL_MASK the name that all
- * five categories have, or where they have several, the mixed name with the part of each, which lobj_newlocale reads
- * again. That of the POSIX locale is `C`. LOBJ_NO_LOCALE, LOBJ_BAD_MASK (any other mask), LOBJ_TOO_SMALL.
+ * five categories have, or where they have several, the mixed name with the part of each. That of the POSIX locale is
+ * `C`. What lobj_newlocale gave it gives again by this name, unless another locale of the library has the name and hides
+ * it, as one of the second of two libraries that were joined hides one of the first: then it gives that one.
+ * LOBJ_NO_LOCALE, LOBJ_BAD_MASK (any other mask), LOBJ_TOO_SMALL.
  */
 lobj_answer lobj_locale_name(char *buffer, size_t size, const lobj_library *library, lobj_locale locale,
                              uint32_t mask) LOBJ_NONNULL LOBJ_ANSWERS;

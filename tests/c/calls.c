@@ -251,6 +251,8 @@ static void join_libraries(const lobj_library *library) {
     CHECK(is(lobj_towupper(joined, half, 'q'), LOBJ_NO_LOCALE, 0) && is(lobj_towupper(built, half, 'q'), LOBJ_NO_LOCALE, 0));
     lobj_library_free(built);
     CHECK(is_point(joined, lobj_locale_in(joined, half), ",") && is_point(again, lobj_locale_in(again, half), ","));
+    /* its name is now that of another one, which hides it */
+    CHECK(is(lobj_locale_name(text, sizeof text, joined, lobj_locale_in(joined, half), LOBJ_NUMERIC_MASK), LOBJ_OK, 4) && strcmp(text, "half") == 0);
     lobj_posix_locale(joined, &posix);
     CHECK(is(lobj_newlocale(joined, LOBJ_NUMERIC_MASK, "half", 4, posix, &half), LOBJ_OK, 0) && half.numeric == 7 && is_point(joined, half, "'"));
     CHECK(is(lobj_newlocale(joined, LOBJ_NUMERIC_MASK, "us", 2, posix, &half), LOBJ_OK, 0) && half.numeric == 1);
@@ -286,6 +288,44 @@ static void join_native_locales(void) {
     CHECK(is_native_point(de, fa, "/") && is_native_point(fa, de, ","));
     CHECK(is_native_point(de, unnamed, ",") && is_native_point(unnamed, de, ",") && is_native_point(unnamed, unnamed, "."));
     CHECK(is_native_point(de, posix, ".") && is_native_point(de, also_posix, ".") && is_native_point(posix, de, ","));
+}
+
+/* The library that joins two, each of one message catalog with such a text. */
+static lobj_library *joined_catalogs(const char *const texts[2]) {
+    lobj_library *parts[2] = { NULL, NULL }, *joined = NULL;
+    for (int i = 0; i < 2; i++) {
+        lobj_builder *builder = NULL;
+        lobj_fault fault = untouched_fault;
+        CHECK(is(lobj_builder_new(&builder), LOBJ_OK, 0));
+        CHECK(is(add(&builder, LOBJ_CATALOG, "words", "C", texts[i]), LOBJ_OK, 0));
+        CHECK(is(lobj_build(builder, &parts[i], &fault, NULL, 0), LOBJ_OK, 0));
+        lobj_builder_free(builder);
+    }
+    CHECK(is(lobj_join(parts[0], parts[1], &joined), LOBJ_OK, 0));
+    for (int i = 0; i < 2; i++) lobj_library_free(parts[i]);
+    return joined;
+}
+
+/*
+ * Libraries that join the same parts in the same order take each other's locales and catalogs. Those of other parts
+ * refuse them, also where one byte of the first is one more and one of the second one less, and of another order.
+ */
+static void mark_joined(void) {
+    static const char *const texts[][2] = { { "1 x", "1 xy" }, { "1 x", "1 xy" }, { "1 y", "1 wy" }, { "1 xy", "1 x" } };
+    lobj_library *const first = joined_catalogs(texts[0]);
+    lobj_locale posix;
+    lobj_catalog catalog;
+    char text[8];
+    lobj_posix_locale(first, &posix);
+    CHECK(is(lobj_catopen(first, posix, "words", 5, &catalog), LOBJ_OK, 0) && catalog.number == 1);
+    for (int i = 0; i < 4; i++) {
+        lobj_library *const other = joined_catalogs(texts[i]);
+        const bool same = i < 2;
+        CHECK(is(lobj_towupper(other, posix, 'q'), same ? LOBJ_OK : LOBJ_NO_LOCALE, same ? 'Q' : 0));
+        CHECK(is(lobj_catgets(text, sizeof text, other, catalog, 1, 1), same ? LOBJ_OK : LOBJ_NO_CATALOG, same ? 2 : 0));
+        lobj_library_free(other);
+    }
+    lobj_library_free(first);
 }
 
 /* Messages by their catalog, set and number; what is no catalog of the library, or no message, leaves the buffer. */
@@ -1008,6 +1048,7 @@ int main(int count, char **words) {
     refuse_many();
     join_libraries(library);
     join_native_locales();
+    mark_joined();
     read_messages(library);
     run_out_of_memory();
     run_out_in_parts(library);

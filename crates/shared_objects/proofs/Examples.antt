@@ -16,7 +16,9 @@ use Rattle.shared_objects.specs.Shared.{Shared, MarkedLibraryData}
 use Rattle.shared_objects.specs.declared.fault.NewFault.TheVariants.{NoLocale, NoData}
 use Rattle.shared_objects.specs.declared.locale.LocaleParts.{LocaleParts}
 use Rattle.shared_objects.specs.Objects.{ctype_in, numeric_in, monetary_in, time_in, messages_in, names_in}
-use Rattle.shared_objects.specs.Locales.{mark_of, marked_of, marked_in, posix_of, locale_of, name_with, shared_of, new_locale}
+use Rattle.shared_objects.specs.Marks.{mark_of}
+use Rattle.shared_objects.specs.Marks.Origin.{OfText}
+use Rattle.shared_objects.specs.Locales.{marked_of, marked_in, posix_of, locale_of, name_with, shared_of, new_locale}
 
 -- a locale with the categories of a mask
 abbrev locale : List ℕ → ℕ → Locale
@@ -45,21 +47,11 @@ two_locales = record { library = library; books = []; mark = 7 }
 abbrev made : Parts → LocaleParts
 made ps = locale_of 7 ps
 
--- ---- marks
-
--- a 1, and the bytes as digits in base 257
-marks : mark_of [] ∷ mark_of (5 ∷ []) ∷ mark_of (0 ∷ 5 ∷ []) ∷ [] ≡ 1 ∷ 262 ∷ 66054 ∷ []
-marks = refl
-
--- the remainder: 257 ^ 7 is 74051159531521793, twice the modulus and 1993565493593967 more
-long_mark : mark_of (0 ∷ 0 ∷ 0 ∷ 0 ∷ 0 ∷ 0 ∷ 0 ∷ []) ≡ 1993565493593967
-long_mark = refl
-
 -- ---- a library that is read
 
 -- a bundle that is refused gives its own fault
 bundle_first : (text : List ℕ) (fault : Place × Reason) → bundle_of text ≡ Err fault → marked_in text ≡ Err fault
-bundle_first text fault h = ap (λ (b : Reads Bundle). b >>= λ (b : Bundle). marked_of b (mark_of text)) h
+bundle_first text fault h = ap (λ (b : Reads Bundle). b >>= λ (b : Bundle). marked_of b (mark_of (OfText text))) h
 
 -- no locale, whatever the threads and rounds of the script are
 no_blocks : (threads : List (List ℕ)) (rounds : ℕ) → marked_of (record { charmaps = []; locales = []; later = []; catalogs = []; native = None; threads = threads; rounds = rounds; commands = [] }) 7

@@ -1,1 +1,3 @@
+pub mod MarkLaws
 mod Examples
+mod MarkExamples

@@ -5,7 +5,8 @@ use Rattle.library_parts.specs.Limits.{PART_LIMIT}
 use Rattle.shared_objects.specs.declared.fault.JoinFault.{JoinFault}
 use Rattle.shared_objects.specs.declared.fault.JoinFault.TheVariants.{TooMany, Memory}
 use Rattle.shared_objects.specs.Shared.{MarkedLibraryData}
-use Rattle.shared_objects.specs.Parts.{joined_mark}
+use Rattle.shared_objects.specs.Marks.{mark_of}
+use Rattle.shared_objects.specs.Marks.Origin.{OfLibraries}
 
 -- whether two libraries together have no more locales and catalogs than one may have
 abbrev pub has_room : MarkedLibraryData → MarkedLibraryData → Bool
@@ -17,7 +18,7 @@ abbrev pub both : MarkedLibraryData → MarkedLibraryData → MarkedLibraryData
 both first second = record {
   library = libraries.joined first.library second.library;
   books = first.books ++ second.books;
-  mark = joined_mark first.mark second.mark;
+  mark = mark_of (OfLibraries first.mark second.mark);
 }
 
 -- the same, if one library may have so many

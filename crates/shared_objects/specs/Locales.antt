@@ -1,5 +1,5 @@
 -- Locales as plain values: the mark of their library, and the numbers of their parts (XSH newlocale; marks and values are our own).
-use Rattle.std.specs.Prelude.{ℕ, ◌+◌, ◌*◌, ◌%◌, Bool, ◌&&◌, nat_eq, nat_lt, List, [], ◌∷◌, length, Option, None, Some, Result, Ok, Err, if◌then◌else◌}
+use Rattle.std.specs.Prelude.{ℕ, ◌+◌, Bool, ◌&&◌, nat_eq, nat_lt, List, length, Option, None, Some, Result, Ok, Err, if◌then◌else◌}
 use Rattle.lc_base.specs.declared.category.Category.{Category}
 use Rattle.lc_base.specs.Reading.{Reads, ◌>>=◌}
 use Rattle.mask_compose.specs.Parts.{Parts}
@@ -10,24 +10,10 @@ use Rattle.script_lang.specs.Accepted.{bundle_of}
 use Rattle.shared_objects.specs.declared.fault.NewFault.{NewFault}
 use Rattle.shared_objects.specs.declared.fault.NewFault.TheVariants.{NoLocale, NoData}
 use Rattle.shared_objects.specs.declared.locale.LocaleParts.{LocaleParts}
-use Rattle.shared_objects.specs.declared.mark.TheConstants.{MODULUS}
+use Rattle.shared_objects.specs.Marks.{mark_of}
+use Rattle.shared_objects.specs.Marks.Origin.{OfText}
 use Rattle.shared_objects.specs.Shared.{Shared, MarkedLibraryData}
 use Rattle.shared_objects.specs.Objects.{catalog_of, new_parts}
-
--- ---- marks
-
--- the mark of a text and a byte behind it
-abbrev pub mark_step : ℕ → ℕ → ℕ
-mark_step mark byte = (mark * 257 + byte) % MODULUS
-
--- the mark of a text whose first bytes have the mark so far
-abbrev pub mark_from : ℕ → List ℕ → ℕ
-mark_from mark [] = mark
-mark_from mark (byte ∷ text) = mark_from (mark_step mark byte) text
-
--- the mark of a text: the remainder of a number in base 257 whose digits are its bytes, with a 1 before them
-abbrev pub mark_of : List ℕ → ℕ
-mark_of text = mark_from 1 text
 
 -- ---- a library that is read
 
@@ -37,7 +23,7 @@ marked_of b mark = catalog_of b >>= λ library. books_read b.catalogs >>= λ boo
 
 -- the library of a text in the form of a bundle, or its first fault
 abbrev pub marked_in : List ℕ → Reads MarkedLibraryData
-marked_in text = bundle_of text >>= λ b. marked_of b (mark_of text)
+marked_in text = bundle_of text >>= λ b. marked_of b (mark_of (OfText text))
 
 -- ---- locales of a library
 

@@ -5,6 +5,7 @@
 mod catalog;
 mod draft;
 mod fault;
+mod laws;
 mod locale;
 mod mark;
 mod marked_library;
@@ -15,6 +16,7 @@ mod with_offers;
 pub use catalog::CatalogParts;
 pub use draft::Draft;
 pub use fault::{JoinFault, NewFault, OpenFault};
+pub use laws::bytes_tell;
 pub use locale::LocaleParts;
 pub use marked_library::MarkedLibrary;
 pub use view::View;

@@ -15,7 +15,7 @@ use crate::catalog::CatalogParts;
 use crate::draft::copied_parts;
 use crate::fault::{JoinFault, NewFault, OpenFault};
 use crate::locale::{LocaleParts, locale_of, object_of};
-use crate::mark::{joined_mark, mark_of, parts_mark};
+use crate::mark::{joined_mark, parts_mark, text_mark};
 use crate::view::View;
 use crate::with_offers::LibraryWithOffers;
 use category_store::{Library, Share};
@@ -62,7 +62,7 @@ impl MarkedLibrary {
         ensures { Gives (λ s. s) result (marked_in text.now) }
     {
         let bundle = Bundle::read(alloc, text)?;
-        MarkedLibrary::of_bundle(alloc, &bundle, mark_of(text))
+        MarkedLibrary::of_bundle(alloc, &bundle, text_mark(text))
     }
 
     /// The library of a bundle, with a mark.

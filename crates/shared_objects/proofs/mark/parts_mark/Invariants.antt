@@ -1,8 +1,8 @@
-use Rattle.std.proofs.Common.{◌≡◌, ◌<◌, drop}
-use Rattle.shared_objects.specs.Parts.{parts_mark}
-use Rattle.shared_objects.specs.declared.mark.TheConstants.{MODULUS}
+use Rattle.std.proofs.Common.{◌≡◌, ◌∷◌, drop}
+use Rattle.std.specs.Hash.DefaultHasher as sip
+use Rattle.shared_objects.specs.Marks.{fed, parts_bytes}
 use Rattle.shared_objects.proofs.mark.parts_mark.Given as goal
 
--- the parts that are left lead to the mark of all
+-- what is left of the parts leads to what is fed in all
 abbrev pub invariant-loop-part : goal.invariant-loop-part
-invariant-loop-part l = (parts_mark l.mark (drop l.part-index l.parts) ≡ parts_mark 1 l.parts) × (l.mark < MODULUS)
+invariant-loop-part l = fed l.hasher (parts_bytes (drop l.part-index l.parts)) ≡ fed sip.initial (1 ∷ parts_bytes l.parts)
