@@ -1,6 +1,6 @@
 -- Rounded digits and texts, on small examples.
-use Rattle.std.proofs.Common.{◌≡◌, ℕ, List, [], ◌∷◌, false, None, Ok, Err, refl}
-use Rattle.std.specs.Prelude.{pos, codes}
+use Rattle.std.proofs.Common.{◌≡◌, ℕ, List, [], ◌∷◌, ◌++◌, false, None, Ok, Err, refl}
+use Rattle.std.specs.Prelude.{pos, codes, replicate, true}
 use Rattle.numeric_cat.specs.NumericValues.{NumericValues}
 use Rattle.digit_groups.specs.Groups.{separated}
 use Rattle.digit_groups.specs.Numbers.{number_behind}
@@ -9,6 +9,8 @@ use Rattle.int_format.specs.Formats.{flags_behind}
 use Rattle.tool_decimals.specs.Conversions.{part}
 use Rattle.tool_decimals.specs.Decimals.{Number, carried, decimal_of_word, rounded, without_zeros}
 use Rattle.tool_decimals.specs.Texts.{decimal_text}
+use Rattle.tool_decimals.specs.declared.read.NumberWhy.TheVariants.{NoDigit, NoFraction, OtherByte, OtherGroups, ManyDigits}
+use Rattle.tool_decimals.specs.Scans.{digits_at, fault, reading}
 use Rattle.tool_decimals.specs.Formats.{BadFormat, MissingNumber, NoNumber, first_wrong, numbers_text, text_behind}
 
 abbrev german : NumericValues
@@ -100,3 +102,56 @@ wrong_format = refl
 no_number : numbers_text german (codes "%f") [] ≡ Err (MissingNumber 0)
 unfolding first_wrong text_behind part flags_behind number_behind
 no_number = refl
+
+-- a number is read with its groups and without, and below 0
+in_groups_read : reading german (codes "1.234,50") ≡ Ok (number (codes "1234") (codes "50"))
+unfolding reading digits_at separated
+in_groups_read = refl
+
+without_groups_read : reading german (codes "1234,5") ≡ Ok (number (codes "1234") (codes "5"))
+unfolding reading digits_at separated
+without_groups_read = refl
+
+below_zero_read : reading german (codes "-07") ≡ Ok (record { has_minus = true; whole = codes "07"; fraction = [] })
+unfolding reading digits_at separated
+below_zero_read = refl
+
+-- a digit is missing: in front, behind the sign, in front of the point, and behind it
+nothing_refused : reading german [] ≡ fault NoDigit 0
+unfolding reading digits_at separated
+nothing_refused = refl
+
+sign_refused : reading german (codes "-") ≡ fault NoDigit 1
+unfolding reading digits_at separated
+sign_refused = refl
+
+no_whole_refused : reading german (codes ",5") ≡ fault NoDigit 0
+unfolding reading digits_at separated
+no_whole_refused = refl
+
+no_fraction_refused : reading german (codes "-12,") ≡ fault NoFraction 4
+unfolding reading digits_at separated
+no_fraction_refused = refl
+
+-- a byte does not belong there: behind the whole digits, and behind the fraction
+letter_refused : reading german (codes "1.234x") ≡ fault OtherByte 5
+unfolding reading digits_at separated
+letter_refused = refl
+
+behind_fraction_refused : reading german (codes "1,2x3") ≡ fault OtherByte 3
+unfolding reading digits_at separated
+behind_fraction_refused = refl
+
+-- the groups are others than 1.234
+groups_refused : reading german (codes "12.34") ≡ fault OtherGroups 1
+unfolding reading digits_at separated
+groups_refused = refl
+
+-- the hundred and first digit is one too many, before the point and behind it
+whole_refused : reading german (replicate 101 49) ≡ fault ManyDigits 100
+unfolding reading digits_at separated
+whole_refused = refl
+
+fraction_refused : reading german (codes "12," ++ replicate 99 49) ≡ fault ManyDigits 101
+unfolding reading digits_at separated
+fraction_refused = refl

@@ -1,6 +1,9 @@
 pub mod Conversions
 pub mod Decimals
 pub mod Formats
+pub mod Limits
 pub mod Lines
 pub mod Readings
+pub mod Scans
 pub mod Texts
+pub mod Told

@@ -1,7 +1,9 @@
 //! Words and texts that are wrong.
 
-ghost use Rattle.std.specs.Prelude.{true, false};
+ghost use Rattle.std.specs.Prelude.{◌≡◌, IfOk, true, false};
+ghost use Rattle.tool_messages.specs.Message.{BeginsWith, fault_line};
 ghost use Rattle.tool_decimals.specs.Lines.{IsOf};
+ghost use Rattle.tool_decimals.specs.Told.{IsToldBy, column};
 
 use crate::decimal::MOST_DIGITS;
 use lc_base::{ByteText, push_number};
@@ -94,9 +96,10 @@ pub fn spot_problem(
     word: &[u8],
     at: usize,
     reason: &[u8],
-    rule: &str,
+    rule: &[u8],
 ) -> Problem
-    ensures { IsOf result false }
+    ensures of { IsOf result false }
+    ensures told { IsToldBy (fault_line name.now 1 (column at) reason.now rule.now) result }
 {
     match spot_message(alloc, name, word, at, reason, rule) {
         Ok(message) => Problem::Refused(message),
@@ -104,21 +107,31 @@ pub fn spot_problem(
     }
 }
 
+/// The message of a fault of a word at one of its bytes.
 fn spot_message(
     alloc: Global,
     name: &[u8],
     word: &[u8],
     at: usize,
     reason: &[u8],
-    rule: &str,
-) -> Result<ByteText, AllocError> {
+    rule: &[u8],
+) -> Result<ByteText, AllocError>
+    ensures { IfOk result (λ message. BeginsWith (fault_line name.now 1 (column at) reason.now rule.now) message) }
+{
     let mut message = Vec::new(alloc);
     let spot = Spot {
         file: name,
         line: 1,
-        column: u32::try_from(at).unwrap_or(u32::MAX).saturating_add(1),
+        column: column(at),
         source: word,
     };
-    push_fault(&mut message, &spot, reason, rule.as_bytes())?;
+    push_fault(&mut message, &spot, reason, rule)?;
     Ok(ByteText::from_vec(message))
+}
+
+/// The column of a byte, from 1; the greatest number stands for those above it.
+fn column(at: usize) -> u32
+    ensures { result ≡ column at }
+{
+    u32::try_from(at).unwrap_or(u32::MAX).saturating_add(1)
 }
